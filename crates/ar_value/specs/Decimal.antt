@@ -1,0 +1,24 @@
+-- Arithmetic of whole numbers and of decimals, which are counts of millionths.
+use Rattle.std.specs.Prelude.{◌^◌, ℤ, pos, negsuc, ◌*ℤ◌, int_div, Bool, nat_lt}
+use Rattle.std.specs.declared.cmp.Ordering.{Ordering}
+use Rattle.std.specs.Ordering.{int_cmp}
+use Rattle.ar_value.specs.declared.decimal.Number.{Number}
+use Rattle.ar_value.specs.declared.decimal.Number.TheVariants.{Whole, Decimal}
+
+-- p divided by q, cut toward zero
+abbrev pub cut : ℤ → ℤ → ℤ
+cut p q = int_div p q
+
+-- z lies in the range of a signed 64-bit number (`negsuc n` is -(n + 1))
+abbrev pub is_i64 : ℤ → Bool
+is_i64 (pos n) = nat_lt n (2 ^ 63)
+is_i64 (negsuc n) = nat_lt n (2 ^ 63)
+
+-- the exact value of a number, in millionths
+abbrev pub in_millionths : Number → ℤ
+in_millionths (Whole whole) = whole *ℤ pos 1000000
+in_millionths (Decimal millionths) = millionths
+
+-- numbers compare as their exact values do, whichever way they are written
+abbrev pub order : Number → Number → Ordering
+order left right = int_cmp (in_millionths left) (in_millionths right)

@@ -1,0 +1,5 @@
+pub mod Decimal
+pub mod DecimalText
+pub mod Shape
+pub mod Reading
+pub use Rattle.serde_json.specs.Data

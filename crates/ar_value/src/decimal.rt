@@ -1,0 +1,79 @@
+//! Decimal numbers, counted exactly in millionths, and the order of numbers.
+
+ghost use Rattle.std.specs.Prelude.{◌≡◌, ◌*ℤ◌, pos};
+ghost use Rattle.ar_value.specs.Decimal.{in_millionths, order};
+
+use std::cmp::Ordering;
+use std::marker::Model;
+use thiserror::Error;
+
+/// A decimal number with six digits after the point, from -9223372036854.775808 to
+/// 9223372036854.775807. Contracts see it as its whole number of millionths.
+#[derive(Clone, Copy, Debug, PartialEq, Eq, PartialOrd, Ord, Hash)]
+pub struct Decimal {
+    millionths: i64,
+}
+
+impl Model for Decimal {
+    ghost use Rattle.std.specs.Prelude.{ℤ, FitsSigned};
+    ghost use Rattle.std.specs.Int.{w64};
+
+    ghost Value = { ℤ };
+
+    ghost view = { λ d. d.millionths };
+
+    ghost inverse = { λ z. record { millionths = z } };
+}
+
+/// Why a text is no decimal.
+#[derive(Clone, Copy, Debug, PartialEq, Eq, Error)]
+pub enum NumberFault {
+    #[error("BadDecimal: expected digits with at most one point, as 0.95")]
+    BadDecimal,
+    #[error("NotFinite: expected a finite number")]
+    NotFinite,
+    #[error("OutOfRange: expected a number from -9223372036854.775808 to 9223372036854.775807")]
+    OutOfRange,
+}
+
+impl Decimal {
+    /// The decimal of so many millionths.
+    pub fn from_millionths(millionths: i64) -> Decimal
+        ensures { result ≡ millionths }
+    {
+        Decimal { millionths }
+    }
+
+    /// How many millionths it is.
+    pub fn millionths(self) -> i64
+        ensures { result ≡ self }
+    {
+        self.millionths
+    }
+}
+
+/// A number of a condition or a measurement.
+#[derive(Clone, Copy, Debug)]
+pub enum Number {
+    Whole(i64),
+    Decimal(Decimal),
+}
+
+impl Number {
+    fn in_millionths(self) -> i128
+        ensures { result ≡ in_millionths self }
+    {
+        match self {
+            Number::Whole(whole) => i128::from(whole) * 1_000_000,
+            Number::Decimal(decimal) => i128::from(decimal.millionths()),
+        }
+    }
+}
+
+/// The order of two numbers' exact values: a whole is compared with a decimal as such, and
+/// neither is rounded.
+pub fn compare(left: Number, right: Number) -> Ordering
+    ensures { result ≡ order left right }
+{
+    left.in_millionths().cmp(&right.in_millionths())
+}

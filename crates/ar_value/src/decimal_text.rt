@@ -1,0 +1,149 @@
+//! Reading a decimal text, as metric providers write measurements.
+
+ghost use Rattle.std.specs.Prelude.{◌≡◌, ◌*◌, ◌/◌, ◌^◌, ◌<◌, ◌++◌, ◌==◌, length, true, IsTrue};
+ghost use Rattle.std.specs.Option.{SomeIff};
+ghost use Rattle.std.specs.Char.{is_ascii_digit};
+ghost use Rattle.std.specs.List.{before_first, after_first, list_all, position_or_len};
+ghost use Rattle.std.specs.Str.Parse.{digits_value, digits_value_after, starts_with_minus, without_leading_sign};
+ghost use Rattle.ar_value.specs.Decimal.{is_i64};
+ghost use Rattle.ar_value.specs.DecimalText.{decimal_of, in_range, is_mantissa, is_not_finite, millionths_of, with_sign};
+
+use crate::decimal::{Decimal, NumberFault};
+
+/// How many digits a decimal keeps behind its point.
+const KEPT_DIGITS: usize = 6;
+
+/// How many digits a decimal text may have.
+const MOST_DIGITS: usize = 64;
+
+impl Decimal {
+    /// The decimal that a text stands for: an optional sign, then one to 64 digits with at most
+    /// one point among, before or behind them. What lies behind the sixth digit after the point
+    /// is cut off.
+    ///
+    /// # Errors
+    ///
+    /// `NotFinite` for `NaN`, `Inf`, `+Inf` and `-Inf`; `OutOfRange` where the cut number is no
+    /// decimal; `BadDecimal` for any other text.
+    #[tactic(auto, unfolding(crate::specs::DecimalText::decimal_of))]
+    pub fn of_text(text: &str) -> Result<Decimal, NumberFault>
+        ensures { result ≡ decimal_of text.now }
+    {
+        if is_not_finite(text) {
+            return Err(NumberFault::NotFinite);
+        }
+        let (is_negative, mantissa) = split_sign(text.as_bytes());
+        let (whole, fraction) = split_point(mantissa);
+        if !is_mantissa(whole, fraction) {
+            return Err(NumberFault::BadDecimal);
+        }
+        in_range(is_negative, whole, fraction)
+    }
+}
+
+/// The decimal that the digits spell, where it is one.
+#[tactic(auto, using(crate::proofs::Signs::large, crate::proofs::Signs::outside, crate::proofs::Signs::inside))]
+fn in_range(is_negative: bool, whole: &[u8], fraction: &[u8]) -> Result<Decimal, NumberFault>
+    requires digits { list_all is_ascii_digit (whole.now ++ fraction.now) ≡ true }
+    ensures { result ≡ in_range (millionths_of is_negative whole.now fraction.now) }
+{
+    let Some(magnitude) = magnitude(whole, fraction) else {
+        return Err(NumberFault::OutOfRange);
+    };
+    let Some(millionths) = with_sign(is_negative, magnitude) else {
+        return Err(NumberFault::OutOfRange);
+    };
+    Ok(Decimal::from_millionths(millionths))
+}
+
+fn is_not_finite(text: &str) -> bool
+    ensures { result ≡ is_not_finite text.now }
+{
+    text == "NaN" || text == "Inf" || text == "+Inf" || text == "-Inf"
+}
+
+/// Whether a minus stands first, and what follows the sign.
+fn split_sign(text: &[u8]) -> (bool, &[u8])
+    ensures minus { result.0 ≡ starts_with_minus text.now }
+    ensures rest { result.1.now ≡ without_leading_sign text.now }
+{
+    match text.first() {
+        Some(b'-') => (true, &text[1..]),
+        Some(b'+') => (false, &text[1..]),
+        _ => (false, text),
+    }
+}
+
+/// What stands before the first point, and what stands behind it.
+fn split_point(mantissa: &[u8]) -> (&[u8], &[u8])
+    ensures before { result.0.now ≡ before_first (λ byte. byte == 46) mantissa.now }
+    ensures behind { result.1.now ≡ after_first (λ byte. byte == 46) mantissa.now }
+{
+    let at = first_point(mantissa);
+    if at < mantissa.len() {
+        (&mantissa[..at], &mantissa[at + 1..])
+    } else {
+        (mantissa, &[])
+    }
+}
+
+/// The place of the first point, or the length where there is none.
+fn first_point(mantissa: &[u8]) -> usize
+    ensures { result ≡ position_or_len (λ byte. byte == 46) mantissa.now }
+{
+    mantissa.iter().take_while(|byte| **byte != b'.').count()
+}
+
+fn is_mantissa(whole: &[u8], fraction: &[u8]) -> bool
+    ensures { result ≡ is_mantissa (whole.now ++ fraction.now) }
+{
+    let digits = whole.len() + fraction.len();
+    1 <= digits && digits <= MOST_DIGITS && are_digits(whole) && are_digits(fraction)
+}
+
+fn are_digits(text: &[u8]) -> bool
+    ensures { result ≡ list_all is_ascii_digit text.now }
+{
+    text.iter().all(|byte| byte.is_ascii_digit())
+}
+
+/// The millionths that the digits spell, cut, where they fit 64 bits.
+fn magnitude(whole: &[u8], fraction: &[u8]) -> Option<u64>
+    requires digits { list_all is_ascii_digit (whole.now ++ fraction.now) ≡ true }
+    ensures { SomeIff result
+        (digits_value 10 (whole.now ++ fraction.now) * 10 ^ 6 / 10 ^ length fraction.now < 2 ^ 64)
+        (digits_value 10 (whole.now ++ fraction.now) * 10 ^ 6 / 10 ^ length fraction.now) }
+{
+    let kept = fraction.len().min(KEPT_DIGITS);
+    let spelled = spelled(spelled(0, whole)?, &fraction[..kept])?;
+    spelled.checked_mul(10u64.pow((KEPT_DIGITS - kept) as u32))
+}
+
+/// The number that the digits spell behind those of the number before, where it fits 64 bits.
+fn spelled(before: u64, digits: &[u8]) -> Option<u64>
+    requires digits { list_all is_ascii_digit digits.now ≡ true }
+    ensures { SomeIff result
+        (digits_value_after 10 before digits.now < 2 ^ 64)
+        (digits_value_after 10 before digits.now) }
+{
+    let mut value = before;
+    for digit in digits {
+        value = value
+            .checked_mul(10)?
+            .checked_add(u64::from(*digit - b'0'))?;
+    }
+    Some(value)
+}
+
+/// The magnitude with its sign, where it fits a signed 64-bit number.
+fn with_sign(is_negative: bool, magnitude: u64) -> Option<i64>
+    ensures { SomeIff result
+        (IsTrue (is_i64 (with_sign is_negative magnitude)))
+        (with_sign is_negative magnitude) }
+{
+    if is_negative {
+        0i64.checked_sub_unsigned(magnitude)
+    } else {
+        0i64.checked_add_unsigned(magnitude)
+    }
+}
