@@ -1,3 +1,3 @@
-pub mod Digits
+pub mod DigitsLemmas
 pub mod Signs
 mod Facts

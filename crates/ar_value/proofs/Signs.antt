@@ -5,6 +5,7 @@ use Rattle.std.specs.Str.Parse.{digits_value}
 use Rattle.std.proofs.Math.Nat.{zero-div}
 use Rattle.std.proofs.lemmas.Bool.Decides.{nat_tests}
 use Rattle.ar_value.specs.Decimal.{cut, is_i64}
+use Rattle.ar_value.specs.Digits.{magnitude_of}
 use Rattle.std.specs.Int.{w64}
 use Rattle.std.specs.Prelude.{FitsSigned, ◌*ℤ◌, Some}
 use Rattle.ar_value.specs.Reading.{decimal_of_whole}
@@ -18,10 +19,6 @@ cut-with_sign : (is_negative : Bool) (n q : ℕ) → cut (with_sign is_negative 
 cut-with_sign false n q = refl
 cut-with_sign true zero q = rw (zero-div q) refl
 cut-with_sign true (suc n) q = refl
-
--- what the digits before and behind the point spell, in millionths
-abbrev magnitude_of : List ℕ → List ℕ → ℕ
-magnitude_of whole fraction = digits_value 10 (whole ++ fraction) * 10 ^ 6 / 10 ^ length fraction
 
 chosen_true : {A : Type 0} (b : Bool) (x y : A) → IsTrue b → x ≡ (if b then x else y)
 chosen_true true x y h = refl

@@ -1,17 +1,16 @@
 //! Reading a decimal text, as metric providers write measurements.
 
-ghost use Rattle.std.specs.Prelude.{◌≡◌, ◌*◌, ◌/◌, ◌^◌, ◌<◌, ◌++◌, ◌==◌, length, true, IsTrue};
+ghost use Rattle.std.specs.Prelude.{◌≡◌, ◌++◌, ◌==◌, true, IsTrue};
+ghost use Rattle.std.specs.Bool.{OnTrue};
 ghost use Rattle.std.specs.Option.{SomeIff};
 ghost use Rattle.std.specs.Char.{is_ascii_digit};
 ghost use Rattle.std.specs.List.{before_first, after_first, list_all, position_or_len};
-ghost use Rattle.std.specs.Str.Parse.{digits_value, digits_value_after, starts_with_minus, without_leading_sign};
+ghost use Rattle.std.specs.Str.Parse.{starts_with_minus, without_leading_sign};
 ghost use Rattle.ar_value.specs.Decimal.{is_i64};
 ghost use Rattle.ar_value.specs.DecimalText.{decimal_of, in_range, is_mantissa, is_not_finite, millionths_of, with_sign};
 
 use crate::decimal::{Decimal, NumberFault};
-
-/// How many digits a decimal keeps behind its point.
-const KEPT_DIGITS: usize = 6;
+use crate::digits::millionths;
 
 /// How many digits a decimal text may have.
 const MOST_DIGITS: usize = 64;
@@ -44,10 +43,11 @@ impl Decimal {
 /// The decimal that the digits spell, where it is one.
 #[tactic(auto, using(crate::proofs::Signs::large, crate::proofs::Signs::outside, crate::proofs::Signs::inside))]
 fn in_range(is_negative: bool, whole: &[u8], fraction: &[u8]) -> Result<Decimal, NumberFault>
-    requires digits { list_all is_ascii_digit (whole.now ++ fraction.now) ≡ true }
+    requires whole { list_all is_ascii_digit whole.now ≡ true }
+    requires fraction { list_all is_ascii_digit fraction.now ≡ true }
     ensures { result ≡ in_range (millionths_of is_negative whole.now fraction.now) }
 {
-    let Some(magnitude) = magnitude(whole, fraction) else {
+    let Some(magnitude) = millionths(whole, fraction) else {
         return Err(NumberFault::OutOfRange);
     };
     let Some(millionths) = with_sign(is_negative, magnitude) else {
@@ -95,7 +95,9 @@ fn first_point(mantissa: &[u8]) -> usize
 }
 
 fn is_mantissa(whole: &[u8], fraction: &[u8]) -> bool
-    ensures { result ≡ is_mantissa (whole.now ++ fraction.now) }
+    ensures value { result ≡ is_mantissa (whole.now ++ fraction.now) }
+    ensures whole { OnTrue result (list_all is_ascii_digit whole.now ≡ true) }
+    ensures fraction { OnTrue result (list_all is_ascii_digit fraction.now ≡ true) }
 {
     let digits = whole.len() + fraction.len();
     1 <= digits && digits <= MOST_DIGITS && are_digits(whole) && are_digits(fraction)
@@ -105,34 +107,6 @@ fn are_digits(text: &[u8]) -> bool
     ensures { result ≡ list_all is_ascii_digit text.now }
 {
     text.iter().all(|byte| byte.is_ascii_digit())
-}
-
-/// The millionths that the digits spell, cut, where they fit 64 bits.
-fn magnitude(whole: &[u8], fraction: &[u8]) -> Option<u64>
-    requires digits { list_all is_ascii_digit (whole.now ++ fraction.now) ≡ true }
-    ensures { SomeIff result
-        (digits_value 10 (whole.now ++ fraction.now) * 10 ^ 6 / 10 ^ length fraction.now < 2 ^ 64)
-        (digits_value 10 (whole.now ++ fraction.now) * 10 ^ 6 / 10 ^ length fraction.now) }
-{
-    let kept = fraction.len().min(KEPT_DIGITS);
-    let spelled = spelled(spelled(0, whole)?, &fraction[..kept])?;
-    spelled.checked_mul(10u64.pow((KEPT_DIGITS - kept) as u32))
-}
-
-/// The number that the digits spell behind those of the number before, where it fits 64 bits.
-fn spelled(before: u64, digits: &[u8]) -> Option<u64>
-    requires digits { list_all is_ascii_digit digits.now ≡ true }
-    ensures { SomeIff result
-        (digits_value_after 10 before digits.now < 2 ^ 64)
-        (digits_value_after 10 before digits.now) }
-{
-    let mut value = before;
-    for digit in digits {
-        value = value
-            .checked_mul(10)?
-            .checked_add(u64::from(*digit - b'0'))?;
-    }
-    Some(value)
 }
 
 /// The magnitude with its sign, where it fits a signed 64-bit number.

@@ -12,12 +12,14 @@
 //!
 //! - `decimal`: decimals, and the order of numbers
 //! - `decimal_text`: reading a decimal text
+//! - `digits`: numbers that digits spell
 //! - `shape`: shapes, read from JSON
 //! - `value`: values, read from JSON under a shape
 #![tactic(auto)]
 
 pub mod decimal;
 mod decimal_text;
+pub mod digits;
 pub mod shape;
 #[cfg(test)]
 mod tests;

@@ -13,6 +13,7 @@ use Rattle.std.specs.Char.{is_ascii_digit, digit_value}
 use Rattle.std.proofs.lemmas.Bool.Decides.{nat_tests}
 use Rattle.std.proofs.lemmas.List.Sums.{AllPass-from_list_all}
 use Rattle.std.specs.Str.Parse.{digits_value, digits_value_after, AllDigits}
+use Rattle.ar_value.specs.Digits.{magnitude_of}
 
 -- further digits don't make the number smaller
 pub before-le-digits_value_after : (n : ℕ) (ds : List ℕ) → n ≤ digits_value_after 10 n ds
@@ -108,11 +109,10 @@ list_all-drop ds m h =
     (both_pass (list_all is_ascii_digit (take m ds)) (list_all is_ascii_digit (drop m ds)) split).1
 
 -- the millionths of all digits, cut, are those of the whole digits and at most six others
-pub kept_digits : (whole fraction : List ℕ) (m : ℕ) → m ≡ min (length fraction) 6 → list_all is_ascii_digit (whole ++ fraction) ≡ true
-    → digits_value 10 (whole ++ fraction) * 10 ^ 6 / 10 ^ length fraction ≡ digits_value_after 10 (digits_value 10 whole) (take m fraction) * 10 ^ (6 - m)
+pub kept_digits : (whole fraction : List ℕ) (m : ℕ) → m ≡ min (length fraction) 6 → list_all is_ascii_digit fraction ≡ true
+    → magnitude_of whole fraction ≡ digits_value_after 10 (digits_value 10 whole) (take m fraction) * 10 ^ (6 - m)
 kept_digits whole fraction m kept digits =
-    let parts : (list_all is_ascii_digit whole && list_all is_ascii_digit fraction) ≡ true = sym (list_all-append is_ascii_digit whole fraction) ∙ digits in
-    let rest_digits : list_all is_ascii_digit (drop m fraction) ≡ true = list_all-drop fraction m (both_pass (list_all is_ascii_digit whole) (list_all is_ascii_digit fraction) parts).1 in
+    let rest_digits : list_all is_ascii_digit (drop m fraction) ≡ true = list_all-drop fraction m digits in
     let small : digits_value 10 (drop m fraction) < 10 ^ length (drop m fraction) = digits_value-lt 10 (drop m fraction) (AllDigits-from_list_all (drop m fraction) rest_digits) in
     let all : digits_value 10 (whole ++ fraction) ≡ digits_value_after 10 (digits_value 10 whole) (take m fraction) * 10 ^ length (drop m fraction) + digits_value 10 (drop m fraction) =
     digits_value_after-append 0 whole fraction
@@ -121,7 +121,8 @@ kept_digits whole fraction m kept digits =
     ∙ digits_value_after-split (digits_value_after 10 (digits_value 10 whole) (take m fraction)) (drop m fraction) in
     let long : length fraction ≡ m + length (drop m fraction) = omega (arith, length-drop {A = ℕ}) in
     let none : (length (drop m fraction) ≡ 0) ⊎ (6 - m ≡ 0) = elim (eq-zero-or-pos (6 - m)) [ inl full ↦ inr full | inr short ↦ inl (omega (arith, long)) ] in
-    rw (all, long) (cut_digits _ _ m (length (drop m fraction)) (6 - m) (omega arith) small none)
+    rw (all, long)
+    (cut_digits (digits_value_after 10 (digits_value 10 whole) (take m fraction)) (digits_value 10 (drop m fraction)) m (length (drop m fraction)) (6 - m) (omega arith) small none)
 
 -- a power of ten makes no number smaller
 pub le-mul-ten_pow : (k j : ℕ) → k ≤ k * 10 ^ j

@@ -1,6 +1,6 @@
 use Rattle.std.proofs.Common.{arith}
-use Rattle.ar_value.proofs.Digits.{next-le-total, all_spelled}
-use Rattle.ar_value.proofs.decimal_text.spelled.Goals as goal
+use Rattle.ar_value.proofs.DigitsLemmas.{next-le-total, all_spelled}
+use Rattle.ar_value.proofs.digits.spelled.Goals as goal
 
 pub returns-in_err-checked_mul : goal.returns-in_err-checked_mul
 returns-in_err-checked_mul c =

@@ -1,0 +1,111 @@
+-- The tokens of a text are its parts, with blanks between them.
+use Rattle.std.proofs.Common.{◌≡◌, ℕ, zero, suc, ◌+◌, ◌-◌, ◌≤◌, Bool, true, false, List, [], ◌∷◌, length, take, drop, refl, sym, ◌∙◌, ap, subst, arith, Option, Some, None, Result, Ok, Err, All, cond, ltb}
+use Rattle.std.specs.Prelude.{IfOk}
+use Rattle.std.specs.Global.{Vec}
+use Rattle.std.specs.List.{AllByRecursion, list_all}
+use Rattle.std.proofs.lemmas.List.{drop-drop}
+use Rattle.std.proofs.lemmas.List.Elements.{All-from_recursion}
+use Rattle.ar_syntax.specs.Answer.{Gives}
+use Rattle.ar_syntax.specs.Token.{is_word}
+use Rattle.ar_syntax.specs.Tokens.{AreInOrder, IsBlankBetween, IsSpelled, front_of, is_blank, tokens_behind, tokens_of, with_front}
+use Rattle.ar_syntax.specs.declared.error.SyntaxError.{SyntaxError}
+use Rattle.ar_syntax.specs.declared.error.SyntaxError.TheVariants.{TooLong}
+use Rattle.ar_syntax.specs.declared.token.Token.{Token}
+use Rattle.ar_syntax.proofs.Fronts.{IsFront, IsFront-front_of, bind_ok, is_blank-front_of}
+
+-- the tokens are those of the text between two places
+pub record AreCut (text : List ℕ) (start end : ℕ) (tokens : List Token) : Type 0 where
+  pub in_order : AreInOrder start end tokens
+  pub spelled : AllByRecursion (IsSpelled text) tokens
+  pub apart : IsBlankBetween text start tokens
+
+module _ (text : List ℕ) where
+  AreCut-at : (start start' end end' : ℕ) (tokens : List Token) → start ≡ start' → end ≡ end' → AreCut text start end tokens → AreCut text start' end' tokens
+  AreCut-at start start' end end' tokens e f cut = subst (λ (n : ℕ). AreCut text start' n tokens) f (subst (λ (n : ℕ). AreCut text n end tokens) e cut)
+
+  drop-next : (at byte : ℕ) (bytes : List ℕ) → drop at text ≡ byte ∷ bytes → drop (at + 1) text ≡ bytes
+  drop-next at byte bytes here = sym (drop-drop 1 at text) ∙ ap (drop 1) here
+
+  blanks-cons : (byte : ℕ) (bytes : List ℕ) → is_blank byte ≡ true → list_all is_blank bytes ≡ true → list_all is_blank (byte ∷ bytes) ≡ true
+  blanks-cons byte bytes first rest = rw first rest
+
+  -- a blank in front
+  AreCut-blank : (at end byte : ℕ) (bytes : List ℕ) (tokens : List Token) → drop at text ≡ byte ∷ bytes → is_blank byte ≡ true → AreCut text (at + 1) end tokens → AreCut text at end tokens
+  AreCut-blank at end byte bytes [] here blank cut = record {
+    in_order = omega (arith, cut.in_order);
+    spelled = tt;
+    apart = rw here (blanks-cons byte bytes blank (rw (drop-next at byte bytes here) at cut.apart));
+  }
+  AreCut-blank at end byte bytes (token ∷ tokens) here blank cut =
+      let more : token.span.start - at ≡ suc (token.span.start - (at + 1)) = omega (arith, cut.in_order.0) in
+      record {
+        in_order = (omega (arith, cut.in_order.0), cut.in_order.1, cut.in_order.2);
+        spelled = cut.spelled;
+        apart = (rw (more, here) (blanks-cons byte (take (token.span.start - (at + 1)) bytes) blank (rw (drop-next at byte bytes here) at cut.apart.0)), cut.apart.1);
+      }
+
+  -- a token in front
+  AreCut-token : (at end : ℕ) (bytes : List ℕ) (token : Token) (tokens : List Token) → drop at text ≡ bytes → IsFront at bytes token → AreCut text token.span.end end tokens → AreCut text at end (token ∷ tokens)
+  AreCut-token at end bytes token tokens here front cut =
+      let start = front.start in
+      let none : token.span.start - at ≡ 0 = omega arith in
+      let spelled : IsSpelled text token = rw (start, here) front.spells in
+      record {
+        in_order = (omega arith, omega (arith, front.some), cut.in_order);
+        spelled = (spelled, cut.spelled);
+        apart = (rw none refl, cut.apart);
+      }
+
+  AreCut-from_tokens_behind : (skip at : ℕ) (after_word : Bool) (bytes : List ℕ) (tokens : List Token) → drop at text ≡ bytes → skip ≤ length bytes → tokens_behind skip at after_word bytes ≡ Ok tokens
+      → AreCut text (at + skip) (at + length bytes) tokens
+  unfolding tokens_behind
+  AreCut-from_tokens_behind skip at after_word [] tokens here enough e =
+      let none : [] ≡ tokens = cc in
+      let place : at + skip ≡ at = omega arith in
+      subst (AreCut text (at + skip) (at + 0)) none (record { in_order = omega arith; spelled = tt; apart = rw (place, here) refl })
+  AreCut-from_tokens_behind (suc skip) at after_word (byte ∷ bytes) tokens here enough e =
+      AreCut-at _ _ _ _ tokens (omega arith) (omega arith) (AreCut-from_tokens_behind skip (at + 1) after_word bytes tokens (drop-next at byte bytes here) (omega arith) e)
+  AreCut-from_tokens_behind zero at after_word (byte ∷ bytes) tokens here enough e =
+      let found = bind_ok (front_of at after_word (byte ∷ bytes)) (λ front. with_front at front (λ skip word. tokens_behind skip (at + 1) word bytes)) tokens e in
+      AreCut-from_front at after_word byte bytes found.0 tokens here found.1 found.2 (λ skip word others. AreCut-from_tokens_behind skip (at + 1) word bytes others (drop-next at byte bytes here))
+    where
+      AreCut-from_front : (at : ℕ) (after_word : Bool) (byte : ℕ) (bytes : List ℕ) (front : Option Token) (tokens : List Token) → drop at text ≡ byte ∷ bytes → front_of at after_word (byte ∷ bytes) ≡ Ok front
+          → with_front at front (λ skip word. tokens_behind skip (at + 1) word bytes) ≡ Ok tokens
+          → ((skip : ℕ) (word : Bool) (others : List Token) → skip ≤ length bytes → tokens_behind skip (at + 1) word bytes ≡ Ok others → AreCut text (at + 1 + skip) (at + 1 + length bytes) others)
+          → AreCut text (at + zero) (at + length (byte ∷ bytes)) tokens
+      AreCut-from_front at after_word byte bytes None tokens here found e behind =
+          let rest = behind 0 false tokens (omega arith) e in
+          AreCut-at at _ _ _ tokens (omega arith) refl (AreCut-blank at _ byte bytes tokens here (is_blank-front_of at after_word (byte ∷ bytes) found) (AreCut-at _ (at + 1) _ (at + length (byte ∷ bytes)) tokens (omega arith) (omega arith) rest))
+      AreCut-from_front at after_word byte bytes (Some token) tokens here found e behind =
+          let front = IsFront-front_of at after_word (byte ∷ bytes) token found in
+          let inner = bind_ok (tokens_behind (token.span.end - (at + 1)) (at + 1) (is_word token.kind) bytes) (λ others. Ok (token ∷ others)) tokens e in
+          let same : token ∷ inner.0 ≡ tokens = cc in
+          let rest = behind (token.span.end - (at + 1)) (is_word token.kind) inner.0 (omega (arith, front.within)) inner.1 in
+          let cut = AreCut-token at (at + length (byte ∷ bytes)) (byte ∷ bytes) token inner.0 here front (AreCut-at _ token.span.end _ (at + length (byte ∷ bytes)) inner.0 (omega (arith, front.some)) (omega arith) rest) in
+          subst (AreCut text (at + zero) (at + length (byte ∷ bytes))) same (AreCut-at at _ _ _ (token ∷ inner.0) (omega arith) refl cut)
+
+AreCut-chosen : (text : List ℕ) (long : Bool) (tokens : List Token) → cond long (Err TooLong) (tokens_behind 0 0 false text) ≡ Ok tokens → AreCut text 0 (length text) tokens
+AreCut-chosen text true tokens e = absurd cc
+AreCut-chosen text false tokens e = AreCut-at text _ _ _ _ tokens refl (omega arith) (AreCut-from_tokens_behind text 0 0 false text tokens refl (omega arith) e)
+
+-- the tokens of a text are all of it but blanks
+pub AreCut-from_tokens_of : (text : List ℕ) (tokens : List Token) → tokens_of text ≡ Ok tokens → AreCut text 0 (length text) tokens
+unfolding tokens_of
+AreCut-from_tokens_of text tokens e = AreCut-chosen text (ltb 4096 (length text)) tokens e
+
+abbrev items_of : Vec Token → List Token
+items_of tokens = tokens.items
+
+-- what `tokens` answers by its exact clause
+module _ (text : List ℕ) where
+  pub in_order : (answer : Result (Vec Token) SyntaxError) → Gives items_of answer (tokens_of text) → IfOk answer (λ tokens. AreInOrder 0 (length text) tokens.items)
+  in_order (Ok tokens) gives = (AreCut-from_tokens_of text tokens.items gives).in_order
+  in_order (Err error) gives = tt
+
+  pub spelled : (answer : Result (Vec Token) SyntaxError) → Gives items_of answer (tokens_of text) → IfOk answer (λ tokens. All (IsSpelled text) tokens.items)
+  spelled (Ok tokens) gives = All-from_recursion (IsSpelled text) tokens.items (AreCut-from_tokens_of text tokens.items gives).spelled
+  spelled (Err error) gives = tt
+
+  pub blank_between : (answer : Result (Vec Token) SyntaxError) → Gives items_of answer (tokens_of text) → IfOk answer (λ tokens. IsBlankBetween text 0 tokens.items)
+  blank_between (Ok tokens) gives = (AreCut-from_tokens_of text tokens.items gives).apart
+  blank_between (Err error) gives = tt

@@ -1,0 +1,9 @@
+pub use Rattle.ar_value.specs.Decimal
+pub use Rattle.ar_value.specs.Digits
+pub mod Answer
+pub mod Examples
+pub mod Grammar
+pub mod Parse
+pub mod Token
+pub mod Tokens
+pub mod Tree
