@@ -1,0 +1,11 @@
+pub mod KeptLemmas
+pub mod LawLemmas
+pub mod MetricLemmas
+pub mod NumberedLemmas
+pub mod OnePhaseLemmas
+pub mod PhaseLemmas
+pub mod PrefixLemmas
+pub mod ReplayLemmas
+pub mod RunLemmas
+pub mod StepLemmas
+pub mod WorkedRuns

@@ -1,0 +1,10 @@
+pub mod Bounds
+pub mod Inside
+pub mod Kept
+pub mod Laws
+pub mod Metric
+pub mod MetricStep
+pub mod Prefixes
+pub mod Replay
+pub mod Run
+pub mod Step

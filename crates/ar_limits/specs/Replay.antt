@@ -1,0 +1,37 @@
+-- Which lists of events lead to a state.
+use Rattle.std.specs.Prelude.{ℕ, ◌≡◌, ◌<◌, List, length}
+use Rattle.ar_limits.specs.declared.counts.Counts.{Counts}
+use Rattle.ar_limits.specs.declared.event.Event.{Event}
+use Rattle.ar_limits.specs.declared.event.Event.TheVariants as event
+use Rattle.ar_limits.specs.declared.limits.Limits.{Limits}
+use Rattle.ar_limits.specs.declared.phase.Phase.{Phase}
+use Rattle.ar_limits.specs.Run.{run_phase, metric_phases, metric_counts}
+
+-- where a run stands: what its `RunState` shows
+pub record Standing : Type 0 where
+  -- of each metric
+  pub limits : List Limits
+  pub phases : List Phase
+  pub counts : List Counts
+  -- of the run
+  pub phase : Phase
+  -- the events so far, late ones included
+  pub handed : ℕ
+
+-- these events, in this order and under these limits, lead to where the run stands
+pub record Replays (limits : List Limits) (events : List Event) (state : Standing) : Type 0 where
+  pub limits_are : state.limits ≡ limits
+  pub phases_are : state.phases ≡ metric_phases limits events
+  pub counts_are : state.counts ≡ metric_counts limits events
+  pub phase_is : state.phase ≡ run_phase limits events
+  pub handed_is : state.handed ≡ length events
+
+-- this holds of every list of events that leads to the state, and of its limits
+abbrev pub ForEachReplay : Standing → (List Limits → List Event → Type 0) → Type 0
+ForEachReplay state P =
+    (limits : List Limits) (events : List Event) → Replays limits events state → P limits events
+
+-- an event that is a mark is one of the first so many metrics
+abbrev pub IsOfMetricBelow : ℕ → Event → Type 0
+IsOfMetricBelow metrics (event.Mark number mark) = number < metrics
+IsOfMetricBelow metrics event.Stop = Unit {0}

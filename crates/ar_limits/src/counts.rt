@@ -1,0 +1,37 @@
+ghost use Rattle.std.specs.Prelude.{◌≡◌};
+ghost use Rattle.ar_limits.specs.declared.run.TheConstants.{MAX_EVENTS};
+
+use crate::event::Mark;
+
+/// The applied marks of one metric, by kind.
+#[derive(Clone, Copy, Debug, Default, PartialEq, Eq, Hash)]
+pub struct Counts {
+    pub successful: u64,
+    pub failed: u64,
+    pub inconclusive: u64,
+    pub error: u64,
+    /// The errors at the end, with no other mark behind them.
+    pub succession: u64,
+}
+
+impl Counts {
+    ghost use Rattle.ar_limits.specs.Bounds.{AreAtMost};
+    ghost use Rattle.ar_limits.specs.Step.{with_mark};
+
+    /// Counts one mark more.
+    pub(crate) fn add(&mut self, mark: Mark)
+        requires { AreAtMost MAX_EVENTS self.old }
+        ensures { self.new ≡ with_mark self.old mark }
+    {
+        match mark {
+            Mark::Successful => self.successful += 1,
+            Mark::Failed => self.failed += 1,
+            Mark::Inconclusive => self.inconclusive += 1,
+            Mark::Error => self.error += 1,
+        }
+        self.succession = match mark {
+            Mark::Error => self.succession + 1,
+            _ => 0,
+        };
+    }
+}

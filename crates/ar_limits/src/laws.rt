@@ -1,0 +1,62 @@
+//! Laws of the definitions. Each function does nothing: its contract is the law, which its proof shows.
+ghost use Rattle.ar_limits.specs.Laws.{OneMetricPhase, OneRunPhase, ClosedForAReason, MetricPhaseStays, RunPhaseStays, LateChangesNothing, OnlyTimelyMatters, ClosedMetricsAreComplete, FailuresFirst, InconclusiveSecond, ErrorsThird, CountLast, OneForEachMetric, EffectsInOrder};
+
+/// A metric has at most one phase: the one that its shortest deciding prefix decides.
+pub fn at_most_one_metric_phase()
+    ensures { OneMetricPhase }
+{}
+
+/// A run has at most one phase: that of its shortest closing prefix, whichever reason to close it
+/// has.
+pub fn at_most_one_run_phase()
+    ensures { OneRunPhase }
+{}
+
+/// A run is closed only for one of these reasons.
+pub fn closed_for_a_reason()
+    ensures { ClosedForAReason }
+{}
+
+/// A metric that is complete keeps its phase, whatever marks follow.
+pub fn metric_phase_stays()
+    ensures { MetricPhaseStays }
+{}
+
+/// A run that is closed keeps its phase, and its metrics theirs with their counts, whatever events
+/// follow.
+pub fn run_phase_stays()
+    ensures { RunPhaseStays }
+{}
+
+/// A late event changes no phase and no count.
+pub fn late_changes_nothing()
+    ensures { LateChangesNothing }
+{}
+
+/// Two lists of events that differ in late events alone have the same phases and counts.
+pub fn only_timely_matters()
+    ensures { OnlyTimelyMatters }
+{}
+
+/// After closing no metric is Pending or Running.
+pub fn closed_metrics_are_complete()
+    ensures { ClosedMetricsAreComplete }
+{}
+
+/// The order of the tests: failures before inconclusive marks, these before errors, and the count last.
+pub fn limits_before_count()
+    ensures failures { FailuresFirst }
+    ensures inconclusive { InconclusiveSecond }
+    ensures errors { ErrorsThird }
+    ensures count { CountLast }
+{}
+
+/// There is one phase and one set of counts for each metric.
+pub fn one_for_each_metric()
+    ensures { OneForEachMetric }
+{}
+
+/// The effects of a list are those of the list before, and that of the last event.
+pub fn effects_in_order()
+    ensures { EffectsInOrder }
+{}

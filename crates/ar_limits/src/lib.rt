@@ -1,0 +1,41 @@
+//! The phases of an analysis run, from the marks of its metrics and its stops, in their order.
+//!
+//! A [`RunState`] takes one [`Event`] after another. Whatever the events were, up to
+//! [`MAX_EVENTS`] of them, it shows the phase of the run, the phase and the counts of each
+//! metric, and what each event did, just as the definition of that list of events says:
+//! `specs/Metric.antt` and `specs/Run.antt`, by prefixes of the list and counts over them.
+//! `Replays` of `specs/Replay.antt` ties a state to the lists that lead to it: `new` ensures it
+//! for the empty list, `apply` for the list with one event more, and each reader answers for any
+//! such list. Making a state may fail for want of memory. After that nothing takes memory, and
+//! every call answers.
+//!
+//! Limits and phases are those of Argo Rollouts: its documentation, page "Analysis & Progressive
+//! Delivery", and the AnalysisTemplate spec.
+//!
+//! | Module | What it has |
+//! |---|---|
+//! | `event` | marks, events, and what an event does |
+//! | `phase` | the phases of metrics and runs |
+//! | `limits`, `counts` | the limits of a metric, the counts of its marks, and what they decide |
+//! | `metric` | a metric with its counts and phase |
+//! | `progress` | the metrics of a run, one event after another |
+//! | `run` | [`RunState`], which callers use |
+//! | `laws` | what follows from the definitions, each law a contract |
+#![tactic(auto)]
+
+mod counts;
+mod event;
+pub mod laws;
+mod limits;
+mod metric;
+mod phase;
+mod progress;
+mod run;
+#[cfg(test)]
+mod tests;
+
+pub use counts::Counts;
+pub use event::{Effect, Event, Mark};
+pub use limits::Limits;
+pub use phase::Phase;
+pub use run::{MAX_EVENTS, RunState};
