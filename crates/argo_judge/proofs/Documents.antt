@@ -1,0 +1,39 @@
+-- Inputs and the documents that they are.
+use Rattle.std.proofs.Common.{◌≡◌, ℕ, ◌≤◌, Bool, true, false, List, [], ◌++◌, length, Option, Some, None, refl, ◌∙◌, ap, arith, length-append, append-nil}
+use Rattle.std.specs.Prelude.{IfSome, nat_lt}
+use Rattle.std.specs.Str.{IsUtf8, is_utf8}
+use Rattle.std.proofs.lemmas.Str.{is_utf8-from_IsUtf8, IsUtf8-from_is_utf8}
+use Rattle.std.proofs.lemmas.Bool.Decides.{nat_tests}
+use Rattle.serde_json.specs.Data.{Data}
+use Rattle.serde_json.specs.Read.{read as read_text}
+use Rattle.argo_judge.specs.Input.{most_bytes, ReadsInput}
+use Rattle.argo_judge.specs.Evaluation.{document_of, evaluation_of}
+
+-- a text that is read is the document
+pub json : (input : List ℕ) (document : Data) → IsUtf8 input → read_text input ≡ Some document → document_of input ≡ Some document
+json input document utf8 read = rw (is_utf8-from_IsUtf8 input utf8) read
+
+unread : (input : List ℕ) (utf8 : Bool) → is_utf8 input ≡ utf8 → (IsUtf8 input → read_text input ≡ None) → document_of input ≡ None
+unread input true valid none = rw valid (none (IsUtf8-from_is_utf8 input valid))
+unread input false invalid none = rw invalid refl
+
+-- a text that isn't read is no document
+pub no_json : (input : List ℕ) → (IsUtf8 input → read_text input ≡ None) → document_of input ≡ None
+no_json input none = unread input (is_utf8 input) refl none
+
+-- one input begins with the bytes that were read, all of them or too many
+by_size : (input rest bytes : List ℕ) (is_large : Bool) → nat_lt most_bytes (length bytes) ≡ is_large → input ≡ bytes ++ rest → (length bytes ≤ most_bytes → rest ≡ [])
+    → evaluation_of input ≡ evaluation_of bytes
+unfolding evaluation_of
+by_size input rest bytes true large front whole =
+    let longer : nat_lt most_bytes (length input) ≡ true = rw front (grind (arith, nat_tests, length-append {A = ℕ})) in
+    rw (large, longer) refl
+by_size input rest bytes false small front whole =
+    let none : rest ≡ [] = whole (grind (arith, nat_tests)) in
+    ap evaluation_of (front ∙ ap (λ more. bytes ++ more) none ∙ append-nil bytes)
+
+-- as much of an input as is read evaluates as all of it
+pub read_whole : (known after : Option (List ℕ)) (bytes : List ℕ) → ReadsInput known after bytes → IfSome known (λ input. evaluation_of input ≡ evaluation_of bytes)
+read_whole None after bytes reads = tt
+read_whole (Some input) None bytes reads = absurd reads.front
+read_whole (Some input) (Some rest) bytes reads = by_size input rest bytes (nat_lt most_bytes (length bytes)) refl reads.front reads.whole

@@ -1,0 +1,11 @@
+-- Devices: a reader or a writer, and whether it failed.
+use Rattle.std.specs.Prelude.{Bool, is_some}
+use Rattle.argo_judge.specs.declared.device.Device.{Device}
+
+-- the reader or the writer
+abbrev pub inner_of : {T : Type 0} → Device T → T
+inner_of device = device.inner
+
+-- it met a fault
+abbrev pub has_failed : {T : Type 0} → Device T → Bool
+has_failed device = is_some device.fault

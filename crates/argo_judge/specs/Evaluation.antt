@@ -1,0 +1,88 @@
+-- What `eval` writes: a function of the JSON document that it reads.
+use Rattle.std.specs.Prelude.{◌≡◌, ℕ, nat_lt, if◌then◌else◌, Bool, true, false, List, [], ◌∷◌, ◌++◌, length, codes, Option, Some, None, option_and_then, Result, Ok, Err}
+use Rattle.std.specs.Str.{is_utf8}
+use Rattle.serde_json.specs.Data.{Data}
+use Rattle.serde_json.specs.Read.{read as read_text}
+use Rattle.serde_json.specs.Find.{get, as_str}
+use Rattle.ar_value.specs.Shape.{shape_of}
+use Rattle.ar_value.specs.Reading.{read}
+use Rattle.ar_value.specs.declared.value.Value.{Value}
+use Rattle.ar_value.specs.declared.value.Value.TheVariants as values
+use Rattle.ar_syntax.specs.Parse.{parse_of}
+use Rattle.ar_syntax.specs.declared.error.SyntaxError.{SyntaxError}
+use Rattle.ar_syntax.specs.declared.error.SyntaxError.TheVariants as syntax
+use Rattle.argo_judge.specs.Input.{most_bytes}
+use Rattle.argo_judge.specs.Typing.{condition_kind}
+use Rattle.argo_judge.specs.Meaning.{mean}
+use Rattle.argo_judge.specs.declared.eval.EvalError.{EvalError}
+use Rattle.argo_judge.specs.declared.eval.EvalError.TheVariants.{TooLarge, Utf8OrJson, BadDocument, Shape as BadShape, Grammar, Kinds, Misfit, OutOfMemory}
+
+-- a value leads on, a refusal stands
+infixl 10 ◌>>=◌
+abbrev pub ◌>>=◌ : {A B : Type 0} → Result A EvalError → (A → Result B EvalError) → Result B EvalError
+(Ok x) >>= f = f x
+(Err e) >>= f = Err e
+
+-- an answer, with its refusal under a name of `eval`'s
+abbrev pub refused_as : {A E : Type 0} → (E → EvalError) → Result A E → Result A EvalError
+refused_as name (Ok x) = Ok x
+refused_as name (Err e) = Err (name e)
+
+-- a member that has to be there
+abbrev pub there : {A : Type 0} → Option A → Result A EvalError
+there (Some x) = Ok x
+there None = Err BadDocument
+
+-- the truth that a condition's value is; its kind says that it is one
+abbrev pub truth_of : Option Value → Bool
+truth_of (Some (values.Bool truth)) = truth
+truth_of value = false
+
+-- A document's condition, shape and value have to be there. Then the shape is read, the condition, its kinds
+-- under the shape, and the value under the shape.
+unfoldable pub judged : Data → Result Bool EvalError
+judged document = do
+  condition ← there (option_and_then as_str (get (codes "condition") document))
+  declared ← there (get (codes "shape") document)
+  measured ← there (get (codes "value") document)
+  shape ← refused_as BadShape (shape_of declared)
+  tree ← refused_as Grammar (parse_of condition)
+  kind ← refused_as Kinds (condition_kind shape tree)
+  value ← refused_as Misfit (read shape measured)
+  Ok (truth_of (mean value tree))
+
+-- the JSON value (RFC 8259) whose text in UTF-8 an input is
+abbrev pub document_of : List ℕ → Option Data
+document_of input = if is_utf8 input then read_text input else None
+
+abbrev pub judged_document : Option Data → Result Bool EvalError
+judged_document None = Err Utf8OrJson
+judged_document (Some document) = judged document
+
+-- the truth that an input's condition has on its value, or the first fault that stands in the input
+unfoldable pub evaluation_of : List ℕ → Result Bool EvalError
+evaluation_of input = if nat_lt most_bytes (length input) then Err TooLarge else judged_document (document_of input)
+
+-- the line that is written: a truth value and a line feed
+abbrev pub line_of : Bool → List ℕ
+line_of true = codes "true" ++ 10 ∷ []
+line_of false = codes "false" ++ 10 ∷ []
+
+-- what is written for an input, or why it is refused
+abbrev pub output_of : List ℕ → Result (List ℕ) EvalError
+output_of input = evaluation_of input >>= λ truth. Ok (line_of truth)
+
+-- a fault of the condition's text, as `eval` answers it
+abbrev pub of_syntax : SyntaxError → EvalError
+of_syntax syntax.OutOfMemory = OutOfMemory
+of_syntax fault = Grammar fault
+
+-- a refusal is the one that is defined, unless memory ran out
+abbrev pub Refuses : EvalError → Result Bool EvalError → Type 0
+Refuses OutOfMemory answer = Unit {0}
+Refuses fault answer = answer ≡ Err fault
+
+-- what a function answered is what is defined, unless memory ran out
+abbrev pub Gives : Result Bool EvalError → Result Bool EvalError → Type 0
+Gives (Ok truth) answer = answer ≡ Ok truth
+Gives (Err fault) answer = Refuses fault answer

@@ -1,0 +1,81 @@
+//! The command line, read with `clap`.
+
+use crate::serve::Command;
+use clap::error::ErrorKind;
+use std::alloc::{AllocError, Global};
+
+const HELP: &str =
+    "Reads one JSON document from standard input and writes the answer to standard output.
+A fault is one line on standard error.
+
+Exit status: 0 answered, 2 command line or input refused, 3 out of memory, 4 a read or write failed.
+
+Example:
+  echo '{\"condition\":\"result >= 0.95\",\"shape\":\"decimal\",\"value\":\"0.9523\"}' | argo_judge eval";
+
+const EVAL_HELP: &str = "Standard input is {\"condition\":TEXT,\"shape\":SHAPE,\"value\":VALUE}.
+  condition  result OP LITERAL, with OP one of == != < <= > >= and LITERAL true, false,
+             a whole number as 500, or a decimal as 0.95
+  shape      \"bool\", \"whole\" or \"decimal\"
+  value      true or false, a whole JSON number, or a decimal as a text, as \"0.9523\"
+Standard output is true or false.
+
+Example:
+  echo '{\"condition\":\"result >= 0.95\",\"shape\":\"decimal\",\"value\":\"0.9523\"}' | argo_judge eval";
+
+/// What a command line asks for.
+#[derive(Debug, Drop)]
+pub enum Request {
+    Run(Command),
+    /// The text of `--help` or `--version`.
+    Show(String),
+}
+
+/// Why a command line asks for nothing.
+#[derive(Debug, Drop)]
+pub enum UsageError {
+    Words,
+    OutOfMemory,
+}
+
+impl From<AllocError> for UsageError {
+    ghost use Rattle.std.specs.Prelude.{◌≡◌};
+    ghost use Rattle.argo_judge.specs.declared.command_line.UsageError.TheVariants.{OutOfMemory};
+
+    ghost from_gives = { λ _ e. e ≡ OutOfMemory };
+
+    fn from(_error: AllocError) -> UsageError {
+        UsageError::OutOfMemory
+    }
+}
+
+/// What the words ask for, the program's name first.
+///
+/// # Errors
+///
+/// `Words` where they are no command line of the program's.
+pub(crate) fn request_of(alloc: Global, words: &[String]) -> Result<Request, UsageError> {
+    match application(alloc)?.try_get_matches_from(words) {
+        Ok(_) => Ok(Request::Run(Command::Eval)),
+        Err(error) => match error.kind() {
+            ErrorKind::DisplayHelp | ErrorKind::DisplayVersion => {
+                Ok(Request::Show(format!(in alloc; "{error}")?))
+            }
+            ErrorKind::OutOfMemory => Err(UsageError::OutOfMemory),
+            _ => Err(UsageError::Words),
+        },
+    }
+}
+
+fn application<'a>(alloc: Global) -> Result<clap::Command<'a>, AllocError> {
+    let eval = clap::Command::new(alloc, "eval")
+        .about("Judge one condition on one value")
+        .after_help(EVAL_HELP);
+    clap::Command::new(alloc, "argo_judge")
+        .version("0.1.0")
+        .about("Judges canary measurements as Argo Rollouts' analysis does")
+        .after_help(HELP)
+        .disable_help_subcommand(true)
+        .subcommand_required(true)
+        .subcommand(eval)
+}

@@ -1,0 +1,283 @@
+//! Worked rows, whose expected values were worked out by hand, and inputs that fail.
+
+use crate::command_line::{Request, UsageError, request_of};
+use crate::device::{Device, DeviceFault, Source};
+use crate::eval::EvalError;
+use crate::serve::{Closing, Command, Refusal, ServeError, serve_plain};
+use ar_syntax::error::SyntaxError;
+use ar_value::shape::ShapeError;
+use ar_value::value::ShapeFault;
+use std::alloc::Global;
+use std::io::Read;
+use std::test::Fail;
+
+/// What `eval` makes of a document: whether it writes the line, or its refusal.
+fn eval(alloc: Global, document: &str, line: &str) -> Result<bool, ServeError> {
+    let mut output = Vec::new(alloc);
+    let mut reader = Device::new(document.as_bytes());
+    let mut writer = Device::new(&mut output);
+    let closing = serve_plain(alloc, Command::Eval, &mut reader, &mut writer)?;
+    Ok(closing == Closing::Good && output.as_slice() == line.as_bytes())
+}
+
+/// Documents with the line that is written.
+#[test]
+fn answers(rt: HostRuntime) {
+    let rows = [
+        (
+            r#"{"condition":"result >= 0.95","shape":"decimal","value":"0.9523809523809523"}"#,
+            "true\n",
+        ),
+        (
+            r#"{"condition":"result >= 0.95","shape":"decimal","value":"0.9499999999"}"#,
+            "false\n",
+        ),
+        (
+            r#"{"condition":"result > 0.5","shape":"whole","value":9223372036854775807}"#,
+            "true\n",
+        ),
+        (
+            r#"{"condition":"result != false","shape":"bool","value":false}"#,
+            "false\n",
+        ),
+        (
+            r#"{"condition":"result == true","shape":"bool","value":true}"#,
+            "true\n",
+        ),
+        (
+            r#"{"condition":"result == 1","shape":"decimal","value":1}"#,
+            "true\n",
+        ),
+        (
+            r#"{"condition":"result <= .5","shape":"decimal","value":"0.5"}"#,
+            "true\n",
+        ),
+        (
+            r#"{"condition":"result < 500","shape":"whole","value":500}"#,
+            "false\n",
+        ),
+        (
+            r#"{"value":-1,"other":[],"shape":"whole","condition":"\tresult\n<1"}"#,
+            "true\n",
+        ),
+    ];
+    for (document, line) in rows {
+        assert_eq!(rt; eval(rt.alloc(), document, line), Ok(true), "{document}");
+    }
+}
+
+/// Documents that are refused, the first fault first.
+#[test]
+fn refusals(rt: HostRuntime) {
+    let rows = [
+        ("", EvalError::Utf8OrJson),
+        ("{", EvalError::Utf8OrJson),
+        ("{} {}", EvalError::Utf8OrJson),
+        ("[]", EvalError::BadDocument),
+        ("7", EvalError::BadDocument),
+        (r#"{"shape":"bool","value":true}"#, EvalError::BadDocument),
+        (
+            r#"{"condition":7,"shape":"bool","value":true}"#,
+            EvalError::BadDocument,
+        ),
+        (r#"{"condition":"","value":true}"#, EvalError::BadDocument),
+        (r#"{"condition":"","shape":"bool"}"#, EvalError::BadDocument),
+        (
+            r#"{"condition":"","shape":"float","value":1}"#,
+            EvalError::Shape(ShapeError::UnknownShape),
+        ),
+        (
+            r#"{"condition":"result >","shape":null,"value":1}"#,
+            EvalError::Shape(ShapeError::UnknownShape),
+        ),
+        (
+            r#"{"condition":"result >","shape":"bool","value":1}"#,
+            EvalError::Grammar(SyntaxError::Unexpected(8)),
+        ),
+        (
+            r#"{"condition":"result > 0.1234567","shape":"bool","value":1}"#,
+            EvalError::Grammar(SyntaxError::LiteralTooFine(9)),
+        ),
+        (
+            r#"{"condition":"result < true","shape":"bool","value":1}"#,
+            EvalError::Kinds(7),
+        ),
+        (
+            r#"{"condition":"result == 1","shape":"bool","value":1}"#,
+            EvalError::Kinds(7),
+        ),
+        (
+            r#"{"condition":"result != true","shape":"whole","value":1}"#,
+            EvalError::Kinds(7),
+        ),
+        (
+            r#"{"condition":"result != true","shape":"bool","value":1}"#,
+            EvalError::Misfit(ShapeFault::WrongKind),
+        ),
+        (
+            r#"{"condition":"result > 0.5","shape":"decimal","value":0.95}"#,
+            EvalError::Misfit(ShapeFault::FloatNumber),
+        ),
+        (
+            r#"{"condition":"result > 0.5","shape":"decimal","value":"NaN"}"#,
+            EvalError::Misfit(ShapeFault::NotFinite),
+        ),
+        (
+            r#"{"condition":"result > 0.5","shape":"decimal","value":"1,5"}"#,
+            EvalError::Misfit(ShapeFault::BadDecimal),
+        ),
+        (
+            r#"{"condition":"result > 0","shape":"whole","value":9223372036854775808}"#,
+            EvalError::Misfit(ShapeFault::OutOfRange),
+        ),
+        (
+            r#"{"condition":"result > 0","shape":"whole","value":null}"#,
+            EvalError::Misfit(ShapeFault::WrongKind),
+        ),
+    ];
+    for (document, fault) in rows {
+        let refused = Err(ServeError::Refused(Refusal::Eval(fault)));
+        assert_eq!(rt; eval(rt.alloc(), document, ""), refused, "{document}");
+    }
+}
+
+/// A source that gives a byte a read, and fails once its reads are used up.
+#[derive(Drop)]
+struct Failing<'a> {
+    rest: &'a [u8],
+    reads: usize,
+    has_failed: bool,
+}
+
+impl Source for Failing<'_> {
+    ghost use Rattle.std.specs.Prelude.{Some};
+
+    ghost remaining = { λ s. Some s.rest.now };
+
+    ghost has_failed = { λ s. s.has_failed };
+
+    fn read(&mut self, buf: &mut [u8]) -> Result<usize, DeviceFault> {
+        if self.reads == 0 {
+            self.has_failed = true;
+            return Err(DeviceFault);
+        }
+        self.reads -= 1;
+        let most = buf.len().min(1);
+        match self.rest.read(&mut buf[..most]) {
+            Ok(count) => Ok(count),
+            Err(_) => {
+                self.has_failed = true;
+                Err(DeviceFault)
+            }
+        }
+    }
+
+    fn failed(&self) -> bool {
+        self.has_failed
+    }
+}
+
+/// A reader that fails at any of its reads has `Read` answered and nothing written. One that
+/// fails at none has the answer, also a byte at a time.
+#[test]
+fn failing_reads(rt: HostRuntime) {
+    let document = r#"{"condition":"result>1","shape":"whole","value":2}"#;
+    for reads in 0..document.len() + 2 {
+        let mut output = Vec::new(rt.alloc());
+        let mut reader = Failing {
+            rest: document.as_bytes(),
+            reads,
+            has_failed: false,
+        };
+        let mut writer = Device::new(&mut output);
+        let outcome = serve_plain(rt.alloc(), Command::Eval, &mut reader, &mut writer);
+        if reads <= document.len() {
+            assert_eq!(rt; outcome, Err(ServeError::Read), "{reads}");
+            assert!(rt; output.is_empty() && reader.failed(), "{reads}");
+        } else {
+            assert_eq!(rt; outcome, Ok(Closing::Good));
+            assert_eq!(rt; output.as_slice(), b"true\n".as_slice());
+        }
+    }
+}
+
+/// The one line of each refusal.
+#[test]
+fn refusal_texts(rt: HostRuntime) -> Result<(), Fail> {
+    let rows = [
+        (
+            EvalError::TooLarge,
+            "document: TooLarge: expected at most 16777216 bytes",
+        ),
+        (
+            EvalError::Utf8OrJson,
+            "document: Utf8OrJson: expected one JSON value in UTF-8",
+        ),
+        (
+            EvalError::BadDocument,
+            "document: BadDocument: expected an object with a text `condition`, a `shape` and a `value`",
+        ),
+        (
+            EvalError::Shape(ShapeError::UnknownShape),
+            "shape: UnknownShape: expected \"bool\", \"whole\" or \"decimal\"",
+        ),
+        (
+            EvalError::Grammar(SyntaxError::LiteralTooFine(9)),
+            "condition, byte 9: LiteralTooFine: a decimal has at most six digits after the point",
+        ),
+        (
+            EvalError::Kinds(7),
+            "condition, byte 7: Kinds: expected two numbers, or truth values beside == or !=",
+        ),
+        (
+            EvalError::Misfit(ShapeFault::FloatNumber),
+            "value: FloatNumber: expected a whole JSON number, or a decimal as a text, as \"0.95\"",
+        ),
+    ];
+    for (fault, expected) in rows {
+        let text = format!(in rt.alloc(); "{}", ServeError::Refused(Refusal::Eval(fault)))?;
+        assert_eq!(rt; text.as_str(), expected);
+    }
+    Ok(())
+}
+
+/// What command lines ask for.
+#[test]
+fn command_lines(rt: HostRuntime) -> Result<(), Fail> {
+    assert!(rt;
+        matches!(
+            request(rt.alloc(), &["eval"])?,
+            Ok(Request::Run(Command::Eval))
+        )
+    );
+    assert!(rt; matches!(request(rt.alloc(), &["--help"])?, Ok(Request::Show(_))));
+    assert!(rt; matches!(request(rt.alloc(), &["--version"])?, Ok(Request::Show(_))));
+    assert!(rt; matches!(request(rt.alloc(), &[])?, Err(UsageError::Words)));
+    assert!(rt; matches!(request(rt.alloc(), &["run"])?, Err(UsageError::Words)));
+    assert!(rt; matches!(request(rt.alloc(), &["help"])?, Err(UsageError::Words)));
+    assert!(rt;
+        matches!(
+            request(rt.alloc(), &["eval", "now"])?,
+            Err(UsageError::Words)
+        )
+    );
+    assert!(rt;
+        matches!(
+            request(rt.alloc(), &["eval", "--workers", "2"])?,
+            Err(UsageError::Words)
+        )
+    );
+    Ok(())
+}
+
+fn request(
+    alloc: Global,
+    words: &[&str],
+) -> Result<Result<Request, UsageError>, std::alloc::AllocError> {
+    let mut all = Vec::new(alloc);
+    all.push("argo_judge".to_string(alloc)?)?;
+    for word in words {
+        all.push(word.to_string(alloc)?)?;
+    }
+    Ok(request_of(alloc, all.as_slice()))
+}
