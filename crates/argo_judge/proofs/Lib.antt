@@ -1,2 +1,3 @@
 pub mod Documents
 pub mod Fitting
+mod Facts
