@@ -80,6 +80,7 @@ impl From<EvalError> for ServeError {
 ///
 /// `Read` and `Write` where the reader or the writer failed, `Refused` for the first fault of the
 /// document.
+#[tactic(auto, using(crate::proofs::Documents::read_whole))]
 pub fn serve_plain<R: Source, W: Sink>(
     alloc: Global,
     command: Command,
@@ -104,31 +105,14 @@ pub fn serve_plain<R: Source, W: Sink>(
     ensures silent { IfErr result (λ e. e ≢ ServeError.Write → writer.new ≡ writer.old) }
 {
     match command {
-        Command::Eval => serve_eval(alloc, reader, writer),
-    }
-}
-
-#[tactic(auto, using(crate::proofs::Documents::read_whole))]
-fn serve_eval<R: Source, W: Sink>(
-    alloc: Global,
-    reader: &mut R,
-    writer: &mut W,
-) -> Result<Closing, ServeError>
-    requires reader_works { R.has_failed reader.old ≡ false }
-    ensures written { OnOk result (IfSome (R.remaining reader.old)
-        (λ input. (line : List ℕ) × (output_of input ≡ Ok line) × Appends (W.contents writer.old) (W.contents writer.new) line)) }
-    ensures closing { IfOk result (λ closing. closing ≡ Closing.Good) }
-    ensures refused { (fault : EvalError) → result ≡ Err (ServeError.Refused (Refusal.Eval fault))
-        → IfSome (R.remaining reader.old) (λ input. output_of input ≡ Err fault) }
-    ensures read { result ≡ Err ServeError.Read → R.has_failed reader.new ≡ true }
-    ensures write { result ≡ Err ServeError.Write → W.has_failed writer.new ≡ true }
-    ensures silent { IfErr result (λ e. e ≢ ServeError.Write → writer.new ≡ writer.old) }
-{
-    let input = read_input(alloc, reader)?;
-    let truth = evaluate(alloc, &input)?;
-    match writer.write_all(line(truth)) {
-        Ok(()) => Ok(Closing::Good),
-        Err(_) => Err(ServeError::Write),
+        Command::Eval => {
+            let input = read_input(alloc, reader)?;
+            let truth = evaluate(alloc, &input)?;
+            match writer.write_all(line(truth)) {
+                Ok(()) => Ok(Closing::Good),
+                Err(_) => Err(ServeError::Write),
+            }
+        }
     }
 }
 

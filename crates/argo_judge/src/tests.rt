@@ -60,6 +60,10 @@ fn answers(rt: HostRuntime) {
             r#"{"value":-1,"other":[],"shape":"whole","condition":"\tresult\n<1"}"#,
             "true\n",
         ),
+        (
+            r#"{"condition":"result > 5","condition":"result > 1","shape":"whole","value":2}"#,
+            "true\n",
+        ),
     ];
     for (document, line) in rows {
         assert_eq!(rt; eval(rt.alloc(), document, line), Ok(true), "{document}");
@@ -73,6 +77,9 @@ fn refusals(rt: HostRuntime) {
         ("", EvalError::Utf8OrJson),
         ("{", EvalError::Utf8OrJson),
         ("{} {}", EvalError::Utf8OrJson),
+        ("\u{feff}{}", EvalError::Utf8OrJson),
+        (r#"{"condition":"\ud800"}"#, EvalError::Utf8OrJson),
+        (r#"{"condition":1e999}"#, EvalError::Utf8OrJson),
         ("[]", EvalError::BadDocument),
         ("7", EvalError::BadDocument),
         (r#"{"shape":"bool","value":true}"#, EvalError::BadDocument),
@@ -139,6 +146,30 @@ fn refusals(rt: HostRuntime) {
         let refused = Err(ServeError::Refused(Refusal::Eval(fault)));
         assert_eq!(rt; eval(rt.alloc(), document, ""), refused, "{document}");
     }
+}
+
+/// A member that is read over may nest to 127 levels, the document's own among them.
+#[test]
+fn nesting(rt: HostRuntime) -> Result<(), Fail> {
+    for (lists, expected) in [
+        (126, Ok(true)),
+        (
+            127,
+            Err(ServeError::Refused(Refusal::Eval(EvalError::Utf8OrJson))),
+        ),
+    ] {
+        let open = "[".repeat(rt.alloc(), lists)?;
+        let close = "]".repeat(rt.alloc(), lists)?;
+        let document = format!(in rt.alloc();
+            "{{\"other\":{open}{close},\"condition\":\"result > 1\",\"shape\":\"whole\",\"value\":2}}"
+        )?;
+        assert_eq!(rt;
+            eval(rt.alloc(), document.as_str(), "true\n"),
+            expected,
+            "{lists}"
+        );
+    }
+    Ok(())
 }
 
 /// A source that gives a byte a read, and fails once its reads are used up.
