@@ -62,8 +62,9 @@ pub struct Device<T> {
 }
 
 impl<T> Device<T> {
-    ghost use Rattle.std.specs.Prelude.{◌≡◌, true, false, is_some};
-    ghost use Rattle.argo_judge.specs.Device.{has_failed, inner_of};
+    ghost use Rattle.std.specs.Prelude.{◌≡◌, false, Some};
+    ghost use Rattle.std.specs.Option.{option_copied};
+    ghost use Rattle.argo_judge.specs.Device.{fault_of, has_failed, inner_of};
 
     /// A device that has met no fault.
     pub fn new(inner: T) -> Device<T>
@@ -75,14 +76,14 @@ impl<T> Device<T> {
 
     /// The last fault that it met.
     pub fn fault(&self) -> Option<&io::Error>
-        ensures { is_some result ≡ has_failed self.now }
+        ensures { option_copied result ≡ fault_of self.now }
     {
         self.fault.as_ref()
     }
 
     /// Keeps the fault that the reader or the writer answered.
     fn keep(&mut self, fault: io::Error) -> DeviceFault
-        ensures fails { has_failed self.new ≡ true }
+        ensures fault { fault_of self.new ≡ Some fault }
         ensures inner { inner_of self.new ≡ inner_of self.old }
     {
         self.fault = Some(fault);
