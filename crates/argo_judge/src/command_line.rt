@@ -3,6 +3,7 @@
 use crate::serve::Command;
 use clap::error::ErrorKind;
 use std::alloc::{AllocError, Global};
+use thiserror::Error;
 
 const HELP: &str =
     "Reads one JSON document from standard input and writes the answer to standard output.
@@ -32,9 +33,11 @@ pub enum Request {
 }
 
 /// Why a command line asks for nothing.
-#[derive(Debug, Drop)]
+#[derive(Clone, Copy, Debug, PartialEq, Eq, Error)]
 pub enum UsageError {
+    #[error("command line: Words: expected `eval`, --help or --version")]
     Words,
+    #[error("out of memory")]
     OutOfMemory,
 }
 

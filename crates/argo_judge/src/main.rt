@@ -49,15 +49,12 @@ fn run<R: Env + AllocGlobal + Input + Print + Eprint>(rt: &R) -> u8 {
             Ok(()) => status::GOOD,
             Err(_) => status::DEVICE,
         },
-        Err(UsageError::Words) => {
-            let _ = eprintln!(rt;
-                "argo_judge: command line: Words: expected `eval`, --help or --version"
-            );
-            status::REFUSED
-        }
-        Err(UsageError::OutOfMemory) => {
-            let _ = eprintln!(rt; "argo_judge: out of memory");
-            status::OUT_OF_MEMORY
+        Err(error) => {
+            let _ = eprintln!(rt; "argo_judge: {error}");
+            match error {
+                UsageError::Words => status::REFUSED,
+                UsageError::OutOfMemory => status::OUT_OF_MEMORY,
+            }
         }
     }
 }
