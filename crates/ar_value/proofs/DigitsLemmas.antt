@@ -1,11 +1,12 @@
 -- What digits spell, digit by digit and in two parts.
 use Rattle.std.proofs.Common.{◌≡◌, ℕ, zero, suc, ◌+◌, ◌-◌, ◌*◌, ◌/◌, ◌^◌, ◌<◌, ◌≤◌, Bool, true, false, List, [], ◌∷◌, ◌++◌, length, take, drop, get_or, refl, sym, ◌∙◌, ap, arith, lit<, min, length-drop, drop-cons, add-one}
-use Rattle.std.specs.Prelude.{◌&&◌, ◌⊎◌}
+use Rattle.std.specs.Prelude.{◌&&◌}
 use Rattle.std.proofs.Common.{inl, inr}
-use Rattle.std.proofs.Math.Nat.{pow-suc, mul-lt-mul_of_pos_left, le-mul_of_pos_right, eq-zero-or-pos}
+use Rattle.std.proofs.Math.Nat.{pow-suc, le-mul_of_pos_right, eq-zero-or-pos, mul-div_cancel, mul-div-mul_right, div-eq_of_lt, pow-le-pow_right}
 use Rattle.std.proofs.Math.ListN.{drop_of_length-le}
 use Rattle.std.proofs.lemmas.Nat.{pow-add, div-mul-add}
-use Rattle.std.proofs.lemmas.List.{take-append-drop}
+use Rattle.std.proofs.lemmas.List.{append-nil, take-append-drop, take-append-le}
+use Rattle.std.proofs.Math.Seq.{take-append-add, take-length}
 use Rattle.std.proofs.lemmas.List.Folds.{list_all-append}
 use Rattle.std.proofs.lemmas.Int.Digits.{digits_value-lt}
 use Rattle.std.specs.List.{list_all}
@@ -13,7 +14,7 @@ use Rattle.std.specs.Char.{is_ascii_digit, digit_value}
 use Rattle.std.proofs.lemmas.Bool.Decides.{nat_tests}
 use Rattle.std.proofs.lemmas.List.Sums.{AllPass-from_list_all}
 use Rattle.std.specs.Str.Parse.{digits_value, digits_value_after, AllDigits}
-use Rattle.ar_value.specs.Digits.{magnitude_of}
+use Rattle.ar_value.specs.Digits.{magnitude_of, scaled_magnitude}
 
 -- further digits don't make the number smaller
 pub before-le-digits_value_after : (n : ℕ) (ds : List ℕ) → n ≤ digits_value_after 10 n ds
@@ -76,54 +77,104 @@ pub digits_value_after-append : (n : ℕ) (xs ys : List ℕ) → digits_value_af
 digits_value_after-append n [] ys = refl
 digits_value_after-append n (c ∷ cs) ys = digits_value_after-append (n * 10 + digit_value c) cs ys
 
-regrouped : (k r a b c : ℕ) → (k * a + r) * (b * c) ≡ (k * c) * (b * a) + r * (b * c)
-regrouped k r a b c = omega arith
-
 ten_pow_pos : (n : ℕ) → 0 < 10 ^ n
 ten_pow_pos zero = lit< tt
 ten_pow_pos (suc n) = omega (arith, ten_pow_pos n, pow-suc 10 n)
-
-small : (r a b c : ℕ) → 0 < b → r < a → (a ≡ 1) ⊎ (c ≡ 1) → r * (b * c) < b * a
-small r a b c positive below (inl none) = let zero_rest : r ≡ 0 = omega arith in rw (zero_rest, none) (omega arith)
-small r a b c positive below (inr one) = rw one (omega (arith, mul-lt-mul_of_pos_left below positive))
-
-ten_pow_of_zero : (n : ℕ) → n ≡ 0 → 10 ^ n ≡ 1
-ten_pow_of_zero n e = rw e refl
-
--- of m kept digits and n further ones, whose number is r, the further ones don't count
-small_rest : (r m n j : ℕ) → r < 10 ^ n → (n ≡ 0) ⊎ (j ≡ 0) → r * (10 ^ m * 10 ^ j) < 10 ^ m * 10 ^ n
-small_rest r m n j below (inl none) = small r (10 ^ n) (10 ^ m) (10 ^ j) (ten_pow_pos m) below (inl (ten_pow_of_zero n none))
-small_rest r m n j below (inr whole) = small r (10 ^ n) (10 ^ m) (10 ^ j) (ten_pow_pos m) below (inr (ten_pow_of_zero j whole))
-
-pub cut_digits : (k r m n j : ℕ) → m + j ≡ 6 → r < 10 ^ n → (n ≡ 0) ⊎ (j ≡ 0) → (k * 10 ^ n + r) * 10 ^ 6 / 10 ^ (m + n) ≡ k * 10 ^ j
-cut_digits k r m n j six below none =
-    let million : 10 ^ 6 ≡ 10 ^ m * 10 ^ j = ap (λ e. 10 ^ e) (sym six) ∙ pow-add 10 m j in
-    rw (pow-add 10 m n) (
-    ap (λ w. (k * 10 ^ n + r) * w / (10 ^ m * 10 ^ n)) million
-    ∙ ap (λ w. w / (10 ^ m * 10 ^ n)) (regrouped k r (10 ^ n) (10 ^ m) (10 ^ j))
-    ∙ div-mul-add (k * 10 ^ j) (10 ^ m * 10 ^ n) (r * (10 ^ m * 10 ^ j)) (small_rest r m n j below none))
 
 list_all-drop : (ds : List ℕ) (m : ℕ) → list_all is_ascii_digit ds ≡ true → list_all is_ascii_digit (drop m ds) ≡ true
 list_all-drop ds m h =
     let split : (list_all is_ascii_digit (take m ds) && list_all is_ascii_digit (drop m ds)) ≡ true = sym (list_all-append is_ascii_digit (take m ds) (drop m ds)) ∙ ap (list_all is_ascii_digit) (take-append-drop m ds) ∙ h in
     (both_pass (list_all is_ascii_digit (take m ds)) (list_all is_ascii_digit (drop m ds)) split).1
 
--- the millionths of all digits, cut, are those of the whole digits and at most six others
-pub kept_digits : (whole fraction : List ℕ) (m : ℕ) → m ≡ min (length fraction) 6 → list_all is_ascii_digit fraction ≡ true
-    → magnitude_of whole fraction ≡ digits_value_after 10 (digits_value 10 whole) (take m fraction) * 10 ^ (6 - m)
-kept_digits whole fraction m kept digits =
-    let rest_digits : list_all is_ascii_digit (drop m fraction) ≡ true = list_all-drop fraction m digits in
-    let small : digits_value 10 (drop m fraction) < 10 ^ length (drop m fraction) = digits_value-lt 10 (drop m fraction) (AllDigits-from_list_all (drop m fraction) rest_digits) in
-    let all : digits_value 10 (whole ++ fraction) ≡ digits_value_after 10 (digits_value 10 whole) (take m fraction) * 10 ^ length (drop m fraction) + digits_value 10 (drop m fraction) =
-    digits_value_after-append 0 whole fraction
-    ∙ ap (digits_value_after 10 (digits_value 10 whole)) (sym (take-append-drop m fraction))
-    ∙ digits_value_after-append (digits_value 10 whole) (take m fraction) (drop m fraction)
-    ∙ digits_value_after-split (digits_value_after 10 (digits_value 10 whole) (take m fraction)) (drop m fraction) in
-    let long : length fraction ≡ m + length (drop m fraction) = omega (arith, length-drop {A = ℕ}) in
-    let none : (length (drop m fraction) ≡ 0) ⊎ (6 - m ≡ 0) = elim (eq-zero-or-pos (6 - m)) [ inl full ↦ inr full | inr short ↦ inl (omega (arith, long)) ] in
-    rw (all, long)
-    (cut_digits (digits_value_after 10 (digits_value 10 whole) (take m fraction)) (digits_value 10 (drop m fraction)) m (length (drop m fraction)) (6 - m) (omega arith) small none)
+-- a scale that isn't below the digits behind the point lengthens the number
+pub lengthened : (n raised lowered : ℕ) → lowered ≤ raised → n * 10 ^ raised / 10 ^ lowered ≡ n * 10 ^ (raised - lowered)
+lengthened n raised lowered short =
+    let parts : raised ≡ (raised - lowered) + lowered = omega arith in
+    let power : 10 ^ raised ≡ 10 ^ (raised - lowered) * 10 ^ lowered = ap (λ e. 10 ^ e) parts ∙ pow-add 10 (raised - lowered) lowered in
+    let weighed_up : n * 10 ^ raised ≡ (n * 10 ^ (raised - lowered)) * 10 ^ lowered = ap (λ w. n * w) power ∙ omega arith in
+    ap (λ w. w / 10 ^ lowered) weighed_up ∙ mul-div_cancel (n * 10 ^ (raised - lowered)) (ten_pow_pos lowered)
+
+shortened : (n raised lowered : ℕ) → raised ≤ lowered → n * 10 ^ raised / 10 ^ lowered ≡ n / 10 ^ (lowered - raised)
+shortened n raised lowered short =
+    let parts : lowered ≡ (lowered - raised) + raised = omega arith in
+    let power : 10 ^ lowered ≡ 10 ^ (lowered - raised) * 10 ^ raised = ap (λ e. 10 ^ e) parts ∙ pow-add 10 (lowered - raised) raised in
+    ap (λ w. n * 10 ^ raised / w) power ∙ mul-div-mul_right n (10 ^ (lowered - raised)) (ten_pow_pos raised)
+
+below_power : (digits : List ℕ) (count behind : ℕ) → count ≡ 0 → length digits ≤ behind → list_all is_ascii_digit digits ≡ true → digits_value 10 digits < 10 ^ behind
+below_power digits count behind none past are_digits =
+    omega (arith, digits_value-lt 10 digits (AllDigits-from_list_all digits are_digits), pow-le-pow_right {n = 10} (lit< tt) past)
+
+-- of digits, those before the last ones count
+front_digits : (digits : List ℕ) (count behind : ℕ) → list_all is_ascii_digit digits ≡ true → count ≡ length digits - behind
+    → digits_value 10 digits / 10 ^ behind ≡ digits_value 10 (take count digits)
+front_digits digits count behind are_digits is_count =
+    let rest : list_all is_ascii_digit (drop count digits) ≡ true = list_all-drop digits count are_digits in
+    let small : digits_value 10 (drop count digits) < 10 ^ length (drop count digits) = digits_value-lt 10 (drop count digits) (AllDigits-from_list_all (drop count digits) rest) in
+    let all : digits_value 10 digits ≡ digits_value 10 (take count digits) * 10 ^ length (drop count digits) + digits_value 10 (drop count digits) =
+    ap (digits_value 10) (sym (take-append-drop count digits)) ∙ digits_value_after-append 0 (take count digits) (drop count digits) ∙ digits_value_after-split (digits_value 10 (take count digits)) (drop count digits) in
+    elim (eq-zero-or-pos (behind - length digits)) [
+      | inl within ↦
+          let len : length (drop count digits) ≡ behind = omega (arith, length-drop {A = ℕ}) in
+          rw (all, len) (div-mul-add (digits_value 10 (take count digits)) (10 ^ behind) (digits_value 10 (drop count digits)) (rw (← len) small))
+      | inr past ↦
+          let none : count ≡ 0 = omega arith in
+          let all_behind : length (drop count digits) ≤ behind = omega (arith, length-drop {A = ℕ}) in
+          let below : digits_value 10 digits < 10 ^ behind = below_power digits count behind none (omega arith) are_digits in
+          rw none (div-eq_of_lt below)
+    ]
 
 -- a power of ten makes no number smaller
 pub le-mul-ten_pow : (k j : ℕ) → k ≤ k * 10 ^ j
 le-mul-ten_pow k j = omega (arith, le-mul_of_pos_right k (ten_pow_pos j))
+
+unit : (n : ℕ) → n + 0 ≡ n
+unit n = omega arith
+
+-- the scale of no exponent changes nothing
+pub unscaled : (whole fraction : List ℕ) → scaled_magnitude whole fraction 0 0 ≡ magnitude_of whole fraction
+unscaled whole fraction = rw (unit (length fraction)) refl
+
+pub list_all_take : (ds : List ℕ) (m : ℕ) → list_all is_ascii_digit ds ≡ true → list_all is_ascii_digit (take m ds) ≡ true
+list_all_take ds m h =
+    let split : (list_all is_ascii_digit (take m ds) && list_all is_ascii_digit (drop m ds)) ≡ true = sym (list_all-append is_ascii_digit (take m ds) (drop m ds)) ∙ ap (list_all is_ascii_digit) (take-append-drop m ds) ∙ h in
+    (both_pass (list_all is_ascii_digit (take m ds)) (list_all is_ascii_digit (drop m ds)) split).0
+
+two_takes : (xs ys : List ℕ) (n m : ℕ) → m ≡ min n (length xs) → take n (xs ++ ys) ≡ take m xs ++ take (n - m) ys
+two_takes xs ys n m is_m =
+    elim (eq-zero-or-pos (n - length xs)) [
+      | inl within ↦
+          let same : m ≡ n = omega arith in
+          let none : n - n ≡ 0 = omega arith in
+          rw (same, none, append-nil (take n xs)) (take-append-le n xs ys (omega arith))
+      | inr past ↦
+          let same : m ≡ length xs = omega arith in
+          let parts : n ≡ length xs + (n - length xs) = omega arith in
+          rw same (ap (λ k. take k (xs ++ ys)) parts ∙ take-append-add xs ys (n - length xs) ∙ ap (λ zs. zs ++ take (n - length xs) ys) (sym (take-length xs)))
+    ]
+
+-- what the first digits of two runs spell
+pub leading_digits : (xs ys : List ℕ) (n m : ℕ) → m ≡ min n (length xs)
+    → digits_value 10 (take n (xs ++ ys)) ≡ digits_value_after 10 (digits_value 10 (take m xs)) (take (n - m) ys)
+leading_digits xs ys n m is_m = ap (digits_value 10) (two_takes xs ys n m is_m) ∙ digits_value_after-append 0 (take m xs) (take (n - m) ys)
+
+-- what all digits of two runs spell
+pub all_digits : (xs ys : List ℕ) → digits_value 10 (xs ++ ys) ≡ digits_value_after 10 (digits_value 10 xs) ys
+all_digits xs ys = digits_value_after-append 0 xs ys
+
+-- the magnitude by a longer scale, and by a shorter one
+pub scaled_up : (whole fraction : List ℕ) (up down raised lowered : ℕ) → raised ≡ 6 + up → lowered ≡ length fraction + down → lowered ≤ raised
+    → scaled_magnitude whole fraction up down ≡ digits_value 10 (whole ++ fraction) * 10 ^ (raised - lowered)
+scaled_up whole fraction up down raised lowered r l short = rw (← r, ← l) (lengthened (digits_value 10 (whole ++ fraction)) raised lowered short)
+
+pub scaled_down : (whole fraction : List ℕ) (up down raised lowered count : ℕ) → list_all is_ascii_digit (whole ++ fraction) ≡ true → raised ≡ 6 + up → lowered ≡ length fraction + down → raised ≤ lowered
+    → count ≡ length (whole ++ fraction) - (lowered - raised)
+    → scaled_magnitude whole fraction up down ≡ digits_value 10 (take count (whole ++ fraction))
+scaled_down whole fraction up down raised lowered count digits r l short c =
+    rw (← r, ← l) (shortened (digits_value 10 (whole ++ fraction)) raised lowered short ∙ front_digits (whole ++ fraction) count (lowered - raised) digits c)
+
+pub both_digits : (whole fraction : List ℕ) → list_all is_ascii_digit whole ≡ true → list_all is_ascii_digit fraction ≡ true → list_all is_ascii_digit (whole ++ fraction) ≡ true
+both_digits whole fraction w f = list_all-append is_ascii_digit whole fraction ∙ rw (w, f) refl
+
+-- three digits spell a number below a thousand
+pub below_thousand : (ds : List ℕ) → list_all is_ascii_digit ds ≡ true → length ds ≤ 3 → digits_value 10 ds < 1000
+below_thousand ds digits short = omega (arith, digits_value-lt 10 ds (AllDigits-from_list_all ds digits), pow-le-pow_right {n = 10} (lit< tt) short)

@@ -44,6 +44,30 @@ two_points : decimal_of (codes "1.2.3") ≡ Err BadDecimal
 unfolding decimal_of
 two_points = refl
 
-exponent : decimal_of (codes "1e5") ≡ Err BadDecimal
+raised : decimal_of (codes "1e5") ≡ Ok (pos 100000000000)
 unfolding decimal_of
-exponent = refl
+raised = refl
+
+lowered : decimal_of (codes "1e-7") ≡ Ok (pos 0)
+unfolding decimal_of
+lowered = refl
+
+lowered_far : decimal_of (codes "-99E-999") ≡ Ok (pos 0)
+unfolding decimal_of
+lowered_far = refl
+
+raised_far : decimal_of (codes "1e+999") ≡ Err OutOfRange
+unfolding decimal_of
+raised_far = refl
+
+zero_raised_far : decimal_of (codes "0e999") ≡ Ok (pos 0)
+unfolding decimal_of
+zero_raised_far = refl
+
+long_exponent : decimal_of (codes "1e1000") ≡ Err BadDecimal
+unfolding decimal_of
+long_exponent = refl
+
+no_exponent : decimal_of (codes "1e") ≡ Err BadDecimal
+unfolding decimal_of
+no_exponent = refl

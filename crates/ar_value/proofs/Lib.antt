@@ -1,3 +1,11 @@
+pub mod Views
+pub mod FitLemmas
 pub mod DigitsLemmas
 pub mod Signs
 mod Facts
+pub mod ReadLemmas
+pub mod ReadFits
+pub mod Declarations
+pub mod Marks
+pub mod WidestLemmas
+pub mod Merges

@@ -1,6 +1,13 @@
+pub mod Answer
 pub mod Digits
 pub mod Decimal
+pub mod Arithmetic
 pub mod DecimalText
+pub mod Value
 pub mod Shape
+pub mod Fits
+pub mod Kind
+pub mod View
+pub mod Declaration
 pub mod Reading
 pub use Rattle.serde_json.specs.Data

@@ -1,30 +1,23 @@
 -- Shapes, which say what values a measurement may have.
-use Rattle.std.specs.Prelude.{ℕ, Bool, true, false, if◌then◌else◌, List, codes, Result, Ok, Err}
-use Rattle.std.specs.Str.{bytes_eq}
-use Rattle.serde_json.specs.Data.{Data, string}
-use Rattle.ar_value.specs.declared.value.Value.{Value}
-use Rattle.ar_value.specs.declared.value.Value.TheVariants as values
-use Rattle.ar_value.specs.declared.shape.Shape.{Shape}
-use Rattle.ar_value.specs.declared.shape.Shape.TheVariants.{Bool as BoolShape, Whole, Decimal}
-use Rattle.ar_value.specs.declared.shape.ShapeError.{ShapeError}
-use Rattle.ar_value.specs.declared.shape.ShapeError.TheVariants.{UnknownShape}
+use Rattle.std.specs.Prelude.{ℕ, List, [], ◌∷◌}
 
--- a value fits the shape of its kind
-abbrev pub fits : Value → Shape → Bool
-fits (values.Bool b) BoolShape = true
-fits (values.Whole w) Whole = true
-fits (values.Decimal d) Decimal = true
-fits v s = false
+mutual
+  pub data Shape : Type 0 where
+    bool : Shape
+    whole : Shape
+    decimal : Shape
+    text : Shape
+    -- items of one shape, at most so many
+    list : Shape → ℕ → Shape
+    object : FieldShapes → Shape
+    -- nil, or a value of the shape
+    optional : Shape → Shape
 
--- a shape is written by its name
-abbrev pub shape_named : List ℕ → Result Shape ShapeError
-shape_named name =
-    if bytes_eq name (codes "bool") then Ok BoolShape
-    else (if bytes_eq name (codes "whole") then Ok Whole
-    else (if bytes_eq name (codes "decimal") then Ok Decimal
-    else Err UnknownShape))
+  pub data FieldShapes : Type 0 where
+    no_fields : FieldShapes
+    -- a name, its shape, and the fields behind it
+    field : List ℕ → Shape → FieldShapes → FieldShapes
 
--- the shape that a JSON value declares
-abbrev pub shape_of : Data → Result Shape ShapeError
-shape_of (string name) = shape_named name
-shape_of d = Err UnknownShape
+abbrev pub field_shapes_of : List (List ℕ × Shape) → FieldShapes
+field_shapes_of [] = no_fields
+field_shapes_of (named ∷ others) = field named.0 named.1 (field_shapes_of others)

@@ -1,11 +1,11 @@
 //! Numbers that digits spell.
 
-ghost use Rattle.std.specs.Prelude.{◌≡◌, ◌^◌, ◌<◌, true};
+ghost use Rattle.std.specs.Prelude.{◌≡◌, ◌+◌, ◌^◌, ◌*◌, ◌<◌, ◌≤◌, ◌++◌, length, take, true};
 ghost use Rattle.std.specs.Option.{SomeIff};
 ghost use Rattle.std.specs.Char.{is_ascii_digit};
 ghost use Rattle.std.specs.List.{list_all};
 ghost use Rattle.std.specs.Str.Parse.{digits_value, digits_value_after};
-ghost use Rattle.ar_value.specs.Digits.{magnitude_of};
+ghost use Rattle.ar_value.specs.Digits.{magnitude_of, scaled_magnitude};
 
 /// How many digits a decimal keeps behind its point.
 const KEPT_DIGITS: usize = 6;
@@ -20,14 +20,75 @@ pub fn number(digits: &[u8]) -> Option<u64>
 
 /// The millionths that the digits before a point and those behind it spell, cut toward zero,
 /// where they fit 64 bits.
+#[tactic(auto, using(crate::proofs::DigitsLemmas::unscaled))]
 pub fn millionths(whole: &[u8], fraction: &[u8]) -> Option<u64>
     requires whole { list_all is_ascii_digit whole.now ≡ true }
     requires fraction { list_all is_ascii_digit fraction.now ≡ true }
     ensures { SomeIff result (magnitude_of whole.now fraction.now < 2 ^ 64) (magnitude_of whole.now fraction.now) }
 {
-    let kept = fraction.len().min(KEPT_DIGITS);
-    let spelled = spelled(spelled(0, whole)?, &fraction[..kept])?;
-    spelled.checked_mul(10u64.pow((KEPT_DIGITS - kept) as u32))
+    scaled_millionths(whole, fraction, 0, 0)
+}
+
+/// The same times `10^up`, over `10^down`: it takes as many steps as there are digits at most, and
+/// no memory.
+pub(crate) fn scaled_millionths(
+    whole: &[u8],
+    fraction: &[u8],
+    up: usize,
+    down: usize,
+) -> Option<u64>
+    requires whole { list_all is_ascii_digit whole.now ≡ true }
+    requires fraction { list_all is_ascii_digit fraction.now ≡ true }
+    requires up { up < 1000 }
+    requires down { down < 1000 }
+    ensures { SomeIff result (scaled_magnitude whole.now fraction.now up down < 2 ^ 64) (scaled_magnitude whole.now fraction.now up down) }
+{
+    let raised = KEPT_DIGITS + up;
+    let lowered = fraction.len() + down;
+    if lowered <= raised {
+        times_power(all_digits(whole, fraction)?, raised - lowered)
+    } else {
+        let digits = whole.len() + fraction.len();
+        leading(whole, fraction, digits.saturating_sub(lowered - raised))
+    }
+}
+
+/// The number that two runs of digits spell, one behind the other, where it fits 64 bits.
+#[tactic(auto, using(crate::proofs::DigitsLemmas::all_digits))]
+fn all_digits(whole: &[u8], fraction: &[u8]) -> Option<u64>
+    requires whole { list_all is_ascii_digit whole.now ≡ true }
+    requires fraction { list_all is_ascii_digit fraction.now ≡ true }
+    ensures { SomeIff result
+        (digits_value 10 (whole.now ++ fraction.now) < 2 ^ 64)
+        (digits_value 10 (whole.now ++ fraction.now)) }
+{
+    spelled(spelled(0, whole)?, fraction)
+}
+
+/// The number times a power of ten, where it fits 64 bits.
+fn times_power(number: u64, power: usize) -> Option<u64>
+    requires { power < 2000 }
+    ensures { SomeIff result (number * 10 ^ power < 2 ^ 64) (number * 10 ^ power) }
+{
+    if number == 0 {
+        return Some(0);
+    }
+    number.checked_mul(10u64.checked_pow(power as u32)?)
+}
+
+/// The number that the first so many digits of two runs spell, where it fits 64 bits.
+#[tactic(auto, using(crate::proofs::DigitsLemmas::list_all_take, crate::proofs::DigitsLemmas::leading_digits))]
+fn leading(whole: &[u8], fraction: &[u8], count: usize) -> Option<u64>
+    requires whole { list_all is_ascii_digit whole.now ≡ true }
+    requires fraction { list_all is_ascii_digit fraction.now ≡ true }
+    requires count { count ≤ length whole.now + length fraction.now }
+    ensures { SomeIff result
+        (digits_value 10 (take count (whole.now ++ fraction.now)) < 2 ^ 64)
+        (digits_value 10 (take count (whole.now ++ fraction.now))) }
+{
+    let first = count.min(whole.len());
+    let before = spelled(0, &whole[..first])?;
+    spelled(before, &fraction[..count - first])
 }
 
 /// The number that the digits spell behind those of the number before, where it fits 64 bits.

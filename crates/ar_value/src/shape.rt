@@ -1,39 +1,88 @@
 //! Shapes: what values a metric's measurements may have.
 
-ghost use Rattle.std.specs.Prelude.{◌≡◌};
-ghost use Rattle.serde_json.specs.View.{view};
-ghost use Rattle.ar_value.specs.Shape.{shape_of};
+ghost use Rattle.std.specs.Prelude.{◌≡◌, IfOk, map};
+ghost use Rattle.ar_value.specs.View.{field_shape_view, shape_view};
 
-use serde_json::Value as Json;
-use thiserror::Error;
+use crate::text::Text;
+use std::alloc::{AllocError, Global};
 
-/// The declared shape of a metric's measurements.
-#[derive(Clone, Copy, Debug, PartialEq, Eq)]
+/// The declared shape of a metric's measurements. Contracts see it by `shape_view` of
+/// `specs/View`.
+#[cycle(shape)]
+#[derive(Debug, PartialEq, Drop)]
 pub enum Shape {
     Bool,
     Whole,
     Decimal,
+    Text,
+    /// Items of one shape, at most `max`.
+    List { item: Box<Shape>, max: usize },
+    /// Fields in byte order of their names.
+    Object(FieldShapes),
+    /// Nil, or a value of the shape.
+    Optional(Box<Shape>),
 }
 
-/// Why a JSON value declares no shape.
-#[derive(Clone, Copy, Debug, PartialEq, Eq, Error)]
-pub enum ShapeError {
-    #[error("UnknownShape: expected \"bool\", \"whole\" or \"decimal\"")]
-    UnknownShape,
+/// The shape of a record's field, by its name.
+#[cycle(shape)]
+#[derive(Debug, PartialEq, Drop)]
+pub struct FieldShape {
+    pub name: Text,
+    pub shape: Shape,
 }
 
-/// The shape that a JSON value declares: `"bool"`, `"whole"` or `"decimal"`.
-///
-/// # Errors
-///
-/// `UnknownShape` for any other value.
-pub fn read_shape(json: &Json) -> Result<Shape, ShapeError>
-    ensures { result ≡ shape_of (view json.now) }
-{
-    match json.as_str() {
-        Some("bool") => Ok(Shape::Bool),
-        Some("whole") => Ok(Shape::Whole),
-        Some("decimal") => Ok(Shape::Decimal),
-        _ => Err(ShapeError::UnknownShape),
+/// The shapes of a record's fields.
+#[cycle(shape)]
+#[derive(Debug, PartialEq, Drop)]
+pub struct FieldShapes {
+    pub items: Vec<FieldShape>,
+}
+
+impl Shape {
+    /// A copy, which takes as much memory as the shape has.
+    pub fn copy(&self, alloc: Global) -> Result<Shape, AllocError>
+        ensures { IfOk result (λ copy. shape_view copy ≡ shape_view self.now) }
+    {
+        copy_of(alloc, self)
     }
+}
+
+#[cycle(copy_of)]
+fn copy_of(alloc: Global, shape: &Shape) -> Result<Shape, AllocError>
+    ensures { IfOk result (λ copy. shape_view copy ≡ shape_view shape.now) }
+{
+    match shape {
+        Shape::Bool => Ok(Shape::Bool),
+        Shape::Whole => Ok(Shape::Whole),
+        Shape::Decimal => Ok(Shape::Decimal),
+        Shape::Text => Ok(Shape::Text),
+        Shape::List { item, max } => Ok(Shape::List {
+            item: Box::new(alloc, copy_of(alloc, item)?)?,
+            max: *max,
+        }),
+        Shape::Object(fields) => Ok(Shape::Object(FieldShapes {
+            items: copies_of(alloc, &fields.items)?,
+        })),
+        Shape::Optional(plain) => Ok(Shape::Optional(Box::new(alloc, copy_of(alloc, plain)?)?)),
+    }
+}
+
+#[cycle(copy_of)]
+fn copies_of(alloc: Global, fields: &[FieldShape]) -> Result<Vec<FieldShape>, AllocError>
+    ensures { IfOk result (λ copies. map field_shape_view copies.items ≡ map field_shape_view fields.now) }
+{
+    let mut copies = Vec::with_capacity(alloc, fields.len())?;
+    for field in fields {
+        copies.push(field_copy_of(alloc, field)?)?;
+    }
+    Ok(copies)
+}
+
+#[cycle(copy_of)]
+fn field_copy_of(alloc: Global, field: &FieldShape) -> Result<FieldShape, AllocError>
+    ensures { IfOk result (λ copy. field_shape_view copy ≡ field_shape_view field.now) }
+{
+    let shape = copy_of(alloc, &field.shape)?;
+    let name = Text::of(alloc, field.name.as_str())?;
+    Ok(FieldShape { name, shape })
 }

@@ -1,27 +1,27 @@
 -- What `eval` writes: a function of the JSON document that it reads.
-use Rattle.std.specs.Prelude.{◌≡◌, ℕ, nat_lt, if◌then◌else◌, Bool, true, false, List, [], ◌∷◌, ◌++◌, length, codes, Option, Some, None, option_and_then, Result, Ok, Err}
+use Rattle.std.specs.Prelude.{ℕ, nat_lt, if◌then◌else◌, Bool, true, false, List, [], ◌∷◌, ◌++◌, length, codes, Option, Some, None, option_and_then, Result, Ok, Err}
 use Rattle.std.specs.Str.{is_utf8}
 use Rattle.serde_json.specs.Data.{Data}
 use Rattle.serde_json.specs.Read.{read as read_text}
 use Rattle.serde_json.specs.Find.{get, as_str}
-use Rattle.ar_value.specs.Shape.{shape_of}
+use Rattle.ar_value.specs.Answer.{◌>>=◌}
+use Rattle.ar_value.specs.Answer as answer
+use Rattle.ar_value.specs.Declaration.{shape_of}
 use Rattle.ar_value.specs.Reading.{read}
-use Rattle.ar_value.specs.declared.value.Value.{Value}
-use Rattle.ar_value.specs.declared.value.Value.TheVariants as values
+use Rattle.ar_value.specs.declared.shape_reading.ShapeError.{ShapeError}
+use Rattle.ar_value.specs.declared.shape_reading.ShapeError.TheVariants as shape_error
+use Rattle.ar_value.specs.declared.value_reading.ShapeFault.{ShapeFault}
+use Rattle.ar_value.specs.declared.value_reading.ShapeFault.TheVariants as shape_fault
 use Rattle.ar_syntax.specs.Parse.{parse_of}
 use Rattle.ar_syntax.specs.declared.error.SyntaxError.{SyntaxError}
 use Rattle.ar_syntax.specs.declared.error.SyntaxError.TheVariants as syntax
 use Rattle.argo_judge.specs.Input.{most_bytes}
 use Rattle.argo_judge.specs.Typing.{condition_kind}
 use Rattle.argo_judge.specs.Meaning.{mean}
+use Rattle.argo_judge.specs.declared.meaning.Operand.{Operand}
+use Rattle.argo_judge.specs.declared.meaning.Operand.TheVariants.{Truth}
 use Rattle.argo_judge.specs.declared.eval.EvalError.{EvalError}
 use Rattle.argo_judge.specs.declared.eval.EvalError.TheVariants.{TooLarge, Utf8OrJson, BadDocument, Shape as BadShape, Grammar, Kinds, Misfit, OutOfMemory}
-
--- a value leads on, a refusal stands
-infixl 10 ◌>>=◌
-abbrev pub ◌>>=◌ : {A B : Type 0} → Result A EvalError → (A → Result B EvalError) → Result B EvalError
-(Ok x) >>= f = f x
-(Err e) >>= f = Err e
 
 -- an answer, with its refusal under a name of `eval`'s
 abbrev pub refused_as : {A E : Type 0} → (E → EvalError) → Result A E → Result A EvalError
@@ -34,9 +34,9 @@ there (Some x) = Ok x
 there None = Err BadDocument
 
 -- the truth that a condition's value is; its kind says that it is one
-abbrev pub truth_of : Option Value → Bool
-truth_of (Some (values.Bool truth)) = truth
-truth_of value = false
+abbrev pub truth_of : Option Operand → Bool
+truth_of (Some (Truth truth)) = truth
+truth_of operand = false
 
 -- A document's condition, shape and value have to be there. Then the shape is read, the condition, its kinds
 -- under the shape, and the value under the shape.
@@ -77,12 +77,19 @@ abbrev pub of_syntax : SyntaxError → EvalError
 of_syntax syntax.OutOfMemory = OutOfMemory
 of_syntax fault = Grammar fault
 
--- a refusal is the one that is defined, unless memory ran out
-abbrev pub Refuses : EvalError → Result Bool EvalError → Type 0
-Refuses OutOfMemory answer = Unit {0}
-Refuses fault answer = answer ≡ Err fault
+-- a fault of the shape, and of the value, likewise
+abbrev pub of_shape : ShapeError → EvalError
+of_shape shape_error.OutOfMemory = OutOfMemory
+of_shape error = BadShape error
+
+abbrev pub of_misfit : ShapeFault → EvalError
+of_misfit shape_fault.OutOfMemory = OutOfMemory
+of_misfit fault = Misfit fault
+
+abbrev pub is_memory : EvalError → Bool
+is_memory OutOfMemory = true
+is_memory error = false
 
 -- what a function answered is what is defined, unless memory ran out
 abbrev pub Gives : Result Bool EvalError → Result Bool EvalError → Type 0
-Gives (Ok truth) answer = answer ≡ Ok truth
-Gives (Err fault) answer = Refuses fault answer
+Gives given defined = answer.Gives is_memory (λ truth. truth) given defined

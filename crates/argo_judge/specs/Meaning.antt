@@ -3,20 +3,28 @@ use Rattle.std.specs.Prelude.{Bool, true, false, not, Option, Some, None}
 use Rattle.std.specs.declared.cmp.Ordering.{Ordering}
 use Rattle.std.specs.declared.cmp.Ordering.TheVariants as is
 use Rattle.ar_value.specs.Decimal.{order}
-use Rattle.ar_value.specs.declared.decimal.Number.{Number}
+use Rattle.ar_value.specs.Value.{Value}
+use Rattle.ar_value.specs.Value as values
 use Rattle.ar_value.specs.declared.decimal.Number.TheVariants as numbers
-use Rattle.ar_value.specs.declared.value.Value.{Value}
-use Rattle.ar_value.specs.declared.value.Value.TheVariants as values
 use Rattle.ar_syntax.specs.Tree.{Expression, ResultAt, LiteralAt, ComparisonAt}
 use Rattle.ar_syntax.specs.declared.token.Comparison.{Comparison}
 use Rattle.ar_syntax.specs.declared.token.Comparison.TheVariants.{Equal, NotEqual, Less, LessOrEqual, Greater, GreaterOrEqual}
 use Rattle.ar_syntax.specs.declared.tree.Literal.{Literal}
 use Rattle.ar_syntax.specs.declared.tree.Literal.TheVariants as literals
+use Rattle.argo_judge.specs.declared.meaning.Operand.{Operand}
+use Rattle.argo_judge.specs.declared.meaning.Operand.TheVariants.{Truth, Number}
 
-abbrev pub literal_value : Literal → Value
-literal_value (literals.Bool truth) = values.Bool truth
-literal_value (literals.Whole whole) = values.Whole whole
-literal_value (literals.Decimal millionths) = values.Decimal millionths
+abbrev pub literal_operand : Literal → Operand
+literal_operand (literals.Bool truth) = Truth truth
+literal_operand (literals.Whole whole) = Number (numbers.Whole whole)
+literal_operand (literals.Decimal millionths) = Number (numbers.Decimal millionths)
+
+-- a value that an operator takes
+abbrev pub operand_of : Value → Option Operand
+operand_of (values.bool truth) = Some (Truth truth)
+operand_of (values.whole whole) = Some (Number (numbers.Whole whole))
+operand_of (values.decimal millionths) = Some (Number (numbers.Decimal millionths))
+operand_of value = None
 
 -- what a comparison says of two sides in an order
 abbrev pub holds : Comparison → Ordering → Bool
@@ -38,33 +46,24 @@ abbrev pub same : Bool → Bool → Bool
 same true right = right
 same false right = not right
 
-abbrev pub compare_truths : Comparison → Bool → Bool → Option Value
-compare_truths Equal left right = Some (values.Bool (same left right))
-compare_truths NotEqual left right = Some (values.Bool (not (same left right)))
+abbrev pub compare_truths : Comparison → Bool → Bool → Option Operand
+compare_truths Equal left right = Some (Truth (same left right))
+compare_truths NotEqual left right = Some (Truth (not (same left right)))
 compare_truths operator left right = None
 
-abbrev pub number_of : Value → Option Number
-number_of (values.Bool truth) = None
-number_of (values.Whole whole) = Some (numbers.Whole whole)
-number_of (values.Decimal millionths) = Some (numbers.Decimal millionths)
-
--- numbers compare by their exact values
-abbrev pub compare_numbers : Comparison → Option Number → Option Number → Option Value
-compare_numbers operator (Some left) (Some right) = Some (values.Bool (holds operator (order left right)))
-compare_numbers operator left right = None
-
--- a comparison of two values, where they compare
-abbrev pub compare_values : Comparison → Value → Value → Option Value
-compare_values operator (values.Bool left) (values.Bool right) = compare_truths operator left right
-compare_values operator left right = compare_numbers operator (number_of left) (number_of right)
+-- a comparison of two operands, where they compare; numbers compare by their exact values
+abbrev pub compare_operands : Comparison → Operand → Operand → Option Operand
+compare_operands operator (Truth left) (Truth right) = compare_truths operator left right
+compare_operands operator (Number left) (Number right) = Some (Truth (holds operator (order left right)))
+compare_operands operator left right = None
 
 -- the left side comes first
-abbrev pub compare_sides : Comparison → Option Value → Option Value → Option Value
-compare_sides operator (Some left) (Some right) = compare_values operator left right
+abbrev pub compare_sides : Comparison → Option Operand → Option Operand → Option Operand
+compare_sides operator (Some left) (Some right) = compare_operands operator left right
 compare_sides operator left right = None
 
 -- the value of an expression, where `result` has a value; none where sides don't compare
-abbrev pub mean : Value → Expression → Option Value
-mean result (ResultAt at) = Some result
-mean result (LiteralAt at literal) = Some (literal_value literal)
+abbrev pub mean : Value → Expression → Option Operand
+mean result (ResultAt at) = operand_of result
+mean result (LiteralAt at literal) = Some (literal_operand literal)
 mean result (ComparisonAt at operator left right) = compare_sides operator (mean result left) (mean result right)

@@ -6,11 +6,11 @@ ghost use Rattle.argo_judge.specs.Evaluation.{Gives, evaluation_of, judged};
 
 use crate::input::MOST_BYTES;
 use crate::kind::condition_kind;
-use crate::meaning::meaning;
+use crate::meaning::{Operand, meaning};
 use ar_syntax::error::SyntaxError;
 use ar_syntax::parse;
-use ar_value::shape::{ShapeError, read_shape};
-use ar_value::value::{ShapeFault, Value, read_value};
+use ar_value::shape_reading::{ShapeError, read_shape};
+use ar_value::value_reading::{ShapeFault, read_value};
 use serde_json::Value as Json;
 use std::alloc::Global;
 use thiserror::Error;
@@ -50,6 +50,34 @@ impl From<SyntaxError> for EvalError {
     }
 }
 
+impl From<ShapeError> for EvalError {
+    ghost use Rattle.std.specs.Prelude.{◌≡◌};
+    ghost use Rattle.argo_judge.specs.Evaluation.{of_shape};
+
+    ghost from_gives = { λ error e. e ≡ of_shape error };
+
+    fn from(error: ShapeError) -> EvalError {
+        match error {
+            ShapeError::OutOfMemory => EvalError::OutOfMemory,
+            error => EvalError::Shape(error),
+        }
+    }
+}
+
+impl From<ShapeFault> for EvalError {
+    ghost use Rattle.std.specs.Prelude.{◌≡◌};
+    ghost use Rattle.argo_judge.specs.Evaluation.{of_misfit};
+
+    ghost from_gives = { λ fault e. e ≡ of_misfit fault };
+
+    fn from(fault: ShapeFault) -> EvalError {
+        match fault {
+            ShapeFault::OutOfMemory => EvalError::OutOfMemory,
+            fault => EvalError::Misfit(fault),
+        }
+    }
+}
+
 /// The truth that the condition of a JSON document has on its value: the document is an object
 /// with a text `condition`, a `shape` and a `value`.
 ///
@@ -81,21 +109,15 @@ fn judge(alloc: Global, document: &Json) -> Result<bool, EvalError>
         .ok_or(EvalError::BadDocument)?;
     let declared = document.get("shape").ok_or(EvalError::BadDocument)?;
     let measured = document.get("value").ok_or(EvalError::BadDocument)?;
-    let shape = match read_shape(declared) {
-        Ok(shape) => shape,
-        Err(error) => return Err(EvalError::Shape(error)),
-    };
+    let shape = read_shape(alloc, declared)?;
     let tree = parse(alloc, condition)?;
     match condition_kind(&tree, &shape) {
         Ok(_) => {}
         Err(at) => return Err(EvalError::Kinds(at)),
     }
-    let value = match read_value(measured, &shape) {
-        Ok(value) => value,
-        Err(fault) => return Err(EvalError::Misfit(fault)),
-    };
-    match meaning(&tree, value) {
-        Some(Value::Bool(truth)) => Ok(truth),
+    let value = read_value(alloc, measured, &shape)?;
+    match meaning(&tree, &value) {
+        Some(Operand::Truth(truth)) => Ok(truth),
         _ => unreachable!(),
     }
 }

@@ -2,32 +2,42 @@
 
 ghost use Rattle.std.specs.Prelude.{◌≡◌};
 ghost use Rattle.ar_syntax.specs.Tree.{expression_of};
-ghost use Rattle.argo_judge.specs.Typing.{can_compare, condition_kind, kind_of, literal_kind, place_of};
+ghost use Rattle.ar_value.specs.View.{shape_view};
+ghost use Rattle.argo_judge.specs.Typing.{can_compare, condition_kind, family_of, kind_of, literal_family, place_of};
 
 use ar_syntax::token::Comparison;
 use ar_syntax::tree::{Literal, Tree};
 use ar_value::shape::Shape;
+
+/// What operators tell apart of kinds.
+#[derive(Clone, Copy, Debug, PartialEq, Eq)]
+pub enum Family {
+    Truth,
+    Number,
+    /// What no operator takes.
+    Other,
+}
 
 /// The kind of a condition where `result` has a shape: a truth value.
 ///
 /// # Errors
 ///
 /// The first place where kinds don't fit.
-pub fn condition_kind(tree: &Tree, shape: &Shape) -> Result<Shape, usize>
-    ensures { result ≡ condition_kind shape.now (expression_of tree.now) }
+pub fn condition_kind(tree: &Tree, shape: &Shape) -> Result<Family, usize>
+    ensures { result ≡ condition_kind (shape_view shape.now) (expression_of tree.now) }
 {
     match kind(tree, shape)? {
-        Shape::Bool => Ok(Shape::Bool),
+        Family::Truth => Ok(Family::Truth),
         _ => Err(place(tree)),
     }
 }
 
-fn kind(tree: &Tree, shape: &Shape) -> Result<Shape, usize>
-    ensures { result ≡ kind_of shape.now (expression_of tree.now) }
+fn kind(tree: &Tree, shape: &Shape) -> Result<Family, usize>
+    ensures { result ≡ kind_of (shape_view shape.now) (expression_of tree.now) }
 {
     match tree {
-        Tree::Result { .. } => Ok(*shape),
-        Tree::Literal { literal, .. } => Ok(literal_kind(*literal)),
+        Tree::Result { .. } => Ok(shape_family(shape)),
+        Tree::Literal { literal, .. } => Ok(literal_family(*literal)),
         Tree::Comparison {
             at,
             operator,
@@ -37,7 +47,7 @@ fn kind(tree: &Tree, shape: &Shape) -> Result<Shape, usize>
             let left = kind(left, shape)?;
             let right = kind(right, shape)?;
             if can_compare(*operator, left, right) {
-                Ok(Shape::Bool)
+                Ok(Family::Truth)
             } else {
                 Err(*at)
             }
@@ -53,24 +63,33 @@ fn place(tree: &Tree) -> usize
     }
 }
 
-fn literal_kind(literal: Literal) -> Shape
-    ensures { result ≡ literal_kind literal }
+fn shape_family(shape: &Shape) -> Family
+    ensures { result ≡ family_of (shape_view shape.now) }
 {
-    match literal {
-        Literal::Bool(_) => Shape::Bool,
-        Literal::Whole(_) => Shape::Whole,
-        Literal::Decimal(_) => Shape::Decimal,
+    match shape {
+        Shape::Bool => Family::Truth,
+        Shape::Whole | Shape::Decimal => Family::Number,
+        Shape::Text | Shape::List { .. } | Shape::Object(_) | Shape::Optional(_) => Family::Other,
     }
 }
 
-fn can_compare(operator: Comparison, left: Shape, right: Shape) -> bool
+fn literal_family(literal: Literal) -> Family
+    ensures { result ≡ literal_family literal }
+{
+    match literal {
+        Literal::Bool(_) => Family::Truth,
+        Literal::Whole(_) | Literal::Decimal(_) => Family::Number,
+    }
+}
+
+fn can_compare(operator: Comparison, left: Family, right: Family) -> bool
     ensures { result ≡ can_compare operator left right }
 {
     match (left, right) {
-        (Shape::Bool, Shape::Bool) => {
+        (Family::Truth, Family::Truth) => {
             matches!(operator, Comparison::Equal | Comparison::NotEqual)
         }
-        (Shape::Bool, _) | (_, Shape::Bool) => false,
-        _ => true,
+        (Family::Number, Family::Number) => true,
+        _ => false,
     }
 }

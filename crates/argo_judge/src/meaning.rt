@@ -2,7 +2,8 @@
 
 ghost use Rattle.std.specs.Prelude.{◌≡◌};
 ghost use Rattle.ar_syntax.specs.Tree.{expression_of};
-ghost use Rattle.argo_judge.specs.Meaning.{compare_truths, compare_values, holds, literal_value, mean, number_of};
+ghost use Rattle.ar_value.specs.View.{value_view};
+ghost use Rattle.argo_judge.specs.Meaning.{compare_operands, compare_truths, holds, literal_operand, mean, operand_of};
 
 use ar_syntax::token::Comparison;
 use ar_syntax::tree::{Literal, Tree};
@@ -10,20 +11,27 @@ use ar_value::decimal::{Number, compare};
 use ar_value::value::Value;
 use std::cmp::Ordering;
 
+/// A value that an operator takes.
+#[derive(Clone, Copy, Debug)]
+pub enum Operand {
+    Truth(bool),
+    Number(Number),
+}
+
 /// The value of an expression where `result` has a value, or none where sides don't compare,
 /// which kinds that fit rule out.
-pub fn meaning(tree: &Tree, measured: Value) -> Option<Value>
-    ensures { result ≡ mean measured (expression_of tree.now) }
+pub fn meaning(tree: &Tree, measured: &Value) -> Option<Operand>
+    ensures { result ≡ mean (value_view measured.now) (expression_of tree.now) }
 {
     match tree {
-        Tree::Result { .. } => Some(measured),
-        Tree::Literal { literal, .. } => Some(literal_value(*literal)),
+        Tree::Result { .. } => value_operand(measured),
+        Tree::Literal { literal, .. } => Some(literal_operand(*literal)),
         Tree::Comparison {
             operator,
             left,
             right,
             ..
-        } => compare_values(
+        } => compare_operands(
             *operator,
             meaning(left, measured)?,
             meaning(right, measured)?,
@@ -31,45 +39,46 @@ pub fn meaning(tree: &Tree, measured: Value) -> Option<Value>
     }
 }
 
-fn literal_value(literal: Literal) -> Value
-    ensures { result ≡ literal_value literal }
+fn value_operand(value: &Value) -> Option<Operand>
+    ensures { result ≡ operand_of (value_view value.now) }
+{
+    match value {
+        Value::Bool(truth) => Some(Operand::Truth(*truth)),
+        Value::Whole(whole) => Some(Operand::Number(Number::Whole(*whole))),
+        Value::Decimal(decimal) => Some(Operand::Number(Number::Decimal(*decimal))),
+        Value::Nil | Value::Text(_) | Value::List(_) | Value::Object(_) => None,
+    }
+}
+
+fn literal_operand(literal: Literal) -> Operand
+    ensures { result ≡ literal_operand literal }
 {
     match literal {
-        Literal::Bool(truth) => Value::Bool(truth),
-        Literal::Whole(whole) => Value::Whole(whole),
-        Literal::Decimal(decimal) => Value::Decimal(decimal),
+        Literal::Bool(truth) => Operand::Truth(truth),
+        Literal::Whole(whole) => Operand::Number(Number::Whole(whole)),
+        Literal::Decimal(decimal) => Operand::Number(Number::Decimal(decimal)),
     }
 }
 
-fn compare_values(operator: Comparison, left: Value, right: Value) -> Option<Value>
-    ensures { result ≡ compare_values operator left right }
+fn compare_operands(operator: Comparison, left: Operand, right: Operand) -> Option<Operand>
+    ensures { result ≡ compare_operands operator left right }
 {
     match (left, right) {
-        (Value::Bool(left), Value::Bool(right)) => compare_truths(operator, left, right),
-        _ => {
-            let order = compare(number(left)?, number(right)?);
-            Some(Value::Bool(holds(operator, order)))
+        (Operand::Truth(left), Operand::Truth(right)) => compare_truths(operator, left, right),
+        (Operand::Number(left), Operand::Number(right)) => {
+            Some(Operand::Truth(holds(operator, compare(left, right))))
         }
-    }
-}
-
-fn compare_truths(operator: Comparison, left: bool, right: bool) -> Option<Value>
-    ensures { result ≡ compare_truths operator left right }
-{
-    match operator {
-        Comparison::Equal => Some(Value::Bool(left == right)),
-        Comparison::NotEqual => Some(Value::Bool(left != right)),
         _ => None,
     }
 }
 
-fn number(value: Value) -> Option<Number>
-    ensures { result ≡ number_of value }
+fn compare_truths(operator: Comparison, left: bool, right: bool) -> Option<Operand>
+    ensures { result ≡ compare_truths operator left right }
 {
-    match value {
-        Value::Bool(_) => None,
-        Value::Whole(whole) => Some(Number::Whole(whole)),
-        Value::Decimal(decimal) => Some(Number::Decimal(decimal)),
+    match operator {
+        Comparison::Equal => Some(Operand::Truth(left == right)),
+        Comparison::NotEqual => Some(Operand::Truth(left != right)),
+        _ => None,
     }
 }
 

@@ -5,8 +5,8 @@ use crate::device::{Device, DeviceFault, Source};
 use crate::eval::EvalError;
 use crate::serve::{Closing, Command, Refusal, ServeError, serve_plain};
 use ar_syntax::error::SyntaxError;
-use ar_value::shape::ShapeError;
-use ar_value::value::ShapeFault;
+use ar_value::shape_reading::ShapeError;
+use ar_value::value_reading::ShapeFault;
 use std::alloc::Global;
 use std::io::Read;
 use std::test::Fail;
@@ -57,6 +57,14 @@ fn answers(rt: HostRuntime) {
             "false\n",
         ),
         (
+            r#"{"condition":"result >= 0.95","shape":"decimal","value":"9.5e-1"}"#,
+            "true\n",
+        ),
+        (
+            r#"{"condition":"result == 0","shape":"decimal","value":"-1E-7"}"#,
+            "true\n",
+        ),
+        (
             r#"{"value":-1,"other":[],"shape":"whole","condition":"\tresult\n<1"}"#,
             "true\n",
         ),
@@ -92,6 +100,22 @@ fn refusals(rt: HostRuntime) {
         (
             r#"{"condition":"","shape":"float","value":1}"#,
             EvalError::Shape(ShapeError::UnknownShape),
+        ),
+        (
+            r#"{"condition":"result >","shape":{"list":"bool"},"value":1}"#,
+            EvalError::Shape(ShapeError::MaxMissing),
+        ),
+        (
+            r#"{"condition":"result > 1","shape":{"list":"whole","max":3},"value":[true]}"#,
+            EvalError::Kinds(7),
+        ),
+        (
+            r#"{"condition":"result == 1","shape":{"optional":"whole"},"value":true}"#,
+            EvalError::Kinds(7),
+        ),
+        (
+            r#"{"condition":"result == 1","shape":{"record":{"a":"whole"}},"value":{}}"#,
+            EvalError::Kinds(7),
         ),
         (
             r#"{"condition":"result >","shape":null,"value":1}"#,
@@ -250,7 +274,7 @@ fn refusal_texts(rt: HostRuntime) -> Result<(), Fail> {
         ),
         (
             EvalError::Shape(ShapeError::UnknownShape),
-            "shape: UnknownShape: expected \"bool\", \"whole\" or \"decimal\"",
+            "shape: UnknownShape: expected \"bool\", \"whole\", \"decimal\", \"text\", {\"list\":shape,\"max\":number}, {\"record\":{name:shape,..}} or {\"optional\":shape}",
         ),
         (
             EvalError::Grammar(SyntaxError::LiteralTooFine(9)),
