@@ -1,0 +1,11 @@
+pub mod Bindings
+pub mod Cuts
+pub mod Entries
+mod Facts
+pub mod Filling
+pub mod LimitTexts
+pub mod Lists
+pub mod Memory
+pub mod Spaces
+pub mod Steps
+pub mod TextParts

@@ -1,0 +1,7 @@
+pub mod Arguments
+pub mod Answer
+pub mod Json
+pub mod Template
+pub mod Cut
+pub mod Binding
+pub mod Bound

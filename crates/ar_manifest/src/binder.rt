@@ -1,0 +1,116 @@
+//! Binding the metrics of a template.
+
+ghost use Rattle.std.specs.Prelude.{[]};
+ghost use Rattle.ar_manifest.specs.Answer.{Gives, each_behind};
+ghost use Rattle.ar_manifest.specs.Bound.{bound_condition, bound_limit, bound_metric, bound_of, next_bound};
+
+use crate::arguments::{Args, Arguments};
+use crate::binding::Scope;
+use crate::bound::{Bound, BoundMetric};
+use crate::error::ManifestError;
+use crate::limit::{effective_count, limit_of_number, limit_of_text};
+use crate::template::{Limit, Metric, Template};
+use crate::text::Text;
+use std::alloc::Global;
+
+/// `failureLimit`, where a metric has none.
+const FAILURES: u32 = 0;
+
+/// `inconclusiveLimit`, where a metric has none.
+const INCONCLUSIVE: u32 = 0;
+
+/// `consecutiveErrorLimit`, where a metric has none.
+const CONSECUTIVE_ERRORS: u32 = 4;
+
+/// A condition, bound. An empty one counts as missing.
+#[tactic(auto, unfolding(crate::specs::Bound::bound_condition))]
+fn condition(
+    alloc: Global,
+    scope: &Scope,
+    condition: &Option<Text>,
+) -> Result<Option<Text>, ManifestError>
+    ensures { Gives result
+        (bound_condition scope.now.arguments.now scope.now.own.now scope.now.metric condition.now) }
+{
+    let Some(condition) = condition else {
+        return Ok(None);
+    };
+    let bound = scope.text(alloc, condition.as_str())?;
+    if bound.as_str().is_empty() {
+        Ok(None)
+    } else {
+        Ok(Some(bound))
+    }
+}
+
+/// A limit, bound.
+#[tactic(auto, unfolding(crate::specs::Bound::bound_limit))]
+fn limit(alloc: Global, scope: &Scope, limit: &Option<Limit>) -> Result<Option<u32>, ManifestError>
+    ensures { Gives result
+        (bound_limit scope.now.arguments.now scope.now.own.now scope.now.metric limit.now) }
+{
+    match limit {
+        None => Ok(None),
+        Some(Limit::Whole(number)) => Ok(Some(limit_of_number(*number, scope.metric)?)),
+        Some(Limit::OtherNumber) => Err(ManifestError::BadLimit(scope.metric)),
+        Some(Limit::Text(text)) => {
+            let bound = scope.text(alloc, text.as_str())?;
+            Ok(Some(limit_of_text(bound.as_str(), scope.metric)?))
+        }
+    }
+}
+
+/// A metric, bound.
+#[tactic(auto, unfolding(crate::specs::Bound::bound_metric))]
+fn metric(alloc: Global, scope: &Scope, metric: &Metric) -> Result<BoundMetric, ManifestError>
+    ensures { Gives result
+        (bound_metric scope.now.arguments.now scope.now.own.now scope.now.metric metric.now) }
+{
+    let success_condition = condition(alloc, scope, &metric.success_condition)?;
+    let failure_condition = condition(alloc, scope, &metric.failure_condition)?;
+    let count = limit(alloc, scope, &metric.limits.count)?;
+    let failure_limit = limit(alloc, scope, &metric.limits.failure)?;
+    let inconclusive_limit = limit(alloc, scope, &metric.limits.inconclusive)?;
+    let consecutive_error_limit = limit(alloc, scope, &metric.limits.consecutive_error)?;
+    let count = effective_count(count, metric.has_interval, scope.metric)?;
+    Ok(BoundMetric {
+        name: Text::copied(alloc, metric.name.as_str())?,
+        success_condition,
+        failure_condition,
+        failure_limit: failure_limit.unwrap_or(FAILURES),
+        inconclusive_limit: inconclusive_limit.unwrap_or(INCONCLUSIVE),
+        consecutive_error_limit: consecutive_error_limit.unwrap_or(CONSECUTIVE_ERRORS),
+        count,
+    })
+}
+
+/// The metrics, bound one after another.
+#[tactic(auto, using(crate::proofs::Steps::step_more, crate::proofs::Steps::step_fault))]
+fn metrics(
+    alloc: Global,
+    list: &[Metric],
+    arguments: &Arguments<Option<Text>>,
+    own: &Args,
+) -> Result<Bound, ManifestError>
+    ensures { Gives result (each_behind (next_bound arguments.now own.now) [] list.now) }
+{
+    let mut metrics: Vec<BoundMetric> = Vec::new(alloc);
+    for metric in list {
+        let scope = Scope {
+            arguments,
+            own,
+            metric: metrics.len(),
+        };
+        let bound = self::metric(alloc, &scope, metric)?;
+        metrics.push(bound)?;
+    }
+    Ok(Bound::from(metrics))
+}
+
+/// The template, bound.
+#[tactic(auto, unfolding(crate::specs::Bound::bound_of))]
+pub(crate) fn bound(alloc: Global, template: &Template, own: &Args) -> Result<Bound, ManifestError>
+    ensures { Gives result (bound_of template.now own.now) }
+{
+    metrics(alloc, template.metrics.as_slice(), &template.arguments, own)
+}

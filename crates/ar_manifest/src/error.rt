@@ -1,0 +1,79 @@
+//! Why a template can't be read, or its arguments can't be bound.
+
+ghost use Rattle.std.specs.Prelude.{◌≡◌};
+ghost use Rattle.ar_manifest.specs.declared.error.ManifestError.TheVariants.{OutOfMemory};
+
+use std::alloc::{AllocError, AllocFailed};
+use thiserror::Error;
+
+/// Why a document is no AnalysisTemplate that can be judged, or why its texts can't be bound. A
+/// number is that of an argument or a metric, counted from 0.
+#[derive(Clone, Copy, Debug, PartialEq, Eq, Error)]
+pub enum ManifestError {
+    /// `apiVersion` is another value.
+    #[error("WrongVersion: expected `apiVersion` \"argoproj.io/v1alpha1\"")]
+    WrongVersion,
+    /// `kind` is another value.
+    #[error("WrongKind: expected `kind` \"AnalysisTemplate\"")]
+    WrongKind,
+    /// `metadata.name` is no text, or an empty one.
+    #[error("NameMissing: expected a text `metadata.name` that isn't empty")]
+    NameMissing,
+    /// The argument has no name, that of an earlier argument, or a value that is no text; or
+    /// `spec.args` is no list, and the number is 0.
+    #[error("argument {0}: BadArgs: expected a list of arguments, each with a text `name` of its own and no `value` but a text")]
+    BadArgs(usize),
+    /// `spec.metrics` is no list, or an empty one.
+    #[error("NoMetrics: expected a list `spec.metrics` of at least one metric")]
+    NoMetrics,
+    /// `spec.metrics` has more than 64 metrics.
+    #[error("TooManyMetrics: expected at most 64 metrics")]
+    TooManyMetrics,
+    /// The metric has no text `name`.
+    #[error("metric {0}: MetricNameMissing: expected a text `name`")]
+    MetricNameMissing(usize),
+    /// An earlier metric has the metric's name.
+    #[error("metric {0}: DoubleMetric: expected a name that no earlier metric has")]
+    DoubleMetric(usize),
+    /// A condition or `interval` is no text, or a limit is neither a number nor a text.
+    #[error("metric {0}: BadField: expected texts for conditions and `interval`, numbers or texts for limits")]
+    BadField(usize),
+    /// The metric has `consecutiveSuccessLimit`; or the template has `spec.dryRun` other than an
+    /// empty list, and the number is 0.
+    #[error("metric {0}: Unsupported: expected no `consecutiveSuccessLimit`, and no `spec.dryRun` but an empty list")]
+    Unsupported(usize),
+    /// In a text of the metric, `{{` stands without a `}}` behind it.
+    #[error("metric {0}: OpenBraces: expected }}}} behind {{{{")]
+    OpenBraces(usize),
+    /// In a text of the metric, what stands in braces names no argument of the template.
+    #[error("metric {0}: UnknownArg: expected {{{{args.NAME}}}} with a name of `spec.args`")]
+    UnknownArg(usize),
+    /// A text of the metric names an argument that neither the run nor the template gives a value.
+    #[error("metric {0}: NoValue: expected a value for the argument, from the run or the template")]
+    NoValue(usize),
+    /// A limit, its arguments replaced, isn't one.
+    #[error("metric {0}: BadLimit: expected a limit of 0 to 1000000000 in one to ten digits")]
+    BadLimit(usize),
+    /// The metric has a `count` above 1 and no `interval`.
+    #[error("metric {0}: IntervalMissing: expected an `interval` beside a `count` above 1")]
+    IntervalMissing(usize),
+    /// A growth of memory was refused.
+    #[error("out of memory")]
+    OutOfMemory,
+}
+
+impl From<AllocError> for ManifestError {
+    ghost from_gives = { λ _ e. e ≡ OutOfMemory };
+
+    fn from(_error: AllocError) -> ManifestError {
+        ManifestError::OutOfMemory
+    }
+}
+
+impl<T: Drop> From<AllocFailed<T>> for ManifestError {
+    ghost from_gives = { λ _ e. e ≡ OutOfMemory };
+
+    fn from(_error: AllocFailed<T>) -> ManifestError {
+        ManifestError::OutOfMemory
+    }
+}

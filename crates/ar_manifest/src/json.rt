@@ -1,0 +1,60 @@
+//! Looking into a JSON document.
+
+ghost use Rattle.std.specs.Prelude.{◌≡◌, map, option_map};
+ghost use Rattle.serde_json.specs.View.{view};
+ghost use Rattle.ar_manifest.specs.Answer.{Gives};
+ghost use Rattle.ar_manifest.specs.Json.{list_of, member, member_of_member, text_member, text_or};
+
+use crate::error::ManifestError;
+use crate::text::Text;
+use serde_json::Value as Json;
+use std::alloc::Global;
+
+/// The member of an object, where it is there and not null.
+pub(crate) fn member<'a>(json: &'a Json, name: &str) -> Option<&'a Json>
+    ensures { option_map (λ found. view found.now) result ≡ member name.now (view json.now) }
+{
+    match json.get(name) {
+        Some(Json::Null) => None,
+        found => found,
+    }
+}
+
+/// The member of an object's member.
+pub(crate) fn member_of_member<'a>(json: &'a Json, outer: &str, name: &str) -> Option<&'a Json>
+    ensures { option_map (λ found. view found.now) result ≡ member_of_member outer.now name.now (view json.now) }
+{
+    member(member(json, outer)?, name)
+}
+
+/// The member of an object, where it is a text.
+pub(crate) fn text_member<'a>(json: &'a Json, name: &str) -> Option<&'a str>
+    ensures { option_map (λ text. text.now) result ≡ text_member name.now (view json.now) }
+{
+    member(json, name)?.as_str()
+}
+
+/// A text that may be missing, and is refused where it is any other value.
+pub(crate) fn text_or(
+    alloc: Global,
+    found: Option<&Json>,
+    refusal: ManifestError,
+) -> Result<Option<Text>, ManifestError>
+    ensures { Gives result (text_or refusal (option_map (λ json. view json.now) found.entry)) }
+{
+    match found {
+        None => Ok(None),
+        Some(Json::String(text)) => Ok(Some(Text::copied(alloc, text)?)),
+        Some(_) => Err(refusal),
+    }
+}
+
+/// The values of a JSON list.
+pub(crate) fn list_of(json: &Json) -> Option<&[Json]>
+    ensures { option_map (λ list. map (λ item. view item) list.now) result ≡ list_of (view json.now) }
+{
+    match json {
+        Json::Array(list) => Some(list),
+        _ => None,
+    }
+}

@@ -1,0 +1,44 @@
+//! What holds of binding, for all texts. A law is the contract of a function that does nothing.
+
+ghost use Rattle.std.specs.Prelude.{◌≡◌, ◌≢◌, ◌↔◌, ◌++◌, ℕ, List, Ok, Err, Some, None, codes};
+ghost use Rattle.serde_json.specs.Data.{Data};
+ghost use Rattle.ar_manifest.specs.Arguments.{value_of};
+ghost use Rattle.ar_manifest.specs.Binding.{RunArguments, argument_name, bound_text, referred_value, trimmed};
+ghost use Rattle.ar_manifest.specs.Bound.{bound_of};
+ghost use Rattle.ar_manifest.specs.Cut.{AreParts, CutsAtFirst, Lacks, Parts, parts_of};
+ghost use Rattle.ar_manifest.specs.Template.{TemplateArguments, template_of};
+ghost use Rattle.ar_manifest.specs.declared.error.ManifestError.{ManifestError};
+ghost use Rattle.ar_manifest.specs.declared.template.Template.{Template};
+
+/// Each text has parts, and only these: cut at the first `{{` and the next `}}` behind it, and so
+/// on with the rest.
+pub fn one_cut()
+    ensures { (text : List ℕ) (parts : Parts) → AreParts text parts ↔ (parts_of text ≡ parts) }
+{}
+
+/// A text without `{{` is bound to itself.
+pub fn plain_text_stays()
+    ensures { (arguments : TemplateArguments) (own : RunArguments) (i : ℕ) (text : List ℕ)
+        → Lacks (codes "{{") text → bound_text arguments own i text ≡ Ok text }
+{}
+
+/// A text with one reference is bound to what stands before it, its value, and what stands behind.
+pub fn one_reference_gives_way()
+    ensures { (arguments : TemplateArguments) (own : RunArguments) (i : ℕ) (text before behind between after value : List ℕ)
+        → CutsAtFirst (codes "{{") text before behind → CutsAtFirst (codes "}}") behind between after → Lacks (codes "{{") after
+        → referred_value arguments own i between ≡ Ok value
+        → bound_text arguments own i text ≡ Ok (before ++ (value ++ after)) }
+{}
+
+/// A run's own value of an argument goes before the template's.
+pub fn own_value_goes_first()
+    ensures { (arguments : TemplateArguments) (own : RunArguments) (i : ℕ) (between name value : List ℕ)
+        → argument_name (trimmed between) ≡ Some name → value_of name arguments ≢ None → value_of name own ≡ Some value
+        → referred_value arguments own i between ≡ Ok value }
+{}
+
+/// No template is refused for want of memory, neither when it is read nor when it is bound.
+pub fn memory_is_no_refusal()
+    ensures read { (document : Data) → template_of document ≢ Err ManifestError.OutOfMemory }
+    ensures bound { (template : Template) (own : RunArguments) → bound_of template own ≢ Err ManifestError.OutOfMemory }
+{}

@@ -1,0 +1,252 @@
+//! Reading a template from JSON.
+
+ghost use Rattle.std.specs.Prelude.{◌≡◌, [], IfOk, map, option_map};
+ghost use Rattle.std.specs.List.{list_any};
+ghost use Rattle.serde_json.specs.Find.{as_u64};
+ghost use Rattle.serde_json.specs.View.{number_view, view};
+ghost use Rattle.ar_manifest.specs.Answer.{Gives, each_behind};
+ghost use Rattle.ar_manifest.specs.Arguments.{value_of};
+ghost use Rattle.ar_manifest.specs.Template.{argument_of, arguments_of, has_text_or, is_named, is_no_dry_run, is_text, limit_or, listed_metrics, metric_limits, metric_of, metrics_of, named_metric, number_limit, template_name, template_of};
+
+use crate::arguments::Arguments;
+use crate::error::ManifestError;
+use crate::json::{list_of, member, member_of_member, text_member, text_or};
+use crate::template::{Limit, Metric, MetricLimits, Metrics, Template};
+use crate::text::Text;
+use serde_json::{Number, Value as Json};
+use std::alloc::Global;
+
+/// The only `apiVersion` of an AnalysisTemplate.
+const VERSION: &str = "argoproj.io/v1alpha1";
+
+const KIND: &str = "AnalysisTemplate";
+
+/// How many metrics a template may have.
+const MOST_METRICS: usize = 64;
+
+fn number_limit(number: &Number) -> Limit
+    ensures { result ≡ number_limit (as_u64 (number_view number.now)) }
+{
+    match number.as_u64() {
+        Some(whole) => Limit::Whole(whole),
+        None => Limit::OtherNumber,
+    }
+}
+
+/// A limit that may be missing, and is refused where it is neither a number nor a text.
+fn limit_or(
+    alloc: Global,
+    found: Option<&Json>,
+    refusal: ManifestError,
+) -> Result<Option<Limit>, ManifestError>
+    ensures { Gives result (limit_or refusal (option_map (λ json. view json.now) found.entry)) }
+{
+    match found {
+        None => Ok(None),
+        Some(Json::Number(number)) => Ok(Some(number_limit(number))),
+        Some(Json::String(text)) => Ok(Some(Limit::Text(Text::copied(alloc, text)?))),
+        Some(_) => Err(refusal),
+    }
+}
+
+/// Whether there is a text that isn't empty. Any other value is refused.
+fn has_text_or(found: Option<&Json>, refusal: ManifestError) -> Result<bool, ManifestError>
+    ensures { result ≡ has_text_or refusal (option_map (λ json. view json.now) found.entry) }
+{
+    match found {
+        None => Ok(false),
+        Some(Json::String(text)) => Ok(!text.is_empty()),
+        Some(_) => Err(refusal),
+    }
+}
+
+/// The limits of a metric.
+#[tactic(auto, unfolding(crate::specs::Template::metric_limits))]
+fn metric_limits(alloc: Global, json: &Json, i: usize) -> Result<MetricLimits, ManifestError>
+    ensures { Gives result (metric_limits i (view json.now)) }
+{
+    let refusal = ManifestError::BadField(i);
+    Ok(MetricLimits {
+        count: limit_or(alloc, member(json, "count"), refusal)?,
+        failure: limit_or(alloc, member(json, "failureLimit"), refusal)?,
+        inconclusive: limit_or(alloc, member(json, "inconclusiveLimit"), refusal)?,
+        consecutive_error: limit_or(alloc, member(json, "consecutiveErrorLimit"), refusal)?,
+    })
+}
+
+/// The metric of a name.
+#[tactic(auto, unfolding(crate::specs::Template::named_metric))]
+fn named_metric(alloc: Global, json: &Json, name: &str, i: usize) -> Result<Metric, ManifestError>
+    ensures { Gives result (named_metric i name.now (view json.now)) }
+{
+    let refusal = ManifestError::BadField(i);
+    let success_condition = text_or(alloc, member(json, "successCondition"), refusal)?;
+    let failure_condition = text_or(alloc, member(json, "failureCondition"), refusal)?;
+    let has_interval = has_text_or(member(json, "interval"), refusal)?;
+    let limits = metric_limits(alloc, json, i)?;
+    Ok(Metric {
+        name: Text::copied(alloc, name)?,
+        success_condition,
+        failure_condition,
+        has_interval,
+        limits,
+    })
+}
+
+/// Whether a metric has the name.
+fn is_taken(name: &str, metrics: &[Metric]) -> bool
+    ensures { result ≡ list_any (is_named name.now) metrics.now }
+{
+    metrics.iter().any(|metric| metric.name.as_str() == name)
+}
+
+/// A metric behind earlier ones.
+#[tactic(auto, unfolding(crate::specs::Template::metric_of))]
+fn metric(alloc: Global, json: &Json, earlier: &[Metric]) -> Result<Metric, ManifestError>
+    ensures { Gives result (metric_of earlier.now (view json.now)) }
+{
+    let i = earlier.len();
+    let name = text_member(json, "name").ok_or(ManifestError::MetricNameMissing(i))?;
+    if is_taken(name, earlier) {
+        return Err(ManifestError::DoubleMetric(i));
+    }
+    let metric = named_metric(alloc, json, name, i)?;
+    if member(json, "consecutiveSuccessLimit").is_some() {
+        return Err(ManifestError::Unsupported(i));
+    }
+    Ok(metric)
+}
+
+/// The metrics of a JSON list.
+#[tactic(auto, using(crate::proofs::Steps::step_more, crate::proofs::Steps::step_fault, crate::proofs::Steps::step_end))]
+fn metrics(alloc: Global, list: &[Json]) -> Result<Metrics, ManifestError>
+    ensures { Gives result (each_behind metric_of [] (map (λ json. view json) list.now)) }
+{
+    let mut metrics = Vec::new(alloc);
+    for json in list {
+        let metric = metric(alloc, json, &metrics)?;
+        metrics.push(metric)?;
+    }
+    Ok(Metrics::from(metrics))
+}
+
+/// The metrics of a JSON list, 1 to 64 of them.
+#[tactic(auto, using(crate::proofs::Lists::listed_metrics_many, crate::proofs::Lists::listed_metrics_some), unfolding(crate::specs::Template::listed_metrics))]
+fn listed_metrics(alloc: Global, list: &[Json]) -> Result<Metrics, ManifestError>
+    ensures { Gives result (listed_metrics (map (λ json. view json) list.now)) }
+{
+    if list.is_empty() {
+        return Err(ManifestError::NoMetrics);
+    }
+    if list.len() > MOST_METRICS {
+        return Err(ManifestError::TooManyMetrics);
+    }
+    metrics(alloc, list)
+}
+
+/// The metrics at `spec.metrics`.
+fn metrics_of(alloc: Global, found: Option<&Json>) -> Result<Metrics, ManifestError>
+    ensures { Gives result (metrics_of (option_map (λ json. view json.now) found.entry)) }
+{
+    let list = found.and_then(list_of).ok_or(ManifestError::NoMetrics)?;
+    listed_metrics(alloc, list)
+}
+
+/// An argument behind earlier ones.
+#[tactic(auto, unfolding(crate::specs::Template::argument_of))]
+fn argument(
+    alloc: Global,
+    json: &Json,
+    earlier: &Arguments<Option<Text>>,
+) -> Result<(Text, Option<Text>), ManifestError>
+    ensures exact { Gives result (argument_of earlier.now (view json.now)) }
+    ensures new { IfOk result (λ argument. value_of argument.0 earlier.now ≡ None) }
+{
+    let refusal = ManifestError::BadArgs(earlier.len());
+    let name = text_member(json, "name").ok_or(refusal)?;
+    if earlier.get(name).is_some() {
+        return Err(refusal);
+    }
+    let value = text_or(alloc, member(json, "value"), refusal)?;
+    Ok((Text::copied(alloc, name)?, value))
+}
+
+/// The arguments of a JSON list.
+#[tactic(auto, using(crate::proofs::Steps::step_more, crate::proofs::Steps::step_fault, crate::proofs::Steps::step_end))]
+fn listed_arguments(alloc: Global, list: &[Json]) -> Result<Arguments<Option<Text>>, ManifestError>
+    ensures { Gives result (each_behind argument_of [] (map (λ json. view json) list.now)) }
+{
+    let mut arguments = Arguments::new(alloc);
+    for json in list {
+        let (name, value) = argument(alloc, json, &arguments)?;
+        arguments.push(name, value)?;
+    }
+    Ok(arguments)
+}
+
+/// The arguments at `spec.args`.
+fn arguments_of(
+    alloc: Global,
+    found: Option<&Json>,
+) -> Result<Arguments<Option<Text>>, ManifestError>
+    ensures { Gives result (arguments_of (option_map (λ json. view json.now) found.entry)) }
+{
+    match found {
+        None => Ok(Arguments::new(alloc)),
+        Some(json) => { listed_arguments(alloc, list_of(json).ok_or(ManifestError::BadArgs(0))?) }
+    }
+}
+
+fn is_text(found: Option<&str>, wanted: &str) -> bool
+    ensures { result ≡ is_text wanted.now (option_map (λ text. text.now) found.entry) }
+{
+    match found {
+        Some(text) => text == wanted,
+        None => false,
+    }
+}
+
+/// The text at `metadata.name`, where it isn't empty.
+fn template_name(json: &Json) -> Option<&str>
+    ensures { option_map (λ name. name.now) result ≡ template_name (view json.now) }
+{
+    let name = member_of_member(json, "metadata", "name")?.as_str()?;
+    if name.is_empty() { None } else { Some(name) }
+}
+
+/// Whether what stands at `spec.dryRun` asks for no dry run.
+fn is_no_dry_run(found: Option<&Json>) -> bool
+    ensures { result ≡ is_no_dry_run (option_map (λ json. view json.now) found.entry) }
+{
+    match found {
+        Some(json) => match list_of(json) {
+            Some(list) => list.is_empty(),
+            None => false,
+        },
+        None => true,
+    }
+}
+
+/// The template that a JSON document is.
+#[tactic(auto, unfolding(crate::specs::Template::template_of))]
+pub(crate) fn template(alloc: Global, json: &Json) -> Result<Template, ManifestError>
+    ensures { Gives result (template_of (view json.now)) }
+{
+    if !is_text(text_member(json, "apiVersion"), VERSION) {
+        return Err(ManifestError::WrongVersion);
+    }
+    if !is_text(text_member(json, "kind"), KIND) {
+        return Err(ManifestError::WrongKind);
+    }
+    let name = template_name(json).ok_or(ManifestError::NameMissing)?;
+    let arguments = arguments_of(alloc, member_of_member(json, "spec", "args"))?;
+    let metrics = metrics_of(alloc, member_of_member(json, "spec", "metrics"))?;
+    if !is_no_dry_run(member_of_member(json, "spec", "dryRun")) {
+        return Err(ManifestError::Unsupported(0));
+    }
+    Ok(Template {
+        name: Text::copied(alloc, name)?,
+        arguments,
+        metrics,
+    })
+}

@@ -1,0 +1,134 @@
+//! Templates as they are read, before their arguments are bound.
+
+ghost use Rattle.std.specs.Prelude.{◌≡◌};
+ghost use Rattle.serde_json.specs.View.{view};
+ghost use Rattle.ar_manifest.specs.Answer.{Gives};
+ghost use Rattle.ar_manifest.specs.Bound.{bound_of};
+ghost use Rattle.ar_manifest.specs.Template.{template_of};
+
+use crate::arguments::{Args, Arguments};
+use crate::binder::bound;
+use crate::bound::Bound;
+use crate::error::ManifestError;
+use crate::reader::template;
+use crate::text::Text;
+use serde_json::Value as Json;
+use std::alloc::Global;
+use std::marker::Model;
+
+/// A limit as a template has it, in which arguments may stand.
+#[derive(Debug, Drop)]
+pub enum Limit {
+    /// A whole JSON number without a sign.
+    Whole(u64),
+    /// Any other JSON number, which is no limit.
+    OtherNumber,
+    Text(Text),
+}
+
+/// The limits of a metric, as far as they are there.
+#[derive(Debug, Drop)]
+pub struct MetricLimits {
+    pub count: Option<Limit>,
+    pub failure: Option<Limit>,
+    pub inconclusive: Option<Limit>,
+    pub consecutive_error: Option<Limit>,
+}
+
+/// A metric of a template.
+#[derive(Debug, Drop)]
+pub struct Metric {
+    pub name: Text,
+    pub success_condition: Option<Text>,
+    pub failure_condition: Option<Text>,
+    /// Whether the metric has an `interval` that isn't empty.
+    pub has_interval: bool,
+    pub limits: MetricLimits,
+}
+
+/// Metrics in their order, which contracts see as a list.
+#[derive(Debug, Drop)]
+pub struct Metrics {
+    metrics: Vec<Metric>,
+}
+
+impl Model for Metrics {
+    ghost use Rattle.std.specs.Prelude.{List};
+    ghost use Rattle.ar_manifest.specs.declared.template.Metric.{Metric};
+
+    ghost Value = { List Metric };
+
+    ghost view = { λ metrics. metrics.metrics.items };
+}
+
+impl Metrics {
+    pub fn as_slice(&self) -> &[Metric]
+        ensures { result.now ≡ self.now }
+    {
+        &self.metrics
+    }
+
+    /// The metrics as a `Vec`, without taking memory.
+    pub fn into_vec(self) -> Vec<Metric>
+        ensures { result.items ≡ self }
+    {
+        self.metrics
+    }
+}
+
+impl From<Vec<Metric>> for Metrics {
+    ghost from_gives = { λ vec metrics. metrics ≡ vec.items };
+
+    fn from(metrics: Vec<Metric>) -> Metrics {
+        Metrics { metrics }
+    }
+}
+
+/// An AnalysisTemplate: what of it says how measurements are judged.
+#[derive(Debug, Drop)]
+pub struct Template {
+    pub name: Text,
+    /// The arguments of `spec.args`, each with its value if it has one.
+    pub arguments: Arguments<Option<Text>>,
+    pub metrics: Metrics,
+}
+
+impl Template {
+    /// The template that a JSON document is, as `kubectl get analysistemplate NAME -o json` prints
+    /// it. Of Argo Rollouts' AnalysisTemplate it reads `metadata.name`, `spec.args` and of each
+    /// metric of `spec.metrics` its name, conditions, limits and `interval`. Other fields are read
+    /// over, null counts as missing, and what should be an object and isn't has no fields.
+    ///
+    /// # Errors
+    ///
+    /// The first that holds of `WrongVersion`, `WrongKind`, `NameMissing`, `BadArgs`, `NoMetrics`
+    /// and `TooManyMetrics`; then, metric by metric, of `MetricNameMissing`, `DoubleMetric`,
+    /// `BadField` and `Unsupported`; then `Unsupported(0)` for a `spec.dryRun` that isn't empty.
+    /// `OutOfMemory` where a growth was refused.
+    pub fn read(alloc: Global, json: &Json) -> Result<Template, ManifestError>
+        ensures { Gives result (template_of (view json.now)) }
+    {
+        template(alloc, json)
+    }
+
+    /// The template with its arguments bound: in both conditions and the four limits of each
+    /// metric, `{{args.name}}` gives way to the argument's value. Spaces next to the braces are
+    /// dropped, and a value isn't searched again. A run's own argument goes before the template's;
+    /// one that `spec.args` doesn't name is read over.
+    ///
+    /// A limit is a whole JSON number, or a text of one to ten digits, from 0 to 1,000,000,000.
+    /// `failureLimit` and `inconclusiveLimit` are 0 by default, `consecutiveErrorLimit` 4. A
+    /// `count` of 0 counts as missing, and so does a condition that is empty once it is bound.
+    ///
+    /// # Errors
+    ///
+    /// Metric by metric, over success condition, failure condition, `count`, `failureLimit`,
+    /// `inconclusiveLimit` and `consecutiveErrorLimit`, the first in each from left to right:
+    /// `OpenBraces`, `UnknownArg` or `NoValue`, and for a limit then `BadLimit`; last
+    /// `IntervalMissing`. `OutOfMemory` where a growth was refused.
+    pub fn bind(&self, alloc: Global, args: &Args) -> Result<Bound, ManifestError>
+        ensures { Gives result (bound_of self.now args.now) }
+    {
+        bound(alloc, self, args)
+    }
+}
