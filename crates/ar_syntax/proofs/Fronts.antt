@@ -1,28 +1,22 @@
 -- What stands at the front of bytes.
-use Rattle.std.proofs.Common.{◌≡◌, ℕ, ◌+◌, ◌-◌, ◌≤◌, ◌<◌, Bool, true, false, cond, pos, List, [], ◌∷◌, ◌++◌, length, take, drop, refl, sym, ◌∙◌, ap, subst, arith, append_assoc, nat_lt, nat_eq, ◌==◌, Option, Some, None, Result, Ok, Err, length-append, take-append-drop, ◌⊎◌, inl, inr}
+use Rattle.std.proofs.Common.{◌≡◌, ℕ, ◌+◌, ◌≤◌, ◌<◌, Bool, true, false, cond, List, [], ◌∷◌, ◌++◌, length, take, drop, refl, sym, ◌∙◌, ap, arith, append_assoc, nat_eq, ◌==◌, Option, Some, None, Result, Ok, Err, length-append, take-append-drop, ◌⊎◌, inl, inr}
 use Rattle.std.specs.Prelude.{find, take_while, ◌&&◌, ◌||◌, not, slice_index}
 use Rattle.std.specs.List.{starts_with, list_all}
 use Rattle.std.proofs.lemmas.List.Folds.{length-prefix_len}
 use Rattle.std.proofs.lemmas.List.Sums.{take_while-cons}
 use Rattle.std.proofs.lemmas.Slice.Eq.{starts_is}
 use Rattle.std.proofs.lemmas.Bool.Decides.{Decides-eqb}
-use Rattle.std.proofs.lemmas.Bool.{ltb-false, eqb-true}
+use Rattle.std.proofs.lemmas.Bool.{eqb-true}
 use Rattle.std.proofs.lemmas.List.{take_at}
 use Rattle.std.specs.Char.{is_ascii_digit}
 use Rattle.std.specs.Int.{is_in_range}
-use Rattle.std.specs.Str.Parse.{digits_value}
-use Rattle.ar_value.specs.Decimal.{is_i64}
-use Rattle.ar_value.specs.Digits.{magnitude_of}
 use Rattle.ar_syntax.specs.Answer.{◌>>=◌}
-use Rattle.ar_syntax.specs.Token.{Spells, begins_word, continues_word, sign, word_of}
-use Rattle.ar_syntax.specs.Tokens.{begins_number, comparison_of, digits_at, digits_behind_point, ended, fraction_at, front_of, is_blank, number_of, number_text, sign_of, signs, some, token, value_of, word_at}
+use Rattle.ar_syntax.specs.Token.{begins_word, continues_word, is_digit_in, named, prefix, spelling}
+use Rattle.ar_syntax.specs.Tokens.{all_signs, base_digits, base_named, base_of, begins_number, digits_at, digits_behind_point, found, fraction_at, number_text, sign_at, with_digit, word_at}
 use Rattle.ar_syntax.specs.declared.error.SyntaxError.{SyntaxError}
-use Rattle.ar_syntax.specs.declared.error.SyntaxError.TheVariants.{BadCharacter, LiteralTooFine, NumberTooLarge}
-use Rattle.ar_syntax.specs.declared.token.Token.{Token}
-use Rattle.ar_syntax.specs.declared.token.TokenKind.{TokenKind}
-use Rattle.ar_syntax.specs.declared.token.TokenKind.TheVariants as kinds
-use Rattle.ar_syntax.specs.declared.token.Comparison.{Comparison}
-use Rattle.ar_syntax.specs.declared.token.Comparison.TheVariants as comparisons
+use Rattle.ar_syntax.specs.declared.token.Base.{Base}
+use Rattle.ar_syntax.specs.declared.token.Base.TheVariants.{Binary, Octal, Hexadecimal}
+use Rattle.ar_syntax.specs.declared.token.Sign.{Sign}
 
 -- the front part of a list, cut at its own length
 pub take-length-take_while : (p : ℕ → Bool) (xs : List ℕ) → take (length (take_while p xs)) xs ≡ take_while p xs
@@ -48,13 +42,13 @@ pub passes-from_find : {A : Type 0} (p : A → Bool) (xs : List A) (y : A) → f
 passes-from_find p [] y found = absurd cc
 passes-from_find p (x ∷ xs) y found = elim (find-chosen p x y (find p xs) (p x) refl found) [ inl passes ↦ passes | inr further ↦ passes-from_find p xs y further ]
 
--- the sign of the comparison at the front is the front
-pub sign_at_front : (bytes : List ℕ) (comparison : Comparison) → comparison_of bytes ≡ Some comparison → bytes ≡ sign comparison ++ drop (length (sign comparison)) bytes
-unfolding comparison_of
-sign_at_front bytes comparison found = (starts_is Decides-eqb bytes (sign comparison) _ refl).0 (passes-from_find (λ comparison. starts_with nat_eq bytes (sign comparison)) signs comparison found)
+-- the sign at the front is the front
+pub sign_at_front : (bytes : List ℕ) (sign : Sign) → sign_at bytes ≡ Some sign → bytes ≡ spelling sign ++ drop (length (spelling sign)) bytes
+unfolding sign_at
+sign_at_front bytes sign found = (starts_is Decides-eqb bytes (spelling sign) _ refl).0 (passes-from_find (λ sign. starts_with nat_eq bytes (spelling sign)) all_signs sign found)
 
-pub sign_in_range : (bytes : List ℕ) (comparison : Comparison) → comparison_of bytes ≡ Some comparison → length (sign comparison) ≤ length bytes
-sign_in_range bytes comparison found = omega (arith, ap length (sign_at_front bytes comparison found), length-append (sign comparison) (drop (length (sign comparison)) bytes))
+pub sign_in_range : (bytes : List ℕ) (sign : Sign) → sign_at bytes ≡ Some sign → length (spelling sign) ≤ length bytes
+sign_in_range bytes sign found = omega (arith, ap length (sign_at_front bytes sign found), length-append (spelling sign) (drop (length (spelling sign)) bytes))
 
 -- ---- answers
 
@@ -64,7 +58,7 @@ bind_ok (Ok x) f y e = (x, refl, e)
 bind_ok (Err d) f y e = absurd cc
 
 -- which way a test went
-chosen : {A : Type 0} (b : Bool) (x y z : A) → cond b x y ≡ z → ((b ≡ true) × (x ≡ z)) ⊎ ((b ≡ false) × (y ≡ z))
+pub chosen : {A : Type 0} (b : Bool) (x y z : A) → cond b x y ≡ z → ((b ≡ true) × (x ≡ z)) ⊎ ((b ≡ false) × (y ≡ z))
 chosen true x y z e = inl (refl, e)
 chosen false x y z e = inr (refl, e)
 
@@ -74,7 +68,7 @@ chosen false x y z e = inr (refl, e)
 pub take_while-front : (p : ℕ → Bool) (xs : List ℕ) → xs ≡ take_while p xs ++ drop (length (take_while p xs)) xs
 take_while-front p xs = sym (take-append-drop (length (take_while p xs)) xs) ∙ ap (λ (front : List ℕ). front ++ drop (length (take_while p xs)) xs) (take-length-take_while p xs)
 
-length-front : (front rest bytes : List ℕ) → bytes ≡ front ++ rest → length front ≤ length bytes
+pub length-front : (front rest bytes : List ℕ) → bytes ≡ front ++ rest → length front ≤ length bytes
 length-front front rest bytes e = omega (arith, ap length e, length-append front rest)
 
 -- ---- words
@@ -86,14 +80,14 @@ or_more a b c false h = h
 begins-continues : (byte : ℕ) → begins_word byte ≡ true → continues_word byte ≡ true
 begins-continues byte h = or_more (is_in_range 65 90 byte) (is_in_range 97 122 byte) (byte == 95) (is_in_range 48 57 byte) h
 
-take_while-some : (p : ℕ → Bool) (x : ℕ) (xs : List ℕ) → p x ≡ true → 0 < length (take_while p (x ∷ xs))
+pub take_while-some : (p : ℕ → Bool) (x : ℕ) (xs : List ℕ) → p x ≡ true → 0 < length (take_while p (x ∷ xs))
 take_while-some p x xs h = rw (take_while-cons p x xs, h) (omega arith)
 
-word_at-some : (bytes : List ℕ) → begins_word (slice_index bytes 0) ≡ true → 0 < length (word_at bytes)
+pub word_at-some : (bytes : List ℕ) → begins_word (slice_index bytes 0) ≡ true → 0 < length (word_at bytes)
 word_at-some [] h = absurd cc
 word_at-some (byte ∷ bytes) h = take_while-some continues_word byte bytes (begins-continues byte h)
 
-word_at-first : (bytes : List ℕ) → begins_word (slice_index bytes 0) ≡ true → begins_word (slice_index (word_at bytes) 0) ≡ true
+pub word_at-first : (bytes : List ℕ) → begins_word (slice_index bytes 0) ≡ true → begins_word (slice_index (word_at bytes) 0) ≡ true
 word_at-first [] h = h
 word_at-first (byte ∷ bytes) h = rw (take_while-cons continues_word byte bytes, begins-continues byte h) h
 
@@ -127,133 +121,106 @@ number_taken bytes =
     let front = number_front bytes in
     ap (take (length (number_text (digits_at bytes) (fraction_at bytes)))) front.1 ∙ take_at (number_text (digits_at bytes) (fraction_at bytes)) front.0 _ refl
 
-list_all-digits_behind_point : (behind : List ℕ) → list_all is_ascii_digit (digits_behind_point behind) ≡ true
+pub list_all-digits_behind_point : (behind : List ℕ) → list_all is_ascii_digit (digits_behind_point behind) ≡ true
 list_all-digits_behind_point behind = elim (chosen (slice_index behind 0 == 46) (digits_at (drop 1 behind)) [] (digits_behind_point behind) refl) [
   | inl point ↦ rw (← point.1) (list_all-take_while is_ascii_digit (drop 1 behind))
   | inr none ↦ rw (← none.1) refl
 ]
 
 -- a number that begins here has digits before its point or behind it
-number-some-chosen : (after_word : Bool) (byte : ℕ) (bytes : List ℕ) (digit point next : Bool) → is_ascii_digit byte ≡ digit → (byte == 46) ≡ point → is_ascii_digit (slice_index bytes 0) ≡ next
-    → (digit || (point && next && not after_word)) ≡ true → fraction_at (byte ∷ bytes) ≡ [] → 0 < length (digits_at (byte ∷ bytes))
-number-some-chosen after_word byte bytes true point next d p n begins none = take_while-some is_ascii_digit byte bytes d
-number-some-chosen after_word byte bytes false false next d p n begins none = absurd cc
-number-some-chosen after_word byte bytes false true false d p n begins none = absurd cc
-number-some-chosen after_word byte [] false true true d p n begins none = absurd cc
-number-some-chosen after_word byte (second ∷ bytes) false true true d p n begins none =
+number-some-chosen : (field : Bool) (byte : ℕ) (bytes : List ℕ) (digit point next : Bool) → is_ascii_digit byte ≡ digit → (byte == 46) ≡ point → is_ascii_digit (slice_index bytes 0) ≡ next
+    → (digit || (point && next && not field)) ≡ true → fraction_at (byte ∷ bytes) ≡ [] → 0 < length (digits_at (byte ∷ bytes))
+number-some-chosen field byte bytes true point next d p n begins none = take_while-some is_ascii_digit byte bytes d
+number-some-chosen field byte bytes false false next d p n begins none = absurd cc
+number-some-chosen field byte bytes false true false d p n begins none = absurd cc
+number-some-chosen field byte [] false true true d p n begins none = absurd cc
+number-some-chosen field byte (second ∷ bytes) false true true d p n begins none =
     let no_digits : digits_at (byte ∷ second ∷ bytes) ≡ [] = rw (take_while-cons is_ascii_digit byte (second ∷ bytes), d) refl in
     let fraction : fraction_at (byte ∷ second ∷ bytes) ≡ digits_at (second ∷ bytes) = rw (no_digits, p) refl in
     let some = take_while-some is_ascii_digit second bytes n in
     absurd (omega (arith, some, ap length (sym fraction ∙ none)))
 
-number-some : (after_word : Bool) (bytes : List ℕ) → begins_number after_word bytes ≡ true → fraction_at bytes ≡ [] → 0 < length (digits_at bytes)
-number-some after_word [] begins none = absurd cc
-number-some after_word (byte ∷ bytes) begins none = number-some-chosen after_word byte bytes (is_ascii_digit byte) (byte == 46) (is_ascii_digit (slice_index bytes 0)) refl refl refl begins none
+pub number-some : (field : Bool) (bytes : List ℕ) → begins_number field bytes ≡ true → fraction_at bytes ≡ [] → 0 < length (digits_at bytes)
+number-some field [] begins none = absurd cc
+number-some field (byte ∷ bytes) begins none = number-some-chosen field byte bytes (is_ascii_digit byte) (byte == 46) (is_ascii_digit (slice_index bytes 0)) refl refl refl begins none
 
-number_text-some : (whole fraction : List ℕ) → (fraction ≡ [] → 0 < length whole) → 0 < length (number_text whole fraction)
+pub number_text-some : (whole fraction : List ℕ) → (fraction ≡ [] → 0 < length whole) → 0 < length (number_text whole fraction)
 number_text-some whole [] some = some refl
 number_text-some whole (digit ∷ fraction) some = omega (arith, length-append whole (46 ∷ digit ∷ fraction))
 
--- ---- tokens
+-- ---- numbers with a prefix
 
--- a token stands at the front of bytes that begin at a place
-pub record IsFront (at : ℕ) (bytes : List ℕ) (token : Token) : Type 0 where
-  pub start : token.span.start ≡ at
-  pub some : at < token.span.end
-  pub within : token.span.end ≤ at + length bytes
-  pub spells : Spells (take (token.span.end - at) bytes) token.kind
+-- both tests pass
+pub both_pass : (a b : Bool) → (a && b) ≡ true → (a ≡ true) × (b ≡ true)
+both_pass true true h = (refl, refl)
+both_pass true false h = absurd cc
+both_pass false b h = absurd cc
 
-IsFront-token : (at : ℕ) (bytes : List ℕ) (kind : TokenKind) (len : ℕ) → 0 < len → len ≤ length bytes → Spells (take len bytes) kind → IsFront at bytes (token kind at len)
-IsFront-token at bytes kind len some within spells =
-    let taken : at + len - at ≡ len = omega arith in
-    record { start = refl; some = omega arith; within = omega arith; spells = rw taken spells }
-
--- the value of a number's digits
-Spells-value_of : (at : ℕ) (whole fraction : List ℕ) (kind : TokenKind) → list_all is_ascii_digit whole ≡ true → list_all is_ascii_digit fraction ≡ true → (fraction ≡ [] → 0 < length whole)
-    → value_of at whole fraction ≡ Ok kind → Spells (number_text whole fraction) kind
-Spells-value_of at whole [] kind w f some e =
-    elim (chosen (is_i64 (pos (digits_value 10 whole))) (Ok (kinds.Whole (pos (digits_value 10 whole)))) (Err (NumberTooLarge at)) (Ok kind) e) [
-      | inl fits ↦ let same : kinds.Whole (pos (digits_value 10 whole)) ≡ kind = cc in subst (Spells whole) same ((some refl, w), refl)
-      | inr large ↦ absurd cc
+base_named-chosen : (byte : ℕ) (base : Base) → base_named byte ≡ Some base → 48 ∷ byte ∷ [] ≡ prefix base
+base_named-chosen byte base e = elim (chosen (byte == 98) (Some Binary) _ (Some base) e) [
+  | inl binary ↦ let letter : byte ≡ 98 = eqb-true byte 98 binary.0 in let same : Binary ≡ base = cc in rw (letter, ← same) refl
+  | inr no_binary ↦ elim (chosen (byte == 111) (Some Octal) _ (Some base) no_binary.1) [
+    | inl octal ↦ let letter : byte ≡ 111 = eqb-true byte 111 octal.0 in let same : Octal ≡ base = cc in rw (letter, ← same) refl
+    | inr no_octal ↦ elim (chosen (byte == 120) (Some Hexadecimal) None (Some base) no_octal.1) [
+      | inl hexadecimal ↦ let letter : byte ≡ 120 = eqb-true byte 120 hexadecimal.0 in let same : Hexadecimal ≡ base = cc in rw (letter, ← same) refl
+      | inr none ↦ absurd cc
     ]
-Spells-value_of at whole (digit ∷ fraction) kind w f some e =
-    elim (chosen (nat_lt 6 (length (digit ∷ fraction))) (Err (LiteralTooFine at)) (cond (is_i64 (pos (magnitude_of whole (digit ∷ fraction)))) (Ok (kinds.Decimal (pos (magnitude_of whole (digit ∷ fraction))))) (Err (NumberTooLarge at))) (Ok kind) e) [
-      | inl fine ↦ absurd cc
-      | inr coarse ↦ elim (chosen (is_i64 (pos (magnitude_of whole (digit ∷ fraction)))) (Ok (kinds.Decimal (pos (magnitude_of whole (digit ∷ fraction))))) (Err (NumberTooLarge at)) (Ok kind) coarse.1) [
-        | inl fits ↦
-            let same : kinds.Decimal (pos (magnitude_of whole (digit ∷ fraction))) ≡ kind = cc in
-            let six : length (digit ∷ fraction) ≤ 6 = ltb-false 6 (length (digit ∷ fraction)) coarse.0 in
-            subst (Spells (number_text whole (digit ∷ fraction))) same (whole, digit ∷ fraction, record { parts = refl; whole_digits = w; fraction_digits = (omega arith, f); fine = six }, refl)
-        | inr large ↦ absurd cc
-      ]
-    ]
+  ]
+]
 
-IsFront-number : (at : ℕ) (after_word : Bool) (bytes : List ℕ) (found : Token) → begins_number after_word bytes ≡ true → number_of at bytes ≡ Ok found → IsFront at bytes found
-unfolding number_of
-IsFront-number at after_word bytes found begins e =
-    let whole = digits_at bytes in
-    let fraction = fraction_at bytes in
-    let value = bind_ok (value_of at whole fraction) (ended at (length (number_text whole fraction)) bytes) found e in
-    let spells = Spells-value_of at whole fraction value.0 (list_all-take_while is_ascii_digit bytes) (list_all-digits_behind_point (drop (length whole) bytes)) (number-some after_word bytes begins) value.1 in
-    elim (chosen (continues_word (slice_index bytes (length (number_text whole fraction)))) (Err (BadCharacter (at + length (number_text whole fraction)))) (Ok (token value.0 at (length (number_text whole fraction)))) (Ok found) value.2) [
-      | inl continued ↦ absurd cc
-      | inr end ↦
-          let same : token value.0 at (length (number_text whole fraction)) ≡ found = cc in
-          subst (IsFront at bytes) same (IsFront-token at bytes value.0 (length (number_text whole fraction)) (number_text-some whole fraction (number-some after_word bytes begins)) (number_in_range bytes) (rw (number_taken bytes) spells))
-    ]
+with_digit-some : (byte : ℕ) (named : Option Base) (base : Base) → with_digit byte named ≡ Some base → (named ≡ Some base) × (is_digit_in base byte ≡ true)
+with_digit-some byte None base e = absurd cc
+with_digit-some byte (Some named) base e = elim (chosen (is_digit_in named byte) (Some named) None (Some base) e) [
+  | inl digit ↦ let same : named ≡ base = cc in (ap (λ (b : Base). Some b) same, rw same at digit.0)
+  | inr none ↦ absurd cc
+]
 
-IsFront-word : (at : ℕ) (bytes : List ℕ) → begins_word (slice_index bytes 0) ≡ true → IsFront at bytes (token (kinds.Word (word_of (word_at bytes))) at (length (word_at bytes)))
-IsFront-word at bytes begins =
-    let some = word_at-some bytes begins in
-    IsFront-token at bytes (kinds.Word (word_of (word_at bytes))) (length (word_at bytes)) some (length-front (word_at bytes) _ bytes (take_while-front continues_word bytes)) (rw (take-length-take_while continues_word bytes) (word_at-first bytes begins, list_all-take_while continues_word bytes, refl))
+no_digit_there : (base : Base) → is_digit_in base 0 ≡ false
+no_digit_there Binary = refl
+no_digit_there Octal = refl
+no_digit_there Hexadecimal = refl
 
-sign-some : (comparison : Comparison) → 0 < length (sign comparison)
-sign-some comparisons.Equal = omega arith
-sign-some comparisons.NotEqual = omega arith
-sign-some comparisons.Less = omega arith
-sign-some comparisons.LessOrEqual = omega arith
-sign-some comparisons.Greater = omega arith
-sign-some comparisons.GreaterOrEqual = omega arith
+-- a prefix stands in front of a digit of its base
+pub record IsPrefixed (base : Base) (bytes : List ℕ) : Type 0 where
+  pub front : bytes ≡ prefix base ++ drop 2 bytes
+  pub some : 0 < length (base_digits base bytes)
 
-IsFront-sign : (at : ℕ) (bytes : List ℕ) (comparison : Option Comparison) (found : Token) → comparison_of bytes ≡ comparison → sign_of at comparison ≡ Ok found → IsFront at bytes found
-IsFront-sign at bytes None found front e = absurd cc
-IsFront-sign at bytes (Some comparison) found front e =
-    let same : token (kinds.Comparison comparison) at (length (sign comparison)) ≡ found = cc in
-    let taken : take (length (sign comparison)) bytes ≡ sign comparison = ap (take (length (sign comparison))) (sign_at_front bytes comparison front) ∙ take_at (sign comparison) _ _ refl in
-    subst (IsFront at bytes) same (IsFront-token at bytes (kinds.Comparison comparison) (length (sign comparison)) (sign-some comparison) (sign_in_range bytes comparison front) taken)
+prefixed-parts : (base : Base) (first second byte : ℕ) (bytes : List ℕ) → first ≡ 48 → 48 ∷ second ∷ [] ≡ prefix base → is_digit_in base byte ≡ true → IsPrefixed base (first ∷ second ∷ byte ∷ bytes)
+prefixed-parts base first second byte bytes zero_is named digit = record {
+  front = rw (← named, zero_is) refl;
+  some = take_while-some (is_digit_in base) byte bytes digit;
+}
 
--- what is found at the front stands there
-pub IsFront-front_of : (at : ℕ) (after_word : Bool) (bytes : List ℕ) (found : Token) → front_of at after_word bytes ≡ Ok (Some found) → IsFront at bytes found
-unfolding front_of
-IsFront-front_of at after_word bytes found e =
-    elim (chosen (is_blank (slice_index bytes 0)) (Ok None) _ (Ok (Some found)) e) [
-      | inl blank ↦ absurd cc
-      | inr no_blank ↦ elim (chosen (begins_word (slice_index bytes 0)) (some (token (kinds.Word (word_of (word_at bytes))) at (length (word_at bytes)))) _ (Ok (Some found)) no_blank.1) [
-        | inl word ↦ let same : token (kinds.Word (word_of (word_at bytes))) at (length (word_at bytes)) ≡ found = cc in subst (IsFront at bytes) same (IsFront-word at bytes word.0)
-        | inr no_word ↦ elim (chosen (begins_number after_word bytes) (number_of at bytes >>= some) (sign_of at (comparison_of bytes) >>= some) (Ok (Some found)) no_word.1) [
-          | inl number ↦
-              let inner = bind_ok (number_of at bytes) some (Some found) number.1 in
-              let same : inner.0 ≡ found = cc in
-              subst (IsFront at bytes) same (IsFront-number at after_word bytes inner.0 number.0 inner.1)
-          | inr no_number ↦
-              let inner = bind_ok (sign_of at (comparison_of bytes)) some (Some found) no_number.1 in
-              let same : inner.0 ≡ found = cc in
-              subst (IsFront at bytes) same (IsFront-sign at bytes (comparison_of bytes) inner.0 refl inner.1)
-        ]
-      ]
-    ]
+pub IsPrefixed-base_of : (base : Base) (bytes : List ℕ) → base_of bytes ≡ Some base → IsPrefixed base bytes
+unfolding base_of
+IsPrefixed-base_of base bytes e = elim (chosen (slice_index bytes 0 == 48) (with_digit (slice_index bytes 2) (base_named (slice_index bytes 1))) None (Some base) e) [
+  | inl zero_there ↦
+      let parts = with_digit-some (slice_index bytes 2) (base_named (slice_index bytes 1)) base zero_there.1 in
+      IsPrefixed-at base bytes (eqb-true (slice_index bytes 0) 48 zero_there.0) (base_named-chosen (slice_index bytes 1) base parts.0) parts.1
+  | inr none ↦ absurd cc
+]
+  where
+    IsPrefixed-at : (base : Base) (bytes : List ℕ) → slice_index bytes 0 ≡ 48 → 48 ∷ slice_index bytes 1 ∷ [] ≡ prefix base → is_digit_in base (slice_index bytes 2) ≡ true → IsPrefixed base bytes
+    IsPrefixed-at base [] zero_is named digit = absurd cc
+    IsPrefixed-at base (first ∷ []) zero_is named digit = absurd (cc (no_digit_there base))
+    IsPrefixed-at base (first ∷ second ∷ []) zero_is named digit = absurd (cc (no_digit_there base))
+    IsPrefixed-at base (first ∷ second ∷ byte ∷ bytes) zero_is named digit = prefixed-parts base first second byte bytes zero_is named digit
 
--- where nothing is found stands a blank
-pub is_blank-front_of : (at : ℕ) (after_word : Bool) (bytes : List ℕ) → front_of at after_word bytes ≡ Ok None → is_blank (slice_index bytes 0) ≡ true
-unfolding front_of
-is_blank-front_of at after_word bytes e =
-    elim (chosen (is_blank (slice_index bytes 0)) (Ok None) _ (Ok None) e) [
-      | inl blank ↦ blank.0
-      | inr no_blank ↦ elim (chosen (begins_word (slice_index bytes 0)) (some (token (kinds.Word (word_of (word_at bytes))) at (length (word_at bytes)))) _ (Ok None) no_blank.1) [
-        | inl word ↦ absurd cc
-        | inr no_word ↦ elim (chosen (begins_number after_word bytes) (number_of at bytes >>= some) (sign_of at (comparison_of bytes) >>= some) (Ok None) no_word.1) [
-          | inl number ↦ let inner = bind_ok (number_of at bytes) some None number.1 in absurd cc
-          | inr no_number ↦ let inner = bind_ok (sign_of at (comparison_of bytes)) some None no_number.1 in absurd cc
-        ]
-      ]
-    ]
+prefix-len : (base : Base) → length (prefix base) ≡ 2
+prefix-len Binary = refl
+prefix-len Octal = refl
+prefix-len Hexadecimal = refl
+
+-- a prefix and the digits behind it
+pub prefixed_front : (base : Base) (bytes : List ℕ) → IsPrefixed base bytes → (rest : List ℕ) × (bytes ≡ (prefix base ++ base_digits base bytes) ++ rest)
+prefixed_front base bytes is =
+    let digits = take_while-front (is_digit_in base) (drop 2 bytes) in
+    (drop (length (base_digits base bytes)) (drop 2 bytes), is.front ∙ ap (λ (behind : List ℕ). prefix base ++ behind) digits ∙ sym (append_assoc (prefix base) (base_digits base bytes) (drop (length (base_digits base bytes)) (drop 2 bytes))))
+
+pub prefixed_len : (base : Base) (bytes : List ℕ) → length (prefix base ++ base_digits base bytes) ≡ 2 + length (base_digits base bytes)
+prefixed_len base bytes = omega (arith, length-append (prefix base) (base_digits base bytes), prefix-len base)
+
+pub prefixed_in_range : (base : Base) (bytes : List ℕ) → base_of bytes ≡ Some base → 2 + length (base_digits base bytes) ≤ length bytes
+prefixed_in_range base bytes e =
+    let front = prefixed_front base bytes (IsPrefixed-base_of base bytes e) in
+    omega (arith, length-front (prefix base ++ base_digits base bytes) front.0 bytes front.1, prefixed_len base bytes)

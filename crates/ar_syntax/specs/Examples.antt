@@ -1,61 +1,130 @@
--- Texts with their trees and refusals, computed from the definitions.
-use Rattle.std.specs.Prelude.{◌≡◌, true, pos, codes, Ok, Err, refl}
-use Rattle.ar_syntax.specs.Parse.{parse_of, tree_of, operand_of, operator_of, literal_of}
+-- Tokens with their trees, computed by the machine.
+use Rattle.std.specs.Prelude.{◌≡◌, ℕ, false, true, pos, List, codes, Option, Some, None, Result, Ok, Err, refl}
+use Rattle.ar_syntax.specs.Expression.{Expression, ResultAt, ItemAt, LiteralAt, FieldAt, IndexAt, UnaryAt, BinaryAt, ChoiceAt, ListAt, LenAt, IsNilAt, DefaultAt, PredicateAt, none, more}
+use Rattle.ar_syntax.specs.Grammar.{Rules}
+use Rattle.ar_syntax.specs.Machine.{step, tree_by}
+use Rattle.ar_syntax.specs.Roles.{follows, is_brace, is_group, is_in, name_of, starts, text_value}
 use Rattle.ar_syntax.specs.Token.{word_of}
-use Rattle.ar_syntax.specs.Tokens.{tokens_of, tokens_behind, front_of, number_of, comparison_of}
-use Rattle.ar_syntax.specs.Tree.{ResultAt, LiteralAt, ComparisonAt}
-use Rattle.ar_syntax.specs.declared.error.SyntaxError.TheVariants.{BadCharacter, LiteralTooFine, NumberTooLarge, Unexpected, UnknownName}
-use Rattle.ar_syntax.specs.declared.token.Comparison.TheVariants.{Equal, NotEqual, Greater, GreaterOrEqual}
+use Rattle.ar_syntax.specs.Tokens.{base_of, front_of, number_of, sign_at, text_of, token_of, tokens_behind, tokens_of}
+use Rattle.ar_syntax.specs.declared.error.SyntaxError.{SyntaxError}
+use Rattle.ar_syntax.specs.declared.token.Comparison.TheVariants.{Equal, Greater}
+use Rattle.ar_syntax.specs.declared.token.Token.{Token}
+use Rattle.ar_syntax.specs.declared.tree.Binary.TheVariants as binaries
 use Rattle.ar_syntax.specs.declared.tree.Literal.TheVariants as literals
+use Rattle.ar_syntax.specs.declared.tree.Predicate.TheVariants.{All}
+use Rattle.ar_syntax.specs.declared.tree.Predicate.TheVariants as predicates
+use Rattle.ar_syntax.specs.declared.tree.Unary.TheVariants as unaries
 
-whole : parse_of (codes "result > 1") ≡ Ok (ComparisonAt 7 Greater (ResultAt 0) (LiteralAt 9 (literals.Whole (pos 1))))
-unfolding parse_of tokens_of tokens_behind front_of number_of comparison_of word_of tree_of operand_of operator_of literal_of
-whole = refl
+abbrev strict : Rules
+strict = record { any_depth = false; any_items = false; any_count = false }
 
-decimal : parse_of (codes "result>=0.95") ≡ Ok (ComparisonAt 6 GreaterOrEqual (ResultAt 0) (LiteralAt 8 (literals.Decimal (pos 950000))))
-unfolding parse_of tokens_of tokens_behind front_of number_of comparison_of word_of tree_of operand_of operator_of literal_of
-decimal = refl
+abbrev said : Result (List Token) SyntaxError → Option Expression
+said (Ok tokens) = tree_by strict tokens
+said (Err error) = None
 
-no_whole_digits : parse_of (codes "result != .5") ≡ Ok (ComparisonAt 7 NotEqual (ResultAt 0) (LiteralAt 10 (literals.Decimal (pos 500000))))
-unfolding parse_of tokens_of tokens_behind front_of number_of comparison_of word_of tree_of operand_of operator_of literal_of
-no_whole_digits = refl
+abbrev whole_at : ℕ → ℕ → Expression
+whole_at at value = LiteralAt at (literals.Whole (pos value))
 
-truth : parse_of (codes "result == true") ≡ Ok (ComparisonAt 7 Equal (ResultAt 0) (LiteralAt 10 (literals.Bool true)))
-unfolding parse_of tokens_of tokens_behind front_of number_of comparison_of word_of tree_of operand_of operator_of literal_of
-truth = refl
+comparison : said (tokens_of (codes "result > 1")) ≡ Some (BinaryAt 7 (binaries.Comparison Greater) (ResultAt 0) (whole_at 9 1))
+unfolding tokens_of tokens_behind front_of token_of number_of base_of text_of sign_at word_of step starts follows name_of text_value is_in is_group is_brace
+comparison = refl
 
-too_fine : parse_of (codes "result > 0.1234567") ≡ Err (LiteralTooFine 9)
-unfolding parse_of tokens_of tokens_behind front_of number_of comparison_of word_of tree_of operand_of operator_of literal_of
-too_fine = refl
+to_the_left : said (tokens_of (codes "1 - 2 - 3")) ≡ Some (BinaryAt 6 binaries.Subtract (BinaryAt 2 binaries.Subtract (whole_at 0 1) (whole_at 4 2)) (whole_at 8 3))
+unfolding tokens_of tokens_behind front_of token_of number_of base_of text_of sign_at word_of step starts follows name_of text_value is_in is_group is_brace
+to_the_left = refl
 
-too_large : parse_of (codes "9223372036854775808 > 0") ≡ Err (NumberTooLarge 0)
-unfolding parse_of tokens_of tokens_behind front_of number_of comparison_of word_of tree_of operand_of operator_of literal_of
-too_large = refl
+levels : said (tokens_of (codes "1 + 2 * 3 == 4 or true")) ≡ Some (BinaryAt 15 binaries.Or (BinaryAt 10 (binaries.Comparison Equal) (BinaryAt 2 binaries.Add (whole_at 0 1) (BinaryAt 6 binaries.Multiply (whole_at 4 2) (whole_at 8 3))) (whole_at 13 4)) (LiteralAt 18 (literals.Bool true)))
+unfolding tokens_of tokens_behind front_of token_of number_of base_of text_of sign_at word_of step starts follows name_of text_value is_in is_group is_brace
+levels = refl
 
-bad_character : parse_of (codes "result ^ 2") ≡ Err (BadCharacter 7)
-unfolding parse_of tokens_of tokens_behind front_of number_of comparison_of word_of tree_of operand_of operator_of literal_of
-bad_character = refl
+signs_bind_tighter : said (tokens_of (codes "-1 * 2")) ≡ Some (BinaryAt 3 binaries.Multiply (UnaryAt 0 unaries.Minus (whole_at 1 1)) (whole_at 5 2))
+unfolding tokens_of tokens_behind front_of token_of number_of base_of text_of sign_at word_of step starts follows name_of text_value is_in is_group is_brace
+signs_bind_tighter = refl
 
-bad_point : parse_of (codes "result.5 > 1") ≡ Err (BadCharacter 6)
-unfolding parse_of tokens_of tokens_behind front_of number_of comparison_of word_of tree_of operand_of operator_of literal_of
-bad_point = refl
+not_in_operator : said (tokens_of (codes "1 not in [2]")) ≡ Some (BinaryAt 2 binaries.NotIn (whole_at 0 1) (ListAt 9 (more (whole_at 10 2) none)))
+unfolding tokens_of tokens_behind front_of token_of number_of base_of text_of sign_at word_of step starts follows name_of text_value is_in is_group is_brace
+not_in_operator = refl
 
-bad_number : parse_of (codes "result > 1a") ≡ Err (BadCharacter 10)
-unfolding parse_of tokens_of tokens_behind front_of number_of comparison_of word_of tree_of operand_of operator_of literal_of
-bad_number = refl
+choices_to_the_right : said (tokens_of (codes "true ? 1 : false ? 2 : 3")) ≡ Some (ChoiceAt 5 (LiteralAt 0 (literals.Bool true)) (whole_at 7 1) (ChoiceAt 17 (LiteralAt 11 (literals.Bool false)) (whole_at 19 2) (whole_at 23 3)))
+unfolding tokens_of tokens_behind front_of token_of number_of base_of text_of sign_at word_of step starts follows name_of text_value is_in is_group is_brace
+choices_to_the_right = refl
 
-unknown_name : parse_of (codes "foo > 1") ≡ Err (UnknownName 0)
-unfolding parse_of tokens_of tokens_behind front_of number_of comparison_of word_of tree_of operand_of operator_of literal_of
-unknown_name = refl
+field_and_index : said (tokens_of (codes "result.a['b'][0]")) ≡ Some (IndexAt 13 (FieldAt 8 (FieldAt 6 (ResultAt 0) (codes "a")) (codes "b")) (whole_at 14 0))
+unfolding tokens_of tokens_behind front_of token_of number_of base_of text_of sign_at word_of step starts follows name_of text_value is_in is_group is_brace
+field_and_index = refl
 
-named_word : parse_of (codes "result > len") ≡ Err (Unexpected 9)
-unfolding parse_of tokens_of tokens_behind front_of number_of comparison_of word_of tree_of operand_of operator_of literal_of
-named_word = refl
+text_index : said (tokens_of (codes "result['b' + 'c']")) ≡ Some (IndexAt 6 (ResultAt 0) (BinaryAt 11 binaries.Add (LiteralAt 7 (literals.Text (codes "b"))) (LiteralAt 13 (literals.Text (codes "c")))))
+unfolding tokens_of tokens_behind front_of token_of number_of base_of text_of sign_at word_of step starts follows name_of text_value is_in is_group is_brace
+text_index = refl
 
-second_number : parse_of (codes "result > 1.5.5") ≡ Err (Unexpected 12)
-unfolding parse_of tokens_of tokens_behind front_of number_of comparison_of word_of tree_of operand_of operator_of literal_of
-second_number = refl
+predicate : said (tokens_of (codes "all(result, {.a > #})")) ≡ Some (PredicateAt 0 All (ResultAt 4) (BinaryAt 16 (binaries.Comparison Greater) (FieldAt 13 (ItemAt 13) (codes "a")) (ItemAt 18)))
+unfolding tokens_of tokens_behind front_of token_of number_of base_of text_of sign_at word_of step starts follows name_of text_value is_in is_group is_brace
+predicate = refl
 
-end_of_text : parse_of (codes "result >") ≡ Err (Unexpected 8)
-unfolding parse_of tokens_of tokens_behind front_of number_of comparison_of word_of tree_of operand_of operator_of literal_of
-end_of_text = refl
+item_outside : said (tokens_of (codes "# > 1")) ≡ None
+unfolding tokens_of tokens_behind front_of token_of number_of base_of text_of sign_at word_of step starts follows name_of text_value is_in is_group is_brace
+item_outside = refl
+
+two_arguments : said (tokens_of (codes "len(result, 1)")) ≡ None
+unfolding tokens_of tokens_behind front_of token_of number_of base_of text_of sign_at word_of step starts follows name_of text_value is_in is_group is_brace
+two_arguments = refl
+
+tree1 : said (tokens_of (codes "+1 > -2 % 3")) ≡ Some (BinaryAt 3 (binaries.Comparison Greater) (UnaryAt 0 unaries.Plus (whole_at 1 1)) (BinaryAt 8 binaries.Remainder (UnaryAt 5 unaries.Minus (whole_at 6 2)) (whole_at 10 3)))
+unfolding tokens_of tokens_behind front_of token_of number_of base_of text_of sign_at word_of step starts follows name_of text_value is_in is_group is_brace
+tree1 = refl
+
+tree2 : said (tokens_of (codes "not true && false")) ≡ Some (BinaryAt 9 binaries.And (UnaryAt 0 unaries.Not (LiteralAt 4 (literals.Bool true))) (LiteralAt 12 (literals.Bool false)))
+unfolding tokens_of tokens_behind front_of token_of number_of base_of text_of sign_at word_of step starts follows name_of text_value is_in is_group is_brace
+tree2 = refl
+
+tree3 : said (tokens_of (codes "(1 + 2) * 3")) ≡ Some (BinaryAt 8 binaries.Multiply (BinaryAt 3 binaries.Add (whole_at 1 1) (whole_at 5 2)) (whole_at 10 3))
+unfolding tokens_of tokens_behind front_of token_of number_of base_of text_of sign_at word_of step starts follows name_of text_value is_in is_group is_brace
+tree3 = refl
+
+tree4 : said (tokens_of (codes "1 == 2 == 3")) ≡ Some (BinaryAt 7 (binaries.Comparison Equal) (BinaryAt 2 (binaries.Comparison Equal) (whole_at 0 1) (whole_at 5 2)) (whole_at 10 3))
+unfolding tokens_of tokens_behind front_of token_of number_of base_of text_of sign_at word_of step starts follows name_of text_value is_in is_group is_brace
+tree4 = refl
+
+tree5 : said (tokens_of (codes "1 in [2] not in [3]")) ≡ Some (BinaryAt 9 binaries.NotIn (BinaryAt 2 binaries.In (whole_at 0 1) (ListAt 5 (more (whole_at 6 2) none))) (ListAt 16 (more (whole_at 17 3) none)))
+unfolding tokens_of tokens_behind front_of token_of number_of base_of text_of sign_at word_of step starts follows name_of text_value is_in is_group is_brace
+tree5 = refl
+
+tree6 : said (tokens_of (codes "-result.a[0]")) ≡ Some (UnaryAt 0 unaries.Minus (IndexAt 9 (FieldAt 7 (ResultAt 1) (codes "a")) (whole_at 10 0)))
+unfolding tokens_of tokens_behind front_of token_of number_of base_of text_of sign_at word_of step starts follows name_of text_value is_in is_group is_brace
+tree6 = refl
+
+tree7 : said (tokens_of (codes "result.len.in")) ≡ Some (FieldAt 10 (FieldAt 6 (ResultAt 0) (codes "len")) (codes "in"))
+unfolding tokens_of tokens_behind front_of token_of number_of base_of text_of sign_at word_of step starts follows name_of text_value is_in is_group is_brace
+tree7 = refl
+
+tree8 : said (tokens_of (codes "result[('b')]")) ≡ Some (IndexAt 6 (ResultAt 0) (LiteralAt 8 (literals.Text (codes "b"))))
+unfolding tokens_of tokens_behind front_of token_of number_of base_of text_of sign_at word_of step starts follows name_of text_value is_in is_group is_brace
+tree8 = refl
+
+tree9 : said (tokens_of (codes "nil")) ≡ Some (LiteralAt 0 literals.Nil)
+unfolding tokens_of tokens_behind front_of token_of number_of base_of text_of sign_at word_of step starts follows name_of text_value is_in is_group is_brace
+tree9 = refl
+
+tree10 : said (tokens_of (codes "len(result) / 2")) ≡ Some (BinaryAt 12 binaries.Divide (LenAt 0 (ResultAt 4)) (whole_at 14 2))
+unfolding tokens_of tokens_behind front_of token_of number_of base_of text_of sign_at word_of step starts follows name_of text_value is_in is_group is_brace
+tree10 = refl
+
+tree11 : said (tokens_of (codes "isNil(result)")) ≡ Some (IsNilAt 0 (ResultAt 6))
+unfolding tokens_of tokens_behind front_of token_of number_of base_of text_of sign_at word_of step starts follows name_of text_value is_in is_group is_brace
+tree11 = refl
+
+tree12 : said (tokens_of (codes "default(result, 1)")) ≡ Some (DefaultAt 0 (ResultAt 8) (whole_at 16 1))
+unfolding tokens_of tokens_behind front_of token_of number_of base_of text_of sign_at word_of step starts follows name_of text_value is_in is_group is_brace
+tree12 = refl
+
+tree13 : said (tokens_of (codes "all(result, any(#, # > 1) or true)")) ≡ Some (PredicateAt 0 All (ResultAt 4) (BinaryAt 26 binaries.Or (PredicateAt 12 predicates.Any (ItemAt 16) (BinaryAt 21 (binaries.Comparison Greater) (ItemAt 19) (whole_at 23 1))) (LiteralAt 29 (literals.Bool true))))
+unfolding tokens_of tokens_behind front_of token_of number_of base_of text_of sign_at word_of step starts follows name_of text_value is_in is_group is_brace
+tree13 = refl
+
+tree14 : said (tokens_of (codes "count(filter(result, true), {false})")) ≡ Some (PredicateAt 0 predicates.Count (PredicateAt 6 predicates.Filter (ResultAt 13) (LiteralAt 21 (literals.Bool true))) (LiteralAt 29 (literals.Bool false)))
+unfolding tokens_of tokens_behind front_of token_of number_of base_of text_of sign_at word_of step starts follows name_of text_value is_in is_group is_brace
+tree14 = refl
+
+tree15 : said (tokens_of (codes "true ? true ? 1 : 2 : 3")) ≡ Some (ChoiceAt 5 (LiteralAt 0 (literals.Bool true)) (ChoiceAt 12 (LiteralAt 7 (literals.Bool true)) (whole_at 14 1) (whole_at 18 2)) (whole_at 22 3))
+unfolding tokens_of tokens_behind front_of token_of number_of base_of text_of sign_at word_of step starts follows name_of text_value is_in is_group is_brace
+tree15 = refl

@@ -1,71 +1,182 @@
--- The grammar of conditions, a part of that in expr-lang's Language Definition:
+-- The grammar of conditions, level by level, a part of that in expr-lang's Language Definition:
 --
---     condition = operand operator literal
---     operand   = "result"
---     operator  = "==" | "!=" | "<" | "<=" | ">" | ">="
---     literal   = "true" | "false" | whole | decimal
-use Rattle.std.specs.Prelude.{◌≡◌, ℕ, ℤ, true, false, List, [], ◌∷◌, ◌++◌}
-use Rattle.ar_syntax.specs.Tree.{Expression, ResultAt, LiteralAt, ComparisonAt}
-use Rattle.ar_syntax.specs.declared.error.SyntaxError.{SyntaxError}
-use Rattle.ar_syntax.specs.declared.error.SyntaxError.TheVariants.{Unexpected, UnknownName}
-use Rattle.ar_syntax.specs.declared.token.Comparison.{Comparison}
+--     tern = or | or "?" tern ":" tern
+--     or   = and { ("or" | "||") and }
+--     and  = cmp { ("and" | "&&") cmp }
+--     cmp  = add { ("==" | "!=" | "<" | ">" | "<=" | ">=" | "in" | "not" "in") add }
+--     add  = mul { ("+" | "-") mul }
+--     mul  = una { ("*" | "/" | "%") una }
+--     una  = ("-" | "+" | "!" | "not") una | post
+--     post = prim { "." word | "[" text "]" | "[" tern "]" }
+--     prim = number | text | "true" | "false" | "nil" | "result" | "#" | "." word
+--          | "(" tern ")" | "[" tern { "," tern } "]" | call
+--     call = ("len" | "isNil") "(" tern ")" | "default" "(" tern "," tern ")"
+--          | ("all" | "any" | "count" | "filter") "(" tern "," pred ")"
+--     pred = "{" tern "}" | tern
+--
+-- A rule relates the tokens before a phrase, what the phrase says, and the tokens behind it, inside a predicate or not,
+-- where so many openers may still be unfinished at once.
+use Rattle.std.specs.Prelude.{◌≡◌, ℕ, zero, suc, Bool, true, false, ◌||◌, nat_eq, nat_lt, List, [], ◌∷◌, ◌++◌, length, Option, Some, None, pred}
+use Rattle.ar_syntax.specs.Expression.{Expression, FieldAt, IndexAt, ItemAt, UnaryAt, BinaryAt, ChoiceAt, ListAt, expressions}
+use Rattle.ar_syntax.specs.Roles.{Call, Follow, Ends, Comma, Colon, EndGroup, EndBracket, EndBrace, Operator, NotOf, Choose, Select, Open, Leaf, Prefix, Group, Bracket, Calls, ItemPoint, arity, called, follows, is_body, is_brace, is_group, is_in, looseness, name_of, starts, text_value}
 use Rattle.ar_syntax.specs.declared.token.Token.{Token}
-use Rattle.ar_syntax.specs.declared.token.TokenKind.{TokenKind}
-use Rattle.ar_syntax.specs.declared.token.TokenKind.TheVariants as kinds
-use Rattle.ar_syntax.specs.declared.token.Word.TheVariants as words
-use Rattle.ar_syntax.specs.declared.tree.Literal.{Literal}
-use Rattle.ar_syntax.specs.declared.tree.Literal.TheVariants as literals
+use Rattle.ar_syntax.specs.declared.tree.Binary.{Binary}
+use Rattle.ar_syntax.specs.declared.tree.Binary.TheVariants.{NotIn}
+use Rattle.ar_syntax.specs.declared.tree.Unary.{Unary}
 
--- Each rule relates the tokens before a phrase, what the phrase says, and the tokens behind it.
+-- ---- limits
 
-pub data Operand : List Token → Expression → List Token → Type 0 where
-  result : {token : Token} {rest : List Token} → token.kind ≡ kinds.Word words.Result
-      → Operand (token ∷ rest) (ResultAt token.span.start) rest
+-- The limits, each of which may be set aside: on unfinished openers, on a list's items, on a call's arguments.
+pub record Rules : Type 0 where
+  pub any_depth : Bool
+  pub any_items : Bool
+  pub any_count : Bool
 
-pub data Operator : List Token → ℕ → Comparison → List Token → Type 0 where
-  operator : {token : Token} {comparison : Comparison} {rest : List Token} → token.kind ≡ kinds.Comparison comparison
-      → Operator (token ∷ rest) token.span.start comparison rest
+abbrev pub most_openers : ℕ
+most_openers = 64
 
-pub data IsLiteral : TokenKind → Literal → Type 0 where
-  true_word : IsLiteral (kinds.Word words.True) (literals.Bool true)
-  false_word : IsLiteral (kinds.Word words.False) (literals.Bool false)
-  whole : {value : ℤ} → IsLiteral (kinds.Whole value) (literals.Whole value)
-  decimal : {millionths : ℤ} → IsLiteral (kinds.Decimal millionths) (literals.Decimal millionths)
+abbrev pub most_items : ℕ
+most_items = 16
 
-pub data LiteralOperand : List Token → Expression → List Token → Type 0 where
-  literal : {token : Token} {value : Literal} {rest : List Token} → IsLiteral token.kind value
-      → LiteralOperand (token ∷ rest) (LiteralAt token.span.start value) rest
+-- one more opener where so many may still be unfinished
+abbrev pub may_open : Rules → ℕ → Bool
+may_open rules left = nat_lt 0 left || rules.any_depth
 
-pub data Condition : List Token → Expression → List Token → Type 0 where
-  comparison : {tokens behind_left behind_operator rest : List Token} {left right : Expression} {at : ℕ} {comparison : Comparison}
-      → Operand tokens left behind_left → Operator behind_left at comparison behind_operator → LiteralOperand behind_operator right rest
-      → Condition tokens (ComparisonAt at comparison left right) rest
+-- one more item behind so many
+abbrev pub may_continue : Rules → ℕ → Bool
+may_continue rules items = nat_lt items most_items || rules.any_items
 
--- all of the tokens are a condition, which the tree says
-abbrev pub Derives : List Token → Expression → Type 0
-Derives tokens tree = Condition tokens tree []
+-- one more argument behind so many, and none behind them
+abbrev pub takes_more : Rules → Call → ℕ → Bool
+takes_more rules call arguments = nat_lt arguments (arity call) || rules.any_count
 
--- with some further tokens these are a condition
-abbrev pub BeginsCondition : List Token → Type 0
-BeginsCondition tokens = (further : List Token) × (tree : Expression) × Derives (tokens ++ further) tree
+abbrev pub takes_all : Rules → Call → ℕ → Bool
+takes_all rules call arguments = nat_eq arguments (arity call) || rules.any_count
 
--- a token that is an operand by itself
-pub data IsOperand : TokenKind → Type 0 where
-  result : IsOperand (kinds.Word words.Result)
-  literal : {kind : TokenKind} {value : Literal} → IsLiteral kind value → IsOperand kind
+abbrev pub ends_bracket : Follow → Bool
+ends_bracket (Ends EndBracket) = true
+ends_bracket role = false
 
--- an operand may stand behind these tokens
-abbrev pub WantsOperand : List Token → Type 0
-WantsOperand tokens = (next : Token) × IsOperand next.kind × BeginsCondition (tokens ++ next ∷ [])
+-- one text between brackets is a field's name
+abbrev pub is_alone : Option (List ℕ) → List Token → Bool
+is_alone None behind = false
+is_alone (Some text) [] = false
+is_alone (Some text) (close ∷ behind) = ends_bracket (follows close)
 
--- the refusal of a token that can't stand behind those before it
-pub data IsRefusedBehind (before : List Token) (token : Token) : SyntaxError → Type 0 where
-  unknown_name : token.kind ≡ kinds.Word words.Other → WantsOperand before → IsRefusedBehind before token (UnknownName token.span.start)
-  unexpected : ¬ ((token.kind ≡ kinds.Word words.Other) × WantsOperand before) → IsRefusedBehind before token (Unexpected token.span.start)
+abbrev pub is_text_alone : List Token → Bool
+is_text_alone [] = false
+is_text_alone (text ∷ behind) = is_alone (text_value text) behind
 
--- The refusal of tokens that are no condition: it stands at the first token that, with those before it, begins none.
--- The end of the text counts as a token.
-pub data IsRefused (end : ℕ) (tokens : List Token) : SyntaxError → Type 0 where
-  at_token : (before : List Token) (token : Token) (rest : List Token) {error : SyntaxError} → tokens ≡ before ++ token ∷ rest
-      → BeginsCondition before → ¬ BeginsCondition (before ++ token ∷ []) → IsRefusedBehind before token error → IsRefused end tokens error
-  at_end : BeginsCondition tokens → ((tree : Expression) → ¬ Derives tokens tree) → IsRefused end tokens (Unexpected end)
+-- ---- levels: 0 is `una`, and further ones have one kind of operators more: `mul`, `add`, `cmp`, `and`, `or`, `tern`
+
+abbrev pub unary : ℕ
+unary = 0
+
+abbrev pub ternary : ℕ
+ternary = 6
+
+-- ---- rules
+
+module _ (rules : Rules) where
+  mutual
+    pub data Phrase : ℕ → Bool → ℕ → List Token → Expression → List Token → Type 0 where
+      -- mul, add, cmp, and, or, tern: a phrase of the level below, and what follows it
+      level : {d : ℕ} {inside : Bool} {left : ℕ} {tokens mid rest : List Token} {first tree : Expression}
+          → Phrase d inside left tokens first mid → Further d inside left first mid tree rest → Phrase (suc d) inside left tokens tree rest
+      -- una = ("-" | "+" | "!" | "not") una
+      prefixed : {inside : Bool} {left : ℕ} {token : Token} {behind rest : List Token} {operator : Unary} {operand : Expression}
+          → starts inside token ≡ Prefix operator → may_open rules left ≡ true → Phrase zero inside (pred left) behind operand rest
+          → Phrase zero inside left (token ∷ behind) (UnaryAt token.span.start operator operand) rest
+      -- una = post = prim { .. }
+      postfixed : {inside : Bool} {left : ℕ} {tokens mid rest : List Token} {first tree : Expression}
+          → Primary inside left tokens first mid → Selections inside left first mid tree rest → Phrase zero inside left tokens tree rest
+
+    -- what follows the first phrase of a level
+    pub data Further : ℕ → Bool → ℕ → Expression → List Token → Expression → List Token → Type 0 where
+      nothing : {d : ℕ} {inside : Bool} {left : ℕ} {tree : Expression} {rest : List Token} → Further d inside left tree rest tree rest
+      -- { operator level }
+      operator : {d : ℕ} {inside : Bool} {left : ℕ} {token : Token} {behind mid rest : List Token} {operator : Binary} {first second tree : Expression}
+          → follows token ≡ Operator operator → looseness operator ≡ d → Phrase d inside left behind second mid
+          → Further d inside left (BinaryAt token.span.start operator first second) mid tree rest → Further d inside left first (token ∷ behind) tree rest
+      -- { "not" "in" add }
+      not_in : {d : ℕ} {inside : Bool} {left : ℕ} {not_token in_token : Token} {behind mid rest : List Token} {first second tree : Expression}
+          → follows not_token ≡ NotOf → is_in in_token ≡ true → looseness NotIn ≡ d → Phrase d inside left behind second mid
+          → Further d inside left (BinaryAt not_token.span.start NotIn first second) mid tree rest → Further d inside left first (not_token ∷ in_token ∷ behind) tree rest
+      -- "?" tern ":" tern
+      choice : {d : ℕ} {inside : Bool} {left : ℕ} {question colon : Token} {behind after rest : List Token} {condition yes no : Expression}
+          → follows question ≡ Choose → may_open rules left ≡ true → suc d ≡ ternary → Phrase ternary inside (pred left) behind yes (colon ∷ after)
+          → follows colon ≡ Ends Colon → Phrase ternary inside (pred left) after no rest
+          → Further d inside left condition (question ∷ behind) (ChoiceAt question.span.start condition yes no) rest
+
+    -- { "." word | "[" text "]" | "[" tern "]" }
+    pub data Selections : Bool → ℕ → Expression → List Token → Expression → List Token → Type 0 where
+      nothing_more : {inside : Bool} {left : ℕ} {tree : Expression} {rest : List Token} → Selections inside left tree rest tree rest
+      field : {inside : Bool} {left : ℕ} {point name : Token} {behind rest : List Token} {word : List ℕ} {whole tree : Expression}
+          → follows point ≡ Select → name_of name ≡ Some word → Selections inside left (FieldAt point.span.start whole word) behind tree rest
+          → Selections inside left whole (point ∷ name ∷ behind) tree rest
+      text_field : {inside : Bool} {left : ℕ} {opener text close : Token} {behind rest : List Token} {word : List ℕ} {whole tree : Expression}
+          → follows opener ≡ Open → may_open rules left ≡ true → text_value text ≡ Some word → follows close ≡ Ends EndBracket
+          → Selections inside left (FieldAt opener.span.start whole word) behind tree rest → Selections inside left whole (opener ∷ text ∷ close ∷ behind) tree rest
+      index : {inside : Bool} {left : ℕ} {opener close : Token} {behind after rest : List Token} {whole found tree : Expression}
+          → follows opener ≡ Open → may_open rules left ≡ true → is_text_alone behind ≡ false → Phrase ternary inside (pred left) behind found (close ∷ after)
+          → follows close ≡ Ends EndBracket → Selections inside left (IndexAt opener.span.start whole found) after tree rest → Selections inside left whole (opener ∷ behind) tree rest
+
+    pub data Primary : Bool → ℕ → List Token → Expression → List Token → Type 0 where
+      -- number | text | "true" | "false" | "nil" | "result" | "#"
+      leaf : {inside : Bool} {left : ℕ} {token : Token} {rest : List Token} {tree : Expression} → starts inside token ≡ Leaf tree → Primary inside left (token ∷ rest) tree rest
+      -- "." word
+      item_field : {inside : Bool} {left : ℕ} {point name : Token} {rest : List Token} {word : List ℕ} → starts inside point ≡ ItemPoint → name_of name ≡ Some word
+          → Primary inside left (point ∷ name ∷ rest) (FieldAt point.span.start (ItemAt point.span.start) word) rest
+      -- "(" tern ")"
+      group : {inside : Bool} {left : ℕ} {opener close : Token} {behind rest : List Token} {tree : Expression}
+          → starts inside opener ≡ Group → may_open rules left ≡ true → Phrase ternary inside (pred left) behind tree (close ∷ rest)
+          → follows close ≡ Ends EndGroup → Primary inside left (opener ∷ behind) tree rest
+      -- "[" tern { "," tern } "]"
+      list : {inside : Bool} {left : ℕ} {opener : Token} {behind rest : List Token} {items : List Expression}
+          → starts inside opener ≡ Bracket → may_open rules left ≡ true → Items inside (pred left) [] behind items rest
+          → Primary inside left (opener ∷ behind) (ListAt opener.span.start (expressions items)) rest
+      -- call
+      call : {inside : Bool} {left : ℕ} {name opener : Token} {behind rest : List Token} {function : Call} {arguments : List Expression}
+          → starts inside name ≡ Calls function → may_open rules left ≡ true → is_group opener ≡ true → Arguments inside (pred left) function [] behind arguments rest
+          → Primary inside left (name ∷ opener ∷ behind) (called name.span.start function arguments) rest
+
+    -- a list's items behind those so far, up to the bracket
+    pub data Items : Bool → ℕ → List Expression → List Token → List Expression → List Token → Type 0 where
+      item : {inside : Bool} {left : ℕ} {so_far items : List Expression} {tokens mid rest : List Token} {first : Expression}
+          → Phrase ternary inside left tokens first mid → ItemsBehind inside left (so_far ++ first ∷ []) mid items rest → Items inside left so_far tokens items rest
+
+    pub data ItemsBehind : Bool → ℕ → List Expression → List Token → List Expression → List Token → Type 0 where
+      last_item : {inside : Bool} {left : ℕ} {items : List Expression} {close : Token} {rest : List Token} → follows close ≡ Ends EndBracket → ItemsBehind inside left items (close ∷ rest) items rest
+      comma_item : {inside : Bool} {left : ℕ} {so_far items : List Expression} {comma : Token} {behind rest : List Token}
+          → follows comma ≡ Ends Comma → may_continue rules (length so_far) ≡ true → Items inside left so_far behind items rest → ItemsBehind inside left so_far (comma ∷ behind) items rest
+
+    -- a call's arguments behind those so far, up to the parenthesis
+    pub data Arguments : Bool → ℕ → Call → List Expression → List Token → List Expression → List Token → Type 0 where
+      no_argument : {inside : Bool} {left : ℕ} {function : Call} {close : Token} {rest : List Token}
+          → follows close ≡ Ends EndGroup → takes_all rules function 0 ≡ true → Arguments inside left function [] (close ∷ rest) [] rest
+      argument : {inside : Bool} {left : ℕ} {function : Call} {so_far arguments : List Expression} {tokens mid rest : List Token} {first : Expression}
+          → is_body function (length so_far) ≡ false → Phrase ternary inside left tokens first mid
+          → ArgumentsBehind inside left function (so_far ++ first ∷ []) mid arguments rest → Arguments inside left function so_far tokens arguments rest
+      -- pred = tern
+      body : {inside : Bool} {left : ℕ} {function : Call} {so_far arguments : List Expression} {tokens mid rest : List Token} {first : Expression}
+          → is_body function (length so_far) ≡ true → Phrase ternary true left tokens first mid
+          → ArgumentsBehind inside left function (so_far ++ first ∷ []) mid arguments rest → Arguments inside left function so_far tokens arguments rest
+      -- pred = "{" tern "}"
+      braced : {inside : Bool} {left : ℕ} {function : Call} {so_far arguments : List Expression} {opener close : Token} {behind mid rest : List Token} {first : Expression}
+          → is_body function (length so_far) ≡ true → is_brace opener ≡ true → may_open rules left ≡ true → Phrase ternary true (pred left) behind first (close ∷ mid)
+          → follows close ≡ Ends EndBrace → ArgumentsBehind inside left function (so_far ++ first ∷ []) mid arguments rest → Arguments inside left function so_far (opener ∷ behind) arguments rest
+
+    pub data ArgumentsBehind : Bool → ℕ → Call → List Expression → List Token → List Expression → List Token → Type 0 where
+      last_argument : {inside : Bool} {left : ℕ} {function : Call} {arguments : List Expression} {close : Token} {rest : List Token}
+          → follows close ≡ Ends EndGroup → takes_all rules function (length arguments) ≡ true → ArgumentsBehind inside left function arguments (close ∷ rest) arguments rest
+      comma_argument : {inside : Bool} {left : ℕ} {function : Call} {so_far arguments : List Expression} {comma : Token} {behind rest : List Token}
+          → follows comma ≡ Ends Comma → takes_more rules function (length so_far) ≡ true → Arguments inside left function so_far behind arguments rest
+          → ArgumentsBehind inside left function so_far (comma ∷ behind) arguments rest
+
+-- all of the tokens are a condition by these rules, which the tree says
+abbrev pub DerivesBy : Rules → List Token → Expression → Type 0
+DerivesBy rules tokens tree = Phrase rules ternary false most_openers tokens tree []
+
+-- with some further tokens these are a condition by these rules
+abbrev pub BeginsBy : Rules → List Token → Type 0
+BeginsBy rules tokens = (further : List Token) × (tree : Expression) × DerivesBy rules (tokens ++ further) tree

@@ -1,65 +1,37 @@
 -- The tree of a text, or its refusal.
-use Rattle.std.specs.Prelude.{◌≡◌, ℕ, true, false, List, [], ◌∷◌, length, Result, Ok, Err}
+use Rattle.std.specs.Prelude.{◌≡◌, ℕ, true, nat_le, if◌then◌else◌, List, [], ◌∷◌, length, Option, Some, None, Result, Ok, Err}
 use Rattle.ar_syntax.specs.Answer.{◌>>=◌}
-use Rattle.ar_syntax.specs.Grammar.{Derives, IsRefused}
+use Rattle.ar_syntax.specs.Expression.{Expression}
+use Rattle.ar_syntax.specs.Fault.{fault_of}
+use Rattle.ar_syntax.specs.Machine.{State, finished, start_state, step}
+use Rattle.ar_syntax.specs.Refusal.{Derives, IsRefused, depth, most_depth, strict}
 use Rattle.ar_syntax.specs.Tokens.{tokens_of}
-use Rattle.ar_syntax.specs.Tree.{Expression, ResultAt, LiteralAt, ComparisonAt}
 use Rattle.ar_syntax.specs.declared.error.SyntaxError.{SyntaxError}
-use Rattle.ar_syntax.specs.declared.error.SyntaxError.TheVariants.{Unexpected, UnknownName, OutOfMemory}
-use Rattle.ar_syntax.specs.declared.token.Comparison.{Comparison}
+use Rattle.ar_syntax.specs.declared.error.SyntaxError.TheVariants.{Unexpected, TooDeep, OutOfMemory}
 use Rattle.ar_syntax.specs.declared.token.Token.{Token}
-use Rattle.ar_syntax.specs.declared.token.TokenKind.{TokenKind}
-use Rattle.ar_syntax.specs.declared.token.TokenKind.TheVariants as kinds
-use Rattle.ar_syntax.specs.declared.token.Word.TheVariants as words
-use Rattle.ar_syntax.specs.declared.tree.Literal.TheVariants as literals
 
--- the refusal of a token where an operand is wanted
-abbrev pub no_operand : TokenKind → ℕ → SyntaxError
-no_operand (kinds.Word words.Other) at = UnknownName at
-no_operand kind at = Unexpected at
+-- a tree that isn't too deep
+abbrev pub limited : Expression → Result Expression SyntaxError
+limited tree = if nat_le (depth tree) most_depth then Ok tree else Err (TooDeep 0)
 
--- the operand that a token of a kind is, with the tokens behind it
-abbrev pub operand_in : TokenKind → ℕ → List Token → Result (Expression × List Token) SyntaxError
-operand_in (kinds.Word words.Result) at rest = Ok (ResultAt at, rest)
-operand_in kind at rest = Err (no_operand kind at)
+-- where the tokens end at a place
+abbrev pub ended : ℕ → Option Expression → Result Expression SyntaxError
+ended end (Some tree) = limited tree
+ended end None = Err (Unexpected end)
 
-unfoldable pub operand_of : ℕ → List Token → Result (Expression × List Token) SyntaxError
-operand_of end [] = Err (Unexpected end)
-operand_of end (token ∷ rest) = operand_in token.kind token.span.start rest
+-- the state behind one token more, or its refusal
+abbrev pub stepped : State → Token → Option State → Result State SyntaxError
+stepped state token (Some next) = Ok next
+stepped state token None = Err (fault_of state token)
 
--- the operator that a token of a kind is, with its place and the tokens behind it
-abbrev pub operator_in : TokenKind → ℕ → List Token → Result (ℕ × Comparison × List Token) SyntaxError
-operator_in (kinds.Comparison comparison) at rest = Ok (at, comparison, rest)
-operator_in kind at rest = Err (Unexpected at)
-
-unfoldable pub operator_of : ℕ → List Token → Result (ℕ × Comparison × List Token) SyntaxError
-operator_of end [] = Err (Unexpected end)
-operator_of end (token ∷ rest) = operator_in token.kind token.span.start rest
-
--- the literal that a token of a kind is, with the tokens behind it
-abbrev pub literal_in : TokenKind → ℕ → List Token → Result (Expression × List Token) SyntaxError
-literal_in (kinds.Word words.True) at rest = Ok (LiteralAt at (literals.Bool true), rest)
-literal_in (kinds.Word words.False) at rest = Ok (LiteralAt at (literals.Bool false), rest)
-literal_in (kinds.Whole value) at rest = Ok (LiteralAt at (literals.Whole value), rest)
-literal_in (kinds.Decimal millionths) at rest = Ok (LiteralAt at (literals.Decimal millionths), rest)
-literal_in kind at rest = Err (no_operand kind at)
-
-unfoldable pub literal_of : ℕ → List Token → Result (Expression × List Token) SyntaxError
-literal_of end [] = Err (Unexpected end)
-literal_of end (token ∷ rest) = literal_in token.kind token.span.start rest
-
--- nothing stands behind a condition
-abbrev pub ended : Expression → List Token → Result Expression SyntaxError
-ended tree [] = Ok tree
-ended tree (token ∷ rest) = Err (Unexpected token.span.start)
+-- the tree of tokens behind a state, whose text ends at a place
+abbrev pub walk : ℕ → State → List Token → Result Expression SyntaxError
+walk end state [] = ended end (finished state)
+walk end state (token ∷ tokens) = stepped state token (step strict state token) >>= λ next. walk end next tokens
 
 -- the tree of tokens whose text ends at a place
 unfoldable pub tree_of : ℕ → List Token → Result Expression SyntaxError
-tree_of end tokens = do
-  left ← operand_of end tokens
-  operator ← operator_of end left.1
-  right ← literal_of end operator.2
-  ended (ComparisonAt operator.0 operator.1 left.0 right.0) right.1
+tree_of end tokens = walk end start_state tokens
 
 -- the tree of a text: its tokens come first, all of them
 unfoldable pub parse_of : List ℕ → Result Expression SyntaxError
@@ -70,6 +42,7 @@ pub record SaysTree (text : List ℕ) (tree : Expression) : Type 0 where
   pub tokens : List Token
   pub cut : tokens_of text ≡ Ok tokens
   pub derived : Derives tokens tree
+  pub shallow : nat_le (depth tree) most_depth ≡ true
 
 -- a text's refusal: its first token fault, or else what the grammar refuses in its tokens
 pub data IsRefusal (text : List ℕ) (error : SyntaxError) : Type 0 where

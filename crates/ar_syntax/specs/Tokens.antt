@@ -1,31 +1,65 @@
 -- Cutting a text into tokens, from left to right; each is the longest that stands there.
-use Rattle.std.specs.Prelude.{ℕ, zero, suc, ◌+◌, ◌-◌, ◌<◌, ◌≤◌, pos, Bool, IsTrue, false, ◌&&◌, ◌||◌, not, ◌==◌, nat_eq, nat_lt, if◌then◌else◌, List, [], ◌∷◌, ◌++◌, length, take, drop, slice_index, find, take_while, Option, Some, None, Result, Ok, Err}
+use Rattle.std.specs.Prelude.{◌≡◌, ℕ, zero, suc, ◌+◌, ◌-◌, ◌<◌, ◌≤◌, pos, Bool, false, true, ◌&&◌, ◌||◌, not, ◌==◌, nat_eq, nat_lt, if◌then◌else◌, List, [], ◌∷◌, ◌++◌, length, take, drop, slice_index, find, take_while, Option, Some, None, Result, Ok, Err}
 use Rattle.std.specs.Char.{is_ascii_digit}
-use Rattle.std.specs.List.{list_all, starts_with}
+use Rattle.std.specs.List.{starts_with}
 use Rattle.std.specs.Str.Parse.{digits_value}
 use Rattle.ar_value.specs.Decimal.{is_i64}
 use Rattle.ar_value.specs.Digits.{magnitude_of}
 use Rattle.ar_syntax.specs.Answer.{◌>>=◌}
-use Rattle.ar_syntax.specs.Token.{Spells, begins_word, continues_word, is_word, sign, text_at, word_of}
+use Rattle.ar_syntax.specs.Token.{Spells, begins_word, continues_word, is_digit_in, is_quote, named, radix, spelling, takes_field, text_at, text_end, unescaped, word_of}
 use Rattle.ar_syntax.specs.declared.error.SyntaxError.{SyntaxError}
-use Rattle.ar_syntax.specs.declared.error.SyntaxError.TheVariants.{TooLong, BadCharacter, LiteralTooFine, NumberTooLarge}
-use Rattle.ar_syntax.specs.declared.token.Comparison.{Comparison}
+use Rattle.ar_syntax.specs.declared.error.SyntaxError.TheVariants.{TooLong, BadCharacter, OpenText, OpenComment, LiteralTooFine, NumberTooLarge}
+use Rattle.ar_syntax.specs.declared.scanner.Piece.{Piece}
+use Rattle.ar_syntax.specs.declared.scanner.Piece.TheVariants.{Gap, Found}
+use Rattle.ar_syntax.specs.declared.token.Base.{Base}
+use Rattle.ar_syntax.specs.declared.token.Base.TheVariants.{Binary, Octal, Hexadecimal}
 use Rattle.ar_syntax.specs.declared.token.Comparison.TheVariants.{Equal, NotEqual, Less, LessOrEqual, Greater, GreaterOrEqual}
+use Rattle.ar_syntax.specs.declared.token.Sign.{Sign}
+use Rattle.ar_syntax.specs.declared.token.Sign.TheVariants as signs
 use Rattle.ar_syntax.specs.declared.token.Token.{Token}
 use Rattle.ar_syntax.specs.declared.token.TokenKind.{TokenKind}
 use Rattle.ar_syntax.specs.declared.token.TokenKind.TheVariants as kinds
-
--- space, tab, CR and LF separate tokens
-abbrev pub is_blank : ℕ → Bool
-is_blank byte = byte == 32 || byte == 9 || byte == 13 || byte == 10
 
 -- a token of so many bytes at a place
 abbrev pub token : TokenKind → ℕ → ℕ → Token
 token kind at length = record { kind = kind; span = record { start = at; end = at + length } }
 
+-- ---- blanks and comments
+
+-- space, tab, CR and LF separate tokens
+abbrev pub is_blank : ℕ → Bool
+is_blank byte = byte == 32 || byte == 9 || byte == 13 || byte == 10
+
+abbrev pub in_line : ℕ → Bool
+in_line byte = not (byte == 10)
+
+-- `//` goes to the next LF, or to the end
+abbrev pub line_comment : List ℕ → List ℕ
+line_comment bytes = take_while in_line bytes
+
+-- how many bytes there are up to the end of the first `*/`; `at` of them are read, and the last was a `*` or not
+abbrev pub comment_end : ℕ → Bool → List ℕ → Option ℕ
+comment_end at star [] = None
+comment_end at star (byte ∷ bytes) = if star && byte == 47 then Some (at + 1) else comment_end (at + 1) (byte == 42) bytes
+
+abbrev pub comment_of : ℕ → Option ℕ → Result Piece SyntaxError
+comment_of at None = Err (OpenComment at)
+comment_of at (Some len) = Ok (Gap len)
+
+-- `/*` goes to the next `*/`, which doesn't share its `*`
+abbrev pub block_comment : ℕ → List ℕ → Result Piece SyntaxError
+block_comment at bytes = comment_of at (comment_end 2 false (drop 2 bytes))
+
+-- ---- words
+
 -- the word at the front: as many letters, digits and `_` as there are
 abbrev pub word_at : List ℕ → List ℕ
 word_at bytes = take_while continues_word bytes
+
+abbrev pub word_token : ℕ → List ℕ → Token
+word_token at word = token (named word (word_of word)) at (length word)
+
+-- ---- numbers
 
 -- the digits at the front
 abbrev pub digits_at : List ℕ → List ℕ
@@ -44,13 +78,13 @@ abbrev pub number_text : List ℕ → List ℕ → List ℕ
 number_text whole [] = whole
 number_text whole (digit ∷ fraction) = whole ++ 46 ∷ digit ∷ fraction
 
--- a number begins with a digit, or with a point and a digit where no word ends directly before
+-- a number begins with a digit, or with a point and a digit where no field may stand
 abbrev pub begins_number : Bool → List ℕ → Bool
-begins_number after_word bytes = is_ascii_digit (slice_index bytes 0) || (slice_index bytes 0 == 46 && is_ascii_digit (slice_index bytes 1) && not after_word)
+begins_number field bytes = is_ascii_digit (slice_index bytes 0) || (slice_index bytes 0 == 46 && is_ascii_digit (slice_index bytes 1) && not field)
 
--- digits without a point spell a whole, which is an i64
-abbrev pub whole_of : ℕ → List ℕ → Result TokenKind SyntaxError
-whole_of at digits = if is_i64 (pos (digits_value 10 digits)) then Ok (kinds.Whole (pos (digits_value 10 digits))) else Err (NumberTooLarge at)
+-- a whole is an i64
+abbrev pub whole_of : ℕ → ℕ → Result TokenKind SyntaxError
+whole_of at value = if is_i64 (pos value) then Ok (kinds.Whole (pos value)) else Err (NumberTooLarge at)
 
 -- digits with a point spell a decimal, which has six digits behind the point at most and is an i64 in millionths
 abbrev pub decimal_of : ℕ → List ℕ → List ℕ → Result TokenKind SyntaxError
@@ -60,54 +94,127 @@ decimal_of at whole fraction =
     else Err (NumberTooLarge at))
 
 abbrev pub value_of : ℕ → List ℕ → List ℕ → Result TokenKind SyntaxError
-value_of at whole [] = whole_of at whole
+value_of at whole [] = whole_of at (digits_value 10 whole)
 value_of at whole (digit ∷ fraction) = decimal_of at whole (digit ∷ fraction)
 
 -- no letter, digit or `_` stands directly behind a number (behind the last byte `slice_index` is 0)
 abbrev pub ended : ℕ → ℕ → List ℕ → TokenKind → Result Token SyntaxError
 ended at len bytes kind = if continues_word (slice_index bytes len) then Err (BadCharacter (at + len)) else Ok (token kind at len)
 
+-- a number without a prefix
+abbrev pub plain_number : ℕ → List ℕ → Result Token SyntaxError
+plain_number at bytes = value_of at (digits_at bytes) (fraction_at bytes) >>= ended at (length (number_text (digits_at bytes) (fraction_at bytes))) bytes
+
+-- the base that a letter behind a 0 names
+abbrev pub base_named : ℕ → Option Base
+base_named byte =
+    if byte == 98 then Some Binary
+    else (if byte == 111 then Some Octal
+    else (if byte == 120 then Some Hexadecimal
+    else None))
+
+-- a base is there only with a digit of it
+abbrev pub with_digit : ℕ → Option Base → Option Base
+with_digit byte None = None
+with_digit byte (Some base) = if is_digit_in base byte then Some base else None
+
+-- the base of the number at the front, where it has a prefix
+unfoldable pub base_of : List ℕ → Option Base
+base_of bytes = if slice_index bytes 0 == 48 then with_digit (slice_index bytes 2) (base_named (slice_index bytes 1)) else None
+
+-- the digits of a base behind its prefix
+abbrev pub base_digits : Base → List ℕ → List ℕ
+base_digits base bytes = take_while (is_digit_in base) (drop 2 bytes)
+
+abbrev pub prefixed_number : ℕ → List ℕ → Base → Result Token SyntaxError
+prefixed_number at bytes base = whole_of at (digits_value (radix base) (base_digits base bytes)) >>= ended at (2 + length (base_digits base bytes)) bytes
+
+abbrev pub number_in : ℕ → List ℕ → Option Base → Result Token SyntaxError
+number_in at bytes (Some base) = prefixed_number at bytes base
+number_in at bytes None = plain_number at bytes
+
 -- the number at the front
 unfoldable pub number_of : ℕ → List ℕ → Result Token SyntaxError
-number_of at bytes = value_of at (digits_at bytes) (fraction_at bytes) >>= ended at (length (number_text (digits_at bytes) (fraction_at bytes))) bytes
+number_of at bytes = number_in at bytes (base_of bytes)
+
+-- ---- texts
+
+-- the value of the text at the front, whose end is known
+abbrev pub text_in : ℕ → List ℕ → Option ℕ → Result Token SyntaxError
+text_in at bytes None = Err (OpenText at)
+text_in at bytes (Some len) = unescaped at false (take len (drop 1 bytes)) >>= λ value. Ok (token (kinds.Text value) at (len + 2))
+
+-- the text at the front, up to the quote that it begins with
+unfoldable pub text_of : ℕ → List ℕ → Result Token SyntaxError
+text_of at bytes = text_in at bytes (text_end (slice_index bytes 0) 0 false (drop 1 bytes))
+
+-- ---- signs
 
 -- the signs, the longest first
-abbrev pub signs : List Comparison
-signs = Equal ∷ NotEqual ∷ LessOrEqual ∷ GreaterOrEqual ∷ Less ∷ Greater ∷ []
+abbrev pub all_signs : List Sign
+all_signs = signs.Comparison Equal ∷ signs.Comparison NotEqual ∷ signs.Comparison LessOrEqual ∷ signs.Comparison GreaterOrEqual ∷ signs.And ∷ signs.Or
+    ∷ signs.Comparison Less ∷ signs.Comparison Greater ∷ signs.Not ∷ signs.Plus ∷ signs.Minus ∷ signs.Star ∷ signs.Slash ∷ signs.Percent
+    ∷ signs.Question ∷ signs.Colon ∷ signs.Comma ∷ signs.Point ∷ signs.OpenParenthesis ∷ signs.CloseParenthesis ∷ signs.OpenBracket
+    ∷ signs.CloseBracket ∷ signs.OpenBrace ∷ signs.CloseBrace ∷ signs.Hash ∷ []
 
--- the comparison whose sign stands at the front
-unfoldable pub comparison_of : List ℕ → Option Comparison
-comparison_of bytes = find (λ comparison. starts_with nat_eq bytes (sign comparison)) signs
+-- the sign at the front
+unfoldable pub sign_at : List ℕ → Option Sign
+sign_at bytes = find (λ sign. starts_with nat_eq bytes (spelling sign)) all_signs
 
-abbrev pub sign_of : ℕ → Option Comparison → Result Token SyntaxError
-sign_of at None = Err (BadCharacter at)
-sign_of at (Some comparison) = Ok (token (kinds.Comparison comparison) at (length (sign comparison)))
+abbrev pub sign_token : ℕ → Option Sign → Result Token SyntaxError
+sign_token at None = Err (BadCharacter at)
+sign_token at (Some sign) = Ok (token (kinds.Sign sign) at (length (spelling sign)))
 
-abbrev pub some : Token → Result (Option Token) SyntaxError
-some token = Ok (Some token)
+-- `??` and `?.` aren't signs of the language, nor two signs
+abbrev pub is_coalescing : List ℕ → Bool
+is_coalescing bytes = slice_index bytes 0 == 63 && (slice_index bytes 1 == 63 || slice_index bytes 1 == 46)
 
--- the token at the front of bytes that begin at a place of the text; none at a blank
-unfoldable pub front_of : ℕ → Bool → List ℕ → Result (Option Token) SyntaxError
-front_of at after_word bytes =
-    if is_blank (slice_index bytes 0) then Ok None
-    else (if begins_word (slice_index bytes 0) then some (token (kinds.Word (word_of (word_at bytes))) at (length (word_at bytes)))
-    else (if begins_number after_word bytes then number_of at bytes >>= some
-    else sign_of at (comparison_of bytes) >>= some))
+abbrev pub sign_of : ℕ → List ℕ → Result Token SyntaxError
+sign_of at bytes = if is_coalescing bytes then Err (BadCharacter at) else sign_token at (sign_at bytes)
+
+-- ---- all tokens
+
+abbrev pub found : Token → Result Piece SyntaxError
+found token = Ok (Found token)
+
+abbrev pub begins_line_comment : List ℕ → Bool
+begins_line_comment bytes = slice_index bytes 0 == 47 && slice_index bytes 1 == 47
+
+abbrev pub begins_block_comment : List ℕ → Bool
+begins_block_comment bytes = slice_index bytes 0 == 47 && slice_index bytes 1 == 42
+
+-- what stands at the front where no blank or comment does
+unfoldable pub token_of : ℕ → Bool → List ℕ → Result Token SyntaxError
+token_of at field bytes =
+    if begins_word (slice_index bytes 0) then Ok (word_token at (word_at bytes))
+    else (if begins_number field bytes then number_of at bytes
+    else (if is_quote (slice_index bytes 0) then text_of at bytes
+    else sign_of at bytes))
+
+-- what stands at the front of bytes that begin at a place of the text: a blank, a comment or a token
+unfoldable pub front_of : ℕ → Bool → List ℕ → Result Piece SyntaxError
+front_of at field bytes =
+    if is_blank (slice_index bytes 0) then Ok (Gap 1)
+    else (if begins_line_comment bytes then Ok (Gap (length (line_comment bytes)))
+    else (if begins_block_comment bytes then block_comment at bytes
+    else token_of at field bytes >>= found))
 
 -- a token, and those behind it
-abbrev pub with_front : ℕ → Option Token → (ℕ → Bool → Result (List Token) SyntaxError) → Result (List Token) SyntaxError
-with_front at None behind = behind 0 false
-with_front at (Some token) behind = behind (token.span.end - (at + 1)) (is_word token.kind) >>= λ tokens. Ok (token ∷ tokens)
+abbrev pub with_front : ℕ → Piece → (ℕ → Bool → Result (List Token) SyntaxError) → Result (List Token) SyntaxError
+with_front at (Gap len) behind = behind (len - 1) false
+with_front at (Found token) behind = behind (token.span.end - (at + 1)) (takes_field token.kind) >>= λ tokens. Ok (token ∷ tokens)
 
--- the tokens behind the next `skip` bytes, of bytes that begin at a place of the text
+-- the tokens behind the next `skip` bytes, of bytes that begin at a place of the text; `field` says that a point here is a field's
 unfoldable pub tokens_behind : ℕ → ℕ → Bool → List ℕ → Result (List Token) SyntaxError
-tokens_behind skip at after_word [] = Ok []
-tokens_behind (suc skip) at after_word (byte ∷ bytes) = tokens_behind skip (at + 1) after_word bytes
-tokens_behind zero at after_word (byte ∷ bytes) = front_of at after_word (byte ∷ bytes) >>= λ front. with_front at front (λ skip after_word. tokens_behind skip (at + 1) after_word bytes)
+tokens_behind skip at field [] = Ok []
+tokens_behind (suc skip) at field (byte ∷ bytes) = tokens_behind skip (at + 1) field bytes
+tokens_behind zero at field (byte ∷ bytes) = front_of at field (byte ∷ bytes) >>= λ front. with_front at front (λ skip field. tokens_behind skip (at + 1) field bytes)
 
 -- the tokens of a text, which has at most 4,096 bytes, or its first fault
 unfoldable pub tokens_of : List ℕ → Result (List Token) SyntaxError
 tokens_of text = if nat_lt 4096 (length text) then Err TooLong else tokens_behind 0 0 false text
+
+-- ---- what tokens are, as parts of their text
 
 -- the tokens stand between two places, in order, and each has a byte at least
 abbrev pub AreInOrder : ℕ → ℕ → List Token → Type 0
@@ -116,9 +223,20 @@ AreInOrder start end (token ∷ tokens) = (start ≤ token.span.start) × (token
 
 -- the text at a token's span spells it
 abbrev pub IsSpelled : List ℕ → Token → Type 0
-IsSpelled text token = Spells (text_at text token.span) token.kind
+IsSpelled text token = Spells token.span.start (text_at text token.span) token.kind
 
--- nothing but blanks stands between a place and the tokens behind it, and between and behind these
-abbrev pub IsBlankBetween : List ℕ → ℕ → List Token → Type 0
-IsBlankBetween text place [] = IsTrue (list_all is_blank (drop place text))
-IsBlankBetween text place (token ∷ tokens) = IsTrue (list_all is_blank (take (token.span.start - place) (drop place text))) × IsBlankBetween text token.span.end tokens
+-- the blank or comment at the front
+pub data BeginsWithGap : List ℕ → ℕ → Type 0 where
+  blank : {bytes : List ℕ} (is : is_blank (slice_index bytes 0) ≡ true) → BeginsWithGap bytes 1
+  line : {bytes : List ℕ} (is : begins_line_comment bytes ≡ true) → BeginsWithGap bytes (length (line_comment bytes))
+  block : {bytes : List ℕ} {len : ℕ} (is : begins_block_comment bytes ≡ true) → comment_end 2 false (drop 2 bytes) ≡ Some len → BeginsWithGap bytes len
+
+-- nothing but blanks and comments stands before the rest of bytes
+pub data IsGap : List ℕ → List ℕ → Type 0 where
+  none : {rest : List ℕ} → IsGap rest rest
+  more : {bytes rest : List ℕ} {len : ℕ} → BeginsWithGap bytes len → IsGap (drop len bytes) rest → IsGap bytes rest
+
+-- nothing but blanks and comments stands between a place and the tokens behind it, and between and behind these
+abbrev pub IsGapBetween : List ℕ → ℕ → List Token → Type 0
+IsGapBetween text place [] = IsGap (drop place text) []
+IsGapBetween text place (token ∷ tokens) = IsGap (drop place text) (drop token.span.start text) × IsGapBetween text token.span.end tokens

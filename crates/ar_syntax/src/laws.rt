@@ -1,10 +1,10 @@
 //! Laws of the grammar, for all tokens and all texts. A law is the contract of a function that
 //! does nothing.
 
-ghost use Rattle.std.specs.Prelude.{◌≡◌, ◌≢◌, ◌↔◌, ℕ, List};
-ghost use Rattle.ar_syntax.specs.Grammar.{Derives, IsRefused};
+ghost use Rattle.std.specs.Prelude.{◌≡◌, ◌≢◌, ◌↔◌, ℕ, nat_le, false, List};
+ghost use Rattle.ar_syntax.specs.Refusal.{Derives, IsRefused, depth, most_depth};
 ghost use Rattle.ar_syntax.specs.Parse.{IsRefusal, SaysTree, parse_of};
-ghost use Rattle.ar_syntax.specs.Tree.{Expression};
+ghost use Rattle.ar_syntax.specs.Expression.{Expression};
 ghost use Rattle.ar_syntax.specs.declared.error.SyntaxError.{SyntaxError};
 ghost use Rattle.ar_syntax.specs.declared.token.Token.{Token};
 
@@ -14,10 +14,10 @@ pub fn one_tree()
         → Derives tokens first → Derives tokens second → first ≡ second }
 {}
 
-/// Tokens have a tree or a refusal, not both, and at most one refusal.
+/// Tokens have a tree that isn't too deep or a refusal, not both, and at most one refusal.
 pub fn one_refusal()
     ensures apart { (end : ℕ) (tokens : List Token) (error : SyntaxError) (tree : Expression)
-        → IsRefused end tokens error → ¬ Derives tokens tree }
+        → IsRefused end tokens error → Derives tokens tree → nat_le (depth tree) most_depth ≡ false }
     ensures one { (end : ℕ) (tokens : List Token) (first second : SyntaxError)
         → IsRefused end tokens first → IsRefused end tokens second → first ≡ second }
 {}

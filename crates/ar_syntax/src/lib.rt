@@ -1,29 +1,52 @@
-//! The language of conditions, as `result >= 0.95`: from a text to tokens, and from tokens to a
-//! tree. It is a part of the language in expr-lang's Language Definition.
+//! The language of conditions, as `result >= 0.95`: from a text to tokens, the grammar of what
+//! tokens say, and from tokens to a tree. It is a part of the language in expr-lang's Language
+//! Definition.
 //!
-//! [`parse`] answers the grammar's one tree of a text, or says at which byte the text stops being
-//! a condition and what was expected there. [`tokens`] answers the tokens alone. Only want of
-//! memory can keep them from it.
+//! [`tokens`] answers the tokens of a text, or says at which byte it stops being one and what was
+//! expected there. [`parse`] so far answers the tree of one comparison of `result` with a literal.
+//! Only want of memory can keep them from it. Of the whole grammar the definitions stand, and what
+//! [`laws`] says of them; the nodes and frames that its parser is made of are proved one by one.
 //!
-//! - [`token`]: words, numbers and signs, and how they are spelled; `scanner` cuts a text into them
-//! - [`tree`]: what a condition says; `parser` makes it from tokens
+//! - [`token`]: words, numbers, texts and signs, and how they are spelled; `scanner` cuts a text
+//!   into them, with `number` for numbers and `quoted` for texts
+//! - [`text`]: the values of texts, and names
+//! - [`comparison_tree`]: what a comparison says; `comparison_parser` makes it from tokens, and
+//!   [`comparison_laws`] says what holds of it
+//! - [`tree`]: what a condition of the whole language says; `build` makes its nodes
+//! - [`role`]: what a token can be behind an operand
+//! - `machine`: what is begun and not ended while tokens are read; `climb` ends it, `stack` says
+//!   what may come next
 //! - [`error`]: why a text is no condition
 //! - [`laws`]: what holds of the grammar as a whole
 //!
-//! In `specs`, `Token` and `Tokens` define the tokens of a text, `Grammar` the trees that tokens
-//! derive and the refusals of those that derive none, `Parse` both as a function of the text, and
-//! `Examples` has texts with their trees.
+//! In `specs`, `Token` and `Tokens` define the tokens of a text, `ComparisonGrammar` and
+//! `ComparisonParse` what [`parse`] answers. `Grammar` defines the trees that tokens derive in the
+//! whole language, `Refusal` the place and name of the fault of those that derive none; `Machine`
+//! reads the grammar token by token, `Fault` finds the name, and `Parse` is both as a function of
+//! the text. `Examples` and `RefusalExamples` have texts with their trees and refusals.
 #![tactic(auto)]
 
+mod build;
+mod climb;
+pub mod comparison_laws;
+mod comparison_parser;
+pub mod comparison_tree;
 pub mod error;
 pub mod laws;
-mod parser;
+mod machine;
+mod number;
+mod quoted;
+pub mod role;
 mod scanner;
+mod stack;
+pub mod text;
 pub mod token;
 pub mod tree;
 
-pub use parser::parse;
+pub use comparison_parser::parse;
 pub use scanner::tokens;
 
+#[cfg(test)]
+mod comparison_tests;
 #[cfg(test)]
 mod tests;

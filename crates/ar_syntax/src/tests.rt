@@ -2,48 +2,8 @@ use super::*;
 use crate::error::SyntaxError;
 use std::test::Fail;
 
-/// Texts, with the tree or the refusal that `parse` answers.
-const ROWS: [(&str, &str); 48] = [
-    (
-        "result > 1",
-        "Comparison { at: 7, operator: Greater, left: Result { at: 0 }, right: Literal { at: 9, literal: Whole(1) } }",
-    ),
-    (
-        "result>=0.95",
-        "Comparison { at: 6, operator: GreaterOrEqual, left: Result { at: 0 }, right: Literal { at: 8, literal: Decimal(Decimal { millionths: 950000 }) } }",
-    ),
-    (
-        "result > .5",
-        "Comparison { at: 7, operator: Greater, left: Result { at: 0 }, right: Literal { at: 9, literal: Decimal(Decimal { millionths: 500000 }) } }",
-    ),
-    (
-        "\tresult\r\n<= 007.250000 ",
-        "Comparison { at: 9, operator: LessOrEqual, left: Result { at: 1 }, right: Literal { at: 12, literal: Decimal(Decimal { millionths: 7250000 }) } }",
-    ),
-    (
-        "result<0.000001",
-        "Comparison { at: 6, operator: Less, left: Result { at: 0 }, right: Literal { at: 7, literal: Decimal(Decimal { millionths: 1 }) } }",
-    ),
-    (
-        "result == true",
-        "Comparison { at: 7, operator: Equal, left: Result { at: 0 }, right: Literal { at: 10, literal: Bool(true) } }",
-    ),
-    (
-        "result != false",
-        "Comparison { at: 7, operator: NotEqual, left: Result { at: 0 }, right: Literal { at: 10, literal: Bool(false) } }",
-    ),
-    (
-        "result != 9223372036854775807",
-        "Comparison { at: 7, operator: NotEqual, left: Result { at: 0 }, right: Literal { at: 10, literal: Whole(9223372036854775807) } }",
-    ),
-    (
-        "result > 00000000000000000000000000000001",
-        "Comparison { at: 7, operator: Greater, left: Result { at: 0 }, right: Literal { at: 9, literal: Whole(1) } }",
-    ),
-    (
-        "result > 9223372036854.775807",
-        "Comparison { at: 7, operator: Greater, left: Result { at: 0 }, right: Literal { at: 9, literal: Decimal(Decimal { millionths: 9223372036854775807 }) } }",
-    ),
+/// Texts, with the fault of a token.
+const TOKEN_FAULTS: [(&str, &str); 31] = [
     ("result > 9223372036854.775808", "NumberTooLarge(9)"),
     ("9223372036854775808 > 0", "NumberTooLarge(0)"),
     (
@@ -58,65 +18,117 @@ const ROWS: [(&str, &str); 48] = [
         "LiteralTooFine(9)",
     ),
     ("result ^ 2", "BadCharacter(7)"),
-    ("result > 1.", "BadCharacter(10)"),
-    ("result > 1.a", "BadCharacter(10)"),
-    ("result.5 > 1", "BadCharacter(6)"),
-    ("true.5", "BadCharacter(4)"),
     ("result == 1a", "BadCharacter(11)"),
     ("result == 1_000", "BadCharacter(11)"),
-    ("result == 0x10", "BadCharacter(11)"),
+    ("result == 0x", "BadCharacter(11)"),
+    ("result == 0x1g", "BadCharacter(13)"),
+    ("result == 0b2", "BadCharacter(11)"),
+    ("result == 0xFFFFFFFFFFFFFFFFF", "NumberTooLarge(10)"),
+    ("result == 0x8000000000000000", "NumberTooLarge(10)"),
     ("result == 1.5e3", "BadCharacter(13)"),
     ("result = 1", "BadCharacter(7)"),
-    ("result ! 1", "BadCharacter(7)"),
-    ("result > -1", "BadCharacter(9)"),
-    ("result > 1 // one", "BadCharacter(11)"),
-    ("(result > 1)", "BadCharacter(0)"),
+    ("result & 1", "BadCharacter(7)"),
+    ("result | 1", "BadCharacter(7)"),
+    ("result ?? 1", "BadCharacter(7)"),
+    ("result ?. 1", "BadCharacter(7)"),
+    ("\"a", "OpenText(0)"),
+    ("'a\"", "OpenText(0)"),
+    ("'\\'", "OpenText(0)"),
+    ("'\\q", "OpenText(0)"),
+    ("\"\\q\" == \"\"", "BadEscape(1)"),
+    ("result == 'a\\\n'", "BadEscape(12)"),
+    ("/* a", "OpenComment(0)"),
+    ("result /*/", "OpenComment(7)"),
     ("result > \u{e9}", "BadCharacter(9)"),
-    ("", "Unexpected(0)"),
-    ("result", "Unexpected(6)"),
-    ("result >", "Unexpected(8)"),
-    ("result > ", "Unexpected(9)"),
-    ("result result", "Unexpected(7)"),
-    ("result foo", "Unexpected(7)"),
-    ("result .5 > 1", "Unexpected(7)"),
-    ("result > len", "Unexpected(9)"),
-    ("result > result", "Unexpected(9)"),
-    ("result > 1 1", "Unexpected(11)"),
-    ("result > 1.5.5", "Unexpected(12)"),
-    ("1.5.5", "Unexpected(0)"),
-    ("1 > result", "Unexpected(0)"),
-    ("foo > 1", "UnknownName(0)"),
-    ("result > foo", "UnknownName(9)"),
     ("result === foo", "BadCharacter(9)"),
 ];
 
 #[test]
-fn parses_rows(rt: HostRuntime) -> Result<(), Fail> {
-    for (text, expected) in ROWS {
-        let answer = match parse(rt.alloc(), text) {
-            Ok(tree) => format!(in rt.alloc(); "{tree:?}")?,
+fn refuses_tokens(rt: HostRuntime) -> Result<(), Fail> {
+    for (text, expected) in TOKEN_FAULTS {
+        let answer = match tokens(rt.alloc(), text) {
+            Ok(tokens) => format!(in rt.alloc(); "{tokens:?}")?,
             Err(error) => format!(in rt.alloc(); "{error:?}")?,
         };
         assert_eq!(rt; answer.as_str(), expected, "at {text}");
     }
+    Ok(())
+}
+
+#[test]
+fn limits_length(rt: HostRuntime) -> Result<(), Fail> {
     assert_eq!(rt; tokens(rt.alloc(), "result > 1")?.len(), 3);
     let spaces = [b' '; 4097];
     let limit = std::str::from_utf8(&spaces[..4096])?;
-    assert!(rt; matches!(parse(rt.alloc(), limit), Err(SyntaxError::Unexpected(4096))));
+    assert_eq!(rt; tokens(rt.alloc(), limit)?.len(), 0);
     let longer = std::str::from_utf8(&spaces)?;
-    assert!(rt; matches!(parse(rt.alloc(), longer), Err(SyntaxError::TooLong)));
+    assert!(rt; matches!(tokens(rt.alloc(), longer), Err(SyntaxError::TooLong)));
+    Ok(())
+}
+
+/// Texts, with their tokens or the refusal that `tokens` answers.
+const CUTS: [(&str, &str); 8] = [
+    ("", "[]"),
+    (
+        "a1 _",
+        "[Token { kind: Name(Text { bytes: [97, 49] }), span: Span { start: 0, end: 2 } }, Token { kind: Name(Text { bytes: [95] }), span: Span { start: 3, end: 4 } }]",
+    ),
+    (
+        "'\\\\\\\"\\'\\n\\r\\t\"'",
+        "[Token { kind: Text(Text { bytes: [92, 34, 39, 10, 13, 9, 34] }), span: Span { start: 0, end: 15 } }]",
+    ),
+    (
+        "].5#.5).5",
+        "[Token { kind: Sign(CloseBracket), span: Span { start: 0, end: 1 } }, Token { kind: Sign(Point), span: Span { start: 1, end: 2 } }, Token { kind: Whole(5), span: Span { start: 2, end: 3 } }, Token { kind: Sign(Hash), span: Span { start: 3, end: 4 } }, Token { kind: Sign(Point), span: Span { start: 4, end: 5 } }, Token { kind: Whole(5), span: Span { start: 5, end: 6 } }, Token { kind: Sign(CloseParenthesis), span: Span { start: 6, end: 7 } }, Token { kind: Sign(Point), span: Span { start: 7, end: 8 } }, Token { kind: Whole(5), span: Span { start: 8, end: 9 } }]",
+    ),
+    (
+        "0b101.5",
+        "[Token { kind: Whole(5), span: Span { start: 0, end: 5 } }, Token { kind: Decimal(Decimal { millionths: 500000 }), span: Span { start: 5, end: 7 } }]",
+    ),
+    (
+        "0o17/**/.5",
+        "[Token { kind: Whole(15), span: Span { start: 0, end: 4 } }, Token { kind: Decimal(Decimal { millionths: 500000 }), span: Span { start: 8, end: 10 } }]",
+    ),
+    (
+        "<=>&&",
+        "[Token { kind: Sign(Comparison(LessOrEqual)), span: Span { start: 0, end: 2 } }, Token { kind: Sign(Comparison(Greater)), span: Span { start: 2, end: 3 } }, Token { kind: Sign(And), span: Span { start: 3, end: 5 } }]",
+    ),
+    ("a ?.5", "BadCharacter(2)"),
+];
+
+#[test]
+fn cuts_texts(rt: HostRuntime) -> Result<(), Fail> {
+    for (text, expected) in CUTS {
+        let answer = match tokens(rt.alloc(), text) {
+            Ok(tokens) => format!(in rt.alloc(); "{tokens:?}")?,
+            Err(error) => format!(in rt.alloc(); "{error:?}")?,
+        };
+        assert_eq!(rt; answer.as_str(), expected, "at {text}");
+    }
     Ok(())
 }
 
 /// Refusals as they are printed.
-const PRINTED: [(SyntaxError, &str); 7] = [
+const PRINTED: [(SyntaxError, &str); 14] = [
     (
         SyntaxError::TooLong,
         "byte 4096: TooLong: a condition has at most 4096 bytes",
     ),
     (
         SyntaxError::BadCharacter(7),
-        "byte 7: BadCharacter: expected a blank, a word, a number or one of == != < > <= >=",
+        "byte 7: BadCharacter: no word, number, text or sign has this byte here",
+    ),
+    (
+        SyntaxError::OpenText(0),
+        "byte 0: OpenText: a text ends with the quote that it begins with",
+    ),
+    (
+        SyntaxError::OpenComment(0),
+        "byte 0: OpenComment: a comment that begins with /* ends with */",
+    ),
+    (
+        SyntaxError::BadEscape(1),
+        "byte 1: BadEscape: expected one of \\\\ \\\" \\' \\n \\r \\t",
     ),
     (
         SyntaxError::LiteralTooFine(9),
@@ -128,11 +140,27 @@ const PRINTED: [(SyntaxError, &str); 7] = [
     ),
     (
         SyntaxError::Unexpected(8),
-        "byte 8: Unexpected: expected `result`, a comparison and a literal, as in `result >= 0.95`",
+        "byte 8: Unexpected: no condition goes on so, as `result >= 0.95` does",
     ),
     (
         SyntaxError::UnknownName(0),
-        "byte 0: UnknownName: expected `result`, `true`, `false` or a number",
+        "byte 0: UnknownName: no word of the language, as `result` is, and no name behind a point",
+    ),
+    (
+        SyntaxError::WrongCount(4),
+        "byte 4: WrongCount: len and isNil take one argument, default, all, any, count and filter two",
+    ),
+    (
+        SyntaxError::ItemOutside(0),
+        "byte 0: ItemOutside: # stands in the predicate of all, any, count or filter alone",
+    ),
+    (
+        SyntaxError::TooManyItems(32),
+        "byte 32: TooManyItems: a list has at most 16 items",
+    ),
+    (
+        SyntaxError::TooDeep(64),
+        "byte 64: TooDeep: at most 64 levels may be open at once, and a tree has at most 64",
     ),
     (SyntaxError::OutOfMemory, "out of memory"),
 ];

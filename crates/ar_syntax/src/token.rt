@@ -1,9 +1,10 @@
 //! Tokens: what a text is made of, besides blanks.
 
-ghost use Rattle.std.specs.Prelude.{◌≡◌, find};
-ghost use Rattle.std.specs.Str.{bytes_eq};
-ghost use Rattle.ar_syntax.specs.Token.{is_word, letters, named_words, sign, word_of};
+ghost use Rattle.std.specs.Prelude.{◌≡◌, ◌+◌, ◌^◌, ◌<◌};
+ghost use Rattle.ar_syntax.specs.Token.{begins_word, comparison_sign, continues_word, letters, radix, spelling, takes_field, word_of};
+ghost use Rattle.ar_syntax.specs.Tokens.{token};
 
+use crate::text::Text;
 use ar_value::decimal::Decimal;
 
 /// Where a token stands in its text: byte offsets from 0, `end` being the first byte behind it.
@@ -13,27 +14,30 @@ pub struct Span {
     pub end: usize,
 }
 
-/// A word, a number or a sign, and where it stands.
-#[derive(Clone, Copy, Debug, PartialEq, Eq)]
+/// A word, a number, a text or a sign, and where it stands.
+#[derive(Debug, Drop)]
 pub struct Token {
     pub kind: TokenKind,
     pub span: Span,
 }
 
 /// What a token is.
-#[derive(Clone, Copy, Debug, PartialEq, Eq)]
+#[derive(Debug, Drop)]
 pub enum TokenKind {
-    /// A letter or `_`, then letters, digits and `_`.
+    /// A word that the language names: a letter or `_`, then letters, digits and `_`.
     Word(Word),
-    /// Digits.
+    /// Any other word.
+    Name(Text),
+    /// Digits, in base 10 or behind `0x`, `0o` or `0b`.
     Whole(i64),
     /// A point among or before digits, at most six of them behind it.
     Decimal(Decimal),
-    /// A sign.
-    Comparison(Comparison),
+    /// A text between quotes.
+    Text(Text),
+    Sign(Sign),
 }
 
-/// The words that the language names, and all others.
+/// The words that the language names.
 #[derive(Clone, Copy, Debug, PartialEq, Eq)]
 pub enum Word {
     Result,
@@ -51,8 +55,34 @@ pub enum Word {
     Any,
     Count,
     Filter,
-    /// A word that the language doesn't name.
-    Other,
+}
+
+/// The signs.
+#[derive(Clone, Copy, Debug, PartialEq, Eq)]
+pub enum Sign {
+    Comparison(Comparison),
+    /// `&&`
+    And,
+    /// `||`
+    Or,
+    /// `!`
+    Not,
+    Plus,
+    Minus,
+    Star,
+    Slash,
+    Percent,
+    Question,
+    Colon,
+    Comma,
+    Point,
+    OpenParenthesis,
+    CloseParenthesis,
+    OpenBracket,
+    CloseBracket,
+    OpenBrace,
+    CloseBrace,
+    Hash,
 }
 
 /// The operators that compare two operands.
@@ -66,19 +96,76 @@ pub enum Comparison {
     GreaterOrEqual,
 }
 
+/// The bases that a prefix names.
+#[derive(Clone, Copy, Debug, PartialEq, Eq)]
+pub enum Base {
+    Binary,
+    Octal,
+    Hexadecimal,
+}
+
 impl TokenKind {
-    /// Whether the token is a word, named or not.
-    pub fn is_word(self) -> bool
-        ensures { result ≡ is_word self }
+    /// Whether a point directly behind the token is a field's.
+    pub fn takes_field(&self) -> bool
+        ensures { result ≡ takes_field self.now }
     {
-        matches!(self, TokenKind::Word(_))
+        match self {
+            TokenKind::Word(_) | TokenKind::Name(_) => true,
+            TokenKind::Sign(sign) => matches!(
+                sign,
+                Sign::CloseParenthesis | Sign::CloseBracket | Sign::Hash
+            ),
+            _ => false,
+        }
+    }
+}
+
+impl Base {
+    pub fn radix(self) -> u32
+        ensures { result ≡ radix self }
+    {
+        match self {
+            Base::Binary => 2,
+            Base::Octal => 8,
+            Base::Hexadecimal => 16,
+        }
+    }
+}
+
+impl Sign {
+    /// How the sign is written.
+    pub fn spelling(self) -> &'static [u8]
+        ensures { result.now ≡ spelling self }
+    {
+        match self {
+            Sign::Comparison(comparison) => comparison.sign(),
+            Sign::And => b"&&",
+            Sign::Or => b"||",
+            Sign::Not => b"!",
+            Sign::Plus => b"+",
+            Sign::Minus => b"-",
+            Sign::Star => b"*",
+            Sign::Slash => b"/",
+            Sign::Percent => b"%",
+            Sign::Question => b"?",
+            Sign::Colon => b":",
+            Sign::Comma => b",",
+            Sign::Point => b".",
+            Sign::OpenParenthesis => b"(",
+            Sign::CloseParenthesis => b")",
+            Sign::OpenBracket => b"[",
+            Sign::CloseBracket => b"]",
+            Sign::OpenBrace => b"{",
+            Sign::CloseBrace => b"}",
+            Sign::Hash => b"#",
+        }
     }
 }
 
 impl Comparison {
     /// The sign of the comparison.
     pub fn sign(self) -> &'static [u8]
-        ensures { result.now ≡ sign self }
+        ensures { result.now ≡ comparison_sign self }
     {
         match self {
             Comparison::Equal => b"==",
@@ -111,7 +198,7 @@ const NAMED_WORDS: [Word; 15] = [
 ];
 
 impl Word {
-    /// How the language spells the word; nothing for a word that it doesn't name.
+    /// How the language spells the word.
     pub fn letters(self) -> &'static [u8]
         ensures { result.now ≡ letters self }
     {
@@ -131,25 +218,43 @@ impl Word {
             Word::Any => b"any",
             Word::Count => b"count",
             Word::Filter => b"filter",
-            Word::Other => b"",
         }
     }
 
-    /// The word that the bytes spell.
+    /// The word that the language spells so.
     #[tactic(auto, unfolding(crate::specs::Token::word_of))]
-    pub fn of(bytes: &[u8]) -> Word
+    pub fn of(bytes: &[u8]) -> Option<Word>
         ensures { result ≡ word_of bytes.now }
     {
-        named(bytes).unwrap_or(Word::Other)
+        NAMED_WORDS
+            .iter()
+            .copied()
+            .find(|word| word.letters() == bytes)
     }
 }
 
-/// The word that the language spells so.
-fn named(bytes: &[u8]) -> Option<Word>
-    ensures { result ≡ find (λ word. bytes_eq (letters word) bytes.now) named_words }
+pub(crate) fn begins_word(byte: u8) -> bool
+    ensures { result ≡ begins_word byte }
 {
-    NAMED_WORDS
-        .iter()
-        .copied()
-        .find(|word| word.letters() == bytes)
+    byte.is_ascii_alphabetic() || byte == b'_'
+}
+
+pub(crate) fn continues_word(byte: u8) -> bool
+    ensures { result ≡ continues_word byte }
+{
+    byte.is_ascii_alphanumeric() || byte == b'_'
+}
+
+/// A token of so many bytes at a place.
+pub(crate) fn placed(kind: TokenKind, at: usize, len: usize) -> Token
+    requires { at + len < 2 ^ 64 }
+    ensures { result ≡ token kind at len }
+{
+    Token {
+        kind,
+        span: Span {
+            start: at,
+            end: at + len,
+        },
+    }
 }

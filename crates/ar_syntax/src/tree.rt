@@ -1,32 +1,124 @@
 //! Trees: what a condition says.
 
+use crate::text::Text;
 use crate::token::Comparison;
 use ar_value::decimal::Decimal;
 
 /// The value of a literal.
-#[derive(Clone, Copy, Debug, PartialEq, Eq)]
+#[derive(Debug, Drop)]
 pub enum Literal {
+    Nil,
     Bool(bool),
     Whole(i64),
     Decimal(Decimal),
+    Text(Text),
 }
 
-/// The tree of a condition. `at` is the byte offset of what names a node: the operator of a
-/// comparison, else the node's own token.
-#[derive(Debug, PartialEq, Eq, Drop)]
+/// The operators of one operand, which stand before it.
+#[derive(Clone, Copy, Debug, PartialEq, Eq)]
+pub enum Unary {
+    Plus,
+    Minus,
+    Not,
+}
+
+/// The operators of two operands, which stand between them.
+#[derive(Clone, Copy, Debug, PartialEq, Eq)]
+pub enum Binary {
+    Or,
+    And,
+    Comparison(Comparison),
+    In,
+    NotIn,
+    Add,
+    Subtract,
+    Multiply,
+    Divide,
+    Remainder,
+}
+
+/// The calls that take a list and a predicate on its items.
+#[derive(Clone, Copy, Debug, PartialEq, Eq)]
+pub enum Predicate {
+    All,
+    Any,
+    Count,
+    Filter,
+}
+
+/// The tree of a condition. `at` is the byte offset of what names a node: its operator (`not` of
+/// `not in`), the `?` of a choice, the name of a call, the `[` of an index or list, the `.` or `[`
+/// of a field; else the node's own token. Parentheses make no node.
+#[derive(Debug, Drop)]
 pub enum Tree {
     /// The measured value.
     Result {
+        at: usize,
+    },
+    /// `#`, the innermost item of a predicate.
+    Item {
         at: usize,
     },
     Literal {
         at: usize,
         literal: Literal,
     },
-    Comparison {
+    /// `whole.name` or `whole["name"]`
+    Field {
         at: usize,
-        operator: Comparison,
+        whole: Box<Tree>,
+        name: Text,
+    },
+    /// `list[index]`
+    Index {
+        at: usize,
+        list: Box<Tree>,
+        index: Box<Tree>,
+    },
+    Unary {
+        at: usize,
+        operator: Unary,
+        operand: Box<Tree>,
+    },
+    Binary {
+        at: usize,
+        operator: Binary,
         left: Box<Tree>,
         right: Box<Tree>,
+    },
+    /// `condition ? yes : no`
+    Choice {
+        at: usize,
+        condition: Box<Tree>,
+        yes: Box<Tree>,
+        no: Box<Tree>,
+    },
+    /// `[item, item]`
+    List {
+        at: usize,
+        items: Vec<Tree>,
+    },
+    /// `len(list)`
+    Len {
+        at: usize,
+        list: Box<Tree>,
+    },
+    /// `isNil(operand)`
+    IsNil {
+        at: usize,
+        operand: Box<Tree>,
+    },
+    /// `default(operand, otherwise)`
+    Default {
+        at: usize,
+        operand: Box<Tree>,
+        otherwise: Box<Tree>,
+    },
+    /// `all(list, body)` and its like
+    Predicate {
+        at: usize,
+        predicate: Predicate,
+        list: Box<Tree>,
+        body: Box<Tree>,
     },
 }

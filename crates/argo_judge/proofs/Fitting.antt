@@ -8,11 +8,11 @@ use Rattle.ar_value.specs.Shape as shapes
 use Rattle.ar_value.specs.Value.{Value}
 use Rattle.ar_value.specs.Value as values
 use Rattle.ar_value.specs.declared.decimal.Number.{Number as AnyNumber}
-use Rattle.ar_syntax.specs.Tree.{Expression, ResultAt, LiteralAt, ComparisonAt}
+use Rattle.ar_syntax.specs.ComparisonTree.{Expression, ResultAt, LiteralAt, ComparisonAt}
 use Rattle.ar_syntax.specs.declared.token.Comparison.{Comparison}
 use Rattle.ar_syntax.specs.declared.token.Comparison.TheVariants.{Equal, NotEqual, Less, LessOrEqual, Greater, GreaterOrEqual}
-use Rattle.ar_syntax.specs.declared.tree.Literal.{Literal}
-use Rattle.ar_syntax.specs.declared.tree.Literal.TheVariants as literals
+use Rattle.ar_syntax.specs.declared.comparison_tree.Literal.{Literal}
+use Rattle.ar_syntax.specs.declared.comparison_tree.Literal.TheVariants as literals
 use Rattle.argo_judge.specs.Typing.{can_compare, comparison_kind, condition_kind, family_of, is_equality, kind_of, literal_family, place_of, truth_at}
 use Rattle.argo_judge.specs.Meaning.{compare_sides, compare_truths, holds, literal_operand, mean, operand_of}
 use Rattle.argo_judge.specs.declared.kind.Family.{Family}

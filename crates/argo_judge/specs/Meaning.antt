@@ -6,11 +6,11 @@ use Rattle.ar_value.specs.Decimal.{order}
 use Rattle.ar_value.specs.Value.{Value}
 use Rattle.ar_value.specs.Value as values
 use Rattle.ar_value.specs.declared.decimal.Number.TheVariants as numbers
-use Rattle.ar_syntax.specs.Tree.{Expression, ResultAt, LiteralAt, ComparisonAt}
+use Rattle.ar_syntax.specs.ComparisonTree.{Expression, ResultAt, LiteralAt, ComparisonAt}
 use Rattle.ar_syntax.specs.declared.token.Comparison.{Comparison}
 use Rattle.ar_syntax.specs.declared.token.Comparison.TheVariants.{Equal, NotEqual, Less, LessOrEqual, Greater, GreaterOrEqual}
-use Rattle.ar_syntax.specs.declared.tree.Literal.{Literal}
-use Rattle.ar_syntax.specs.declared.tree.Literal.TheVariants as literals
+use Rattle.ar_syntax.specs.declared.comparison_tree.Literal.{Literal}
+use Rattle.ar_syntax.specs.declared.comparison_tree.Literal.TheVariants as literals
 use Rattle.argo_judge.specs.declared.meaning.Operand.{Operand}
 use Rattle.argo_judge.specs.declared.meaning.Operand.TheVariants.{Truth, Number}
 

@@ -1,11 +1,11 @@
 -- The kinds of expressions: which values they can have.
 use Rattle.std.specs.Prelude.{ℕ, Bool, true, false, if◌then◌else◌, Result, Ok, Err}
 use Rattle.ar_value.specs.Shape.{Shape, bool, whole, decimal}
-use Rattle.ar_syntax.specs.Tree.{Expression, ResultAt, LiteralAt, ComparisonAt}
+use Rattle.ar_syntax.specs.ComparisonTree.{Expression, ResultAt, LiteralAt, ComparisonAt}
 use Rattle.ar_syntax.specs.declared.token.Comparison.{Comparison}
 use Rattle.ar_syntax.specs.declared.token.Comparison.TheVariants.{Equal, NotEqual}
-use Rattle.ar_syntax.specs.declared.tree.Literal.{Literal}
-use Rattle.ar_syntax.specs.declared.tree.Literal.TheVariants as literals
+use Rattle.ar_syntax.specs.declared.comparison_tree.Literal.{Literal}
+use Rattle.ar_syntax.specs.declared.comparison_tree.Literal.TheVariants as literals
 use Rattle.argo_judge.specs.declared.kind.Family.{Family}
 use Rattle.argo_judge.specs.declared.kind.Family.TheVariants.{Truth, Number, Other}
 

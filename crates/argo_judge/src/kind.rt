@@ -1,12 +1,12 @@
 //! The kinds of expressions.
 
 ghost use Rattle.std.specs.Prelude.{◌≡◌};
-ghost use Rattle.ar_syntax.specs.Tree.{expression_of};
+ghost use Rattle.ar_syntax.specs.ComparisonTree.{expression_of};
 ghost use Rattle.ar_value.specs.View.{shape_view};
 ghost use Rattle.argo_judge.specs.Typing.{can_compare, condition_kind, family_of, kind_of, literal_family, place_of};
 
+use ar_syntax::comparison_tree::{Literal, Tree};
 use ar_syntax::token::Comparison;
-use ar_syntax::tree::{Literal, Tree};
 use ar_value::shape::Shape;
 
 /// What operators tell apart of kinds.

@@ -1,12 +1,12 @@
 //! What expressions mean.
 
 ghost use Rattle.std.specs.Prelude.{◌≡◌};
-ghost use Rattle.ar_syntax.specs.Tree.{expression_of};
+ghost use Rattle.ar_syntax.specs.ComparisonTree.{expression_of};
 ghost use Rattle.ar_value.specs.View.{value_view};
 ghost use Rattle.argo_judge.specs.Meaning.{compare_operands, compare_truths, holds, literal_operand, mean, operand_of};
 
+use ar_syntax::comparison_tree::{Literal, Tree};
 use ar_syntax::token::Comparison;
-use ar_syntax::tree::{Literal, Tree};
 use ar_value::decimal::{Number, compare};
 use ar_value::value::Value;
 use std::cmp::Ordering;

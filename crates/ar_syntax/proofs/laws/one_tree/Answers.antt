@@ -1,5 +1,6 @@
-use Rattle.ar_syntax.proofs.Conditions.{one_tree}
+use Rattle.ar_syntax.specs.Refusal.{strict}
+use Rattle.ar_syntax.proofs.Trees.{one_tree_by}
 use Rattle.ar_syntax.proofs.laws.one_tree.Goals as goal
 
 pub returns : goal.returns
-returns c = one_tree
+returns c = one_tree_by strict

@@ -7,7 +7,7 @@ use Rattle.ar_syntax.proofs.scanner.scan.Given as goal
 abbrev pub invariant-loop-at : goal.invariant-loop-at
 invariant-loop-at l = record {
   in_range : l.at ≤ length l.text;
-  so_far : with_tokens l.tokens.items (tokens_behind 0 l.at l.after_word (drop l.at l.text)) ≡ tokens_behind 0 0 false l.text;
+  so_far : with_tokens l.tokens.items (tokens_behind 0 l.at l.field (drop l.at l.text)) ≡ tokens_behind 0 0 false l.text;
 }
 
 abbrev pub decreases-loop-at : goal.decreases-loop-at

@@ -1,9 +1,9 @@
 -- What a tree says, without where it lies in memory.
 use Rattle.std.specs.Prelude.{ℕ}
 use Rattle.ar_syntax.specs.declared.token.Comparison.{Comparison}
-use Rattle.ar_syntax.specs.declared.tree.Literal.{Literal}
-use Rattle.ar_syntax.specs.declared.tree.Tree.{Tree}
-use Rattle.ar_syntax.specs.declared.tree.Tree.TheVariants as trees
+use Rattle.ar_syntax.specs.declared.comparison_tree.Literal.{Literal}
+use Rattle.ar_syntax.specs.declared.comparison_tree.Tree.{Tree}
+use Rattle.ar_syntax.specs.declared.comparison_tree.Tree.TheVariants as trees
 
 -- a node with its place and its children
 pub data Expression : Type 0 where

@@ -2,13 +2,13 @@
 
 ghost use Rattle.std.specs.Prelude.{◌≡◌, IfOk, IfErr};
 ghost use Rattle.ar_syntax.specs.Answer.{Gives};
-ghost use Rattle.ar_syntax.specs.Parse.{IsNoCondition, SaysTree, literal_of, no_operand, operand_of, operator_of, parse_of, tree_of};
-ghost use Rattle.ar_syntax.specs.Tree.{ComparisonAt, expression_of};
+ghost use Rattle.ar_syntax.specs.ComparisonParse.{IsNoCondition, SaysTree, literal_of, no_operand, operand_of, operator_of, parse_of, tree_of};
+ghost use Rattle.ar_syntax.specs.ComparisonTree.{ComparisonAt, expression_of};
 
+use crate::comparison_tree::{Literal, Tree};
 use crate::error::SyntaxError;
 use crate::scanner::tokens;
-use crate::token::{Comparison, Token, TokenKind, Word};
-use crate::tree::{Literal, Tree};
+use crate::token::{Comparison, Sign, Token, TokenKind, Word};
 use std::alloc::{AllocError, Global};
 
 /// The tree of a condition: `result`, a comparison and a literal, a part of the grammar in
@@ -31,7 +31,7 @@ pub fn parse(alloc: Global, text: &str) -> Result<Tree, SyntaxError>
     tree(alloc, text)
 }
 
-#[tactic(auto, unfolding(crate::specs::Parse::parse_of))]
+#[tactic(auto, unfolding(crate::specs::ComparisonParse::parse_of))]
 fn tree(alloc: Global, text: &str) -> Result<Tree, SyntaxError>
     ensures { Gives expression_of result (parse_of text.now) }
 {
@@ -40,7 +40,7 @@ fn tree(alloc: Global, text: &str) -> Result<Tree, SyntaxError>
 }
 
 /// The tree of tokens whose text ends at a place.
-#[tactic(auto, unfolding(crate::specs::Parse::tree_of))]
+#[tactic(auto, unfolding(crate::specs::ComparisonParse::tree_of))]
 fn condition(alloc: Global, tokens: &[Token], end: usize) -> Result<Tree, SyntaxError>
     ensures { Gives expression_of result (tree_of end tokens.now) }
 {
@@ -71,7 +71,7 @@ fn comparison(
 }
 
 /// The operand at the front of the tokens, and the tokens behind it.
-#[tactic(auto, unfolding(crate::specs::Parse::operand_of))]
+#[tactic(auto, unfolding(crate::specs::ComparisonParse::operand_of))]
 fn operand(tokens: &[Token], end: usize) -> Result<(Tree, &[Token]), SyntaxError>
     ensures { Gives (λ found. (expression_of found.0, found.1.now)) result (operand_of end tokens.now) }
 {
@@ -79,14 +79,14 @@ fn operand(tokens: &[Token], end: usize) -> Result<(Tree, &[Token]), SyntaxError
         return Err(SyntaxError::Unexpected(end));
     };
     let at = token.span.start;
-    match token.kind {
+    match &token.kind {
         TokenKind::Word(Word::Result) => Ok((Tree::Result { at }, rest)),
         kind => Err(no_operand(kind, at)),
     }
 }
 
 /// The operator at the front of the tokens with its place, and the tokens behind it.
-#[tactic(auto, unfolding(crate::specs::Parse::operator_of))]
+#[tactic(auto, unfolding(crate::specs::ComparisonParse::operator_of))]
 fn operator(tokens: &[Token], end: usize) -> Result<(usize, Comparison, &[Token]), SyntaxError>
     ensures { Gives (λ found. (found.0, found.1, found.2.now)) result (operator_of end tokens.now) }
 {
@@ -94,14 +94,14 @@ fn operator(tokens: &[Token], end: usize) -> Result<(usize, Comparison, &[Token]
         return Err(SyntaxError::Unexpected(end));
     };
     let at = token.span.start;
-    match token.kind {
-        TokenKind::Comparison(comparison) => Ok((at, comparison, rest)),
+    match &token.kind {
+        TokenKind::Sign(Sign::Comparison(comparison)) => Ok((at, *comparison, rest)),
         _ => Err(SyntaxError::Unexpected(at)),
     }
 }
 
 /// The literal at the front of the tokens, and the tokens behind it.
-#[tactic(auto, unfolding(crate::specs::Parse::literal_of))]
+#[tactic(auto, unfolding(crate::specs::ComparisonParse::literal_of))]
 fn literal(tokens: &[Token], end: usize) -> Result<(Tree, &[Token]), SyntaxError>
     ensures { Gives (λ found. (expression_of found.0, found.1.now)) result (literal_of end tokens.now) }
 {
@@ -109,22 +109,22 @@ fn literal(tokens: &[Token], end: usize) -> Result<(Tree, &[Token]), SyntaxError
         return Err(SyntaxError::Unexpected(end));
     };
     let at = token.span.start;
-    let literal = match token.kind {
+    let literal = match &token.kind {
         TokenKind::Word(Word::True) => Literal::Bool(true),
         TokenKind::Word(Word::False) => Literal::Bool(false),
-        TokenKind::Whole(value) => Literal::Whole(value),
-        TokenKind::Decimal(value) => Literal::Decimal(value),
+        TokenKind::Whole(value) => Literal::Whole(*value),
+        TokenKind::Decimal(value) => Literal::Decimal(*value),
         kind => return Err(no_operand(kind, at)),
     };
     Ok((Tree::Literal { at, literal }, rest))
 }
 
 /// The refusal of a token where an operand is wanted.
-fn no_operand(kind: TokenKind, at: usize) -> SyntaxError
-    ensures { result ≡ no_operand kind at }
+fn no_operand(kind: &TokenKind, at: usize) -> SyntaxError
+    ensures { result ≡ no_operand kind.now at }
 {
     match kind {
-        TokenKind::Word(Word::Other) => SyntaxError::UnknownName(at),
+        TokenKind::Name(_) => SyntaxError::UnknownName(at),
         _ => SyntaxError::Unexpected(at),
     }
 }

@@ -1,0 +1,11 @@
+use Rattle.std.proofs.Common.{◌≡◌, length}
+use Rattle.ar_syntax.specs.Machine.{unwound}
+use Rattle.ar_syntax.specs.Views.{expression_of, frames_of}
+use Rattle.ar_syntax.proofs.climb.unwind.Given as goal
+
+-- what is left to end
+abbrev pub invariant-loop-frame : goal.invariant-loop-frame
+invariant-loop-frame l = unwound (frames_of l.stack.items) (expression_of l.tree) ≡ unwound (frames_of l.fn.stack.items) (expression_of l.fn.tree)
+
+abbrev pub decreases-loop-frame : goal.decreases-loop-frame
+decreases-loop-frame l = length l.stack.items

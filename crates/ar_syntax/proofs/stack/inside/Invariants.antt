@@ -1,0 +1,8 @@
+use Rattle.std.proofs.Common.{◌≡◌, take}
+use Rattle.ar_syntax.specs.Machine.{inside}
+use Rattle.ar_syntax.specs.Views.{frames_of}
+use Rattle.ar_syntax.proofs.stack.inside.Given as goal
+
+-- what the frames so far say
+abbrev pub invariant-loop-frame : goal.invariant-loop-frame
+invariant-loop-frame l = l.inside ≡ inside (frames_of (take l.frame-index l.stack))

@@ -1,0 +1,8 @@
+use Rattle.std.proofs.Common.{◌≡◌, take}
+use Rattle.ar_syntax.specs.Machine.{left}
+use Rattle.ar_syntax.specs.Views.{frames_of}
+use Rattle.ar_syntax.proofs.stack.left.Given as goal
+
+-- what the frames so far say
+abbrev pub invariant-loop-frame : goal.invariant-loop-frame
+invariant-loop-frame l = l.left ≡ left (frames_of (take l.frame-index l.stack))

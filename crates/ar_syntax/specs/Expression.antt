@@ -1,0 +1,31 @@
+-- What a tree says, without where it lies in memory.
+use Rattle.std.specs.Prelude.{ℕ, List, [], ◌∷◌}
+use Rattle.ar_syntax.specs.declared.tree.Binary.{Binary}
+use Rattle.ar_syntax.specs.declared.tree.Literal.{Literal}
+use Rattle.ar_syntax.specs.declared.tree.Predicate.{Predicate}
+use Rattle.ar_syntax.specs.declared.tree.Unary.{Unary}
+
+mutual
+  -- a node with its place and its children
+  pub data Expression : Type 0 where
+    ResultAt : (at : ℕ) → Expression
+    ItemAt : (at : ℕ) → Expression
+    LiteralAt : (at : ℕ) (literal : Literal) → Expression
+    FieldAt : (at : ℕ) (whole : Expression) (name : List ℕ) → Expression
+    IndexAt : (at : ℕ) (list index : Expression) → Expression
+    UnaryAt : (at : ℕ) (operator : Unary) (operand : Expression) → Expression
+    BinaryAt : (at : ℕ) (operator : Binary) (left right : Expression) → Expression
+    ChoiceAt : (at : ℕ) (condition yes no : Expression) → Expression
+    ListAt : (at : ℕ) (items : Expressions) → Expression
+    LenAt : (at : ℕ) (list : Expression) → Expression
+    IsNilAt : (at : ℕ) (operand : Expression) → Expression
+    DefaultAt : (at : ℕ) (operand otherwise : Expression) → Expression
+    PredicateAt : (at : ℕ) (predicate : Predicate) (list body : Expression) → Expression
+
+  pub data Expressions : Type 0 where
+    none : Expressions
+    more : (first : Expression) (others : Expressions) → Expressions
+
+abbrev pub expressions : List Expression → Expressions
+expressions [] = none
+expressions (first ∷ others) = more first (expressions others)

@@ -1,0 +1,217 @@
+-- The grammar read token by token: the phrases that are begun and not ended stand on a stack.
+use Rattle.std.specs.Prelude.{ℕ, Bool, true, false, nat_le, if◌then◌else◌, List, [], ◌∷◌, ◌++◌, length, Option, Some, None, pred}
+use Rattle.ar_syntax.specs.Expression.{Expression, FieldAt, IndexAt, ItemAt, LiteralAt, UnaryAt, BinaryAt, ChoiceAt, ListAt, expressions}
+use Rattle.ar_syntax.specs.Grammar.{Rules, may_continue, may_open, most_openers, takes_all, takes_more, ternary}
+use Rattle.ar_syntax.specs.Roles.{Call, Ender, Follow, Start, Ends, Comma, Colon, EndGroup, EndBracket, EndBrace, Operator, NotOf, Choose, Select, Open, NoFollow, Leaf, Prefix, Group, Bracket, Calls, ItemPoint, NoStart, called, follows, is_body, is_brace, is_group, is_in, looseness, name_of, starts, text_value}
+use Rattle.ar_syntax.specs.declared.token.Token.{Token}
+use Rattle.ar_syntax.specs.declared.tree.Binary.{Binary}
+use Rattle.ar_syntax.specs.declared.tree.Binary.TheVariants.{NotIn}
+use Rattle.ar_syntax.specs.declared.tree.Literal.TheVariants.{Text}
+use Rattle.ar_syntax.specs.declared.tree.Unary.{Unary}
+
+-- a phrase that waits for an operand
+pub data Frame : Type 0 where
+  -- the right side of an operator
+  RightOf : (at : ℕ) (operator : Binary) (first : Expression) → Frame
+  -- the operand of a sign before it
+  Prefixed : (at : ℕ) (operator : Unary) → Frame
+  -- what stands behind `?`, and behind `:`
+  Yes : (at : ℕ) (condition : Expression) → Frame
+  No : (at : ℕ) (condition met : Expression) → Frame
+  -- what stands in `(`, in the `[` of a list and in that of an index
+  Grouped : Frame
+  Listed : (at : ℕ) (so_far : List Expression) → Frame
+  Indexed : (at : ℕ) (whole : Expression) → Frame
+  -- an argument: plain, a predicate, and one in braces
+  Argued : (at : ℕ) (function : Call) (so_far : List Expression) → Frame
+  Body : (at : ℕ) (function : Call) (so_far : List Expression) → Frame
+  Braced : (at : ℕ) (function : Call) (so_far : List Expression) → Frame
+
+-- the newest frame first
+pub data State : Type 0 where
+  -- an operand is wanted; one is there
+  Want : (stack : List Frame) → State
+  Have : (stack : List Frame) (tree : Expression) → State
+  -- a word is wanted, behind the point of a field
+  WantName : (stack : List Frame) (at : ℕ) (whole : Expression) → State
+  -- behind the `[` of an index or field, and behind a text there
+  WantIndex : (stack : List Frame) (at : ℕ) (whole : Expression) → State
+  HaveText : (stack : List Frame) (at : ℕ) (whole : Expression) (text_at : ℕ) (text : List ℕ) → State
+  -- `in` is wanted, behind `not`
+  WantIn : (stack : List Frame) (at : ℕ) (first : Expression) → State
+  -- `(` is wanted, behind the name of a call; an argument is wanted; one in braces is there
+  WantGroup : (stack : List Frame) (at : ℕ) (function : Call) → State
+  WantArgument : (stack : List Frame) (at : ℕ) (function : Call) (so_far : List Expression) → State
+  HaveArgument : (stack : List Frame) (at : ℕ) (function : Call) (so_far : List Expression) → State
+
+-- the level of the operand that the newest frame wants
+abbrev pub wanted : List Frame → ℕ
+wanted (RightOf at operator first ∷ stack) = looseness operator
+wanted (Prefixed at operator ∷ stack) = 0
+wanted stack = ternary
+
+-- one is inside a predicate
+abbrev pub inside : List Frame → Bool
+inside [] = false
+inside (Body at function so_far ∷ stack) = true
+inside (Braced at function so_far ∷ stack) = true
+inside (frame ∷ stack) = inside stack
+
+-- how many openers may still be unfinished
+abbrev pub left : List Frame → ℕ
+left [] = most_openers
+left (RightOf at operator first ∷ stack) = left stack
+left (Braced at function so_far ∷ stack) = pred (pred (left stack))
+left (frame ∷ stack) = pred (left stack)
+
+-- ---- what an operand ends
+
+-- the phrases of levels up to this one end with an operand
+abbrev pub climbed : ℕ → List Frame → Expression → State
+climbed level (RightOf at operator first ∷ stack) tree =
+    if nat_le (looseness operator) level then climbed level stack (BinaryAt at operator first tree) else Have (RightOf at operator first ∷ stack) tree
+climbed level (Prefixed at operator ∷ stack) tree = climbed level stack (UnaryAt at operator tree)
+climbed level stack tree = Have stack tree
+
+-- and so do choices, where something ends that stands in brackets or before `:`
+abbrev pub unwound : List Frame → Expression → State
+unwound (RightOf at operator first ∷ stack) tree = unwound stack (BinaryAt at operator first tree)
+unwound (Prefixed at operator ∷ stack) tree = unwound stack (UnaryAt at operator tree)
+unwound (No at condition met ∷ stack) tree = unwound stack (ChoiceAt at condition met tree)
+unwound stack tree = Have stack tree
+
+-- ---- steps
+
+module _ (rules : Rules) where
+  abbrev pub when : Bool → State → Option State
+  when test state = if test then Some state else None
+
+  -- where an operand is wanted
+  abbrev pub begin : List Frame → ℕ → Start → Option State
+  begin stack at (Leaf tree) = Some (Have stack tree)
+  begin stack at (Prefix operator) = when (may_open rules (left stack)) (Want (Prefixed at operator ∷ stack))
+  begin stack at Group = when (may_open rules (left stack)) (Want (Grouped ∷ stack))
+  begin stack at Bracket = when (may_open rules (left stack)) (Want (Listed at [] ∷ stack))
+  begin stack at (Calls function) = when (may_open rules (left stack)) (WantGroup stack at function)
+  begin stack at ItemPoint = Some (WantName stack at (ItemAt at))
+  begin stack at NoStart = None
+
+  abbrev pub want : List Frame → Token → Option State
+  want stack token = begin stack token.span.start (starts (inside stack) token)
+
+  -- behind the operand that ends what stands in brackets or before `:`
+  abbrev pub end_with : Ender → State → Option State
+  end_with Colon (Have (Yes at condition ∷ stack) tree) = Some (Want (No at condition tree ∷ stack))
+  end_with EndGroup (Have (Grouped ∷ stack) tree) = Some (Have stack tree)
+  end_with EndBracket (Have (Indexed at whole ∷ stack) tree) = Some (Have stack (IndexAt at whole tree))
+  end_with EndBracket (Have (Listed at so_far ∷ stack) tree) = Some (Have stack (ListAt at (expressions (so_far ++ tree ∷ []))))
+  end_with Comma (Have (Listed at so_far ∷ stack) tree) = when (may_continue rules (length (so_far ++ tree ∷ []))) (Want (Listed at (so_far ++ tree ∷ []) ∷ stack))
+  end_with EndGroup (Have (Argued at function so_far ∷ stack) tree) = when (takes_all rules function (length (so_far ++ tree ∷ []))) (Have stack (called at function (so_far ++ tree ∷ [])))
+  end_with Comma (Have (Argued at function so_far ∷ stack) tree) = when (takes_more rules function (length (so_far ++ tree ∷ []))) (WantArgument stack at function (so_far ++ tree ∷ []))
+  end_with EndGroup (Have (Body at function so_far ∷ stack) tree) = when (takes_all rules function (length (so_far ++ tree ∷ []))) (Have stack (called at function (so_far ++ tree ∷ [])))
+  end_with Comma (Have (Body at function so_far ∷ stack) tree) = when (takes_more rules function (length (so_far ++ tree ∷ []))) (WantArgument stack at function (so_far ++ tree ∷ []))
+  end_with EndBrace (Have (Braced at function so_far ∷ stack) tree) = Some (HaveArgument stack at function (so_far ++ tree ∷ []))
+  end_with ender state = None
+
+  -- an operator behind the operand that is its first
+  abbrev pub operate : ℕ → Binary → State → Option State
+  operate at operator (Have stack tree) = Some (Want (RightOf at operator tree ∷ stack))
+  operate at operator state = None
+
+  abbrev pub negate : ℕ → State → Option State
+  negate at (Have stack tree) = Some (WantIn stack at tree)
+  negate at state = None
+
+  abbrev pub choose : ℕ → State → Option State
+  choose at (Have stack tree) = when (may_open rules (left stack)) (Want (Yes at tree ∷ stack))
+  choose at state = None
+
+  -- behind an operand
+  abbrev pub follow : List Frame → Expression → ℕ → Follow → Option State
+  follow stack tree at (Operator operator) = operate at operator (climbed (looseness operator) stack tree)
+  follow stack tree at NotOf = negate at (climbed (looseness NotIn) stack tree)
+  follow stack tree at Choose = choose at (climbed 5 stack tree)
+  follow stack tree at Select = Some (WantName stack at tree)
+  follow stack tree at Open = when (may_open rules (left stack)) (WantIndex stack at tree)
+  follow stack tree at (Ends ender) = end_with ender (unwound stack tree)
+  follow stack tree at NoFollow = None
+
+  abbrev pub have : List Frame → Expression → Token → Option State
+  have stack tree token = follow stack tree token.span.start (follows token)
+
+  -- behind the point of a field
+  abbrev pub select : List Frame → ℕ → Expression → Option (List ℕ) → Option State
+  select stack at whole (Some word) = Some (Have stack (FieldAt at whole word))
+  select stack at whole None = None
+
+  -- behind `[`: a text may be a field's name
+  abbrev pub open_index : List Frame → ℕ → Expression → Token → Option (List ℕ) → Option State
+  open_index stack at whole token (Some text) = Some (HaveText stack at whole token.span.start text)
+  open_index stack at whole token None = want (Indexed at whole ∷ stack) token
+
+  -- it is where `]` stands behind it, and else an operand
+  abbrev pub close_text : List Frame → ℕ → Expression → ℕ → List ℕ → Token → Follow → Option State
+  close_text stack at whole text_at text token (Ends EndBracket) = Some (Have stack (FieldAt at whole text))
+  close_text stack at whole text_at text token role = have (Indexed at whole ∷ stack) (LiteralAt text_at (Text text)) token
+
+  -- an argument, in braces or not
+  abbrev pub argue : List Frame → ℕ → Call → List Expression → Token → Bool → Bool → Option State
+  argue stack at function so_far token false brace = want (Argued at function so_far ∷ stack) token
+  argue stack at function so_far token true false = want (Body at function so_far ∷ stack) token
+  argue stack at function so_far token true true = when (may_open rules (pred (left stack))) (Want (Braced at function so_far ∷ stack))
+
+  -- `)` directly behind `(`
+  abbrev pub close_empty : List Frame → ℕ → Call → Token → List Expression → Follow → Option State
+  close_empty stack at function token [] (Ends EndGroup) = when (takes_all rules function 0) (Have stack (called at function []))
+  close_empty stack at function token so_far role = argue stack at function so_far token (is_body function (length so_far)) (is_brace token)
+
+  -- behind an argument in braces
+  abbrev pub close_braced : List Frame → ℕ → Call → List Expression → Follow → Option State
+  close_braced stack at function arguments (Ends EndGroup) = when (takes_all rules function (length arguments)) (Have stack (called at function arguments))
+  close_braced stack at function arguments (Ends Comma) = when (takes_more rules function (length arguments)) (WantArgument stack at function arguments)
+  close_braced stack at function arguments role = None
+
+  -- the state behind one token more, where a condition may have it
+  unfoldable pub step : State → Token → Option State
+  step (Want stack) token = want stack token
+  step (Have stack tree) token = have stack tree token
+  step (WantName stack at whole) token = select stack at whole (name_of token)
+  step (WantIndex stack at whole) token = open_index stack at whole token (text_value token)
+  step (HaveText stack at whole text_at text) token = close_text stack at whole text_at text token (follows token)
+  step (WantIn stack at first) token = when (is_in token) (Want (RightOf at NotIn first ∷ stack))
+  step (WantGroup stack at function) token = when (is_group token) (WantArgument stack at function [])
+  step (WantArgument stack at function so_far) token = close_empty stack at function token so_far (follows token)
+  step (HaveArgument stack at function arguments) token = close_braced stack at function arguments (follows token)
+
+  abbrev pub step_from : Option State → Token → Option State
+  step_from (Some state) token = step state token
+  step_from None token = None
+
+  -- the state behind tokens
+  abbrev pub run : Option State → List Token → Option State
+  run state [] = state
+  run state (token ∷ tokens) = run (step_from state token) tokens
+
+abbrev pub start_state : State
+start_state = Want []
+
+-- the tree, where the tokens end
+abbrev pub whole : State → Option Expression
+whole (Have [] tree) = Some tree
+whole state = None
+
+abbrev pub finished : State → Option Expression
+finished (Have stack tree) = whole (unwound stack tree)
+finished state = None
+
+abbrev pub finished_from : Option State → Option Expression
+finished_from (Some state) = finished state
+finished_from None = None
+
+-- the state behind tokens from the start
+abbrev pub reached : Rules → List Token → Option State
+reached rules tokens = run rules (Some start_state) tokens
+
+-- the tree of tokens
+abbrev pub tree_by : Rules → List Token → Option Expression
+tree_by rules tokens = finished_from (reached rules tokens)

@@ -1,0 +1,106 @@
+-- Which tokens are a condition, and the place and name of the fault of those that are none.
+use Rattle.std.specs.Prelude.{◌≡◌, ℕ, ◌+◌, ℤ, Bool, true, false, ◌&&◌, not, max, nat_le, List, [], ◌∷◌, ◌++◌}
+use Rattle.ar_syntax.specs.Expression.{Expression, Expressions}
+use Rattle.ar_syntax.specs.Expression as trees
+use Rattle.ar_syntax.specs.Grammar.{BeginsBy, DerivesBy, Rules}
+use Rattle.ar_syntax.specs.declared.error.SyntaxError.{SyntaxError}
+use Rattle.ar_syntax.specs.declared.error.SyntaxError.TheVariants.{Unexpected, UnknownName, WrongCount, ItemOutside, TooManyItems, TooDeep}
+use Rattle.ar_syntax.specs.declared.token.Sign.TheVariants.{Hash, Point, Comma}
+use Rattle.ar_syntax.specs.declared.token.Token.{Token}
+use Rattle.ar_syntax.specs.declared.token.TokenKind.{TokenKind}
+use Rattle.ar_syntax.specs.declared.token.TokenKind.TheVariants as kinds
+
+-- ---- conditions
+
+-- all limits hold; all but one
+abbrev pub strict : Rules
+strict = record { any_depth = false; any_items = false; any_count = false }
+
+abbrev pub at_any_depth : Rules
+at_any_depth = record { any_depth = true; any_items = false; any_count = false }
+
+abbrev pub of_any_items : Rules
+of_any_items = record { any_depth = false; any_items = true; any_count = false }
+
+abbrev pub of_any_count : Rules
+of_any_count = record { any_depth = false; any_items = false; any_count = true }
+
+-- all of the tokens are a condition but for the depth of its tree, which the tree says
+abbrev pub Derives : List Token → Expression → Type 0
+Derives tokens tree = DerivesBy strict tokens tree
+
+-- with some further tokens these are a condition, its length and depth set aside
+abbrev pub BeginsCondition : List Token → Type 0
+BeginsCondition tokens = BeginsBy strict tokens
+
+-- ---- what is wanted
+
+-- an operand may stand behind these tokens: a number may
+abbrev pub WantsOperand : List Token → Type 0
+WantsOperand before = (number : Token) × (value : ℤ) × (number.kind ≡ kinds.Whole value) × BeginsCondition (before ++ number ∷ [])
+
+abbrev pub is_comma : TokenKind → Bool
+is_comma (kinds.Sign Comma) = true
+is_comma kind = false
+
+abbrev pub has_no_comma : List Token → Bool
+has_no_comma [] = true
+has_no_comma (token ∷ tokens) = not (is_comma token.kind) && has_no_comma tokens
+
+-- one is inside a predicate behind these tokens: `#` may stand there, or further on before any comma
+abbrev pub IsInside : List Token → Type 0
+IsInside before = (further : List Token) × (item : Token) × (has_no_comma further ≡ true) × (item.kind ≡ kinds.Sign Hash) × BeginsCondition ((before ++ further) ++ item ∷ [])
+
+-- ---- the name of a fault
+
+-- the refusal of a token that can't stand behind those before it, where it has a name of its own
+pub data IsNamedBehind (before : List Token) (token : Token) : SyntaxError → Type 0 where
+  -- a word that the language doesn't name, where an operand is wanted
+  unknown_name : {name : List ℕ} → token.kind ≡ kinds.Name name → WantsOperand before → IsNamedBehind before token (UnknownName token.span.start)
+  -- `#` outside predicates, and a point where an operand is wanted there
+  item_outside : token.kind ≡ kinds.Sign Hash → ¬ IsInside before → IsNamedBehind before token (ItemOutside token.span.start)
+  item_field_outside : token.kind ≡ kinds.Sign Point → WantsOperand before → ¬ IsInside before → IsNamedBehind before token (ItemOutside token.span.start)
+  -- a token that one limit alone forbids: it may stand there where that limit is set aside
+  wrong_count : BeginsBy of_any_count (before ++ token ∷ []) → IsNamedBehind before token (WrongCount token.span.start)
+  too_many_items : ¬ BeginsBy of_any_count (before ++ token ∷ []) → BeginsBy of_any_items (before ++ token ∷ []) → IsNamedBehind before token (TooManyItems token.span.start)
+  too_deep : ¬ BeginsBy of_any_count (before ++ token ∷ []) → ¬ BeginsBy of_any_items (before ++ token ∷ []) → BeginsBy at_any_depth (before ++ token ∷ []) → IsNamedBehind before token (TooDeep token.span.start)
+
+-- any other is unexpected
+pub data IsRefusedBehind (before : List Token) (token : Token) : SyntaxError → Type 0 where
+  named : {error : SyntaxError} → IsNamedBehind before token error → IsRefusedBehind before token error
+  unexpected : ((error : SyntaxError) → ¬ IsNamedBehind before token error) → IsRefusedBehind before token (Unexpected token.span.start)
+
+-- ---- depth
+
+abbrev mutual
+  pub depth : Expression → ℕ
+  depth (trees.ResultAt at) = 1
+  depth (trees.ItemAt at) = 1
+  depth (trees.LiteralAt at literal) = 1
+  depth (trees.FieldAt at whole name) = depth whole + 1
+  depth (trees.IndexAt at list index) = max (depth list) (depth index) + 1
+  depth (trees.UnaryAt at operator operand) = depth operand + 1
+  depth (trees.BinaryAt at operator left right) = max (depth left) (depth right) + 1
+  depth (trees.ChoiceAt at condition met unmet) = max (depth condition) (max (depth met) (depth unmet)) + 1
+  depth (trees.ListAt at items) = items_depth items + 1
+  depth (trees.LenAt at list) = depth list + 1
+  depth (trees.IsNilAt at operand) = depth operand + 1
+  depth (trees.DefaultAt at operand otherwise) = max (depth operand) (depth otherwise) + 1
+  depth (trees.PredicateAt at predicate list body) = max (depth list) (depth body) + 1
+
+  pub items_depth : Expressions → ℕ
+  items_depth trees.none = 0
+  items_depth (trees.more first others) = max (depth first) (items_depth others)
+
+abbrev pub most_depth : ℕ
+most_depth = 64
+
+-- ---- the refusal of tokens
+
+-- The refusal of tokens that are no condition: it stands at the first token that, with those before it, begins none.
+-- The end of the text counts as a token. Last, a tree may be too deep.
+pub data IsRefused (end : ℕ) (tokens : List Token) : SyntaxError → Type 0 where
+  at_token : (before : List Token) (token : Token) (rest : List Token) {error : SyntaxError} → tokens ≡ before ++ token ∷ rest
+      → BeginsCondition before → ¬ BeginsCondition (before ++ token ∷ []) → IsRefusedBehind before token error → IsRefused end tokens error
+  at_end : BeginsCondition tokens → ((tree : Expression) → ¬ Derives tokens tree) → IsRefused end tokens (Unexpected end)
+  at_depth : (tree : Expression) → Derives tokens tree → nat_le (depth tree) most_depth ≡ false → IsRefused end tokens (TooDeep 0)

@@ -1,0 +1,37 @@
+//! Laws of the grammar, for all tokens and all texts. A law is the contract of a function that
+//! does nothing.
+
+ghost use Rattle.std.specs.Prelude.{◌≡◌, ◌≢◌, ◌↔◌, ℕ, List};
+ghost use Rattle.ar_syntax.specs.ComparisonGrammar.{Derives, IsRefused};
+ghost use Rattle.ar_syntax.specs.ComparisonParse.{IsRefusal, SaysTree, parse_of};
+ghost use Rattle.ar_syntax.specs.ComparisonTree.{Expression};
+ghost use Rattle.ar_syntax.specs.declared.error.SyntaxError.{SyntaxError};
+ghost use Rattle.ar_syntax.specs.declared.token.Token.{Token};
+
+/// Tokens derive at most one tree.
+pub fn one_tree()
+    ensures { (tokens : List Token) (first second : Expression)
+        → Derives tokens first → Derives tokens second → first ≡ second }
+{}
+
+/// Tokens have a tree or a refusal, not both, and at most one refusal.
+pub fn one_refusal()
+    ensures apart { (end : ℕ) (tokens : List Token) (error : SyntaxError) (tree : Expression)
+        → IsRefused end tokens error → ¬ Derives tokens tree }
+    ensures one { (end : ℕ) (tokens : List Token) (first second : SyntaxError)
+        → IsRefused end tokens first → IsRefused end tokens second → first ≡ second }
+{}
+
+/// What is parsed is what the text says, and what is refused is what the grammar refuses: each text
+/// whose tokens derive a tree is parsed, and to that tree.
+pub fn parse_is_grammar()
+    ensures tree { (text : List ℕ) (tree : Expression)
+        → (parse_of text ≡ Ok tree) ↔ SaysTree text tree }
+    ensures refusal { (text : List ℕ) (error : SyntaxError)
+        → (parse_of text ≡ Err error) ↔ IsRefusal text error }
+{}
+
+/// No text is refused for want of memory.
+pub fn memory_is_no_refusal()
+    ensures { (text : List ℕ) → parse_of text ≢ Err SyntaxError.OutOfMemory }
+{}

@@ -1,0 +1,59 @@
+//! What is begun and not ended while tokens are read.
+
+use crate::role::Call;
+use crate::tree::{Binary, Tree, Unary};
+
+/// A phrase that waits for an operand.
+#[derive(Debug, Drop)]
+pub(crate) enum Frame {
+    /// The right side of an operator.
+    RightOf {
+        at: usize,
+        operator: Binary,
+        first: Tree,
+    },
+    /// The operand of a sign before it.
+    Prefixed {
+        at: usize,
+        operator: Unary,
+    },
+    /// What stands behind `?`.
+    Yes {
+        at: usize,
+        condition: Tree,
+    },
+    /// What stands behind `:`.
+    No {
+        at: usize,
+        condition: Tree,
+        met: Tree,
+    },
+    /// What stands in parentheses.
+    Grouped,
+    /// An item of a list.
+    Listed {
+        at: usize,
+        so_far: Vec<Tree>,
+    },
+    /// An index.
+    Indexed {
+        at: usize,
+        whole: Tree,
+    },
+    /// An argument of a call: a plain one, a predicate, and a predicate in braces.
+    Argued {
+        at: usize,
+        function: Call,
+        so_far: Vec<Tree>,
+    },
+    Body {
+        at: usize,
+        function: Call,
+        so_far: Vec<Tree>,
+    },
+    Braced {
+        at: usize,
+        function: Call,
+        so_far: Vec<Tree>,
+    },
+}

@@ -1,0 +1,148 @@
+//! What a token can be behind an operand, and what calls take.
+
+ghost use Rattle.std.specs.Prelude.{◌≡◌};
+ghost use Rattle.ar_syntax.specs.Roles.{arity, follows, is_body, is_brace, is_group, is_in, looseness, sign_follow, word_follow};
+
+use crate::token::{Sign, Token, TokenKind, Word};
+use crate::tree::{Binary, Predicate};
+
+/// The calls of the language.
+#[derive(Clone, Copy, Debug, PartialEq, Eq)]
+pub enum Call {
+    Len,
+    IsNil,
+    Default,
+    Over(Predicate),
+}
+
+/// The signs that end what stands in brackets, or before a colon.
+#[derive(Clone, Copy, Debug, PartialEq, Eq)]
+pub enum Ender {
+    Comma,
+    Colon,
+    EndGroup,
+    EndBracket,
+    EndBrace,
+}
+
+/// What a token is behind an operand.
+#[derive(Clone, Copy, Debug, PartialEq, Eq)]
+pub enum Follow {
+    Operator(Binary),
+    /// `not`, of `not in`
+    NotOf,
+    /// `?`
+    Choose,
+    /// The point of a field.
+    Select,
+    /// The `[` of an index or field.
+    Open,
+    Ends(Ender),
+    NoFollow,
+}
+
+impl Call {
+    /// How many arguments the call has.
+    pub fn arity(self) -> usize
+        ensures { result ≡ arity self }
+    {
+        match self {
+            Call::Len | Call::IsNil => 1,
+            Call::Default | Call::Over(_) => 2,
+        }
+    }
+
+    /// Whether the argument behind so many others is a predicate.
+    pub fn is_body(self, before: usize) -> bool
+        ensures { result ≡ is_body self before }
+    {
+        matches!(self, Call::Over(_)) && before == 1
+    }
+}
+
+impl Binary {
+    /// How many levels of operators bind tighter.
+    pub fn looseness(self) -> usize
+        ensures { result ≡ looseness self }
+    {
+        match self {
+            Binary::Or => 4,
+            Binary::And => 3,
+            Binary::Comparison(_) | Binary::In | Binary::NotIn => 2,
+            Binary::Add | Binary::Subtract => 1,
+            Binary::Multiply | Binary::Divide | Binary::Remainder => 0,
+        }
+    }
+}
+
+/// What a token is behind an operand.
+#[tactic(auto, unfolding(crate::specs::Roles::follows))]
+pub fn follow_of(token: &Token) -> Follow
+    ensures { result ≡ follows token.now }
+{
+    match &token.kind {
+        TokenKind::Word(word) => word_follow(*word),
+        TokenKind::Sign(sign) => sign_follow(*sign),
+        _ => Follow::NoFollow,
+    }
+}
+
+fn word_follow(word: Word) -> Follow
+    ensures { result ≡ word_follow word }
+{
+    match word {
+        Word::Or => Follow::Operator(Binary::Or),
+        Word::And => Follow::Operator(Binary::And),
+        Word::In => Follow::Operator(Binary::In),
+        Word::Not => Follow::NotOf,
+        _ => Follow::NoFollow,
+    }
+}
+
+fn sign_follow(sign: Sign) -> Follow
+    ensures { result ≡ sign_follow sign }
+{
+    match sign {
+        Sign::Comparison(comparison) => Follow::Operator(Binary::Comparison(comparison)),
+        Sign::Or => Follow::Operator(Binary::Or),
+        Sign::And => Follow::Operator(Binary::And),
+        Sign::Plus => Follow::Operator(Binary::Add),
+        Sign::Minus => Follow::Operator(Binary::Subtract),
+        Sign::Star => Follow::Operator(Binary::Multiply),
+        Sign::Slash => Follow::Operator(Binary::Divide),
+        Sign::Percent => Follow::Operator(Binary::Remainder),
+        Sign::Question => Follow::Choose,
+        Sign::Point => Follow::Select,
+        Sign::OpenBracket => Follow::Open,
+        Sign::Comma => Follow::Ends(Ender::Comma),
+        Sign::Colon => Follow::Ends(Ender::Colon),
+        Sign::CloseParenthesis => Follow::Ends(Ender::EndGroup),
+        Sign::CloseBracket => Follow::Ends(Ender::EndBracket),
+        Sign::CloseBrace => Follow::Ends(Ender::EndBrace),
+        _ => Follow::NoFollow,
+    }
+}
+
+/// Whether the token is `in`.
+#[tactic(auto, unfolding(crate::specs::Roles::is_in))]
+pub fn is_in(token: &Token) -> bool
+    ensures { result ≡ is_in token.now }
+{
+    matches!(token.kind, TokenKind::Word(Word::In))
+}
+
+/// Whether the token is `(`.
+#[tactic(auto, unfolding(crate::specs::Roles::is_group))]
+pub fn is_group(token: &Token) -> bool
+    ensures { result ≡ is_group token.now }
+{
+    matches!(token.kind, TokenKind::Sign(Sign::OpenParenthesis))
+}
+
+/// Whether the token is `{`.
+#[tactic(auto, unfolding(crate::specs::Roles::is_brace))]
+pub fn is_brace(token: &Token) -> bool
+    ensures { result ≡ is_brace token.now }
+{
+    matches!(token.kind, TokenKind::Sign(Sign::OpenBrace))
+}
