@@ -23,3 +23,5 @@ pub mod Stacks
 pub mod ComparisonConditions
 pub mod ComparisonTexts
 pub mod ComparisonMemory
+pub mod Openers
+pub mod Depths

@@ -11,6 +11,7 @@ pub mod Machine
 pub mod Refusal
 pub mod Fault
 pub mod Parse
+pub mod Steps
 pub mod Examples
 pub mod RefusalExamples
 pub mod ComparisonTree

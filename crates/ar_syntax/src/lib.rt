@@ -4,8 +4,8 @@
 //!
 //! [`tokens`] answers the tokens of a text, or says at which byte it stops being one and what was
 //! expected there. [`parse`] so far answers the tree of one comparison of `result` with a literal.
-//! Only want of memory can keep them from it. Of the whole grammar the definitions stand, and what
-//! [`laws`] says of them; the nodes and frames that its parser is made of are proved one by one.
+//! Only want of memory can keep them from it. The parser of the whole grammar is proved too, and
+//! answers what `specs/Parse` defines; no call offers it yet.
 //!
 //! - [`token`]: words, numbers, texts and signs, and how they are spelled; `scanner` cuts a text
 //!   into them, with `number` for numbers and `quoted` for texts
@@ -14,8 +14,9 @@
 //!   [`comparison_laws`] says what holds of it
 //! - [`tree`]: what a condition of the whole language says; `build` makes its nodes
 //! - [`role`]: what a token can be behind an operand
-//! - `machine`: what is begun and not ended while tokens are read; `climb` ends it, `stack` says
-//!   what may come next
+//! - `parser`: from tokens to the tree of the whole language, one `step` for each token; `start`
+//!   says what a token begins, `state` what may come next, `machine` what is begun and not ended,
+//!   `climb` ends it, `stack` counts it, `fault` names a refusal, `depth` limits the tree
 //! - [`error`]: why a text is no condition
 //! - [`laws`]: what holds of the grammar as a whole
 //!
@@ -31,14 +32,20 @@ mod climb;
 pub mod comparison_laws;
 mod comparison_parser;
 pub mod comparison_tree;
+mod depth;
 pub mod error;
+mod fault;
 pub mod laws;
 mod machine;
 mod number;
+mod parser;
 mod quoted;
 pub mod role;
 mod scanner;
 mod stack;
+mod start;
+mod state;
+mod step;
 pub mod text;
 pub mod token;
 pub mod tree;

@@ -1,0 +1,131 @@
+-- Limits, set aside one at a time.
+use Rattle.std.proofs.Common.{◌≡◌, ℕ, zero, suc, ◌<◌, ◌≤◌, Bool, true, false, if◌then◌else◌, List, [], ◌∷◌, length, map, Some, None, Result, Err, refl, ap, arith}
+use Rattle.std.proofs.lemmas.Bool.Decides.{nat_tests}
+use Rattle.std.specs.Prelude.{nat_eq, nat_lt, pred}
+use Rattle.ar_syntax.specs.Grammar.{Rules, ends_bracket, may_continue, may_open, takes_all, takes_more}
+use Rattle.ar_syntax.specs.Machine.{Frame, Have, Indexed, State, close_empty, close_text, have, step, when, whole}
+use Rattle.ar_syntax.specs.Refusal.{at_any_depth, of_any_count, of_any_items, strict}
+use Rattle.ar_syntax.specs.Roles.{Call, Default, EndBracket, EndGroup, Ends, Follow, IsNil, Len, Over, arity}
+use Rattle.ar_syntax.specs.Steps.{Steps, ends_group, fault_by, forbids}
+use Rattle.ar_syntax.specs.Answer.{Refuses}
+use Rattle.ar_syntax.specs.Parse.{stepped}
+use Rattle.ar_syntax.proofs.Answers.{Refuses-same}
+use Rattle.ar_syntax.specs.Fault.{accepts, fault_of, is_inside, kind_fault, wants_operand}
+use Rattle.ar_syntax.specs.declared.error.SyntaxError.TheVariants.{TooDeep, TooManyItems, WrongCount}
+use Rattle.ar_syntax.specs.Views.{expression_of}
+use Rattle.ar_syntax.specs.Expression.{Expression, FieldAt, LiteralAt}
+use Rattle.ar_syntax.specs.declared.state.Refusal.{Refusal}
+use Rattle.ar_syntax.specs.declared.state.State as rust
+use Rattle.ar_syntax.specs.declared.token.Token.{Token}
+use Rattle.ar_syntax.specs.declared.tree.Literal.TheVariants.{Text}
+use Rattle.ar_syntax.specs.declared.tree.Tree.{Tree}
+use Rattle.ar_syntax.specs.declared.state.Refusal.TheVariants.{Arguments, Depth, Items, Memory, Other}
+
+pub length_of_map : (xs : List Tree) → length (map expression_of xs) ≡ length xs
+length_of_map [] = refl
+length_of_map (x ∷ xs) = ap suc (length_of_map xs)
+
+pub opener_left : (n : ℕ) (state : State) → (n ≡ 0 → ⊥) → when strict (may_open strict n) state ≡ Some state
+opener_left zero state h = absurd (h refl)
+opener_left (suc n) state h = let some : nat_lt 0 (suc n) ≡ true = grind (arith, nat_tests) in rw some refl
+
+pub no_opener_left : (n : ℕ) (state : State) → n ≡ 0 → (when strict (may_open strict n) state ≡ None) × (forbids (λ rules. when rules (may_open rules n) state) ≡ Depth)
+no_opener_left n state h = rw h (refl, refl)
+
+pub item_left : (items : List Tree) (n : ℕ) (state : State) → n ≡ length items → n < 16 → when strict (may_continue strict (length (map expression_of items))) state ≡ Some state
+item_left items n state is below = let some : nat_lt (length (map expression_of items)) 16 ≡ true = rw (length_of_map items) (grind (arith, nat_tests)) in rw some refl
+
+pub no_item_left : (items : List Tree) (n : ℕ) (state : State) → n ≡ length items → 16 ≤ n
+    → (when strict (may_continue strict (length (map expression_of items))) state ≡ None) × (forbids (λ rules. when rules (may_continue rules (length (map expression_of items))) state) ≡ Items)
+no_item_left items n state is past = let none : nat_lt (length (map expression_of items)) 16 ≡ false = rw (length_of_map items) (grind (arith, nat_tests)) in rw none (refl, refl)
+
+pub argument_left : (function : Call) (arguments : List Tree) (n : ℕ) (state : State) → n ≡ length arguments → n < arity function → when strict (takes_more strict function (length (map expression_of arguments))) state ≡ Some state
+argument_left function arguments n state is below = let some : nat_lt (length (map expression_of arguments)) (arity function) ≡ true = rw (length_of_map arguments) (grind (arith, nat_tests)) in rw some refl
+
+pub no_argument_left : (function : Call) (arguments : List Tree) (n : ℕ) (state : State) → n ≡ length arguments → arity function ≤ n
+    → (when strict (takes_more strict function (length (map expression_of arguments))) state ≡ None) × (forbids (λ rules. when rules (takes_more rules function (length (map expression_of arguments))) state) ≡ Arguments)
+no_argument_left function arguments n state is past = let none : nat_lt (length (map expression_of arguments)) (arity function) ≡ false = rw (length_of_map arguments) (grind (arith, nat_tests)) in rw none (refl, refl)
+
+pub all_arguments : (function : Call) (arguments : List Tree) (n : ℕ) (state : State) → n ≡ length arguments → n ≡ arity function → when strict (takes_all strict function (length (map expression_of arguments))) state ≡ Some state
+all_arguments function arguments n state is all = let some : nat_eq (length (map expression_of arguments)) (arity function) ≡ true = rw (length_of_map arguments) (grind (arith, nat_tests)) in rw some refl
+
+pub not_all_arguments : (function : Call) (arguments : List Tree) (n : ℕ) (state : State) → n ≡ length arguments → (n ≡ arity function → ⊥)
+    → (when strict (takes_all strict function (length (map expression_of arguments))) state ≡ None) × (forbids (λ rules. when rules (takes_all rules function (length (map expression_of arguments))) state) ≡ Arguments)
+not_all_arguments function arguments n state is other = let none : nat_eq (length (map expression_of arguments)) (arity function) ≡ false = rw (length_of_map arguments) (grind (arith, nat_tests)) in rw none (refl, refl)
+
+-- a text behind which no bracket closes is an operand
+pub text_is_operand : (rules : Rules) (stack : List Frame) (at : ℕ) (whole : Expression) (text_at : ℕ) (text : List ℕ) (token : Token) (role : Follow) → ends_bracket role ≡ false
+    → close_text rules stack at whole text_at text token role ≡ have rules (Indexed at whole ∷ stack) (LiteralAt text_at (Text text)) token
+text_is_operand rules stack at whole text_at text token (Ends EndBracket) h = absurd cc
+text_is_operand rules stack at whole text_at text token role h = refl
+
+-- a token that closes a bracket closes it behind a text
+pub text_is_name : (rules : Rules) (stack : List Frame) (at : ℕ) (whole : Expression) (text_at : ℕ) (text : List ℕ) (token : Token) (role : Follow) → ends_bracket role ≡ true
+    → close_text rules stack at whole text_at text token role ≡ Some (Have stack (FieldAt at whole text))
+text_is_name rules stack at whole text_at text token (Ends EndBracket) h = refl
+text_is_name rules stack at whole text_at text token role h = absurd cc
+
+pub text_goes_on : (old stack : List Frame) (at : ℕ) (whole : Expression) (text_at : ℕ) (text : List ℕ) (token : Token) (role : Follow) (r : Result rust.State Refusal) → ends_bracket role ≡ false
+    → Steps (λ rules. have rules (Indexed at whole ∷ old) (LiteralAt text_at (Text text)) token) stack r
+    → Steps (λ rules. close_text rules old at whole text_at text token role) stack r
+text_goes_on old stack at whole text_at text token (Ends EndBracket) r h goes = absurd cc
+text_goes_on old stack at whole text_at text token role r h goes = goes
+
+below_two : (n : ℕ) → n < 2 → nat_lt 0 (pred n) ≡ false
+below_two zero h = refl
+below_two (suc zero) h = refl
+below_two (suc (suc n)) h = absurd (omega arith)
+
+above_one : (n : ℕ) → (n < 2 → ⊥) → nat_lt 0 (pred n) ≡ true
+above_one zero h = absurd (h (omega arith))
+above_one (suc zero) h = absurd (h (omega arith))
+above_one (suc (suc n)) h = grind (arith, nat_tests)
+
+pub braces_left : (n : ℕ) (state : State) → 2 ≤ n → when strict (may_open strict (pred n)) state ≡ Some state
+braces_left n state h = let some : nat_lt 0 (pred n) ≡ true = above_one n (λ below. omega arith) in rw some refl
+
+pub no_braces_left : (n : ℕ) (state : State) → n < 2 → (when strict (may_open strict (pred n)) state ≡ None) × (forbids (λ rules. when rules (may_open rules (pred n)) state) ≡ Depth)
+no_braces_left n state h = let none : nat_lt 0 (pred n) ≡ false = below_two n h in rw none (refl, refl)
+
+-- `)` directly behind `(` ends no call, and it is the number of arguments that forbids it
+pub empty_call : (stack : List Frame) (at : ℕ) (function : Call) (token : Token) (so_far : List Tree) (role : Follow) → [] ≡ so_far → ends_group role ≡ true
+    → (close_empty strict stack at function token (map expression_of so_far) role ≡ None) × (forbids (λ rules. close_empty rules stack at function token (map expression_of so_far) role) ≡ Arguments)
+empty_call stack at Len token so_far (Ends EndGroup) none h = rw (← none) (refl, refl)
+empty_call stack at IsNil token so_far (Ends EndGroup) none h = rw (← none) (refl, refl)
+empty_call stack at Default token so_far (Ends EndGroup) none h = rw (← none) (refl, refl)
+empty_call stack at (Over predicate) token so_far (Ends EndGroup) none h = rw (← none) (refl, refl)
+empty_call stack at function token so_far role none h = absurd cc
+
+chosen : (count items depth wants inside : Bool) (token : Token)
+    → (if count then WrongCount token.span.start else (if items then TooManyItems token.span.start else (if depth then TooDeep token.span.start else kind_fault wants inside token.kind token.span.start)))
+    ≡ fault_by (if count then Arguments else (if items then Items else (if depth then Depth else Other))) wants inside token
+chosen true items depth wants inside token = refl
+chosen false true depth wants inside token = refl
+chosen false false true wants inside token = refl
+chosen false false false wants inside token = refl
+
+-- the name of a fault, by the limit that alone forbids the token
+pub fault_forbidden : (state : State) (token : Token) (refusal : Refusal) (wants inside : Bool) → forbids (λ rules. step rules state token) ≡ refusal → wants ≡ wants_operand state → inside ≡ is_inside state
+    → fault_of state token ≡ fault_by refusal wants inside token
+unfolding fault_of
+fault_forbidden state token refusal wants inside is is_wants is_inside_ =
+    rw (← is, is_wants, is_inside_) (chosen (accepts (step of_any_count state token)) (accepts (step of_any_items state token)) (accepts (step at_any_depth state token)) (wants_operand state) (is_inside state) token)
+
+refused : (state : State) (token : Token) (refusal : Refusal) (wants inside : Bool) → (step strict state token ≡ None) × (forbids (λ rules. step rules state token) ≡ refusal) → wants ≡ wants_operand state → inside ≡ is_inside state
+    → Refuses (fault_by refusal wants inside token) (stepped state token (step strict state token))
+refused state token refusal wants inside h is_wants is_in_predicate =
+    Refuses-same (fault_by refusal wants inside token) (stepped state token (step strict state token)) (rw h.0 (ap Err (fault_forbidden state token refusal wants inside h.1 is_wants is_in_predicate)))
+
+-- a step that is refused is refused by its name
+pub stepped_refused : (state : State) (token : Token) (refusal : Refusal) (wants inside : Bool) (stack : List Frame) → Steps (λ rules. step rules state token) stack (Err refusal) → wants ≡ wants_operand state → inside ≡ is_inside state
+    → Refuses (fault_by refusal wants inside token) (stepped state token (step strict state token))
+stepped_refused state token Memory wants inside stack h is_wants is_in_predicate = tt
+stepped_refused state token Arguments wants inside stack h is_wants is_in_predicate = refused state token Arguments wants inside h is_wants is_in_predicate
+stepped_refused state token Items wants inside stack h is_wants is_in_predicate = refused state token Items wants inside h is_wants is_in_predicate
+stepped_refused state token Depth wants inside stack h is_wants is_in_predicate = refused state token Depth wants inside h is_wants is_in_predicate
+stepped_refused state token Other wants inside stack h is_wants is_in_predicate = refused state token Other wants inside h is_wants is_in_predicate
+
+-- tokens that end with frames left have no tree
+pub no_whole : (stack : List Frame) (tree : Expression) (state : State) → Have stack tree ≡ state → (length stack ≡ 0 → ⊥) → None ≡ whole state
+no_whole [] tree state is some = absurd (some refl)
+no_whole (frame ∷ stack) tree state is some = rw (← is) refl

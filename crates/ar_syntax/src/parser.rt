@@ -1,0 +1,108 @@
+//! From a text's tokens to the tree of a condition of the whole language.
+
+ghost use Rattle.std.specs.Prelude.{◌≡◌, IfOk, option_map};
+ghost use Rattle.ar_syntax.specs.Answer.{Gives};
+ghost use Rattle.ar_syntax.specs.Machine.{Have, finished, step, whole};
+ghost use Rattle.ar_syntax.specs.Parse.{ended, limited, parse_of, stepped, tree_of};
+ghost use Rattle.ar_syntax.specs.Refusal.{strict};
+ghost use Rattle.ar_syntax.specs.Steps.{state_of};
+ghost use Rattle.ar_syntax.specs.Views.{expression_of, frames_of};
+
+use crate::climb::unwind;
+use crate::depth::fits;
+use crate::error::SyntaxError;
+use crate::fault::{fault_by, is_inside, wants_operand};
+use crate::machine::Frame;
+use crate::scanner::tokens;
+use crate::state::State;
+use crate::step::step;
+use crate::token::Token;
+use crate::tree::Tree;
+use std::alloc::{AllocError, Global};
+
+/// How many levels a tree may have.
+const MOST_LEVELS: usize = 64;
+
+/// The tree of a text, or the first refusal: tokens come first, all of them.
+#[tactic(auto, unfolding(crate::specs::Parse::parse_of))]
+fn tree(alloc: Global, text: &str) -> Result<Tree, SyntaxError>
+    ensures { Gives expression_of result (parse_of text.now) }
+{
+    let tokens = tokens(alloc, text)?;
+    tree_of_tokens(alloc, &tokens, text.len())
+}
+
+/// The tree of tokens whose text ends at a place.
+#[tactic(auto, unfolding(crate::specs::Parse::tree_of))]
+fn tree_of_tokens(alloc: Global, tokens: &[Token], end: usize) -> Result<Tree, SyntaxError>
+    ensures { Gives expression_of result (tree_of end tokens.now) }
+{
+    let mut stack = Vec::new(alloc);
+    let mut state = State::Want;
+    for token in tokens {
+        state = stepped(alloc, &mut stack, state, token)?;
+    }
+    ended(alloc, stack, state, end)
+}
+
+/// One token more, or its refusal.
+#[tactic(auto, using(crate::proofs::Openers::stepped_refused))]
+fn stepped(
+    alloc: Global,
+    stack: &mut Vec<Frame>,
+    state: State,
+    token: &Token,
+) -> Result<State, SyntaxError>
+    ensures { Gives (λ next. state_of (frames_of stack.new.items) next) result (stepped (state_of (frames_of stack.old.items) state) token.now (step strict (state_of (frames_of stack.old.items) state) token.now)) }
+{
+    let wants = wants_operand(&state);
+    let inside = is_inside(stack, &state);
+    match step(alloc, stack, state, token) {
+        Ok(next) => Ok(next),
+        Err(refusal) => Err(fault_by(refusal, wants, inside, token)),
+    }
+}
+
+/// The tree where the tokens end.
+fn ended(alloc: Global, stack: Vec<Frame>, state: State, end: usize) -> Result<Tree, SyntaxError>
+    ensures { Gives expression_of result (ended end (finished (state_of (frames_of stack.items) state))) }
+{
+    match finished(alloc, stack, state)? {
+        Some(tree) => limited(tree),
+        None => Err(SyntaxError::Unexpected(end)),
+    }
+}
+
+/// A tree that isn't too deep.
+fn limited(tree: Tree) -> Result<Tree, SyntaxError>
+    ensures { Gives expression_of result (limited (expression_of tree)) }
+{
+    if fits(&tree, MOST_LEVELS) {
+        Ok(tree)
+    } else {
+        Err(SyntaxError::TooDeep(0))
+    }
+}
+
+/// The tree that ends the tokens, where they may end.
+fn finished(alloc: Global, stack: Vec<Frame>, state: State) -> Result<Option<Tree>, AllocError>
+    ensures { IfOk result (λ tree. option_map expression_of tree ≡ finished (state_of (frames_of stack.items) state)) }
+{
+    let State::Have(tree) = state else {
+        return Ok(None);
+    };
+    let mut stack = stack;
+    let tree = unwind(alloc, &mut stack, tree)?;
+    Ok(whole(&stack, tree))
+}
+
+/// A tree that no frame waits for.
+#[tactic(auto, using(crate::proofs::Openers::no_whole, crate::proofs::Climbs::pops))]
+fn whole(stack: &[Frame], tree: Tree) -> Option<Tree>
+    ensures { option_map expression_of result ≡ whole (Have (frames_of stack.now) (expression_of tree)) }
+{
+    match stack {
+        [] => Some(tree),
+        [..] => None,
+    }
+}

@@ -1,0 +1,580 @@
+//! One token more.
+
+ghost use Rattle.std.specs.Prelude.{◌≡◌, ◌∷◌, ◌++◌, [], List, length, map, pred, IfOk};
+ghost use Rattle.ar_syntax.specs.Expression.{Expression, FieldAt, LiteralAt};
+ghost use Rattle.ar_syntax.specs.Grammar.{ends_bracket, may_continue, may_open, takes_all, takes_more};
+ghost use Rattle.ar_syntax.specs.Machine.{Argued, Body, Braced, Frame, Have, Indexed, Listed, RightOf, Yes, Want, WantArgument, argue, begin, choose, climbed, close_braced, close_empty, close_text, end_with, follow, have, left, open_index, operate, negate, select, step, unwound, want, when};
+ghost use Rattle.ar_syntax.specs.Roles.{arity, called, follows, is_body, is_brace, is_group, is_in, looseness, name_of, text_value};
+ghost use Rattle.ar_syntax.specs.declared.tree.Binary.TheVariants.{NotIn};
+ghost use Rattle.ar_syntax.specs.declared.tree.Literal.TheVariants.{Text as TextLiteral};
+ghost use Rattle.ar_syntax.specs.Steps.{Steps, ends_group, start_of, state_of};
+ghost use Rattle.ar_syntax.specs.Views.{expression_of, frame_of, frames_of};
+
+use crate::build::{default, field, index, is_nil, len, list, predicate};
+use crate::climb::{climb, unwind};
+use crate::machine::Frame;
+use crate::role::{Call, Ender, Follow, follow_of, is_brace, is_group, is_in};
+use crate::stack::{inside, left};
+use crate::start::{Begin, begin_of};
+use crate::state::{Refusal, State};
+use crate::text::Text;
+use crate::token::{Token, TokenKind};
+use crate::tree::{Binary, Literal, Tree};
+use std::alloc::{AllocError, AllocFailed, Global};
+
+/// How many items a list may have.
+const MOST_ITEMS: usize = 16;
+
+/// The level of a choice's condition: all operators bind tighter.
+const CONDITION_LEVEL: usize = 5;
+
+/// One more opener, where one may begin.
+#[tactic(auto, using(crate::proofs::Openers::opener_left, crate::proofs::Openers::no_opener_left, crate::proofs::Climbs::pops))]
+fn open(stack: &mut Vec<Frame>, frame: Frame) -> Result<State, Refusal>
+    ensures { Steps (λ rules. when rules (may_open rules (left (frames_of stack.old.items))) (Want (frame_of frame ∷ frames_of stack.old.items))) (frames_of stack.new.items) result }
+{
+    if left(stack) == 0 {
+        return Err(Refusal::Depth);
+    }
+    stack.push(frame)?;
+    Ok(State::Want)
+}
+
+/// Where an operand is wanted.
+fn want(alloc: Global, stack: &mut Vec<Frame>, token: &Token) -> Result<State, Refusal>
+    ensures { Steps (λ rules. want rules (frames_of stack.old.items) token.now) (frames_of stack.new.items) result }
+{
+    let start = begin_of(alloc, inside(stack), token)?;
+    begin_with(alloc, stack, token.span.start, start)
+}
+
+/// What a token begins, where an operand is wanted.
+#[tactic(auto, using(crate::proofs::Openers::opener_left, crate::proofs::Openers::no_opener_left, crate::proofs::Climbs::pops))]
+fn begin_with(
+    alloc: Global,
+    stack: &mut Vec<Frame>,
+    at: usize,
+    start: Begin,
+) -> Result<State, Refusal>
+    ensures { Steps (λ rules. begin rules (frames_of stack.old.items) at (start_of start)) (frames_of stack.new.items) result }
+{
+    match start {
+        Begin::Leaf(tree) => Ok(State::Have(tree)),
+        Begin::Prefix(operator) => open(stack, Frame::Prefixed { at, operator }),
+        Begin::Group => open(stack, Frame::Grouped),
+        Begin::Bracket => {
+            let so_far = Vec::new(alloc);
+            open(stack, Frame::Listed { at, so_far })
+        }
+        Begin::Calls(function) => {
+            if left(stack) == 0 {
+                Err(Refusal::Depth)
+            } else {
+                Ok(State::WantGroup(at, function))
+            }
+        }
+        Begin::ItemPoint => Ok(State::WantName(at, Tree::Item { at })),
+        Begin::NoStart => Err(Refusal::Other),
+    }
+}
+
+/// Items with one more.
+fn with_item(items: Vec<Tree>, item: Tree) -> Result<Vec<Tree>, AllocFailed<Tree>>
+    ensures { IfOk result (λ all. map expression_of all.items ≡ map expression_of items.items ++ expression_of item ∷ []) }
+{
+    let mut items = items;
+    items.push(item)?;
+    Ok(items)
+}
+
+/// Behind an operand.
+#[tactic(auto, using(crate::proofs::Openers::opener_left, crate::proofs::Openers::no_opener_left))]
+fn have(alloc: Global, stack: &mut Vec<Frame>, tree: Tree, token: &Token) -> Result<State, Refusal>
+    ensures { Steps (λ rules. have rules (frames_of stack.old.items) (expression_of tree) token.now) (frames_of stack.new.items) result }
+{
+    let at = token.span.start;
+    match follow_of(token) {
+        Follow::Operator(operator) => operate(alloc, stack, tree, at, operator),
+        Follow::NotOf => negate(alloc, stack, tree, at),
+        Follow::Choose => choose(alloc, stack, tree, at),
+        Follow::Select => Ok(State::WantName(at, tree)),
+        Follow::Open => {
+            if left(stack) == 0 {
+                Err(Refusal::Depth)
+            } else {
+                Ok(State::WantIndex(at, tree))
+            }
+        }
+        Follow::Ends(ender) => end_with(alloc, stack, tree, ender),
+        Follow::NoFollow => Err(Refusal::Other),
+    }
+}
+
+/// An operator behind its first operand.
+#[tactic(auto, using(crate::proofs::Climbs::pops))]
+fn operate(
+    alloc: Global,
+    stack: &mut Vec<Frame>,
+    tree: Tree,
+    at: usize,
+    operator: Binary,
+) -> Result<State, Refusal>
+    ensures { Steps (λ rules. operate rules at operator (climbed (looseness operator) (frames_of stack.old.items) (expression_of tree))) (frames_of stack.new.items) result }
+{
+    let first = climb(alloc, stack, operator.looseness(), tree)?;
+    stack.push(Frame::RightOf {
+        at,
+        operator,
+        first,
+    })?;
+    Ok(State::Want)
+}
+
+/// `not` behind the first operand of `not in`.
+fn negate(alloc: Global, stack: &mut Vec<Frame>, tree: Tree, at: usize) -> Result<State, Refusal>
+    ensures { Steps (λ rules. negate rules at (climbed (looseness NotIn) (frames_of stack.old.items) (expression_of tree))) (frames_of stack.new.items) result }
+{
+    let first = climb(alloc, stack, Binary::NotIn.looseness(), tree)?;
+    Ok(State::WantIn(at, first))
+}
+
+/// `?` behind its condition.
+#[tactic(auto, using(crate::proofs::Openers::opener_left, crate::proofs::Openers::no_opener_left))]
+fn choose(alloc: Global, stack: &mut Vec<Frame>, tree: Tree, at: usize) -> Result<State, Refusal>
+    ensures { Steps (λ rules. choose rules at (climbed 5 (frames_of stack.old.items) (expression_of tree))) (frames_of stack.new.items) result }
+{
+    let condition = climb(alloc, stack, CONDITION_LEVEL, tree)?;
+    open(stack, Frame::Yes { at, condition })
+}
+
+/// A closing sign, a comma or a colon behind the operand that it ends.
+#[tactic(auto, using(crate::proofs::Climbs::pops))]
+fn end_with(
+    alloc: Global,
+    stack: &mut Vec<Frame>,
+    tree: Tree,
+    ender: Ender,
+) -> Result<State, Refusal>
+    ensures { Steps (λ rules. end_with rules ender (unwound (frames_of stack.old.items) (expression_of tree))) (frames_of stack.new.items) result }
+{
+    let tree = unwind(alloc, stack, tree)?;
+    match stack.pop() {
+        Some(frame) => end_frame(alloc, stack, frame, tree, ender),
+        None => Err(Refusal::Other),
+    }
+}
+
+/// What a closing sign, a comma or a colon makes of the frame that waited for the operand.
+#[tactic(auto, using(crate::proofs::Climbs::pops))]
+fn end_frame(
+    alloc: Global,
+    stack: &mut Vec<Frame>,
+    frame: Frame,
+    tree: Tree,
+    ender: Ender,
+) -> Result<State, Refusal>
+    ensures { Steps (λ rules. end_with rules ender (Have (frame_of frame ∷ frames_of stack.old.items) (expression_of tree))) (frames_of stack.new.items) result }
+{
+    match frame {
+        Frame::Yes { at, condition } => end_yes(stack, at, condition, tree, ender),
+        Frame::Grouped => match ender {
+            Ender::EndGroup => Ok(State::Have(tree)),
+            _ => Err(Refusal::Other),
+        },
+        Frame::Indexed { at, whole } => match ender {
+            Ender::EndBracket => Ok(State::Have(index(alloc, at, whole, tree)?)),
+            _ => Err(Refusal::Other),
+        },
+        Frame::Listed { at, so_far } => end_item(stack, at, with_item(so_far, tree)?, ender),
+        Frame::Argued {
+            at,
+            function,
+            so_far,
+        } => end_argument(alloc, at, function, with_item(so_far, tree)?, ender),
+        Frame::Body {
+            at,
+            function,
+            so_far,
+        } => end_argument(alloc, at, function, with_item(so_far, tree)?, ender),
+        Frame::Braced {
+            at,
+            function,
+            so_far,
+        } => match ender {
+            Ender::EndBrace => Ok(State::HaveArgument(at, function, with_item(so_far, tree)?)),
+            _ => Err(Refusal::Other),
+        },
+        Frame::RightOf { .. } => Err(Refusal::Other),
+        Frame::Prefixed { .. } => Err(Refusal::Other),
+        Frame::No { .. } => Err(Refusal::Other),
+    }
+}
+
+/// What stands behind `?` ends.
+#[tactic(auto, using(crate::proofs::Climbs::pops))]
+fn end_yes(
+    stack: &mut Vec<Frame>,
+    at: usize,
+    condition: Tree,
+    met: Tree,
+    ender: Ender,
+) -> Result<State, Refusal>
+    ensures { Steps (λ rules. end_with rules ender (Have (Yes at (expression_of condition) ∷ frames_of stack.old.items) (expression_of met))) (frames_of stack.new.items) result }
+{
+    if ender != Ender::Colon {
+        return Err(Refusal::Other);
+    }
+    stack.push(Frame::No { at, condition, met })?;
+    Ok(State::Want)
+}
+
+/// An item of a list ends, the last of these.
+fn end_item(
+    stack: &mut Vec<Frame>,
+    at: usize,
+    items: Vec<Tree>,
+    ender: Ender,
+) -> Result<State, Refusal>
+    ensures { (before : List Expression) (last : Expression) → map expression_of items.items ≡ before ++ last ∷ []
+        → Steps (λ rules. end_with rules ender (Have (Listed at before ∷ frames_of stack.old.items) last)) (frames_of stack.new.items) result }
+{
+    match ender {
+        Ender::EndBracket => Ok(State::Have(list(at, items))),
+        Ender::Comma => next_item(stack, at, items),
+        _ => Err(Refusal::Other),
+    }
+}
+
+/// An argument of a call ends, the last of these.
+fn end_argument(
+    alloc: Global,
+    at: usize,
+    function: Call,
+    arguments: Vec<Tree>,
+    ender: Ender,
+) -> Result<State, Refusal>
+    ensures plain { (stack : _) (before : List Expression) (last : Expression) → map expression_of arguments.items ≡ before ++ last ∷ []
+        → Steps (λ rules. end_with rules ender (Have (Argued at function before ∷ stack) last)) stack result }
+    ensures body { (stack : _) (before : List Expression) (last : Expression) → map expression_of arguments.items ≡ before ++ last ∷ []
+        → Steps (λ rules. end_with rules ender (Have (Body at function before ∷ stack) last)) stack result }
+{
+    match ender {
+        Ender::EndGroup => end_call(alloc, at, function, arguments),
+        Ender::Comma => next_argument(at, function, arguments),
+        _ => Err(Refusal::Other),
+    }
+}
+
+/// One more item of a list, where there may be one.
+#[tactic(auto, using(crate::proofs::Climbs::pops, crate::proofs::Openers::item_left, crate::proofs::Openers::no_item_left))]
+fn next_item(stack: &mut Vec<Frame>, at: usize, so_far: Vec<Tree>) -> Result<State, Refusal>
+    ensures { Steps (λ rules. when rules (may_continue rules (length (map expression_of so_far.items))) (Want (Listed at (map expression_of so_far.items) ∷ frames_of stack.old.items))) (frames_of stack.new.items) result }
+{
+    if so_far.len() >= MOST_ITEMS {
+        return Err(Refusal::Items);
+    }
+    stack.push(Frame::Listed { at, so_far })?;
+    Ok(State::Want)
+}
+
+/// One more argument of a call, where there may be one.
+#[tactic(auto, using(crate::proofs::Openers::argument_left, crate::proofs::Openers::no_argument_left))]
+fn next_argument(at: usize, function: Call, so_far: Vec<Tree>) -> Result<State, Refusal>
+    ensures { (stack : _) → Steps (λ rules. when rules (takes_more rules function (length (map expression_of so_far.items))) (WantArgument stack at function (map expression_of so_far.items))) stack result }
+{
+    if so_far.len() < function.arity() {
+        Ok(State::WantArgument(at, function, so_far))
+    } else {
+        Err(Refusal::Arguments)
+    }
+}
+
+/// The end of a call, where it has all arguments.
+#[tactic(auto, using(crate::proofs::Openers::all_arguments, crate::proofs::Openers::not_all_arguments))]
+fn end_call(
+    alloc: Global,
+    at: usize,
+    function: Call,
+    arguments: Vec<Tree>,
+) -> Result<State, Refusal>
+    ensures { (stack : _) → Steps (λ rules. when rules (takes_all rules function (length (map expression_of arguments.items))) (Have stack (called at function (map expression_of arguments.items)))) stack result }
+{
+    if arguments.len() == function.arity() {
+        Ok(State::Have(call(alloc, at, function, arguments)?))
+    } else {
+        Err(Refusal::Arguments)
+    }
+}
+
+/// The tree of a call with all its arguments.
+fn call(alloc: Global, at: usize, function: Call, arguments: Vec<Tree>) -> Result<Tree, AllocError>
+    requires { length arguments.items ≡ arity function }
+    ensures { IfOk result (λ tree. expression_of tree ≡ called at function (map expression_of arguments.items)) }
+{
+    let mut arguments = arguments;
+    let Some(last) = arguments.pop() else {
+        unreachable!()
+    };
+    match function {
+        Call::Len => len(alloc, at, last),
+        Call::IsNil => is_nil(alloc, at, last),
+        Call::Default => {
+            let Some(operand) = arguments.pop() else {
+                unreachable!()
+            };
+            default(alloc, at, operand, last)
+        }
+        Call::Over(over) => {
+            let Some(list) = arguments.pop() else {
+                unreachable!()
+            };
+            predicate(alloc, at, over, list, last)
+        }
+    }
+}
+
+/// Behind the point of a field.
+#[tactic(auto, unfolding(crate::specs::Roles::name_of))]
+fn select(alloc: Global, at: usize, whole: Tree, token: &Token) -> Result<State, Refusal>
+    ensures { (stack : _) → Steps (λ rules. select rules stack at (expression_of whole) (name_of token.now)) stack result }
+{
+    let name = match &token.kind {
+        TokenKind::Word(word) => Text::copied(alloc, word.letters())?,
+        TokenKind::Name(name) => Text::copied(alloc, name.as_bytes())?,
+        _ => return Err(Refusal::Other),
+    };
+    Ok(State::Have(field(alloc, at, whole, name)?))
+}
+
+/// A text token's text.
+#[tactic(auto, unfolding(crate::specs::Roles::text_value))]
+fn text_of(alloc: Global, token: &Token) -> Result<Option<Text>, AllocError>
+    ensures { IfOk result (λ text. text ≡ text_value token.now) }
+{
+    match &token.kind {
+        TokenKind::Text(text) => Ok(Some(Text::copied(alloc, text.as_bytes())?)),
+        _ => Ok(None),
+    }
+}
+
+/// Behind the `[` of an index or field.
+#[tactic(auto, using(crate::proofs::Climbs::pops))]
+fn open_index(
+    alloc: Global,
+    stack: &mut Vec<Frame>,
+    at: usize,
+    whole: Tree,
+    token: &Token,
+) -> Result<State, Refusal>
+    ensures { Steps (λ rules. open_index rules (frames_of stack.old.items) at (expression_of whole) token.now (text_value token.now)) (frames_of stack.new.items) result }
+{
+    match text_of(alloc, token)? {
+        Some(text) => Ok(State::HaveText(at, whole, token.span.start, text)),
+        None => {
+            stack.push(Frame::Indexed { at, whole })?;
+            want(alloc, stack, token)
+        }
+    }
+}
+
+/// Whether the token is `]`.
+fn closes_bracket(token: &Token) -> bool
+    ensures { result ≡ ends_bracket (follows token.now) }
+{
+    matches!(follow_of(token), Follow::Ends(Ender::EndBracket))
+}
+
+/// Behind a text that stands behind such a `[`.
+#[tactic(auto, using(crate::proofs::Climbs::pops, crate::proofs::Openers::text_goes_on, crate::proofs::Openers::text_is_name))]
+fn close_text(
+    alloc: Global,
+    stack: &mut Vec<Frame>,
+    at: usize,
+    whole: Tree,
+    literal: (usize, Text),
+    token: &Token,
+) -> Result<State, Refusal>
+    ensures { Steps (λ rules. close_text rules (frames_of stack.old.items) at (expression_of whole) literal.0 literal.1 token.now (follows token.now)) (frames_of stack.new.items) result }
+{
+    let (text_at, text) = literal;
+    if closes_bracket(token) {
+        return Ok(State::Have(field(alloc, at, whole, text)?));
+    }
+    let tree = text_operand(text_at, text);
+    have_indexed(alloc, stack, at, whole, tree, token)
+}
+
+fn text_operand(at: usize, text: Text) -> Tree
+    ensures { expression_of result ≡ LiteralAt at (TextLiteral text) }
+{
+    Tree::Literal {
+        at,
+        literal: Literal::Text(text),
+    }
+}
+
+/// Behind the operand of an index.
+#[tactic(auto, using(crate::proofs::Climbs::pops))]
+fn have_indexed(
+    alloc: Global,
+    stack: &mut Vec<Frame>,
+    at: usize,
+    whole: Tree,
+    tree: Tree,
+    token: &Token,
+) -> Result<State, Refusal>
+    ensures { Steps (λ rules. have rules (Indexed at (expression_of whole) ∷ frames_of stack.old.items) (expression_of tree) token.now) (frames_of stack.new.items) result }
+{
+    stack.push(Frame::Indexed { at, whole })?;
+    have(alloc, stack, tree, token)
+}
+
+/// Behind the `not` of `not in`.
+#[tactic(auto, using(crate::proofs::Climbs::pops))]
+fn want_in(stack: &mut Vec<Frame>, at: usize, first: Tree, token: &Token) -> Result<State, Refusal>
+    ensures { Steps (λ rules. when rules (is_in token.now) (Want (RightOf at NotIn (expression_of first) ∷ frames_of stack.old.items))) (frames_of stack.new.items) result }
+{
+    if !is_in(token) {
+        return Err(Refusal::Other);
+    }
+    stack.push(Frame::RightOf {
+        at,
+        operator: Binary::NotIn,
+        first,
+    })?;
+    Ok(State::Want)
+}
+
+/// Behind the name of a call.
+fn want_group(alloc: Global, at: usize, function: Call, token: &Token) -> Result<State, Refusal>
+    ensures { (stack : _) → Steps (λ rules. when rules (is_group token.now) (WantArgument stack at function [])) stack result }
+{
+    if is_group(token) {
+        Ok(State::WantArgument(at, function, Vec::new(alloc)))
+    } else {
+        Err(Refusal::Other)
+    }
+}
+
+/// Where an argument of a call is wanted.
+#[tactic(auto, using(crate::proofs::Openers::empty_call))]
+fn want_argument(
+    alloc: Global,
+    stack: &mut Vec<Frame>,
+    at: usize,
+    function: Call,
+    so_far: Vec<Tree>,
+    token: &Token,
+) -> Result<State, Refusal>
+    ensures { Steps (λ rules. close_empty rules (frames_of stack.old.items) at function token.now (map expression_of so_far.items) (follows token.now)) (frames_of stack.new.items) result }
+{
+    if so_far.is_empty() && closes_group(token) {
+        return Err(Refusal::Arguments);
+    }
+    argue(alloc, stack, at, function, so_far, token)
+}
+
+/// Whether the token is `)`.
+fn closes_group(token: &Token) -> bool
+    ensures { result ≡ ends_group (follows token.now) }
+{
+    matches!(follow_of(token), Follow::Ends(Ender::EndGroup))
+}
+
+/// An argument, in braces or not.
+#[tactic(auto, using(crate::proofs::Climbs::pops, crate::proofs::Openers::length_of_map))]
+fn argue(
+    alloc: Global,
+    stack: &mut Vec<Frame>,
+    at: usize,
+    function: Call,
+    so_far: Vec<Tree>,
+    token: &Token,
+) -> Result<State, Refusal>
+    ensures { Steps (λ rules. argue rules (frames_of stack.old.items) at function (map expression_of so_far.items) token.now (is_body function (length (map expression_of so_far.items))) (is_brace token.now)) (frames_of stack.new.items) result }
+{
+    if !function.is_body(so_far.len()) {
+        stack.push(Frame::Argued {
+            at,
+            function,
+            so_far,
+        })?;
+        return want(alloc, stack, token);
+    }
+    if is_brace(token) {
+        return open_braces(stack, at, function, so_far);
+    }
+    stack.push(Frame::Body {
+        at,
+        function,
+        so_far,
+    })?;
+    want(alloc, stack, token)
+}
+
+/// A predicate in braces, where its call and its braces may be unfinished.
+#[tactic(auto, using(crate::proofs::Climbs::pops, crate::proofs::Openers::braces_left, crate::proofs::Openers::no_braces_left))]
+fn open_braces(
+    stack: &mut Vec<Frame>,
+    at: usize,
+    function: Call,
+    so_far: Vec<Tree>,
+) -> Result<State, Refusal>
+    ensures { Steps (λ rules. when rules (may_open rules (pred (left (frames_of stack.old.items)))) (Want (Braced at function (map expression_of so_far.items) ∷ frames_of stack.old.items))) (frames_of stack.new.items) result }
+{
+    if left(stack) < 2 {
+        return Err(Refusal::Depth);
+    }
+    stack.push(Frame::Braced {
+        at,
+        function,
+        so_far,
+    })?;
+    Ok(State::Want)
+}
+
+/// Behind an argument in braces.
+fn have_argument(
+    alloc: Global,
+    at: usize,
+    function: Call,
+    arguments: Vec<Tree>,
+    token: &Token,
+) -> Result<State, Refusal>
+    ensures { (stack : _) → Steps (λ rules. close_braced rules stack at function (map expression_of arguments.items) (follows token.now)) stack result }
+{
+    match follow_of(token) {
+        Follow::Ends(Ender::EndGroup) => end_call(alloc, at, function, arguments),
+        Follow::Ends(Ender::Comma) => next_argument(at, function, arguments),
+        _ => Err(Refusal::Other),
+    }
+}
+
+/// One token more: the state behind it, or why it can't stand here.
+#[tactic(auto, unfolding(crate::specs::Machine::step))]
+pub(crate) fn step(
+    alloc: Global,
+    stack: &mut Vec<Frame>,
+    state: State,
+    token: &Token,
+) -> Result<State, Refusal>
+    ensures { Steps (λ rules. step rules (state_of (frames_of stack.old.items) state) token.now) (frames_of stack.new.items) result }
+{
+    match state {
+        State::Want => want(alloc, stack, token),
+        State::Have(tree) => have(alloc, stack, tree, token),
+        State::WantName(at, whole) => select(alloc, at, whole, token),
+        State::WantIndex(at, whole) => open_index(alloc, stack, at, whole, token),
+        State::HaveText(at, whole, text_at, text) => {
+            close_text(alloc, stack, at, whole, (text_at, text), token)
+        }
+        State::WantIn(at, first) => want_in(stack, at, first, token),
+        State::WantGroup(at, function) => want_group(alloc, at, function, token),
+        State::WantArgument(at, function, so_far) => {
+            want_argument(alloc, stack, at, function, so_far, token)
+        }
+        State::HaveArgument(at, function, so_far) => {
+            have_argument(alloc, at, function, so_far, token)
+        }
+    }
+}
