@@ -1,4 +1,4 @@
-//! From tokens to the tree of a condition.
+//! From tokens to the tree of a condition of one comparison.
 
 ghost use Rattle.std.specs.Prelude.{◌≡◌, IfOk, IfErr};
 ghost use Rattle.ar_syntax.specs.Answer.{Gives};
