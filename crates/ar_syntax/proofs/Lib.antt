@@ -20,8 +20,5 @@ pub mod Texts
 pub mod Memory
 pub mod Climbs
 pub mod Stacks
-pub mod ComparisonConditions
-pub mod ComparisonTexts
-pub mod ComparisonMemory
 pub mod Openers
 pub mod Depths

@@ -29,3 +29,19 @@ mutual
 abbrev pub expressions : List Expression → Expressions
 expressions [] = none
 expressions (first ∷ others) = more first (expressions others)
+
+-- the place of a tree: that of its operator, else of its own token
+abbrev pub place_of : Expression → ℕ
+place_of (ResultAt at) = at
+place_of (ItemAt at) = at
+place_of (LiteralAt at literal) = at
+place_of (FieldAt at whole name) = at
+place_of (IndexAt at list index) = at
+place_of (UnaryAt at operator operand) = at
+place_of (BinaryAt at operator left right) = at
+place_of (ChoiceAt at condition met unmet) = at
+place_of (ListAt at items) = at
+place_of (LenAt at list) = at
+place_of (IsNilAt at operand) = at
+place_of (DefaultAt at operand otherwise) = at
+place_of (PredicateAt at predicate list body) = at

@@ -14,6 +14,3 @@ pub mod Parse
 pub mod Steps
 pub mod Examples
 pub mod RefusalExamples
-pub mod ComparisonTree
-pub mod ComparisonGrammar
-pub mod ComparisonParse

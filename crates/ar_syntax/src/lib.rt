@@ -3,35 +3,28 @@
 //! Definition.
 //!
 //! [`tokens`] answers the tokens of a text, or says at which byte it stops being one and what was
-//! expected there. [`parse`] so far answers the tree of one comparison of `result` with a literal.
-//! Only want of memory can keep them from it. The parser of the whole grammar is proved too, and
-//! answers what `specs/Parse` defines; no call offers it yet.
+//! expected there. [`parse`] answers the one tree of a condition, or the first refusal and its
+//! place. Only want of memory can keep them from it.
 //!
 //! - [`token`]: words, numbers, texts and signs, and how they are spelled; `scanner` cuts a text
 //!   into them, with `number` for numbers and `quoted` for texts
 //! - [`text`]: the values of texts, and names
-//! - [`comparison_tree`]: what a comparison says; `comparison_parser` makes it from tokens, and
-//!   [`comparison_laws`] says what holds of it
-//! - [`tree`]: what a condition of the whole language says; `build` makes its nodes
+//! - [`tree`]: what a condition says; `build` makes its nodes
 //! - [`role`]: what a token can be behind an operand
-//! - `parser`: from tokens to the tree of the whole language, one `step` for each token; `start`
-//!   says what a token begins, `state` what may come next, `machine` what is begun and not ended,
-//!   `climb` ends it, `stack` counts it, `fault` names a refusal, `depth` limits the tree
+//! - `parser`: from tokens to a tree, one `step` for each token; `start` says what a token begins,
+//!   `state` what may come next, `machine` what is begun and not ended, `climb` ends it, `stack`
+//!   counts it, `fault` names a refusal, `depth` limits the tree
 //! - [`error`]: why a text is no condition
 //! - [`laws`]: what holds of the grammar as a whole
 //!
-//! In `specs`, `Token` and `Tokens` define the tokens of a text, `ComparisonGrammar` and
-//! `ComparisonParse` what [`parse`] answers. `Grammar` defines the trees that tokens derive in the
-//! whole language, `Refusal` the place and name of the fault of those that derive none; `Machine`
-//! reads the grammar token by token, `Fault` finds the name, and `Parse` is both as a function of
-//! the text. `Examples` and `RefusalExamples` have texts with their trees and refusals.
+//! In `specs`, `Token` and `Tokens` define the tokens of a text, `Grammar` the trees that tokens
+//! derive, and `Refusal` the place and name of the fault of those that derive none. `Machine` reads
+//! the grammar token by token, `Fault` finds the name, and `Parse` is both as a function of the
+//! text. `Examples` and `RefusalExamples` have texts with their trees and refusals.
 #![tactic(auto)]
 
 mod build;
 mod climb;
-pub mod comparison_laws;
-mod comparison_parser;
-pub mod comparison_tree;
 mod depth;
 pub mod error;
 mod fault;
@@ -50,10 +43,8 @@ pub mod text;
 pub mod token;
 pub mod tree;
 
-pub use comparison_parser::parse;
+pub use parser::parse;
 pub use scanner::tokens;
 
-#[cfg(test)]
-mod comparison_tests;
 #[cfg(test)]
 mod tests;

@@ -1,9 +1,9 @@
-//! From a text's tokens to the tree of a condition of the whole language.
+//! From a text's tokens to the tree of a condition.
 
-ghost use Rattle.std.specs.Prelude.{◌≡◌, IfOk, option_map};
+ghost use Rattle.std.specs.Prelude.{◌≡◌, IfOk, IfErr, option_map};
 ghost use Rattle.ar_syntax.specs.Answer.{Gives};
 ghost use Rattle.ar_syntax.specs.Machine.{Have, finished, step, whole};
-ghost use Rattle.ar_syntax.specs.Parse.{ended, limited, parse_of, stepped, tree_of};
+ghost use Rattle.ar_syntax.specs.Parse.{IsNoCondition, SaysTree, ended, limited, parse_of, stepped, tree_of};
 ghost use Rattle.ar_syntax.specs.Refusal.{strict};
 ghost use Rattle.ar_syntax.specs.Steps.{state_of};
 ghost use Rattle.ar_syntax.specs.Views.{expression_of, frames_of};
@@ -23,7 +23,29 @@ use std::alloc::{AllocError, Global};
 /// How many levels a tree may have.
 const MOST_LEVELS: usize = 64;
 
-/// The tree of a text, or the first refusal: tokens come first, all of them.
+/// The tree of a condition, by the grammar in expr-lang's Language Definition, of which this is a
+/// part. A node has the place of its operator, or of its first token.
+///
+/// # Errors
+///
+/// Those of [`tokens`](crate::tokens) first. Then the refusal of the first token that, with those
+/// before it, begins no condition, at its first byte; the end of the text counts as a token.
+/// `TooManyItems` and `WrongCount` where just the number of items or arguments is to blame,
+/// `ItemOutside` for `#` outside a predicate, `UnknownName` for a word that the language doesn't
+/// name where an operand is wanted, `TooDeep` for the opener behind 64 unfinished ones, else
+/// `Unexpected`. Last, `TooDeep` at byte 0 for a tree of more than 64 levels.
+pub fn parse(alloc: Global, text: &str) -> Result<Tree, SyntaxError>
+    // This tree, or this refusal.
+    ensures exact { Gives expression_of result (parse_of text.now) }
+
+    // The same in the grammar's words.
+    ensures tree { IfOk result (λ tree. SaysTree text.now (expression_of tree)) }
+    ensures refused { IfErr result (IsNoCondition text.now) }
+{
+    tree(alloc, text)
+}
+
+/// The tree of a text, or its first refusal: tokens come first, all of them.
 #[tactic(auto, unfolding(crate::specs::Parse::parse_of))]
 fn tree(alloc: Global, text: &str) -> Result<Tree, SyntaxError>
     ensures { Gives expression_of result (parse_of text.now) }

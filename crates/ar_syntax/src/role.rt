@@ -43,7 +43,7 @@ pub enum Follow {
 
 impl Call {
     /// How many arguments the call has.
-    pub fn arity(self) -> usize
+    pub(crate) fn arity(self) -> usize
         ensures { result ≡ arity self }
     {
         match self {
@@ -53,7 +53,7 @@ impl Call {
     }
 
     /// Whether the argument behind so many others is a predicate.
-    pub fn is_body(self, before: usize) -> bool
+    pub(crate) fn is_body(self, before: usize) -> bool
         ensures { result ≡ is_body self before }
     {
         matches!(self, Call::Over(_)) && before == 1
@@ -62,7 +62,7 @@ impl Call {
 
 impl Binary {
     /// How many levels of operators bind tighter.
-    pub fn looseness(self) -> usize
+    pub(crate) fn looseness(self) -> usize
         ensures { result ≡ looseness self }
     {
         match self {
@@ -77,7 +77,7 @@ impl Binary {
 
 /// What a token is behind an operand.
 #[tactic(auto, unfolding(crate::specs::Roles::follows))]
-pub fn follow_of(token: &Token) -> Follow
+pub(crate) fn follow_of(token: &Token) -> Follow
     ensures { result ≡ follows token.now }
 {
     match &token.kind {
@@ -125,7 +125,7 @@ fn sign_follow(sign: Sign) -> Follow
 
 /// Whether the token is `in`.
 #[tactic(auto, unfolding(crate::specs::Roles::is_in))]
-pub fn is_in(token: &Token) -> bool
+pub(crate) fn is_in(token: &Token) -> bool
     ensures { result ≡ is_in token.now }
 {
     matches!(token.kind, TokenKind::Word(Word::In))
@@ -133,7 +133,7 @@ pub fn is_in(token: &Token) -> bool
 
 /// Whether the token is `(`.
 #[tactic(auto, unfolding(crate::specs::Roles::is_group))]
-pub fn is_group(token: &Token) -> bool
+pub(crate) fn is_group(token: &Token) -> bool
     ensures { result ≡ is_group token.now }
 {
     matches!(token.kind, TokenKind::Sign(Sign::OpenParenthesis))
@@ -141,7 +141,7 @@ pub fn is_group(token: &Token) -> bool
 
 /// Whether the token is `{`.
 #[tactic(auto, unfolding(crate::specs::Roles::is_brace))]
-pub fn is_brace(token: &Token) -> bool
+pub(crate) fn is_brace(token: &Token) -> bool
     ensures { result ≡ is_brace token.now }
 {
     matches!(token.kind, TokenKind::Sign(Sign::OpenBrace))

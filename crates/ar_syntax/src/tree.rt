@@ -1,5 +1,9 @@
 //! Trees: what a condition says.
 
+ghost use Rattle.std.specs.Prelude.{◌≡◌};
+ghost use Rattle.ar_syntax.specs.Expression.{place_of};
+ghost use Rattle.ar_syntax.specs.Views.{expression_of};
+
 use crate::text::Text;
 use crate::token::Comparison;
 use ar_value::decimal::Decimal;
@@ -121,4 +125,27 @@ pub enum Tree {
         list: Box<Tree>,
         body: Box<Tree>,
     },
+}
+
+impl Tree {
+    /// The place of the tree: that of its operator, else of its own token.
+    pub fn place(&self) -> usize
+        ensures { result ≡ place_of (expression_of self.now) }
+    {
+        match self {
+            Tree::Result { at }
+            | Tree::Item { at }
+            | Tree::Literal { at, .. }
+            | Tree::Field { at, .. }
+            | Tree::Index { at, .. }
+            | Tree::Unary { at, .. }
+            | Tree::Binary { at, .. }
+            | Tree::Choice { at, .. }
+            | Tree::List { at, .. }
+            | Tree::Len { at, .. }
+            | Tree::IsNil { at, .. }
+            | Tree::Default { at, .. }
+            | Tree::Predicate { at, .. } => *at,
+        }
+    }
 }

@@ -6,7 +6,10 @@ use Rattle.ar_value.specs.DecimalText.{decimal_of}
 use Rattle.ar_value.specs.Declaration.{shape_of}
 use Rattle.ar_value.specs.declared.value_reading.ShapeFault.TheVariants.{WrongKind}
 use Rattle.ar_value.specs.declared.shape_reading.ShapeError.TheVariants.{UnknownShape}
-use Rattle.ar_syntax.specs.ComparisonParse.{literal_of, operand_of, operator_of, parse_of, tree_of}
+use Rattle.ar_syntax.specs.Fault.{fault_of}
+use Rattle.ar_syntax.specs.Machine.{step}
+use Rattle.ar_syntax.specs.Parse.{parse_of, tree_of}
+use Rattle.ar_syntax.specs.Roles.{follows, is_brace, is_group, is_in, name_of, starts, text_value}
 use Rattle.ar_syntax.specs.Token.{word_of}
 use Rattle.ar_syntax.specs.Tokens.{base_of, front_of, number_of, sign_at, text_of, token_of, tokens_behind, tokens_of}
 use Rattle.ar_syntax.specs.declared.error.SyntaxError.TheVariants.{LiteralTooFine, Unexpected}
@@ -18,27 +21,27 @@ abbrev document : List ℕ → Data → Data → Data
 document condition shape value = object (member (codes "condition") (string condition) (member (codes "shape") shape (member (codes "value") value no_members)))
 
 success_rate : judged (document (codes "result >= 0.95") (string (codes "decimal")) (string (codes "0.9523809523809523"))) ≡ Ok true
-unfolding judged shape_of parse_of tree_of operand_of operator_of literal_of tokens_of tokens_behind front_of token_of number_of base_of text_of sign_at word_of decimal_of
+unfolding judged shape_of parse_of tree_of fault_of step starts follows name_of text_value is_in is_group is_brace tokens_of tokens_behind front_of token_of number_of base_of text_of sign_at word_of decimal_of
 success_rate = refl
 
 just_below : judged (document (codes "result >= 0.95") (string (codes "decimal")) (string (codes "0.9499999999"))) ≡ Ok false
-unfolding judged shape_of parse_of tree_of operand_of operator_of literal_of tokens_of tokens_behind front_of token_of number_of base_of text_of sign_at word_of decimal_of
+unfolding judged shape_of parse_of tree_of fault_of step starts follows name_of text_value is_in is_group is_brace tokens_of tokens_behind front_of token_of number_of base_of text_of sign_at word_of decimal_of
 just_below = refl
 
 not_rounded : judged (document (codes "result > 0.5") (string (codes "whole")) (number (unsigned 9223372036854775807))) ≡ Ok true
-unfolding judged shape_of parse_of tree_of operand_of operator_of literal_of tokens_of tokens_behind front_of token_of number_of base_of text_of sign_at word_of
+unfolding judged shape_of parse_of tree_of fault_of step starts follows name_of text_value is_in is_group is_brace tokens_of tokens_behind front_of token_of number_of base_of text_of sign_at word_of
 not_rounded = refl
 
 unequal : judged (document (codes "result != false") (string (codes "bool")) (boolean false)) ≡ Ok false
-unfolding judged shape_of parse_of tree_of operand_of operator_of literal_of tokens_of tokens_behind front_of token_of number_of base_of text_of sign_at word_of
+unfolding judged shape_of parse_of tree_of fault_of step starts follows name_of text_value is_in is_group is_brace tokens_of tokens_behind front_of token_of number_of base_of text_of sign_at word_of
 unequal = refl
 
 no_order : judged (document (codes "result < true") (string (codes "bool")) (boolean true)) ≡ Err (Kinds 7)
-unfolding judged shape_of parse_of tree_of operand_of operator_of literal_of tokens_of tokens_behind front_of token_of number_of base_of text_of sign_at word_of
+unfolding judged shape_of parse_of tree_of fault_of step starts follows name_of text_value is_in is_group is_brace tokens_of tokens_behind front_of token_of number_of base_of text_of sign_at word_of
 no_order = refl
 
 too_fine : judged (document (codes "result > 0.1234567") (string (codes "bool")) (boolean true)) ≡ Err (Grammar (LiteralTooFine 9))
-unfolding judged shape_of parse_of tree_of operand_of operator_of literal_of tokens_of tokens_behind front_of token_of number_of base_of text_of sign_at word_of
+unfolding judged shape_of parse_of tree_of fault_of step starts follows name_of text_value is_in is_group is_brace tokens_of tokens_behind front_of token_of number_of base_of text_of sign_at word_of
 too_fine = refl
 
 shape_first : judged (document (codes "result >") (string (codes "float")) (boolean true)) ≡ Err (Shape UnknownShape)
@@ -46,11 +49,11 @@ unfolding judged shape_of
 shape_first = refl
 
 unfinished : judged (document (codes "result >") (string (codes "bool")) (boolean true)) ≡ Err (Grammar (Unexpected 8))
-unfolding judged shape_of parse_of tree_of operand_of operator_of literal_of tokens_of tokens_behind front_of token_of number_of base_of text_of sign_at word_of
+unfolding judged shape_of parse_of tree_of fault_of step starts follows name_of text_value is_in is_group is_brace tokens_of tokens_behind front_of token_of number_of base_of text_of sign_at word_of
 unfinished = refl
 
 misfit_last : judged (document (codes "result > 0") (string (codes "whole")) (string (codes "7"))) ≡ Err (Misfit WrongKind)
-unfolding judged shape_of parse_of tree_of operand_of operator_of literal_of tokens_of tokens_behind front_of token_of number_of base_of text_of sign_at word_of
+unfolding judged shape_of parse_of tree_of fault_of step starts follows name_of text_value is_in is_group is_brace tokens_of tokens_behind front_of token_of number_of base_of text_of sign_at word_of
 misfit_last = refl
 
 no_object : judged (string (codes "result")) ≡ Err BadDocument

@@ -12,7 +12,7 @@ use Rattle.ar_value.specs.declared.shape_reading.ShapeError.{ShapeError}
 use Rattle.ar_value.specs.declared.shape_reading.ShapeError.TheVariants as shape_error
 use Rattle.ar_value.specs.declared.value_reading.ShapeFault.{ShapeFault}
 use Rattle.ar_value.specs.declared.value_reading.ShapeFault.TheVariants as shape_fault
-use Rattle.ar_syntax.specs.ComparisonParse.{parse_of}
+use Rattle.ar_syntax.specs.Parse.{parse_of}
 use Rattle.ar_syntax.specs.declared.error.SyntaxError.{SyntaxError}
 use Rattle.ar_syntax.specs.declared.error.SyntaxError.TheVariants as syntax
 use Rattle.argo_judge.specs.Input.{most_bytes}

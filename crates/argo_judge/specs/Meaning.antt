@@ -1,4 +1,4 @@
--- What expressions mean, by recursion over their trees.
+-- What conditions mean: one comparison of `result` with a literal is judged so far.
 use Rattle.std.specs.Prelude.{Bool, true, false, not, Option, Some, None}
 use Rattle.std.specs.declared.cmp.Ordering.{Ordering}
 use Rattle.std.specs.declared.cmp.Ordering.TheVariants as is
@@ -6,18 +6,20 @@ use Rattle.ar_value.specs.Decimal.{order}
 use Rattle.ar_value.specs.Value.{Value}
 use Rattle.ar_value.specs.Value as values
 use Rattle.ar_value.specs.declared.decimal.Number.TheVariants as numbers
-use Rattle.ar_syntax.specs.ComparisonTree.{Expression, ResultAt, LiteralAt, ComparisonAt}
+use Rattle.ar_syntax.specs.Expression.{Expression}
 use Rattle.ar_syntax.specs.declared.token.Comparison.{Comparison}
 use Rattle.ar_syntax.specs.declared.token.Comparison.TheVariants.{Equal, NotEqual, Less, LessOrEqual, Greater, GreaterOrEqual}
-use Rattle.ar_syntax.specs.declared.comparison_tree.Literal.{Literal}
-use Rattle.ar_syntax.specs.declared.comparison_tree.Literal.TheVariants as literals
+use Rattle.ar_syntax.specs.declared.tree.Literal.{Literal}
+use Rattle.ar_syntax.specs.declared.tree.Literal.TheVariants as literals
+use Rattle.argo_judge.specs.Typing.{comparison_of}
 use Rattle.argo_judge.specs.declared.meaning.Operand.{Operand}
 use Rattle.argo_judge.specs.declared.meaning.Operand.TheVariants.{Truth, Number}
 
-abbrev pub literal_operand : Literal → Operand
-literal_operand (literals.Bool truth) = Truth truth
-literal_operand (literals.Whole whole) = Number (numbers.Whole whole)
-literal_operand (literals.Decimal millionths) = Number (numbers.Decimal millionths)
+abbrev pub literal_operand : Literal → Option Operand
+literal_operand (literals.Bool truth) = Some (Truth truth)
+literal_operand (literals.Whole whole) = Some (Number (numbers.Whole whole))
+literal_operand (literals.Decimal millionths) = Some (Number (numbers.Decimal millionths))
+literal_operand literal = None
 
 -- a value that an operator takes
 abbrev pub operand_of : Value → Option Operand
@@ -62,8 +64,10 @@ abbrev pub compare_sides : Comparison → Option Operand → Option Operand → 
 compare_sides operator (Some left) (Some right) = compare_operands operator left right
 compare_sides operator left right = None
 
--- the value of an expression, where `result` has a value; none where sides don't compare
+abbrev pub compare_result : Value → Option (Comparison × Literal) → Option Operand
+compare_result result (Some (operator, literal)) = compare_sides operator (operand_of result) (literal_operand literal)
+compare_result result None = None
+
+-- the value of a condition, where `result` has a value; none where it is of another form or its sides don't compare
 abbrev pub mean : Value → Expression → Option Operand
-mean result (ResultAt at) = operand_of result
-mean result (LiteralAt at literal) = Some (literal_operand literal)
-mean result (ComparisonAt at operator left right) = compare_sides operator (mean result left) (mean result right)
+mean result tree = compare_result result (comparison_of tree)

@@ -1,11 +1,13 @@
--- The kinds of expressions: which values they can have.
-use Rattle.std.specs.Prelude.{ℕ, Bool, true, false, if◌then◌else◌, Result, Ok, Err}
+-- The kinds of conditions: one comparison of `result` with a literal is judged so far.
+use Rattle.std.specs.Prelude.{ℕ, Bool, true, false, if◌then◌else◌, Option, Some, None, Result, Ok, Err}
 use Rattle.ar_value.specs.Shape.{Shape, bool, whole, decimal}
-use Rattle.ar_syntax.specs.ComparisonTree.{Expression, ResultAt, LiteralAt, ComparisonAt}
+use Rattle.ar_syntax.specs.Expression.{Expression, ResultAt, LiteralAt, BinaryAt, place_of}
 use Rattle.ar_syntax.specs.declared.token.Comparison.{Comparison}
 use Rattle.ar_syntax.specs.declared.token.Comparison.TheVariants.{Equal, NotEqual}
-use Rattle.ar_syntax.specs.declared.comparison_tree.Literal.{Literal}
-use Rattle.ar_syntax.specs.declared.comparison_tree.Literal.TheVariants as literals
+use Rattle.ar_syntax.specs.declared.tree.Binary.{Binary}
+use Rattle.ar_syntax.specs.declared.tree.Binary.TheVariants as binaries
+use Rattle.ar_syntax.specs.declared.tree.Literal.{Literal}
+use Rattle.ar_syntax.specs.declared.tree.Literal.TheVariants as literals
 use Rattle.argo_judge.specs.declared.kind.Family.{Family}
 use Rattle.argo_judge.specs.declared.kind.Family.TheVariants.{Truth, Number, Other}
 
@@ -20,6 +22,7 @@ abbrev pub literal_family : Literal → Family
 literal_family (literals.Bool truth) = Truth
 literal_family (literals.Whole value) = Number
 literal_family (literals.Decimal millionths) = Number
+literal_family literal = Other
 
 abbrev pub is_equality : Comparison → Bool
 is_equality Equal = true
@@ -32,30 +35,29 @@ can_compare operator Truth Truth = is_equality operator
 can_compare operator Number Number = true
 can_compare operator left right = false
 
--- a comparison is a truth value; its place is refused where its sides don't compare
-abbrev pub comparison_kind : ℕ → Comparison → Result Family ℕ → Result Family ℕ → Result Family ℕ
-comparison_kind at operator (Err place) right = Err place
-comparison_kind at operator (Ok left) (Err place) = Err place
-comparison_kind at operator (Ok left) (Ok right) = if can_compare operator left right then Ok Truth else Err at
+abbrev pub is_result : Expression → Bool
+is_result (ResultAt at) = true
+is_result tree = false
 
--- the kind of an expression where `result` has a shape, or the first place where kinds don't fit
-abbrev pub kind_of : Shape → Expression → Result Family ℕ
-kind_of shape (ResultAt at) = Ok (family_of shape)
-kind_of shape (LiteralAt at literal) = Ok (literal_family literal)
-kind_of shape (ComparisonAt at operator left right) = comparison_kind at operator (kind_of shape left) (kind_of shape right)
+abbrev pub literal_of : Expression → Option Literal
+literal_of (LiteralAt at literal) = Some literal
+literal_of tree = None
 
--- the place of an expression: that of its operator, else of its own token
-abbrev pub place_of : Expression → ℕ
-place_of (ResultAt at) = at
-place_of (LiteralAt at literal) = at
-place_of (ComparisonAt at operator left right) = at
+-- an operator beside `result` and a literal
+abbrev pub beside : Bool → Binary → Option Literal → Option (Comparison × Literal)
+beside true (binaries.Comparison operator) (Some literal) = Some (operator, literal)
+beside is_result operator literal = None
 
--- a condition is a truth value
-abbrev pub truth_at : ℕ → Result Family ℕ → Result Family ℕ
-truth_at at (Ok Truth) = Ok Truth
-truth_at at (Ok family) = Err at
-truth_at at (Err place) = Err place
+-- the operator and the literal of a comparison of `result` with a literal
+abbrev pub comparison_of : Expression → Option (Comparison × Literal)
+comparison_of (BinaryAt at operator left right) = beside (is_result left) operator (literal_of right)
+comparison_of tree = None
 
--- the kind of a condition, or the first place where kinds don't fit
+-- a comparison whose sides compare is a truth value
+abbrev pub comparison_kind : ℕ → Shape → Option (Comparison × Literal) → Result Family ℕ
+comparison_kind at shape (Some (operator, literal)) = if can_compare operator (family_of shape) (literal_family literal) then Ok Truth else Err at
+comparison_kind at shape None = Err at
+
+-- the kind of a condition where `result` has a shape; any other is refused at its place
 abbrev pub condition_kind : Shape → Expression → Result Family ℕ
-condition_kind shape tree = truth_at (place_of tree) (kind_of shape tree)
+condition_kind shape tree = comparison_kind (place_of tree) shape (comparison_of tree)

@@ -28,7 +28,7 @@ pub enum EvalError {
     Shape(ShapeError),
     #[error("condition, {0}")]
     Grammar(SyntaxError),
-    #[error("condition, byte {0}: Kinds: expected two numbers, or truth values beside == or !=")]
+    #[error("condition, byte {0}: Kinds: expected `result`, a comparison and a literal: two numbers, or truth values beside == or !=")]
     Kinds(usize),
     #[error("value: {0}")]
     Misfit(ShapeFault),

@@ -1,12 +1,12 @@
-//! The kinds of expressions.
+//! The kinds of conditions: one comparison of `result` with a literal is judged so far.
 
-ghost use Rattle.std.specs.Prelude.{◌≡◌};
-ghost use Rattle.ar_syntax.specs.ComparisonTree.{expression_of};
+ghost use Rattle.std.specs.Prelude.{◌≡◌, option_map};
+ghost use Rattle.ar_syntax.specs.Views.{expression_of};
 ghost use Rattle.ar_value.specs.View.{shape_view};
-ghost use Rattle.argo_judge.specs.Typing.{can_compare, condition_kind, family_of, kind_of, literal_family, place_of};
+ghost use Rattle.argo_judge.specs.Typing.{can_compare, comparison_of, condition_kind, family_of, is_result, literal_family, literal_of};
 
-use ar_syntax::comparison_tree::{Literal, Tree};
 use ar_syntax::token::Comparison;
+use ar_syntax::tree::{Binary, Literal, Tree};
 use ar_value::shape::Shape;
 
 /// What operators tell apart of kinds.
@@ -22,44 +22,54 @@ pub enum Family {
 ///
 /// # Errors
 ///
-/// The first place where kinds don't fit.
+/// The place of a condition that is no comparison of `result` with a literal, or whose sides don't
+/// compare.
 pub fn condition_kind(tree: &Tree, shape: &Shape) -> Result<Family, usize>
     ensures { result ≡ condition_kind (shape_view shape.now) (expression_of tree.now) }
 {
-    match kind(tree, shape)? {
-        Family::Truth => Ok(Family::Truth),
-        _ => Err(place(tree)),
-    }
-}
-
-fn kind(tree: &Tree, shape: &Shape) -> Result<Family, usize>
-    ensures { result ≡ kind_of (shape_view shape.now) (expression_of tree.now) }
-{
-    match tree {
-        Tree::Result { .. } => Ok(shape_family(shape)),
-        Tree::Literal { literal, .. } => Ok(literal_family(*literal)),
-        Tree::Comparison {
-            at,
-            operator,
-            left,
-            right,
-        } => {
-            let left = kind(left, shape)?;
-            let right = kind(right, shape)?;
-            if can_compare(*operator, left, right) {
+    match comparison(tree) {
+        Some((operator, literal)) => {
+            if can_compare(operator, shape_family(shape), literal_family(literal)) {
                 Ok(Family::Truth)
             } else {
-                Err(*at)
+                Err(tree.place())
             }
         }
+        None => Err(tree.place()),
     }
 }
 
-fn place(tree: &Tree) -> usize
-    ensures { result ≡ place_of (expression_of tree.now) }
+/// The operator and the literal of a comparison of `result` with a literal.
+pub(crate) fn comparison(tree: &Tree) -> Option<(Comparison, &Literal)>
+    ensures { option_map (λ found. (found.0, found.1.now)) result ≡ comparison_of (expression_of tree.now) }
+{
+    let Tree::Binary {
+        operator: Binary::Comparison(operator),
+        left,
+        right,
+        ..
+    } = tree
+    else {
+        return None;
+    };
+    if !is_result(left) {
+        return None;
+    }
+    Some((*operator, literal(right)?))
+}
+
+fn is_result(tree: &Tree) -> bool
+    ensures { result ≡ is_result (expression_of tree.now) }
+{
+    matches!(tree, Tree::Result { .. })
+}
+
+fn literal(tree: &Tree) -> Option<&Literal>
+    ensures { option_map (λ found. found.now) result ≡ literal_of (expression_of tree.now) }
 {
     match tree {
-        Tree::Result { at } | Tree::Literal { at, .. } | Tree::Comparison { at, .. } => *at,
+        Tree::Literal { literal, .. } => Some(literal),
+        _ => None,
     }
 }
 
@@ -73,12 +83,13 @@ fn shape_family(shape: &Shape) -> Family
     }
 }
 
-fn literal_family(literal: Literal) -> Family
-    ensures { result ≡ literal_family literal }
+fn literal_family(literal: &Literal) -> Family
+    ensures { result ≡ literal_family literal.now }
 {
     match literal {
         Literal::Bool(_) => Family::Truth,
         Literal::Whole(_) | Literal::Decimal(_) => Family::Number,
+        Literal::Nil | Literal::Text(_) => Family::Other,
     }
 }
 

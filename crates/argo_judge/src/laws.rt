@@ -4,7 +4,7 @@ ghost use Rattle.std.specs.Prelude.{◌≡◌, Bool, true, Ok, Some};
 ghost use Rattle.ar_value.specs.Fits.{fits};
 ghost use Rattle.ar_value.specs.Shape.{Shape};
 ghost use Rattle.ar_value.specs.Value.{Value};
-ghost use Rattle.ar_syntax.specs.ComparisonTree.{Expression};
+ghost use Rattle.ar_syntax.specs.Expression.{Expression};
 ghost use Rattle.argo_judge.specs.Typing.{condition_kind};
 ghost use Rattle.argo_judge.specs.Meaning.{mean};
 ghost use Rattle.argo_judge.specs.declared.kind.Family.{Family};

@@ -1,12 +1,13 @@
-//! What expressions mean.
+//! What conditions mean.
 
 ghost use Rattle.std.specs.Prelude.{◌≡◌};
-ghost use Rattle.ar_syntax.specs.ComparisonTree.{expression_of};
+ghost use Rattle.ar_syntax.specs.Views.{expression_of};
 ghost use Rattle.ar_value.specs.View.{value_view};
-ghost use Rattle.argo_judge.specs.Meaning.{compare_operands, compare_truths, holds, literal_operand, mean, operand_of};
+ghost use Rattle.argo_judge.specs.Meaning.{compare_operands, compare_sides, compare_truths, holds, literal_operand, mean, operand_of};
 
-use ar_syntax::comparison_tree::{Literal, Tree};
+use crate::kind::comparison;
 use ar_syntax::token::Comparison;
+use ar_syntax::tree::{Literal, Tree};
 use ar_value::decimal::{Number, compare};
 use ar_value::value::Value;
 use std::cmp::Ordering;
@@ -18,24 +19,30 @@ pub enum Operand {
     Number(Number),
 }
 
-/// The value of an expression where `result` has a value, or none where sides don't compare,
-/// which kinds that fit rule out.
+/// The value of a condition where `result` has a value, or none where it isn't a comparison of
+/// `result` with a literal, or its sides don't compare: kinds that fit rule both out.
 pub fn meaning(tree: &Tree, measured: &Value) -> Option<Operand>
     ensures { result ≡ mean (value_view measured.now) (expression_of tree.now) }
 {
-    match tree {
-        Tree::Result { .. } => value_operand(measured),
-        Tree::Literal { literal, .. } => Some(literal_operand(*literal)),
-        Tree::Comparison {
-            operator,
-            left,
-            right,
-            ..
-        } => compare_operands(
-            *operator,
-            meaning(left, measured)?,
-            meaning(right, measured)?,
-        ),
+    match comparison(tree) {
+        Some((operator, literal)) => {
+            compare_sides(operator, value_operand(measured), literal_operand(literal))
+        }
+        None => None,
+    }
+}
+
+/// A comparison of two sides, where both are operands that compare.
+fn compare_sides(
+    operator: Comparison,
+    left: Option<Operand>,
+    right: Option<Operand>,
+) -> Option<Operand>
+    ensures { result ≡ compare_sides operator left right }
+{
+    match (left, right) {
+        (Some(left), Some(right)) => compare_operands(operator, left, right),
+        _ => None,
     }
 }
 
@@ -50,13 +57,14 @@ fn value_operand(value: &Value) -> Option<Operand>
     }
 }
 
-fn literal_operand(literal: Literal) -> Operand
-    ensures { result ≡ literal_operand literal }
+fn literal_operand(literal: &Literal) -> Option<Operand>
+    ensures { result ≡ literal_operand literal.now }
 {
     match literal {
-        Literal::Bool(truth) => Operand::Truth(truth),
-        Literal::Whole(whole) => Operand::Number(Number::Whole(whole)),
-        Literal::Decimal(decimal) => Operand::Number(Number::Decimal(decimal)),
+        Literal::Bool(truth) => Some(Operand::Truth(*truth)),
+        Literal::Whole(whole) => Some(Operand::Number(Number::Whole(*whole))),
+        Literal::Decimal(decimal) => Some(Operand::Number(Number::Decimal(*decimal))),
+        Literal::Nil | Literal::Text(_) => None,
     }
 }
 

@@ -142,6 +142,18 @@ fn refusals(rt: HostRuntime) {
             EvalError::Kinds(7),
         ),
         (
+            r#"{"condition":"1 < result","shape":"whole","value":1}"#,
+            EvalError::Kinds(2),
+        ),
+        (
+            r#"{"condition":"len(result) > 1","shape":"whole","value":1}"#,
+            EvalError::Kinds(12),
+        ),
+        (
+            r#"{"condition":"result > -1","shape":"whole","value":1}"#,
+            EvalError::Kinds(7),
+        ),
+        (
             r#"{"condition":"result != true","shape":"bool","value":1}"#,
             EvalError::Misfit(ShapeFault::WrongKind),
         ),
@@ -282,7 +294,7 @@ fn refusal_texts(rt: HostRuntime) -> Result<(), Fail> {
         ),
         (
             EvalError::Kinds(7),
-            "condition, byte 7: Kinds: expected two numbers, or truth values beside == or !=",
+            "condition, byte 7: Kinds: expected `result`, a comparison and a literal: two numbers, or truth values beside == or !=",
         ),
         (
             EvalError::Misfit(ShapeFault::FloatNumber),

@@ -1,5 +1,5 @@
-use Rattle.ar_syntax.proofs.ComparisonTexts.{is_no_condition, says_tree}
-use Rattle.ar_syntax.proofs.comparison_parser.parse.Goals as goal
+use Rattle.ar_syntax.proofs.Texts.{is_no_condition, says_tree}
+use Rattle.ar_syntax.proofs.parser.parse.Goals as goal
 
 pub returns-clause-tree : goal.returns-clause-tree
 returns-clause-tree c = says_tree c.args.text.now c.tree.result c.tree.ensures
