@@ -109,7 +109,7 @@ fn or_nil(alloc: Global, shape: &Shape) -> Result<Shape, AllocError>
 }
 
 /// The shape of what isn't nil.
-fn plain(shape: &Shape) -> &Shape
+pub fn plain(shape: &Shape) -> &Shape
     ensures { shape_view result.now ≡ plain (shape_view shape.now) }
 {
     match shape {
@@ -123,7 +123,8 @@ fn plain(shape: &Shape) -> &Shape
     }
 }
 
-fn is_optional(shape: &Shape) -> bool
+/// Whether nil fits the shape.
+pub fn is_optional(shape: &Shape) -> bool
     ensures { result ≡ is_optional (shape_view shape.now) }
 {
     match shape {

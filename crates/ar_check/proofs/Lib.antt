@@ -1,0 +1,10 @@
+pub mod Items
+pub mod Means
+pub mod Operands
+pub mod Parts
+pub mod Sums
+pub mod OperatorKinds
+pub mod Branches
+pub mod Lists
+pub mod Predicates
+pub mod Sound

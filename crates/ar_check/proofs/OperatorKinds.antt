@@ -1,0 +1,132 @@
+-- Operators mean their kinds.
+use Rattle.std.proofs.Common.{◌≡◌, ℕ, Bool, true, false, Option, Some, None, Ok, Err, IfOk, refl}
+use Rattle.std.specs.Prelude.{◌&&◌, not, if◌then◌else◌}
+use Rattle.ar_value.specs.Answer.{◌>>=◌}
+use Rattle.ar_value.specs.Kind.{Kind}
+use Rattle.ar_value.specs.Value.{Value}
+use Rattle.ar_value.specs.Value as values
+use Rattle.ar_syntax.specs.declared.token.Comparison.{Comparison}
+use Rattle.ar_syntax.specs.declared.token.Comparison.TheVariants as comparisons
+use Rattle.ar_syntax.specs.declared.tree.Binary.{Binary}
+use Rattle.ar_syntax.specs.declared.tree.Binary.TheVariants as binaries
+use Rattle.ar_syntax.specs.declared.tree.Unary.{Unary}
+use Rattle.ar_syntax.specs.declared.tree.Unary.TheVariants as unaries
+use Rattle.ar_check.specs.Check.{Answer, binary_of, comparison_of, equal_of, equality_of, in_of, negated, same_family, truth, unary_of}
+use Rattle.ar_check.specs.Meaning.{Meaning, Failure, mean}
+use Rattle.ar_check.specs.Meaning as meaning
+use Rattle.ar_check.specs.Operand.{Operand, family_in, is_truth, made_plain, numbers, scalar}
+use Rattle.ar_check.specs.Typed.{Typed}
+use Rattle.ar_check.specs.Typed as typed
+use Rattle.ar_check.specs.declared.typed.Arithmetic.TheVariants.{Add, Subtract, Multiply, Divide, Remainder}
+use Rattle.ar_check.specs.declared.typed.Family.{Family}
+use Rattle.ar_check.specs.declared.typed.Order.TheVariants.{Less, LessOrEqual, Greater, GreaterOrEqual}
+use Rattle.ar_check.specs.declared.typed.Scalar.{Scalar}
+use Rattle.ar_check.proofs.Means.{MeansKind, Sound, IsTruth, both_hold, either_means, is_sound, means_then, truth_wanted, wanted}
+use Rattle.ar_check.proofs.Operands.{are_numbers, is_true, on_bool}
+use Rattle.ar_check.proofs.Parts.{in_sound}
+use Rattle.ar_check.proofs.Sums.{negative_sound, order_sound, positive_sound, sum_sound}
+
+-- what a truth value leads to
+pub truth_then : (kind : Kind) (m : Meaning) (f : Bool → Meaning) → MeansKind truth m → ((b : Bool) → MeansKind kind (f b)) → MeansKind kind (m >>= λ v. meaning.truth v >>= f)
+truth_then kind m f h step =
+    means_then _ _ m (λ v. meaning.truth v >>= f) h (λ v fit. on_bool (λ v. MeansKind kind (meaning.truth v >>= f)) step v fit)
+
+module _ (result : Value) (here : Option Value) where
+  -- `not` gives a truth value of one
+  opposite_means : (tree : Typed) → MeansKind truth (mean result here tree) → MeansKind truth (mean result here (typed.opposite tree))
+  opposite_means tree h = truth_then truth (mean result here tree) (λ b. Ok (values.bool (not b))) h (λ b. refl)
+
+  -- `and` gives a truth value of two
+  both_means : (left right : Typed) → MeansKind truth (mean result here left) → MeansKind truth (mean result here right) → MeansKind truth (mean result here (typed.both left right))
+  both_means left right h k =
+      truth_then truth (mean result here left) (λ b. if b then mean result here right else Ok (values.bool false)) h
+      (λ b. either_means truth b (mean result here right) (Ok (values.bool false)) k refl)
+
+  -- `or` gives a truth value of two
+  one_means : (left right : Typed) → MeansKind truth (mean result here left) → MeansKind truth (mean result here right) → MeansKind truth (mean result here (typed.either left right))
+  one_means left right h k =
+      truth_then truth (mean result here left) (λ b. if b then Ok (values.bool true) else mean result here right) h
+      (λ b. either_means truth b (Ok (values.bool true)) (mean result here right) refl k)
+
+  -- whether something is nil is a truth value
+  pub is_nil_means : (kind : Kind) (tree : Typed) → MeansKind kind (mean result here tree) → MeansKind truth (mean result here (typed.is_nil tree))
+  is_nil_means kind tree h = means_then _ _ (mean result here tree) (λ v. Ok (values.bool (meaning.is_nil v))) h (λ v fit. refl)
+
+  -- whether two are equal is a truth value
+  equal_means : (l r : Kind) (family : Family) (left right : Typed) → MeansKind l (mean result here left) → MeansKind r (mean result here right)
+      → MeansKind truth (mean result here (typed.equal family left right))
+  equal_means l r family left right h k =
+      means_then _ _ (mean result here left) (λ v. mean result here right >>= λ w. Ok (values.bool (meaning.same v w))) h
+      (λ v fit. means_then _ _ (mean result here right) (λ w. Ok (values.bool (meaning.same v w))) k (λ w also. refl))
+
+  -- ---- equality
+
+  -- equality of scalars of one family
+  equal_sound : (at : ℕ) (m n : Option Scalar) (l r : Kind) (left right : Typed) → MeansKind l (mean result here left) → MeansKind r (mean result here right)
+      → IfOk (equal_of at m n left right) (IsTruth result here)
+  equal_sound at (Some m) (Some n) l r left right h k =
+      truth_wanted result here at (same_family (family_in m) (family_in n)) (typed.equal (family_in m) left right) (equal_means l r (family_in m) left right h k)
+  equal_sound at (Some m) None l r left right h k = tt
+  equal_sound at None n l r left right h k = tt
+
+  -- equality, also with the literal `nil`
+  equality_sound : (at : ℕ) (nil_left nil_right : Bool) (left right : Operand) → Sound result here left → Sound result here right
+      → IfOk (equality_of at nil_left nil_right left right) (IsTruth result here)
+  equality_sound at true nil_right left right h k = (refl, is_nil_means right.kind right.tree k)
+  equality_sound at false true left right h k = (refl, is_nil_means left.kind left.tree h)
+  equality_sound at false false left right h k = equal_sound at (scalar left) (scalar right) left.kind right.kind left.tree right.tree h k
+
+  -- an answer that is a truth value means its kind
+  truth_sound : (answer : Answer) → IfOk answer (IsTruth result here) → IfOk answer (Sound result here)
+  truth_sound (Ok operand) h = is_sound result here operand h
+  truth_sound (Err e) h = tt
+
+  -- so does its opposite
+  negated_sound : (answer : Answer) → IfOk answer (IsTruth result here) → IfOk (answer >>= negated) (Sound result here)
+  negated_sound (Ok operand) h = is_sound result here (record { tree = typed.opposite operand.tree; kind = operand.kind }) (h.0, opposite_means operand.tree h.1)
+  negated_sound (Err e) h = tt
+
+  -- comparisons mean their kinds
+  comparison_sound : (at : ℕ) (comparison : Comparison) (nil_left nil_right : Bool) (left right : Operand) → Sound result here left → Sound result here right
+      → IfOk (comparison_of at comparison nil_left nil_right left right) (Sound result here)
+  comparison_sound at comparisons.Equal nil_left nil_right left right h k =
+      truth_sound (equality_of at nil_left nil_right left right) (equality_sound at nil_left nil_right left right h k)
+  comparison_sound at comparisons.NotEqual nil_left nil_right left right h k =
+      negated_sound (equality_of at nil_left nil_right left right) (equality_sound at nil_left nil_right left right h k)
+  comparison_sound at comparisons.Less nil_left nil_right left right h k = order_sound result here at Less left right h k
+  comparison_sound at comparisons.LessOrEqual nil_left nil_right left right h k = order_sound result here at LessOrEqual left right h k
+  comparison_sound at comparisons.Greater nil_left nil_right left right h k = order_sound result here at Greater left right h k
+  comparison_sound at comparisons.GreaterOrEqual nil_left nil_right left right h k = order_sound result here at GreaterOrEqual left right h k
+
+  -- ---- operators
+
+  -- operators of one operand mean their kinds
+  pub unary_sound : (at : ℕ) (operator : Unary) (operand : Operand) → Sound result here operand → IfOk (unary_of at operator operand) (Sound result here)
+  unary_sound at unaries.Minus operand h = negative_sound result here at (numbers operand) (made_plain operand) (are_numbers result here operand h)
+  unary_sound at unaries.Plus operand h = positive_sound result here at (numbers operand) (made_plain operand) (are_numbers result here operand h)
+  unary_sound at unaries.Not operand h =
+      wanted result here at (is_truth operand) (typed.opposite (made_plain operand)) truth (λ is. opposite_means (made_plain operand) (is_true result here operand h is))
+
+  -- two operands that are truth values, made plain
+  truths : (left right : Operand) → Sound result here left → Sound result here right → (is_truth left && is_truth right) ≡ true
+      → MeansKind truth (mean result here (made_plain left)) × MeansKind truth (mean result here (made_plain right))
+  truths left right h k is =
+      let parts = both_hold (is_truth left) (is_truth right) is in (is_true result here left h parts.0, is_true result here right k parts.1)
+
+  -- operators of two operands mean their kinds
+  pub binary_sound : (at : ℕ) (operator : Binary) (nil_left nil_right : Bool) (left right : Operand) → Sound result here left → Sound result here right
+      → IfOk (binary_of at operator nil_left nil_right left right) (Sound result here)
+  binary_sound at binaries.Or nil_left nil_right left right h k =
+      wanted result here at (is_truth left && is_truth right) (typed.either (made_plain left) (made_plain right)) truth
+      (λ is. let each = truths left right h k is in one_means (made_plain left) (made_plain right) each.0 each.1)
+  binary_sound at binaries.And nil_left nil_right left right h k =
+      wanted result here at (is_truth left && is_truth right) (typed.both (made_plain left) (made_plain right)) truth
+      (λ is. let each = truths left right h k is in both_means (made_plain left) (made_plain right) each.0 each.1)
+  binary_sound at (binaries.Comparison comparison) nil_left nil_right left right h k = comparison_sound at comparison nil_left nil_right left right h k
+  binary_sound at binaries.In nil_left nil_right left right h k = truth_sound (in_of at left right) (in_sound result here at left right h k)
+  binary_sound at binaries.NotIn nil_left nil_right left right h k = negated_sound (in_of at left right) (in_sound result here at left right h k)
+  binary_sound at binaries.Add nil_left nil_right left right h k = sum_sound result here at Add left right h k
+  binary_sound at binaries.Subtract nil_left nil_right left right h k = sum_sound result here at Subtract left right h k
+  binary_sound at binaries.Multiply nil_left nil_right left right h k = sum_sound result here at Multiply left right h k
+  binary_sound at binaries.Divide nil_left nil_right left right h k = sum_sound result here at Divide left right h k
+  binary_sound at binaries.Remainder nil_left nil_right left right h k = sum_sound result here at Remainder left right h k

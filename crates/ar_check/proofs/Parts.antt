@@ -1,0 +1,154 @@
+-- Fields, items and lengths mean their kinds, and so does membership.
+use Rattle.std.proofs.Common.{◌≡◌, ℕ, ℤ, pos, negsuc, Bool, true, false, List, Option, Some, None, Ok, IfOk, refl}
+use Rattle.std.specs.Prelude.{◌-◌, suc, zero, if◌then◌else◌, nat_lt}
+use Rattle.ar_value.specs.Answer.{◌>>=◌}
+use Rattle.ar_value.specs.Fits.{all_items, fits}
+use Rattle.ar_value.specs.Kind.{Kind, nil, shaped, plain}
+use Rattle.ar_value.specs.Shape.{Shape, FieldShapes}
+use Rattle.ar_value.specs.Shape as shapes
+use Rattle.ar_value.specs.Value.{Value, Items, Fields, count}
+use Rattle.ar_value.specs.Value as values
+use Rattle.ar_value.specs.declared.fault.Fault.TheVariants.{IndexOutOfRange}
+use Rattle.ar_check.specs.Check.{field_of, field_shape, found_field, given, in_of, index_of, is_whole_number, item_shape, len_of, member_of, plain_kind, same_family, shape_named, truth}
+use Rattle.ar_check.specs.Meaning.{Meaning, Failure, mean}
+use Rattle.ar_check.specs.Meaning as meaning
+use Rattle.ar_check.specs.Operand.{Operand, family_in, made_plain, plain_of, scalar, scalar_of}
+use Rattle.ar_check.specs.Typed.{Typed}
+use Rattle.ar_check.specs.Typed as typed
+use Rattle.ar_check.specs.declared.typed.Scalar.{Scalar}
+use Rattle.ar_check.proofs.Means.{MeansKind, Sound, IsThere, IsTruth, truth_wanted, answers, means_then, both_hold, wanted}
+use Rattle.ar_check.proofs.Operands.{is_index, is_plain, named_fits, on_list, on_object, on_whole, there_fits}
+
+-- ---- items
+
+-- the plain kind of a list, whose items have a shape
+abbrev pub ListOf : Kind → Shape → Type 0
+ListOf kind shape = (max : ℕ) × (plain_kind kind ≡ shaped (shapes.list shape max))
+
+-- a shape that has items is a list's
+items_of_shape : (at : ℕ) (of : Shape) → IfOk (item_shape at (Some of)) (λ shape. (max : ℕ) × (shaped of ≡ shaped (shapes.list shape max)))
+items_of_shape at (shapes.list shape max) = (max, refl)
+items_of_shape at shapes.bool = tt
+items_of_shape at shapes.whole = tt
+items_of_shape at shapes.decimal = tt
+items_of_shape at shapes.text = tt
+items_of_shape at (shapes.object named) = tt
+items_of_shape at (shapes.optional shape) = tt
+
+-- a kind whose plain shape has items is a list's
+pub is_list : (at : ℕ) (kind : Kind) → IfOk (item_shape at (plain_of kind)) (ListOf kind)
+is_list at nil = tt
+is_list at (shaped shape) = items_of_shape at (plain shape)
+
+-- an item by its number fits, where there is one
+nth_fits : (shape : Shape) (items : Items) (n : ℕ) → all_items (λ v. fits v shape) items ≡ true → MeansKind (shaped shape) (meaning.there (meaning.faulted IndexOutOfRange) (meaning.nth items n))
+nth_fits shape values.no_items n h = tt
+nth_fits shape (values.item v items) zero h = (both_hold (fits v shape) (all_items (λ v. fits v shape) items) h).0
+nth_fits shape (values.item v items) (suc n) h = nth_fits shape items n (both_hold (fits v shape) (all_items (λ v. fits v shape) items) h).1
+
+-- likewise counted from the end
+from_end : (shape : Shape) (items : Items) (n : ℕ) (within : Bool) → all_items (λ v. fits v shape) items ≡ true
+    → MeansKind (shaped shape) (meaning.there (meaning.faulted IndexOutOfRange) (if within then meaning.nth items (count items - suc n) else None))
+from_end shape items n true h = nth_fits shape items (count items - suc n) h
+from_end shape items n false h = tt
+
+-- an item at an index fits, where there is one
+item_fits : (shape : Shape) (items : Items) (index : ℤ) → all_items (λ v. fits v shape) items ≡ true
+    → MeansKind (shaped shape) (meaning.there (meaning.faulted IndexOutOfRange) (meaning.item_at items index))
+item_fits shape items (pos n) h = nth_fits shape items n h
+item_fits shape items (negsuc n) h = from_end shape items n (nat_lt n (count items)) h
+
+module _ (result : Value) (here : Option Value) where
+  -- an item at an index means the shape of items
+  index_means : (shape : Shape) (max : ℕ) (list position : Typed) → MeansKind (shaped (shapes.list shape max)) (mean result here list) → MeansKind (shaped shapes.whole) (mean result here position)
+      → MeansKind (shaped shape) (mean result here (typed.index list position))
+  index_means shape max list position h k =
+      means_then _ _ (mean result here list) (λ v. mean result here position >>= λ i. meaning.index_in v i) h
+      (λ v fit. means_then _ _ (mean result here position) (λ i. meaning.index_in v i) k
+      (λ i whole. on_list (λ v. MeansKind (shaped shape) (meaning.index_in v i)) shape max
+      (λ items short all. on_whole (λ i. MeansKind (shaped shape) (meaning.index_in (values.list items) i)) (λ w. item_fits shape items w all) i whole) v fit))
+
+  -- a list, made plain
+  pub plain_list : (list : Operand) (shape : Shape) → (of : ListOf list.kind shape) → Sound result here list → MeansKind (shaped (shapes.list shape of.0)) (mean result here (made_plain list))
+  plain_list list shape of h =
+      let plain : MeansKind (plain_kind list.kind) (mean result here (made_plain list)) = is_plain result here list h in
+      rw of.1 at plain
+
+  -- an index means its kind
+  pub index_sound : (at : ℕ) (list index : Operand) → Sound result here list → Sound result here index → IfOk (index_of at list index) (Sound result here)
+  index_sound at list index h k =
+      answers _ _ (item_shape at (plain_of list.kind)) _ (is_list at list.kind)
+      (λ shape of. wanted result here at (is_whole_number (scalar index)) (typed.index (made_plain list) (made_plain index)) (shaped shape)
+      (λ is. index_means shape of.0 (made_plain list) (made_plain index) (plain_list list shape of h) (is_index result here index k is)))
+
+  -- a length is a whole
+  len_means : (shape : Shape) (max : ℕ) (list : Typed) → MeansKind (shaped (shapes.list shape max)) (mean result here list) → MeansKind (shaped shapes.whole) (mean result here (typed.len list))
+  len_means shape max list h =
+      means_then _ _ (mean result here list) (λ v. meaning.items_in v >>= λ items. Ok (values.whole (pos (count items)))) h
+      (λ v fit. on_list (λ v. MeansKind (shaped shapes.whole) (meaning.items_in v >>= λ items. Ok (values.whole (pos (count items))))) shape max (λ items short all. refl) v fit)
+
+  -- a length means its kind
+  pub len_sound : (at : ℕ) (list : Operand) → Sound result here list → IfOk (len_of at list) (Sound result here)
+  len_sound at list h =
+      answers _ _ (item_shape at (plain_of list.kind)) _ (is_list at list.kind) (λ shape of. len_means shape of.0 (made_plain list) (plain_list list shape of h))
+
+  -- ---- membership
+
+  -- membership in a list is a truth value
+  member_means : (kind : Kind) (shape : Shape) (max : ℕ) (operand list : Typed) → MeansKind kind (mean result here operand) → MeansKind (shaped (shapes.list shape max)) (mean result here list)
+      → MeansKind truth (mean result here (typed.within operand list))
+  member_means kind shape max operand list h k =
+      means_then _ _ (mean result here operand) (λ value. mean result here list >>= λ v. meaning.items_in v >>= λ items. Ok (values.bool (meaning.has_item value items))) h
+      (λ value fit. means_then _ _ (mean result here list) (λ v. meaning.items_in v >>= λ items. Ok (values.bool (meaning.has_item value items))) k
+      (λ v is. on_list (λ v. MeansKind truth (meaning.items_in v >>= λ items. Ok (values.bool (meaning.has_item value items)))) shape max (λ items short all. refl) v is))
+
+  -- membership of scalars of one family is a truth value
+  member_sound : (at : ℕ) (left right : Option Scalar) (operand list : Typed) → MeansKind truth (mean result here (typed.within operand list)) → IfOk (member_of at left right operand list) (IsTruth result here)
+  member_sound at (Some m) (Some n) operand list h = truth_wanted result here at (same_family (family_in m) (family_in n)) (typed.within operand list) h
+  member_sound at (Some m) None operand list h = tt
+  member_sound at None n operand list h = tt
+
+  -- `in` means its kind
+  pub in_sound : (at : ℕ) (left right : Operand) → Sound result here left → Sound result here right → IfOk (in_of at left right) (IsTruth result here)
+  in_sound at left right h k =
+      answers _ _ (item_shape at (plain_of right.kind)) (λ shape. member_of at (scalar left) (scalar_of (plain shape)) left.tree (made_plain right)) (is_list at right.kind)
+      (λ shape of. member_sound at (scalar left) (scalar_of (plain shape)) left.tree (made_plain right)
+      (member_means left.kind shape of.0 left.tree (made_plain right) h (plain_list right shape of k)))
+
+  -- ---- fields
+
+  -- a field that a record's shape has means its shape
+  field_means : (fields : FieldShapes) (shape : Shape) (whole : Typed) (name : List ℕ) → shape_named name fields ≡ Some shape → MeansKind (shaped (shapes.object fields)) (mean result here whole)
+      → MeansKind (shaped shape) (mean result here (typed.field whole name))
+  field_means wanted shape whole name is h =
+      means_then _ _ (mean result here whole) (meaning.field_in name) h
+      (λ v fit. on_object (λ v. MeansKind (shaped shape) (meaning.field_in name v)) wanted
+      (λ given fit. let found : IsThere (shape_named name wanted) (meaning.named name given) = named_fits name given wanted fit in
+      there_fits shape meaning.ill_kinded (meaning.named name given) (rw is at found)) v fit)
+
+  -- a field, where the record's shape has one of the name
+  found_sound : (at : ℕ) (fields : FieldShapes) (found : Option Shape) (whole : Typed) (name : List ℕ) → shape_named name fields ≡ found → MeansKind (shaped (shapes.object fields)) (mean result here whole)
+      → IfOk (found_field at found >>= λ shape. given (typed.field whole name) (shaped shape)) (Sound result here)
+  found_sound at wanted (Some shape) whole name is h = field_means wanted shape whole name is h
+  found_sound at wanted None whole name is h = tt
+
+  -- a field, where the shape is a record's
+  shape_sound : (at : ℕ) (shape : Shape) (whole : Typed) (name : List ℕ) → MeansKind (shaped shape) (mean result here whole)
+      → IfOk (field_shape at name (Some shape) >>= λ shape. given (typed.field whole name) (shaped shape)) (Sound result here)
+  shape_sound at (shapes.object wanted) whole name h = found_sound at wanted (shape_named name wanted) whole name refl h
+  shape_sound at shapes.bool whole name h = tt
+  shape_sound at shapes.whole whole name h = tt
+  shape_sound at shapes.decimal whole name h = tt
+  shape_sound at shapes.text whole name h = tt
+  shape_sound at (shapes.list shape max) whole name h = tt
+  shape_sound at (shapes.optional shape) whole name h = tt
+
+  -- a field of what has a plain kind
+  kind_sound : (at : ℕ) (kind : Kind) (whole : Typed) (name : List ℕ) → MeansKind (plain_kind kind) (mean result here whole)
+      → IfOk (field_shape at name (plain_of kind) >>= λ shape. given (typed.field whole name) (shaped shape)) (Sound result here)
+  kind_sound at nil whole name h = tt
+  kind_sound at (shaped shape) whole name h = shape_sound at (plain shape) whole name h
+
+  -- a field means its kind
+  pub field_sound : (at : ℕ) (name : List ℕ) (whole : Operand) → Sound result here whole → IfOk (field_of at name whole) (Sound result here)
+  field_sound at name whole h = kind_sound at whole.kind (made_plain whole) name (is_plain result here whole h)

@@ -1,0 +1,29 @@
+use Rattle.ar_value.specs.View.{shape_view}
+use Rattle.std.proofs.Common.{option_map}
+use Rattle.std.proofs.lemmas.Result.{err_from_is_err_and}
+use Rattle.ar_check.specs.Views.{is_memory}
+use Rattle.ar_check.proofs.Items.{ended, fails_unless, len_next, next_left}
+use Rattle.ar_check.proofs.typing.+typed.Goals as goal
+
+pub typed_items-loop-tree-preserved : goal.typed_items-loop-tree-preserved
+typed_items-loop-tree-preserved t c =
+    let inv = c.loop-tree.invariant in
+    let steps = c.in-Some.ensures.steps in (
+      tt,
+      tt,
+      len_next _ _ _ _ _ inv.2 steps.0 steps.1,
+      rw c.in_ok-push.ensures.items
+          (next_left (shape_view c.args.measured.now) (option_map (λ shape. shape_view shape.now) c.args.item) c.args.around _ _ _ _ _ _ inv.3 steps.0 c.in_ok-typed_item.ensures),
+    )
+
+pub typed_items-returns-in_err-typed_item : goal.typed_items-returns-in_err-typed_item
+typed_items-returns-in_err-typed_item t c =
+    let p = err_from_is_err_and c.from_residual-in_err-typed_item.result c.from_residual-in_err-typed_item.ensures.1 in
+    rw (p.1, p.2)
+    (fails_unless (shape_view c.args.measured.now) (option_map (λ shape. shape_view shape.now) c.args.item) c.args.around (is_memory c.in_err-typed_item.field-0.0) _ _ _ _ _ c.in_err-typed_item.field-0.0
+    c.loop-tree.invariant.3 c.in-Some.ensures.steps.0 c.in_err-typed_item.ensures)
+
+pub typed_items-returns : goal.typed_items-returns
+typed_items-returns t c =
+    let inv = c.loop-tree.invariant in
+    ended (shape_view c.args.measured.now) (option_map (λ shape. shape_view shape.now) c.args.item) c.args.around _ _ _ _ inv.3 inv.2 c.in-None.ensures.steps.0

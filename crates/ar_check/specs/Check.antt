@@ -1,0 +1,388 @@
+-- The typed tree of a condition and its kind, or its first type fault. Children come first, from left to right.
+use Rattle.std.specs.Prelude.{ℕ, suc, is_some, Bool, true, false, ◌&&◌, if◌then◌else◌, nat_lt, List, [], ◌∷◌, length, map, Option, Some, None, Result, Ok, Err}
+use Rattle.std.specs.Str.{bytes_eq}
+use Rattle.ar_value.specs.Answer.{◌>>=◌}
+use Rattle.ar_value.specs.Kind.{Kind, nil, shaped, common, plain}
+use Rattle.ar_value.specs.Shape.{Shape, FieldShapes}
+use Rattle.ar_value.specs.Shape as shapes
+use Rattle.ar_syntax.specs.Expression.{Expression, Expressions, place_of}
+use Rattle.ar_syntax.specs.Expression as trees
+use Rattle.ar_syntax.specs.declared.token.Comparison.{Comparison}
+use Rattle.ar_syntax.specs.declared.token.Comparison.TheVariants as comparisons
+use Rattle.ar_syntax.specs.declared.tree.Binary.{Binary}
+use Rattle.ar_syntax.specs.declared.tree.Binary.TheVariants as binaries
+use Rattle.ar_syntax.specs.declared.tree.Literal.{Literal}
+use Rattle.ar_syntax.specs.declared.tree.Literal.TheVariants as literals
+use Rattle.ar_syntax.specs.declared.tree.Predicate.{Predicate}
+use Rattle.ar_syntax.specs.declared.tree.Predicate.TheVariants as predicates
+use Rattle.ar_syntax.specs.declared.tree.Unary.{Unary}
+use Rattle.ar_syntax.specs.declared.tree.Unary.TheVariants as unaries
+use Rattle.ar_check.specs.Operand.{Operand, operand, among, family_in, is_truth, made_plain, numbers, plain_of, scalar, scalar_of, turned}
+use Rattle.ar_check.specs.Typed.{Typed, typeds}
+use Rattle.ar_check.specs.Typed as typed
+use Rattle.ar_check.specs.declared.error.TypeError.{TypeError}
+use Rattle.ar_check.specs.declared.error.TypeError.TheVariants.{WrongOperand, NoSuchField, NotAList, NoCommonKind, NotScalar, NotTruth, PredicatesTooDeep}
+use Rattle.ar_check.specs.declared.typed.Arithmetic.{Arithmetic}
+use Rattle.ar_check.specs.declared.typed.Arithmetic.TheVariants.{Add, Subtract, Multiply, Divide, Remainder}
+use Rattle.ar_check.specs.declared.typed.Family.{Family}
+use Rattle.ar_check.specs.declared.typed.Family.TheVariants as families
+use Rattle.ar_check.specs.declared.typed.Numbers.{Numbers}
+use Rattle.ar_check.specs.declared.typed.Numbers.TheVariants.{Wholes, Decimals}
+use Rattle.ar_check.specs.declared.typed.Order.{Order}
+use Rattle.ar_check.specs.declared.typed.Order.TheVariants.{Less, LessOrEqual, Greater, GreaterOrEqual}
+use Rattle.ar_check.specs.declared.typed.Scalar.{Scalar}
+use Rattle.ar_check.specs.declared.typed.Scalar.TheVariants as scalars
+
+abbrev pub Answer : Type 0
+Answer = Result Operand TypeError
+
+abbrev pub truth : Kind
+truth = shaped shapes.bool
+
+abbrev pub given : Typed → Kind → Answer
+given tree kind = Ok (operand tree kind)
+
+-- ---- literals, fields, items
+
+abbrev pub literal_kind : Literal → Kind
+literal_kind literals.Nil = nil
+literal_kind (literals.Bool holds) = shaped shapes.bool
+literal_kind (literals.Whole value) = shaped shapes.whole
+literal_kind (literals.Decimal millionths) = shaped shapes.decimal
+literal_kind (literals.Text text) = shaped shapes.text
+
+-- `#` stands inside predicates alone, which the grammar sees to
+abbrev pub item_at : ℕ → Option Shape → Answer
+item_at at (Some shape) = given typed.item (shaped shape)
+item_at at None = Err (WrongOperand at)
+
+abbrev pub shape_named : List ℕ → FieldShapes → Option Shape
+shape_named name shapes.no_fields = None
+shape_named name (shapes.field of shape fields) = if bytes_eq of name then Some shape else shape_named name fields
+
+abbrev pub found_field : ℕ → Option Shape → Result Shape TypeError
+found_field at (Some shape) = Ok shape
+found_field at None = Err (NoSuchField at)
+
+-- the shape of a record's field
+abbrev pub field_shape : ℕ → List ℕ → Option Shape → Result Shape TypeError
+field_shape at name (Some (shapes.object fields)) = found_field at (shape_named name fields)
+field_shape at name shape = Err (WrongOperand at)
+
+-- the shape of a list's items
+abbrev pub item_shape : ℕ → Option Shape → Result Shape TypeError
+item_shape at (Some (shapes.list shape max)) = Ok shape
+item_shape at shape = Err (NotAList at)
+
+abbrev pub field_of : ℕ → List ℕ → Operand → Answer
+field_of at name whole = do
+  shape ← field_shape at name (plain_of whole.kind)
+  given (typed.field (made_plain whole) name) (shaped shape)
+
+abbrev pub len_of : ℕ → Operand → Answer
+len_of at list = do
+  shape ← item_shape at (plain_of list.kind)
+  given (typed.len (made_plain list)) (shaped shapes.whole)
+
+-- a tree of a kind, where its operands are what it wants
+abbrev pub where_wanted : ℕ → Bool → Typed → Kind → Answer
+where_wanted at true tree kind = given tree kind
+where_wanted at false tree kind = Err (WrongOperand at)
+
+abbrev pub is_whole_number : Option Scalar → Bool
+is_whole_number (Some scalars.Whole) = true
+is_whole_number scalar = false
+
+abbrev pub index_of : ℕ → Operand → Operand → Answer
+index_of at list index = do
+  shape ← item_shape at (plain_of list.kind)
+  where_wanted at (is_whole_number (scalar index)) (typed.index (made_plain list) (made_plain index)) (shaped shape)
+
+-- ---- numbers
+
+abbrev pub number_kind : Numbers → Kind
+number_kind Wholes = shaped shapes.whole
+number_kind Decimals = shaped shapes.decimal
+
+-- wholes alone stay wholes
+abbrev pub widened : Numbers → Numbers → Numbers
+widened Wholes Wholes = Wholes
+widened left right = Decimals
+
+abbrev pub negative_of : ℕ → Option Numbers → Typed → Answer
+negative_of at (Some numbers) tree = given (typed.negative numbers tree) (number_kind numbers)
+negative_of at None tree = Err (WrongOperand at)
+
+abbrev pub positive_of : ℕ → Option Numbers → Typed → Answer
+positive_of at (Some numbers) tree = given tree (number_kind numbers)
+positive_of at None tree = Err (WrongOperand at)
+
+-- quotients are decimals, also of wholes
+abbrev pub arithmetic_kind : Arithmetic → Numbers → Kind
+arithmetic_kind Divide numbers = shaped shapes.decimal
+arithmetic_kind operator numbers = number_kind numbers
+
+-- remainders are of wholes alone
+abbrev pub takes : Arithmetic → Numbers → Bool
+takes Remainder Decimals = false
+takes operator numbers = true
+
+abbrev pub arithmetic_among : ℕ → Arithmetic → Numbers → Typed → Typed → Answer
+arithmetic_among at operator numbers left right =
+    where_wanted at (takes operator numbers) (typed.arithmetic numbers operator left right) (arithmetic_kind operator numbers)
+
+abbrev pub arithmetic_of : ℕ → Arithmetic → Option Numbers → Option Numbers → Typed → Typed → Answer
+arithmetic_of at operator (Some m) (Some n) left right = arithmetic_among at operator (widened m n) (among n m left) (among m n right)
+arithmetic_of at operator m n left right = Err (WrongOperand at)
+
+abbrev pub ordered_of : ℕ → Order → Option Numbers → Option Numbers → Typed → Typed → Answer
+ordered_of at order (Some m) (Some n) left right = given (typed.ordered m n order left right) truth
+ordered_of at order m n left right = Err (WrongOperand at)
+
+-- ---- equality and membership
+
+abbrev pub same_family : Family → Family → Bool
+same_family families.Truth families.Truth = true
+same_family families.Number families.Number = true
+same_family families.Text families.Text = true
+same_family left right = false
+
+-- two scalars of one family, each of which may be nil
+abbrev pub equal_of : ℕ → Option Scalar → Option Scalar → Typed → Typed → Answer
+equal_of at (Some m) (Some n) left right = where_wanted at (same_family (family_in m) (family_in n)) (typed.equal (family_in m) left right) truth
+equal_of at m n left right = Err (WrongOperand at)
+
+abbrev pub is_nil_literal : Expression → Bool
+is_nil_literal (trees.LiteralAt at literals.Nil) = true
+is_nil_literal tree = false
+
+-- anything compares with the literal `nil`
+abbrev pub equality_of : ℕ → (nil_left nil_right : Bool) → Operand → Operand → Answer
+equality_of at true nil_right left right = given (typed.is_nil right.tree) truth
+equality_of at false true left right = given (typed.is_nil left.tree) truth
+equality_of at false false left right = equal_of at (scalar left) (scalar right) left.tree right.tree
+
+abbrev pub negated : Operand → Answer
+negated condition = given (typed.opposite condition.tree) condition.kind
+
+-- a scalar in a list of scalars of its family, any of which may be nil
+abbrev pub member_of : ℕ → Option Scalar → Option Scalar → Typed → Typed → Answer
+member_of at (Some m) (Some n) operand list = where_wanted at (same_family (family_in m) (family_in n)) (typed.within operand list) truth
+member_of at m n operand list = Err (WrongOperand at)
+
+-- ---- operators
+
+abbrev pub unary_of : ℕ → Unary → Operand → Answer
+unary_of at unaries.Minus operand = negative_of at (numbers operand) (made_plain operand)
+unary_of at unaries.Plus operand = positive_of at (numbers operand) (made_plain operand)
+unary_of at unaries.Not operand = where_wanted at (is_truth operand) (typed.opposite (made_plain operand)) truth
+
+abbrev pub sum_of : ℕ → Arithmetic → Operand → Operand → Answer
+sum_of at operator left right = arithmetic_of at operator (numbers left) (numbers right) (made_plain left) (made_plain right)
+
+abbrev pub order_of : ℕ → Order → Operand → Operand → Answer
+order_of at order left right = ordered_of at order (numbers left) (numbers right) (made_plain left) (made_plain right)
+
+abbrev pub comparison_of : ℕ → Comparison → (nil_left nil_right : Bool) → Operand → Operand → Answer
+comparison_of at comparisons.Equal nil_left nil_right left right = equality_of at nil_left nil_right left right
+comparison_of at comparisons.NotEqual nil_left nil_right left right = equality_of at nil_left nil_right left right >>= negated
+comparison_of at comparisons.Less nil_left nil_right left right = order_of at Less left right
+comparison_of at comparisons.LessOrEqual nil_left nil_right left right = order_of at LessOrEqual left right
+comparison_of at comparisons.Greater nil_left nil_right left right = order_of at Greater left right
+comparison_of at comparisons.GreaterOrEqual nil_left nil_right left right = order_of at GreaterOrEqual left right
+
+abbrev pub in_of : ℕ → Operand → Operand → Answer
+in_of at left right = item_shape at (plain_of right.kind) >>= λ shape. member_of at (scalar left) (scalar_of (plain shape)) left.tree (made_plain right)
+
+abbrev pub binary_of : ℕ → Binary → (nil_left nil_right : Bool) → Operand → Operand → Answer
+binary_of at binaries.Or nil_left nil_right left right = where_wanted at (is_truth left && is_truth right) (typed.either (made_plain left) (made_plain right)) truth
+binary_of at binaries.And nil_left nil_right left right = where_wanted at (is_truth left && is_truth right) (typed.both (made_plain left) (made_plain right)) truth
+binary_of at (binaries.Comparison comparison) nil_left nil_right left right = comparison_of at comparison nil_left nil_right left right
+binary_of at binaries.In nil_left nil_right left right = in_of at left right
+binary_of at binaries.NotIn nil_left nil_right left right = in_of at left right >>= negated
+binary_of at binaries.Add nil_left nil_right left right = sum_of at Add left right
+binary_of at binaries.Subtract nil_left nil_right left right = sum_of at Subtract left right
+binary_of at binaries.Multiply nil_left nil_right left right = sum_of at Multiply left right
+binary_of at binaries.Divide nil_left nil_right left right = sum_of at Divide left right
+binary_of at binaries.Remainder nil_left nil_right left right = sum_of at Remainder left right
+
+-- ---- branches, defaults, lists
+
+abbrev pub choice_in : ℕ → Option Kind → Bool → Typed → Answer
+choice_in at None is_truth tree = Err (NoCommonKind at)
+choice_in at (Some kind) is_truth tree = where_wanted at is_truth tree kind
+
+-- both branches have their common kind
+abbrev pub choice_of : ℕ → Operand → Operand → Operand → Answer
+choice_of at condition met unmet =
+    choice_in at (common met.kind unmet.kind) (is_truth condition)
+    (typed.choice (made_plain condition) (turned unmet.kind met.kind met.tree) (turned met.kind unmet.kind unmet.tree))
+
+abbrev pub plain_kind : Kind → Kind
+plain_kind nil = nil
+plain_kind (shaped shape) = shaped (plain shape)
+
+-- the common kind of what isn't nil, which may be nothing, and of what stands in for nil
+abbrev pub default_kind : Kind → Kind → Option Kind
+default_kind nil other = Some other
+default_kind (shaped shape) other = common (shaped shape) other
+
+abbrev pub in_common : ℕ → Typed → Option Kind → Answer
+in_common at tree (Some kind) = given tree kind
+in_common at tree None = Err (NoCommonKind at)
+
+abbrev pub default_of : ℕ → Operand → Operand → Answer
+default_of at first other =
+    in_common at (typed.otherwise (turned other.kind (plain_kind first.kind) first.tree) (turned (plain_kind first.kind) other.kind other.tree))
+    (default_kind (plain_kind first.kind) other.kind)
+
+-- ---- lists
+
+-- an item of a list literal, made plain: its place, what scalar it is, and its tree
+pub record Item : Type 0 where
+  pub at : ℕ
+  pub scalar : Option Scalar
+  pub tree : Typed
+
+abbrev pub item_of : ℕ → Operand → Item
+item_of at operand = record { at = at; scalar = scalar operand; tree = made_plain operand }
+
+-- the place of the first item that is no scalar
+abbrev pub no_scalar : List Item → Option ℕ
+no_scalar [] = None
+no_scalar (item ∷ items) = if is_some item.scalar then no_scalar items else Some item.at
+
+-- two scalars of one kind, or numbers, of which wholes are turned into decimals
+abbrev pub common_scalar : Option Scalar → Option Scalar → Option Scalar
+common_scalar (Some scalars.Bool) (Some scalars.Bool) = Some scalars.Bool
+common_scalar (Some scalars.Text) (Some scalars.Text) = Some scalars.Text
+common_scalar (Some scalars.Whole) (Some scalars.Whole) = Some scalars.Whole
+common_scalar (Some scalars.Whole) (Some scalars.Decimal) = Some scalars.Decimal
+common_scalar (Some scalars.Decimal) (Some scalars.Whole) = Some scalars.Decimal
+common_scalar (Some scalars.Decimal) (Some scalars.Decimal) = Some scalars.Decimal
+common_scalar left right = None
+
+-- what all items have in common with a scalar
+abbrev pub joined : Option Scalar → List Item → Option Scalar
+joined found [] = found
+joined found (item ∷ items) = joined (common_scalar found item.scalar) items
+
+abbrev pub common_of : List Item → Option Scalar
+common_of [] = None
+common_of (item ∷ items) = joined item.scalar items
+
+-- an item in a list of scalars
+abbrev pub turned_item : Scalar → Option Scalar → Typed → Typed
+turned_item scalars.Decimal (Some scalars.Whole) tree = typed.as_decimal tree
+turned_item wanted scalar tree = tree
+
+abbrev pub scalar_shape : Scalar → Shape
+scalar_shape scalars.Bool = shapes.bool
+scalar_shape scalars.Whole = shapes.whole
+scalar_shape scalars.Decimal = shapes.decimal
+scalar_shape scalars.Text = shapes.text
+
+abbrev pub list_in_common : ℕ → List Item → Option Scalar → Answer
+list_in_common at items (Some scalar) =
+    given (typed.listed scalar (typeds (map (λ item. turned_item scalar item.scalar item.tree) items))) (shaped (shapes.list (scalar_shape scalar) (length items)))
+list_in_common at items None = Err (NoCommonKind at)
+
+abbrev pub list_of : ℕ → List Item → Option ℕ → Answer
+list_of at items (Some place) = Err (NotScalar place)
+list_of at items None = list_in_common at items (common_of items)
+
+-- ---- predicates
+
+-- how many predicates may stand in one another
+abbrev pub most_predicates : ℕ
+most_predicates = 4
+
+-- one more predicate, inside so many others
+abbrev pub entered : ℕ → ℕ → Shape → Result Shape TypeError
+entered at around shape = if nat_lt around most_predicates then Ok shape else Err (PredicatesTooDeep at)
+
+-- what holds of an item: whether that is a truth value, and its tree
+abbrev pub body_of : Operand → Result (Bool × Typed) TypeError
+body_of body = Ok (is_truth body, made_plain body)
+
+-- what holds of the items of a list, by what is typed where an item has their shape
+unfoldable pub over_items : ℕ → ℕ → Kind → (Shape → Answer) → Result (Bool × Typed) TypeError
+over_items at around list typed = do
+  shape ← item_shape at (plain_of list)
+  inside ← entered at around shape
+  body ← typed inside
+  body_of body
+
+-- the kind of what a predicate makes of a list
+abbrev pub predicate_kind : Predicate → Kind → Kind
+predicate_kind predicates.All list = truth
+predicate_kind predicates.Any list = truth
+predicate_kind predicates.Count list = shaped shapes.whole
+predicate_kind predicates.Filter list = list
+
+abbrev pub predicate_of : ℕ → Predicate → Operand → Bool → Typed → Answer
+predicate_of at predicate list is_truth body =
+    where_wanted at is_truth (typed.predicate predicate (made_plain list) body) (predicate_kind predicate (plain_kind list.kind))
+
+-- ---- conditions
+
+abbrev mutual
+  -- A tree where `result` has a shape, and so does the innermost item, inside so many predicates.
+  pub typed_of : Shape → Option Shape → ℕ → Expression → Answer
+  typed_of result item around (trees.ResultAt at) = given typed.result (shaped result)
+  typed_of result item around (trees.ItemAt at) = item_at at item
+  typed_of result item around (trees.LiteralAt at literal) = given (typed.literal literal) (literal_kind literal)
+  typed_of result item around (trees.FieldAt at whole name) = do
+    whole ← typed_of result item around whole
+    field_of at name whole
+  typed_of result item around (trees.IndexAt at list index) = do
+    list ← typed_of result item around list
+    index ← typed_of result item around index
+    index_of at list index
+  typed_of result item around (trees.UnaryAt at operator operand) = do
+    operand ← typed_of result item around operand
+    unary_of at operator operand
+  typed_of result item around (trees.BinaryAt at operator left right) = do
+    first ← typed_of result item around left
+    second ← typed_of result item around right
+    binary_of at operator (is_nil_literal left) (is_nil_literal right) first second
+  typed_of result item around (trees.ChoiceAt at condition met unmet) = do
+    condition ← typed_of result item around condition
+    met ← typed_of result item around met
+    unmet ← typed_of result item around unmet
+    choice_of at condition met unmet
+  typed_of result item around (trees.ListAt at items) = do
+    items ← items_typed result item around items
+    list_of at items (no_scalar items)
+  typed_of result item around (trees.LenAt at list) = do
+    list ← typed_of result item around list
+    len_of at list
+  typed_of result item around (trees.IsNilAt at operand) = do
+    operand ← typed_of result item around operand
+    given (typed.is_nil operand.tree) truth
+  typed_of result item around (trees.DefaultAt at operand otherwise) = do
+    operand ← typed_of result item around operand
+    otherwise ← typed_of result item around otherwise
+    default_of at operand otherwise
+  typed_of result item around (trees.PredicateAt at predicate list body) = do
+    list ← typed_of result item around list
+    holds ← over_items at around list.kind (λ shape. typed_of result (Some shape) (suc around) body)
+    predicate_of at predicate list holds.0 holds.1
+
+  pub items_typed : Shape → Option Shape → ℕ → Expressions → Result (List Item) TypeError
+  items_typed result item around trees.none = Ok []
+  items_typed result item around (trees.more first others) = do
+    operand ← typed_of result item around first
+    items ← items_typed result item around others
+    Ok (item_of (place_of first) operand ∷ items)
+
+-- an item of a list literal
+abbrev pub item_typed : Shape → Option Shape → ℕ → Expression → Result Item TypeError
+item_typed result item around tree = typed_of result item around tree >>= λ operand. Ok (item_of (place_of tree) operand)
+
+abbrev pub condition_of : ℕ → Operand → Result Typed TypeError
+condition_of at operand = if is_truth operand then Ok (made_plain operand) else Err (NotTruth at)
+
+-- the typed tree of a condition: a truth value, made plain
+abbrev pub checked : Shape → Expression → Result Typed TypeError
+checked result tree = typed_of result None 0 tree >>= condition_of (place_of tree)

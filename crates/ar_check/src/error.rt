@@ -1,0 +1,53 @@
+//! Why a condition has no kinds.
+
+ghost use Rattle.std.specs.Prelude.{◌≡◌};
+ghost use Rattle.ar_check.specs.declared.error.TypeError.TheVariants.{OutOfMemory};
+
+use std::alloc::{AllocError, AllocFailed};
+use thiserror::Error;
+
+/// Why a condition has no kinds where `result` has a shape. A number is the place of the tree that
+/// wants something else: a byte offset from 0.
+#[derive(Clone, Copy, Debug, PartialEq, Eq, Error)]
+pub enum TypeError {
+    /// An operand isn't of a kind that the operator, call or field here takes.
+    #[error("byte {0}: WrongOperand: an operand here has another kind than is wanted")]
+    WrongOperand(usize),
+    /// The record has no field of this name.
+    #[error("byte {0}: NoSuchField: the record has no such field")]
+    NoSuchField(usize),
+    /// A list is wanted here.
+    #[error("byte {0}: NotAList: expected a list, as of the shape {{\"list\":shape,\"max\":number}}")]
+    NotAList(usize),
+    /// Both branches, all items, or a value and its default have no kind in common.
+    #[error("byte {0}: NoCommonKind: expected values of one kind, or wholes beside decimals")]
+    NoCommonKind(usize),
+    /// The item of a list here is no scalar.
+    #[error("byte {0}: NotScalar: expected a truth value, a number or a text")]
+    NotScalar(usize),
+    /// The whole condition is no truth value.
+    #[error("byte {0}: NotTruth: a condition is true or false")]
+    NotTruth(usize),
+    /// A predicate stands inside four others.
+    #[error("byte {0}: PredicatesTooDeep: at most four predicates stand in one another")]
+    PredicatesTooDeep(usize),
+    /// A growth of memory was refused.
+    #[error("out of memory")]
+    OutOfMemory,
+}
+
+impl From<AllocError> for TypeError {
+    ghost from_gives = { λ _ e. e ≡ OutOfMemory };
+
+    fn from(_error: AllocError) -> TypeError {
+        TypeError::OutOfMemory
+    }
+}
+
+impl<T: Drop> From<AllocFailed<T>> for TypeError {
+    ghost from_gives = { λ _ e. e ≡ OutOfMemory };
+
+    fn from(_error: AllocFailed<T>) -> TypeError {
+        TypeError::OutOfMemory
+    }
+}

@@ -1,0 +1,32 @@
+//! The kinds of conditions: from the tree of a condition to its typed tree, where `result` has a
+//! declared shape.
+//!
+//! [`check`] answers the typed tree, in which each operand that is made plain or turned into decimal
+//! is marked, or the first fault of kinds with its place. Only want of memory can keep it from that.
+//! A checked condition, on a value of its shape, is true or false or meets one of four faults.
+//!
+//! - [`typed`]: what a condition says once its kinds are known; `build` makes its nodes
+//! - `typing`: from a tree to its typed tree, by recursion no deeper than the tree
+//! - `operand`: a tree with its kind, whose shape is lent where it is a part of a declared one
+//! - `operators`, `list`: operators, and list literals, whose operands have kinds
+//! - [`error`]: why a condition has no kinds
+//! - [`laws`]: what holds of all checked conditions
+//!
+//! In `specs`, `Typed` has typed trees, `Operand` says what is made of operands where a plain kind
+//! or a decimal is wanted, and `Check` goes through the constructs one by one: what each wants and
+//! gives, and its faults. `Meaning` defines what a typed condition means on a value.
+#![tactic(auto)]
+
+mod build;
+pub mod error;
+pub mod laws;
+mod list;
+mod operand;
+mod operators;
+pub mod typed;
+mod typing;
+
+pub use typing::check;
+
+#[cfg(test)]
+mod tests;

@@ -1,0 +1,122 @@
+//! List literals.
+
+ghost use Rattle.std.specs.Prelude.{◌≡◌, IfOk, map};
+ghost use Rattle.ar_value.specs.Answer.{Gives};
+ghost use Rattle.ar_value.specs.Kind.{shaped};
+ghost use Rattle.ar_value.specs.Shape.{list};
+ghost use Rattle.ar_value.specs.View.{shape_view};
+ghost use Rattle.ar_check.specs.Check.{common_of, common_scalar, joined, list_of, no_scalar, scalar_shape, turned_item};
+ghost use Rattle.ar_check.specs.Views.{is_memory, item_view, kind_view, operand_view, typed_view};
+
+use crate::build::{as_decimal, listed};
+use crate::error::TypeError;
+use crate::operand::{Kind, Operand};
+use crate::typed::{Scalar, Typed};
+use ar_value::shape::Shape;
+use std::alloc::{AllocError, Global};
+
+/// An item of a list literal, made plain.
+#[derive(Debug, Drop)]
+pub(crate) struct Item {
+    pub at: usize,
+    /// None where it is no scalar.
+    pub scalar: Option<Scalar>,
+    pub tree: Typed,
+}
+
+/// A list of items.
+pub(crate) fn list<'s>(alloc: Global, at: usize, items: Vec<Item>) -> Result<Operand<'s>, TypeError>
+    ensures { Gives is_memory operand_view result (list_of at (map item_view items.items) (no_scalar (map item_view items.items))) }
+{
+    if let Some(place) = no_scalar(&items) {
+        return Err(TypeError::NotScalar(place));
+    }
+    let Some(scalar) = common_of(&items) else {
+        return Err(TypeError::NoCommonKind(at));
+    };
+    let kind = list_kind(alloc, scalar, items.len())?;
+    let tree = listed(scalar, turned(alloc, scalar, items)?);
+    Ok(Operand { tree, kind })
+}
+
+/// The place of the first item that is no scalar.
+fn no_scalar(items: &[Item]) -> Option<usize>
+    ensures { result ≡ no_scalar (map item_view items.now) }
+{
+    for item in items {
+        if item.scalar.is_none() {
+            return Some(item.at);
+        }
+    }
+    None
+}
+
+/// What scalar all items are, once wholes beside decimals are turned.
+fn common_of(items: &[Item]) -> Option<Scalar>
+    ensures { result ≡ common_of (map item_view items.now) }
+{
+    let [first, others @ ..] = items else {
+        return None;
+    };
+    joined(first.scalar, others)
+}
+
+fn joined(first: Option<Scalar>, items: &[Item]) -> Option<Scalar>
+    ensures { result ≡ joined first (map item_view items.now) }
+{
+    let mut common = first;
+    for item in items {
+        common = common_scalar(common, item.scalar);
+    }
+    common
+}
+
+fn common_scalar(left: Option<Scalar>, right: Option<Scalar>) -> Option<Scalar>
+    ensures { result ≡ common_scalar left right }
+{
+    match (left?, right?) {
+        (Scalar::Bool, Scalar::Bool) => Some(Scalar::Bool),
+        (Scalar::Text, Scalar::Text) => Some(Scalar::Text),
+        (Scalar::Whole, Scalar::Whole) => Some(Scalar::Whole),
+        (Scalar::Whole | Scalar::Decimal, Scalar::Whole | Scalar::Decimal) => Some(Scalar::Decimal),
+        _ => None,
+    }
+}
+
+/// The trees of items in a list of scalars.
+fn turned(alloc: Global, scalar: Scalar, items: Vec<Item>) -> Result<Vec<Typed>, AllocError>
+    ensures { IfOk result (λ trees. map typed_view trees.items ≡ map (λ item. turned_item scalar item.scalar item.tree) (map item_view items.items)) }
+{
+    let mut trees = Vec::with_capacity(alloc, items.len())?;
+    for item in items {
+        trees.push(turned_item(alloc, scalar, item)?)?;
+    }
+    Ok(trees)
+}
+
+fn turned_item(alloc: Global, scalar: Scalar, item: Item) -> Result<Typed, AllocError>
+    ensures { IfOk result (λ tree. typed_view tree ≡ turned_item scalar (item_view item).scalar (item_view item).tree) }
+{
+    match (scalar, item.scalar) {
+        (Scalar::Decimal, Some(Scalar::Whole)) => as_decimal(alloc, item.tree),
+        _ => Ok(item.tree),
+    }
+}
+
+fn list_kind<'s>(alloc: Global, scalar: Scalar, max: usize) -> Result<Kind<'s>, AllocError>
+    ensures { IfOk result (λ kind. kind_view kind ≡ shaped (list (scalar_shape scalar) max)) }
+{
+    let item = Box::new(alloc, scalar_shape(scalar))?;
+    Ok(Kind::Made(Shape::List { item, max }))
+}
+
+fn scalar_shape(scalar: Scalar) -> Shape
+    ensures { shape_view result ≡ scalar_shape scalar }
+{
+    match scalar {
+        Scalar::Bool => Shape::Bool,
+        Scalar::Whole => Shape::Whole,
+        Scalar::Decimal => Shape::Decimal,
+        Scalar::Text => Shape::Text,
+    }
+}

@@ -1,0 +1,248 @@
+//! Operands whose kinds are known.
+
+ghost use Rattle.std.specs.Prelude.{◌≡◌, IfOk, map, option_and_then, option_map};
+ghost use Rattle.ar_value.specs.Answer.{Gives};
+ghost use Rattle.ar_value.specs.Kind.{common, shaped};
+ghost use Rattle.ar_value.specs.Shape.{field_shapes_of};
+ghost use Rattle.ar_value.specs.View as values;
+ghost use Rattle.ar_value.specs.View.{field_shape_view, shape_view};
+ghost use Rattle.ar_check.specs.Check.{field_shape, item_shape, plain_kind, shape_named};
+ghost use Rattle.ar_check.specs.Operand.{is_bool, is_truth, is_whole, made_plain, numbers, numbers_in, plain_of, plain_tree, scalar, scalar_of, turned};
+ghost use Rattle.ar_check.specs.Views.{is_memory, kind_view, operand_view, shaped_answer, typed_view};
+
+use crate::build::{as_decimal, plain};
+use crate::error::TypeError;
+use crate::typed::{Numbers, Scalar, Typed};
+use ar_value::kind;
+use ar_value::shape::{FieldShape, Shape};
+use std::alloc::{AllocError, Global};
+
+/// The kind of an operand: that of the literal `nil`, or a shape, which is lent where it is a part
+/// of a declared one.
+#[derive(Debug, Drop)]
+pub(crate) enum Kind<'s> {
+    Nil,
+    Declared(&'s Shape),
+    Made(Shape),
+}
+
+/// A tree with its kind.
+#[derive(Debug, Drop)]
+pub(crate) struct Operand<'s> {
+    pub tree: Typed,
+    pub kind: Kind<'s>,
+}
+
+/// The shape of what isn't nil.
+pub(crate) fn plain_shape<'a>(kind: &'a Kind<'_>) -> Option<&'a Shape>
+    ensures { option_map (λ shape. shape_view shape.now) result ≡ plain_of (kind_view kind.now) }
+{
+    match kind {
+        Kind::Nil => None,
+        Kind::Declared(shape) => Some(kind::plain(shape)),
+        Kind::Made(shape) => Some(kind::plain(shape)),
+    }
+}
+
+/// A tree made plain, where its kind says that it may be nil.
+pub(crate) fn plain_tree(alloc: Global, kind: &Kind<'_>, tree: Typed) -> Result<Typed, AllocError>
+    ensures { IfOk result (λ made. typed_view made ≡ plain_tree (kind_view kind.now) (typed_view tree)) }
+{
+    let is_optional = match kind {
+        Kind::Nil => false,
+        Kind::Declared(shape) => kind::is_optional(shape),
+        Kind::Made(shape) => kind::is_optional(shape),
+    };
+    if is_optional {
+        plain(alloc, tree)
+    } else {
+        Ok(tree)
+    }
+}
+
+/// An operand made plain.
+pub(crate) fn made_plain(alloc: Global, operand: Operand<'_>) -> Result<Typed, AllocError>
+    ensures { IfOk result (λ made. typed_view made ≡ made_plain (operand_view operand.entry)) }
+{
+    let Operand { tree, kind } = operand;
+    plain_tree(alloc, &kind, tree)
+}
+
+pub(crate) fn scalar_of(shape: &Shape) -> Option<Scalar>
+    ensures { result ≡ scalar_of (shape_view shape.now) }
+{
+    match shape {
+        Shape::Bool => Some(Scalar::Bool),
+        Shape::Whole => Some(Scalar::Whole),
+        Shape::Decimal => Some(Scalar::Decimal),
+        Shape::Text => Some(Scalar::Text),
+        Shape::List { .. } | Shape::Object(_) | Shape::Optional(_) => None,
+    }
+}
+
+/// What scalar an operand is once it is plain.
+pub(crate) fn scalar(operand: &Operand<'_>) -> Option<Scalar>
+    ensures { result ≡ scalar (operand_view operand.now) }
+{
+    scalar_of(plain_shape(&operand.kind)?)
+}
+
+/// What numbers an operand has once it is plain.
+pub(crate) fn numbers(operand: &Operand<'_>) -> Option<Numbers>
+    ensures { result ≡ numbers (operand_view operand.now) }
+{
+    match scalar(operand)? {
+        Scalar::Whole => Some(Numbers::Wholes),
+        Scalar::Decimal => Some(Numbers::Decimals),
+        Scalar::Bool | Scalar::Text => None,
+    }
+}
+
+/// Whether an operand is a truth value once it is plain.
+pub(crate) fn is_truth(operand: &Operand<'_>) -> bool
+    ensures { result ≡ is_truth (operand_view operand.now) }
+{
+    matches!(scalar(operand), Some(Scalar::Bool))
+}
+
+fn shape_named<'a>(fields: &'a [FieldShape], name: &[u8]) -> Option<&'a Shape>
+    ensures { option_map (λ shape. shape_view shape.now) result ≡ shape_named name.now (field_shapes_of (map field_shape_view fields.now)) }
+{
+    for field in fields {
+        if field.name.as_str().as_bytes() == name {
+            return Some(&field.shape);
+        }
+    }
+    None
+}
+
+fn field_in<'a>(at: usize, name: &[u8], shape: &'a Shape) -> Result<&'a Shape, TypeError>
+    ensures { Gives is_memory (λ found. shape_view found.now) result (field_shape at name.now (plain_of (shaped (shape_view shape.now)))) }
+{
+    match kind::plain(shape) {
+        Shape::Object(fields) => match shape_named(&fields.items, name) {
+            Some(found) => Ok(found),
+            None => Err(TypeError::NoSuchField(at)),
+        },
+        Shape::Bool
+        | Shape::Whole
+        | Shape::Decimal
+        | Shape::Text
+        | Shape::List { .. }
+        | Shape::Optional(_) => Err(TypeError::WrongOperand(at)),
+    }
+}
+
+/// The kind of a record's field.
+pub(crate) fn field_kind<'s>(
+    alloc: Global,
+    at: usize,
+    name: &[u8],
+    kind: &Kind<'s>,
+) -> Result<Kind<'s>, TypeError>
+    ensures { Gives is_memory kind_view result (shaped_answer (field_shape at name.now (plain_of (kind_view kind.now)))) }
+{
+    match kind {
+        Kind::Nil => Err(TypeError::WrongOperand(at)),
+        Kind::Declared(shape) => Ok(Kind::Declared(field_in(at, name, shape)?)),
+        Kind::Made(shape) => Ok(Kind::Made(field_in(at, name, shape)?.copy(alloc)?)),
+    }
+}
+
+fn item_in(at: usize, shape: &Shape) -> Result<&Shape, TypeError>
+    ensures { Gives is_memory (λ found. shape_view found.now) result (item_shape at (plain_of (shaped (shape_view shape.now)))) }
+{
+    match kind::plain(shape) {
+        Shape::List { item, .. } => Ok(item),
+        Shape::Bool
+        | Shape::Whole
+        | Shape::Decimal
+        | Shape::Text
+        | Shape::Object(_)
+        | Shape::Optional(_) => Err(TypeError::NotAList(at)),
+    }
+}
+
+/// The shape of a list's items.
+pub(crate) fn item_shape<'a>(at: usize, kind: &'a Kind<'_>) -> Result<&'a Shape, TypeError>
+    ensures { Gives is_memory (λ found. shape_view found.now) result (item_shape at (plain_of (kind_view kind.now))) }
+{
+    match kind {
+        Kind::Nil => Err(TypeError::NotAList(at)),
+        Kind::Declared(shape) => item_in(at, shape),
+        Kind::Made(shape) => item_in(at, shape),
+    }
+}
+
+/// The kind of a list's items.
+pub(crate) fn item_kind<'s>(
+    alloc: Global,
+    at: usize,
+    kind: &Kind<'s>,
+) -> Result<Kind<'s>, TypeError>
+    ensures { Gives is_memory kind_view result (shaped_answer (item_shape at (plain_of (kind_view kind.now)))) }
+{
+    match kind {
+        Kind::Nil => Err(TypeError::NotAList(at)),
+        Kind::Declared(shape) => Ok(Kind::Declared(item_in(at, shape)?)),
+        Kind::Made(shape) => Ok(Kind::Made(item_in(at, shape)?.copy(alloc)?)),
+    }
+}
+
+/// The kind without nil.
+pub(crate) fn plain_kind<'s>(alloc: Global, kind: &Kind<'s>) -> Result<Kind<'s>, AllocError>
+    ensures { IfOk result (λ plain. kind_view plain ≡ plain_kind (kind_view kind.now)) }
+{
+    match kind {
+        Kind::Nil => Ok(Kind::Nil),
+        Kind::Declared(shape) => Ok(Kind::Declared(kind::plain(shape))),
+        Kind::Made(shape) => Ok(Kind::Made(kind::plain(shape).copy(alloc)?)),
+    }
+}
+
+/// The kind with its shape owned.
+fn owned(alloc: Global, kind: &Kind<'_>) -> Result<kind::Kind, AllocError>
+    ensures { IfOk result (λ owned. values.kind_view owned ≡ kind_view kind.now) }
+{
+    match kind {
+        Kind::Nil => Ok(kind::Kind::Nil),
+        Kind::Declared(shape) => Ok(kind::Kind::Shape(shape.copy(alloc)?)),
+        Kind::Made(shape) => Ok(kind::Kind::Shape(shape.copy(alloc)?)),
+    }
+}
+
+/// The kind that two have in common.
+pub(crate) fn common<'s>(
+    alloc: Global,
+    left: &Kind<'_>,
+    right: &Kind<'_>,
+) -> Result<Option<Kind<'s>>, AllocError>
+    ensures { IfOk result (λ kind. option_map kind_view kind ≡ common (kind_view left.now) (kind_view right.now)) }
+{
+    let left = owned(alloc, left)?;
+    let right = owned(alloc, right)?;
+    match kind::common(alloc, &left, &right)? {
+        Some(kind::Kind::Nil) => Ok(Some(Kind::Nil)),
+        Some(kind::Kind::Shape(shape)) => Ok(Some(Kind::Made(shape))),
+        None => Ok(None),
+    }
+}
+
+/// A tree of a kind, as a decimal where it is a whole beside a decimal.
+pub(crate) fn turned(
+    alloc: Global,
+    other: &Kind<'_>,
+    kind: &Kind<'_>,
+    tree: Typed,
+) -> Result<Typed, AllocError>
+    ensures { IfOk result (λ made. typed_view made ≡ turned (kind_view other.now) (kind_view kind.now) (typed_view tree)) }
+{
+    let (Some(other), Some(shape)) = (plain_shape(other), plain_shape(kind)) else {
+        return Ok(tree);
+    };
+    if matches!(other, Shape::Decimal) && matches!(shape, Shape::Whole) {
+        as_decimal(alloc, tree)
+    } else {
+        Ok(tree)
+    }
+}

@@ -1,0 +1,389 @@
+//! From the tree of a condition to its typed tree.
+
+ghost use Rattle.std.specs.Prelude.{◌≡◌, suc, IfOk, map, Some, option_map};
+ghost use Rattle.ar_value.specs.Answer.{Gives};
+ghost use Rattle.ar_value.specs.View.{shape_view};
+ghost use Rattle.ar_syntax.specs.Expression.{expressions};
+ghost use Rattle.ar_syntax.specs.Views.{expression_of};
+ghost use Rattle.ar_check.specs.Check.{checked, choice_of, default_kind, default_of, field_of, given, index_of, is_nil_literal, item_at, item_typed, items_typed, len_of, literal_kind, over_items, plain_kind, predicate_kind, predicate_of, truth, typed_of};
+ghost use Rattle.ar_check.specs.Operand.{operand};
+ghost use Rattle.ar_check.specs.Typed as typed;
+ghost use Rattle.ar_check.specs.Views.{is_memory, item_view, kind_view, operand_view, typed_view};
+
+use crate::build::{choice, field, index, is_nil, len, otherwise, predicate};
+use crate::error::TypeError;
+use crate::list::{Item, list};
+use crate::operand::{
+    Kind, Operand, common, field_kind, is_truth, item_kind, item_shape, made_plain, plain_kind,
+    scalar, turned,
+};
+use crate::operators::{binary, truth, unary, where_wanted};
+use crate::typed::{Scalar, Typed};
+use ar_syntax::text::Text;
+use ar_syntax::tree::{Literal, Predicate, Tree};
+use ar_value::shape::Shape;
+use std::alloc::{AllocError, Global};
+
+/// How many predicates may stand in one another.
+const MOST_PREDICATES: usize = 4;
+
+/// The typed tree of a condition where `result` has a shape. Children come first, from left to
+/// right.
+///
+/// # Errors
+///
+/// The first fault in that order, with the place of the tree that wants something else. At one tree
+/// `NotAList`, `NoSuchField`, `NotScalar` and `NoCommonKind` go before `WrongOperand`. `NotTruth`
+/// where the whole is no truth value.
+pub fn check(alloc: Global, tree: Tree, shape: &Shape) -> Result<Typed, TypeError>
+    ensures exact { Gives is_memory typed_view result (checked (shape_view shape.now) (expression_of tree)) }
+{
+    let at = tree.place();
+    let condition = typed(alloc, tree, shape, None, 0)?;
+    if is_truth(&condition) {
+        Ok(made_plain(alloc, condition)?)
+    } else {
+        Err(TypeError::NotTruth(at))
+    }
+}
+
+/// A tree where `result` has a shape, and so has the innermost item, inside so many predicates.
+#[cycle(typed)]
+fn typed<'s>(
+    alloc: Global,
+    tree: Tree,
+    measured: &'s Shape,
+    item: Option<&'s Shape>,
+    around: usize,
+) -> Result<Operand<'s>, TypeError>
+    ensures { Gives is_memory operand_view result (typed_of (shape_view measured.now) (option_map (λ shape. shape_view shape.now) item.entry) around (expression_of tree)) }
+{
+    match tree {
+        Tree::Result { .. } => Ok(Operand {
+            tree: Typed::Result,
+            kind: Kind::Declared(measured),
+        }),
+        Tree::Item { at } => item_of(at, item),
+        Tree::Literal { literal, .. } => Ok(literal_of(literal)),
+        Tree::Field { at, whole, name } => {
+            let whole = typed(alloc, Box::into_inner(whole), measured, item, around)?;
+            field_of(alloc, at, name, whole)
+        }
+        Tree::Index { at, list, index } => {
+            let list = typed(alloc, Box::into_inner(list), measured, item, around)?;
+            let index = typed(alloc, Box::into_inner(index), measured, item, around)?;
+            index_of(alloc, at, list, index)
+        }
+        Tree::Unary {
+            at,
+            operator,
+            operand,
+        } => {
+            let operand = typed(alloc, Box::into_inner(operand), measured, item, around)?;
+            unary(alloc, at, operator, operand)
+        }
+        Tree::Binary {
+            at,
+            operator,
+            left,
+            right,
+        } => {
+            let nil_left = is_nil_literal(&left);
+            let nil_right = is_nil_literal(&right);
+            let left = typed(alloc, Box::into_inner(left), measured, item, around)?;
+            let right = typed(alloc, Box::into_inner(right), measured, item, around)?;
+            binary(alloc, at, operator, nil_left, nil_right, left, right)
+        }
+        Tree::Choice {
+            at,
+            condition,
+            yes,
+            no,
+        } => {
+            let condition = typed(alloc, Box::into_inner(condition), measured, item, around)?;
+            let yes = typed(alloc, Box::into_inner(yes), measured, item, around)?;
+            let no = typed(alloc, Box::into_inner(no), measured, item, around)?;
+            choice_of(alloc, at, condition, yes, no)
+        }
+        Tree::List { at, items } => {
+            let items = typed_items(alloc, items, measured, item, around)?;
+            list(alloc, at, items)
+        }
+        Tree::Len { at, list } => {
+            let list = typed(alloc, Box::into_inner(list), measured, item, around)?;
+            len_of(alloc, at, list)
+        }
+        Tree::IsNil { operand, .. } => {
+            let operand = typed(alloc, Box::into_inner(operand), measured, item, around)?;
+            is_nil_of(alloc, operand)
+        }
+        Tree::Default {
+            at,
+            operand,
+            otherwise,
+        } => {
+            let operand = typed(alloc, Box::into_inner(operand), measured, item, around)?;
+            let otherwise = typed(alloc, Box::into_inner(otherwise), measured, item, around)?;
+            default_of(alloc, at, operand, otherwise)
+        }
+        Tree::Predicate {
+            at,
+            predicate,
+            list,
+            body,
+        } => {
+            let list = typed(alloc, Box::into_inner(list), measured, item, around)?;
+            let body = typed_body(alloc, at, body, &list.kind, measured, around)?;
+            predicate_of(alloc, at, predicate, list, body)
+        }
+    }
+}
+
+/// The items of a list literal, made plain.
+#[cycle(typed)]
+#[tactic(auto, using(crate::proofs::Items::all_left))]
+fn typed_items(
+    alloc: Global,
+    trees: Vec<Tree>,
+    measured: &Shape,
+    item: Option<&Shape>,
+    around: usize,
+) -> Result<Vec<Item>, TypeError>
+    ensures { Gives is_memory (λ items. map item_view items.items) result (items_typed (shape_view measured.now) (option_map (λ shape. shape_view shape.now) item.entry) around (expressions (map expression_of trees.items))) }
+{
+    let mut items = Vec::with_capacity(alloc, trees.len())?;
+    for tree in trees {
+        items.push(typed_item(alloc, tree, measured, item, around)?)?;
+    }
+    Ok(items)
+}
+
+/// An item of a list literal, made plain.
+#[cycle(typed)]
+fn typed_item(
+    alloc: Global,
+    tree: Tree,
+    measured: &Shape,
+    item: Option<&Shape>,
+    around: usize,
+) -> Result<Item, TypeError>
+    ensures { Gives is_memory item_view result (item_typed (shape_view measured.now) (option_map (λ shape. shape_view shape.now) item.entry) around (expression_of tree)) }
+{
+    let at = tree.place();
+    let operand = typed(alloc, tree, measured, item, around)?;
+    let scalar = scalar(&operand);
+    let tree = made_plain(alloc, operand)?;
+    Ok(Item { at, scalar, tree })
+}
+
+/// What a predicate says of the items of a list: whether it is a truth value, and its tree.
+#[cycle(typed)]
+#[tactic(auto, unfolding(crate::specs::Check::over_items))]
+fn typed_body(
+    alloc: Global,
+    at: usize,
+    body: Box<Tree>,
+    list: &Kind<'_>,
+    measured: &Shape,
+    around: usize,
+) -> Result<(bool, Typed), TypeError>
+    ensures { Gives is_memory (λ found. (found.0, typed_view found.1)) result (over_items at around (kind_view list.now) (λ shape. typed_of (shape_view measured.now) (Some shape) (suc around) (expression_of body.value))) }
+{
+    let shape = item_shape(at, list)?;
+    if around >= MOST_PREDICATES {
+        return Err(TypeError::PredicatesTooDeep(at));
+    }
+    let body = typed(
+        alloc,
+        Box::into_inner(body),
+        measured,
+        Some(shape),
+        around + 1,
+    )?;
+    let is_truth = is_truth(&body);
+    let tree = made_plain(alloc, body)?;
+    Ok((is_truth, tree))
+}
+
+fn item_of(at: usize, item: Option<&Shape>) -> Result<Operand<'_>, TypeError>
+    ensures { Gives is_memory operand_view result (item_at at (option_map (λ shape. shape_view shape.now) item.entry)) }
+{
+    match item {
+        Some(shape) => Ok(Operand {
+            tree: Typed::Item,
+            kind: Kind::Declared(shape),
+        }),
+        None => Err(TypeError::WrongOperand(at)),
+    }
+}
+
+fn literal_of<'s>(literal: Literal) -> Operand<'s>
+    ensures { operand_view result ≡ operand (typed.literal literal) (literal_kind literal) }
+{
+    let kind = match &literal {
+        Literal::Nil => Kind::Nil,
+        Literal::Bool(_) => Kind::Made(Shape::Bool),
+        Literal::Whole(_) => Kind::Made(Shape::Whole),
+        Literal::Decimal(_) => Kind::Made(Shape::Decimal),
+        Literal::Text(_) => Kind::Made(Shape::Text),
+    };
+    Operand {
+        tree: Typed::Literal(literal),
+        kind,
+    }
+}
+
+fn is_nil_of<'s>(alloc: Global, operand: Operand<'_>) -> Result<Operand<'s>, TypeError>
+    ensures { Gives is_memory operand_view result (given (typed.is_nil (operand_view operand.entry).tree) truth) }
+{
+    let tree = is_nil(alloc, operand.tree)?;
+    let kind = truth();
+    Ok(Operand { tree, kind })
+}
+
+/// Whether a tree is the literal `nil`.
+fn is_nil_literal(tree: &Tree) -> bool
+    ensures { result ≡ is_nil_literal (expression_of tree.now) }
+{
+    match tree {
+        Tree::Literal { literal, .. } => matches!(literal, Literal::Nil),
+        _ => false,
+    }
+}
+
+fn field_of<'s>(
+    alloc: Global,
+    at: usize,
+    name: Text,
+    whole: Operand<'s>,
+) -> Result<Operand<'s>, TypeError>
+    ensures { Gives is_memory operand_view result (field_of at name (operand_view whole.entry)) }
+{
+    let kind = field_kind(alloc, at, name.as_bytes(), &whole.kind)?;
+    let tree = field(alloc, made_plain(alloc, whole)?, name)?;
+    Ok(Operand { tree, kind })
+}
+
+fn index_of<'s>(
+    alloc: Global,
+    at: usize,
+    list: Operand<'s>,
+    position: Operand<'_>,
+) -> Result<Operand<'s>, TypeError>
+    ensures { Gives is_memory operand_view result (index_of at (operand_view list.entry) (operand_view position.entry)) }
+{
+    let kind = item_kind(alloc, at, &list.kind)?;
+    let wanted = matches!(scalar(&position), Some(Scalar::Whole));
+    let list = made_plain(alloc, list)?;
+    let tree = index(alloc, list, made_plain(alloc, position)?)?;
+    where_wanted(at, wanted, tree, kind)
+}
+
+fn len_of<'s>(alloc: Global, at: usize, list: Operand<'_>) -> Result<Operand<'s>, TypeError>
+    ensures { Gives is_memory operand_view result (len_of at (operand_view list.entry)) }
+{
+    item_shape(at, &list.kind)?;
+    let tree = len(alloc, made_plain(alloc, list)?)?;
+    let kind = Kind::Made(Shape::Whole);
+    Ok(Operand { tree, kind })
+}
+
+/// One of two branches, which have their common kind.
+fn choice_of<'s>(
+    alloc: Global,
+    at: usize,
+    condition: Operand<'_>,
+    yes: Operand<'_>,
+    no: Operand<'_>,
+) -> Result<Operand<'s>, TypeError>
+    ensures { Gives is_memory operand_view result (choice_of at (operand_view condition.entry) (operand_view yes.entry) (operand_view no.entry)) }
+{
+    let Operand {
+        tree: met,
+        kind: of_met,
+    } = yes;
+    let Operand {
+        tree: unmet,
+        kind: of_unmet,
+    } = no;
+    let Some(kind) = common(alloc, &of_met, &of_unmet)? else {
+        return Err(TypeError::NoCommonKind(at));
+    };
+    let wanted = is_truth(&condition);
+    let condition = made_plain(alloc, condition)?;
+    let met = turned(alloc, &of_unmet, &of_met, met)?;
+    let unmet = turned(alloc, &of_met, &of_unmet, unmet)?;
+    let tree = choice(alloc, condition, met, unmet)?;
+    where_wanted(at, wanted, tree, kind)
+}
+
+/// An operand, or what stands in where it is nil.
+fn default_of<'s>(
+    alloc: Global,
+    at: usize,
+    first: Operand<'_>,
+    other: Operand<'s>,
+) -> Result<Operand<'s>, TypeError>
+    ensures { Gives is_memory operand_view result (default_of at (operand_view first.entry) (operand_view other.entry)) }
+{
+    let Operand {
+        tree: left,
+        kind: of_left,
+    } = first;
+    let Operand {
+        tree: right,
+        kind: of_right,
+    } = other;
+    let plain = plain_kind(alloc, &of_left)?;
+    let left = turned(alloc, &of_right, &plain, left)?;
+    let right = turned(alloc, &plain, &of_right, right)?;
+    let tree = otherwise(alloc, left, right)?;
+    match default_kind(alloc, plain, of_right)? {
+        Some(kind) => Ok(Operand { tree, kind }),
+        None => Err(TypeError::NoCommonKind(at)),
+    }
+}
+
+/// The kind of a default: the other's where the first is always nil.
+fn default_kind<'s>(
+    alloc: Global,
+    plain: Kind<'_>,
+    other: Kind<'s>,
+) -> Result<Option<Kind<'s>>, AllocError>
+    ensures { IfOk result (λ kind. option_map kind_view kind ≡ default_kind (kind_view plain.entry) (kind_view other.entry)) }
+{
+    match plain {
+        Kind::Nil => Ok(Some(other)),
+        plain => common(alloc, &plain, &other),
+    }
+}
+
+fn predicate_of<'s>(
+    alloc: Global,
+    at: usize,
+    over: Predicate,
+    list: Operand<'s>,
+    body: (bool, Typed),
+) -> Result<Operand<'s>, TypeError>
+    ensures { Gives is_memory operand_view result (predicate_of at over (operand_view list.entry) body.0 (typed_view body.1)) }
+{
+    let kind = predicate_kind(alloc, over, &list.kind)?;
+    let (wanted, body) = body;
+    let tree = predicate(alloc, over, made_plain(alloc, list)?, body)?;
+    where_wanted(at, wanted, tree, kind)
+}
+
+/// The kind of what a predicate makes of a list.
+fn predicate_kind<'s>(
+    alloc: Global,
+    over: Predicate,
+    list: &Kind<'s>,
+) -> Result<Kind<'s>, AllocError>
+    ensures { IfOk result (λ kind. kind_view kind ≡ predicate_kind over (plain_kind (kind_view list.now))) }
+{
+    match over {
+        Predicate::All | Predicate::Any => Ok(truth()),
+        Predicate::Count => Ok(Kind::Made(Shape::Whole)),
+        Predicate::Filter => plain_kind(alloc, list),
+    }
+}
