@@ -8,3 +8,9 @@ pub mod Branches
 pub mod Lists
 pub mod Predicates
 pub mod Sound
+pub mod Tables
+pub mod OperatorTables
+pub mod SignTables
+pub mod ListTables
+pub mod ConstructTables
+pub mod KindTable

@@ -5,3 +5,4 @@ pub mod Operand
 pub mod Check
 pub mod Meaning
 pub mod Views
+pub mod Typing

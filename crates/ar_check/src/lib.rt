@@ -14,7 +14,8 @@
 //!
 //! In `specs`, `Typed` has typed trees, `Operand` says what is made of operands where a plain kind
 //! or a decimal is wanted, and `Check` goes through the constructs one by one: what each wants and
-//! gives, and its faults. `Meaning` defines what a typed condition means on a value.
+//! gives, and its faults. `Typing` is the table of kinds as a relation, which laws say is the same.
+//! `Meaning` defines what a typed condition means on a value.
 #![tactic(auto)]
 
 mod build;
