@@ -2,8 +2,9 @@
 
 ghost use Rattle.std.specs.Prelude.{◌≡◌, suc, IfOk, map, Some, option_map};
 ghost use Rattle.ar_value.specs.Answer.{Gives};
+ghost use Rattle.ar_value.specs.Kind.{shaped};
 ghost use Rattle.ar_value.specs.View.{shape_view};
-ghost use Rattle.ar_syntax.specs.Expression.{expressions};
+ghost use Rattle.ar_syntax.specs.Expression.{expressions, BinaryAt, ChoiceAt, DefaultAt, IndexAt, PredicateAt};
 ghost use Rattle.ar_syntax.specs.Views.{expression_of};
 ghost use Rattle.ar_check.specs.Check.{checked, choice_of, default_kind, default_of, field_of, given, index_of, is_nil_literal, item_at, item_typed, items_typed, len_of, literal_kind, over_items, plain_kind, predicate_kind, predicate_of, truth, typed_of};
 ghost use Rattle.ar_check.specs.Operand.{operand};
@@ -20,7 +21,7 @@ use crate::operand::{
 use crate::operators::{binary, truth, unary, where_wanted};
 use crate::typed::{Scalar, Typed};
 use ar_syntax::text::Text;
-use ar_syntax::tree::{Literal, Predicate, Tree};
+use ar_syntax::tree::{Binary, Literal, Predicate, Tree};
 use ar_value::shape::Shape;
 use std::alloc::{AllocError, Global};
 
@@ -39,7 +40,12 @@ pub fn check(alloc: Global, tree: Tree, shape: &Shape) -> Result<Typed, TypeErro
     ensures exact { Gives is_memory typed_view result (checked (shape_view shape.now) (expression_of tree)) }
 {
     let at = tree.place();
-    let condition = typed(alloc, tree, shape, None, 0)?;
+    let scope = Scope {
+        measured: shape,
+        item: None,
+        around: 0,
+    };
+    let condition = typed(alloc, tree, scope)?;
     if is_truth(&condition) {
         Ok(made_plain(alloc, condition)?)
     } else {
@@ -47,130 +53,178 @@ pub fn check(alloc: Global, tree: Tree, shape: &Shape) -> Result<Typed, TypeErro
     }
 }
 
+/// What the names of a condition stand for at a place.
+#[derive(Clone, Copy)]
+struct Scope<'s> {
+    /// The shape of `result`.
+    measured: &'s Shape,
+    /// The shape of the innermost item.
+    item: Option<&'s Shape>,
+    /// How many predicates stand around the place.
+    around: usize,
+}
+
 /// A tree where `result` has a shape, and so has the innermost item, inside so many predicates.
 #[cycle(typed)]
-fn typed<'s>(
-    alloc: Global,
-    tree: Tree,
-    measured: &'s Shape,
-    item: Option<&'s Shape>,
-    around: usize,
-) -> Result<Operand<'s>, TypeError>
-    ensures { Gives is_memory operand_view result (typed_of (shape_view measured.now) (option_map (λ shape. shape_view shape.now) item.entry) around (expression_of tree)) }
+fn typed<'s>(alloc: Global, tree: Tree, scope: Scope<'s>) -> Result<Operand<'s>, TypeError>
+    ensures { Gives is_memory operand_view result (typed_of (shape_view scope.entry.measured.now) (option_map (λ shape. shape_view shape.now) scope.entry.item) scope.entry.around (expression_of tree)) }
 {
     match tree {
-        Tree::Result { .. } => Ok(Operand {
-            tree: Typed::Result,
-            kind: Kind::Declared(measured),
-        }),
-        Tree::Item { at } => item_of(at, item),
+        Tree::Result { .. } => Ok(measured_of(scope.measured)),
+        Tree::Item { at } => item_of(at, scope.item),
         Tree::Literal { literal, .. } => Ok(literal_of(literal)),
         Tree::Field { at, whole, name } => {
-            let whole = typed(alloc, Box::into_inner(whole), measured, item, around)?;
-            field_of(alloc, at, name, whole)
+            field_of(alloc, at, name, child(alloc, whole, scope)?)
         }
-        Tree::Index { at, list, index } => {
-            let list = typed(alloc, Box::into_inner(list), measured, item, around)?;
-            let index = typed(alloc, Box::into_inner(index), measured, item, around)?;
-            index_of(alloc, at, list, index)
-        }
+        Tree::Index { at, list, index } => typed_index(alloc, at, list, index, scope),
         Tree::Unary {
             at,
             operator,
             operand,
-        } => {
-            let operand = typed(alloc, Box::into_inner(operand), measured, item, around)?;
-            unary(alloc, at, operator, operand)
-        }
+        } => unary(alloc, at, operator, child(alloc, operand, scope)?),
         Tree::Binary {
             at,
             operator,
             left,
             right,
-        } => {
-            let nil_left = is_nil_literal(&left);
-            let nil_right = is_nil_literal(&right);
-            let left = typed(alloc, Box::into_inner(left), measured, item, around)?;
-            let right = typed(alloc, Box::into_inner(right), measured, item, around)?;
-            binary(alloc, at, operator, nil_left, nil_right, left, right)
-        }
+        } => typed_binary(alloc, at, operator, left, right, scope),
         Tree::Choice {
             at,
             condition,
             yes,
             no,
-        } => {
-            let condition = typed(alloc, Box::into_inner(condition), measured, item, around)?;
-            let yes = typed(alloc, Box::into_inner(yes), measured, item, around)?;
-            let no = typed(alloc, Box::into_inner(no), measured, item, around)?;
-            choice_of(alloc, at, condition, yes, no)
-        }
-        Tree::List { at, items } => {
-            let items = typed_items(alloc, items, measured, item, around)?;
-            list(alloc, at, items)
-        }
-        Tree::Len { at, list } => {
-            let list = typed(alloc, Box::into_inner(list), measured, item, around)?;
-            len_of(alloc, at, list)
-        }
-        Tree::IsNil { operand, .. } => {
-            let operand = typed(alloc, Box::into_inner(operand), measured, item, around)?;
-            is_nil_of(alloc, operand)
-        }
+        } => typed_choice(alloc, at, condition, yes, no, scope),
+        Tree::List { at, items } => list(alloc, at, typed_items(alloc, items, scope)?),
+        Tree::Len { at, list } => len_of(alloc, at, child(alloc, list, scope)?),
+        Tree::IsNil { operand, .. } => is_nil_of(alloc, child(alloc, operand, scope)?),
         Tree::Default {
             at,
             operand,
             otherwise,
-        } => {
-            let operand = typed(alloc, Box::into_inner(operand), measured, item, around)?;
-            let otherwise = typed(alloc, Box::into_inner(otherwise), measured, item, around)?;
-            default_of(alloc, at, operand, otherwise)
-        }
+        } => typed_default(alloc, at, operand, otherwise, scope),
         Tree::Predicate {
             at,
             predicate,
             list,
             body,
-        } => {
-            let list = typed(alloc, Box::into_inner(list), measured, item, around)?;
-            let body = typed_body(alloc, at, body, &list.kind, measured, around)?;
-            predicate_of(alloc, at, predicate, list, body)
-        }
+        } => typed_predicate(alloc, at, predicate, list, body, scope),
     }
+}
+
+/// A tree below another.
+#[cycle(typed)]
+fn child<'s>(alloc: Global, tree: Box<Tree>, scope: Scope<'s>) -> Result<Operand<'s>, TypeError>
+    ensures { Gives is_memory operand_view result (typed_of (shape_view scope.entry.measured.now) (option_map (λ shape. shape_view shape.now) scope.entry.item) scope.entry.around (expression_of tree.value)) }
+{
+    typed(alloc, Box::into_inner(tree), scope)
+}
+
+/// An item of a list, at an index.
+#[cycle(typed)]
+fn typed_index<'s>(
+    alloc: Global,
+    at: usize,
+    list: Box<Tree>,
+    index: Box<Tree>,
+    scope: Scope<'s>,
+) -> Result<Operand<'s>, TypeError>
+    ensures { Gives is_memory operand_view result (typed_of (shape_view scope.entry.measured.now) (option_map (λ shape. shape_view shape.now) scope.entry.item) scope.entry.around (IndexAt at (expression_of list.value) (expression_of index.value))) }
+{
+    let list = child(alloc, list, scope)?;
+    let index = child(alloc, index, scope)?;
+    index_of(alloc, at, list, index)
+}
+
+/// An operator between two operands.
+#[cycle(typed)]
+fn typed_binary<'s>(
+    alloc: Global,
+    at: usize,
+    operator: Binary,
+    left: Box<Tree>,
+    right: Box<Tree>,
+    scope: Scope<'s>,
+) -> Result<Operand<'s>, TypeError>
+    ensures { Gives is_memory operand_view result (typed_of (shape_view scope.entry.measured.now) (option_map (λ shape. shape_view shape.now) scope.entry.item) scope.entry.around (BinaryAt at operator (expression_of left.value) (expression_of right.value))) }
+{
+    let nil_left = is_nil_literal(&left);
+    let nil_right = is_nil_literal(&right);
+    let left = child(alloc, left, scope)?;
+    let right = child(alloc, right, scope)?;
+    binary(alloc, at, operator, nil_left, nil_right, left, right)
+}
+
+/// One of two branches.
+#[cycle(typed)]
+fn typed_choice<'s>(
+    alloc: Global,
+    at: usize,
+    condition: Box<Tree>,
+    yes: Box<Tree>,
+    no: Box<Tree>,
+    scope: Scope<'s>,
+) -> Result<Operand<'s>, TypeError>
+    ensures { Gives is_memory operand_view result (typed_of (shape_view scope.entry.measured.now) (option_map (λ shape. shape_view shape.now) scope.entry.item) scope.entry.around (ChoiceAt at (expression_of condition.value) (expression_of yes.value) (expression_of no.value))) }
+{
+    let condition = child(alloc, condition, scope)?;
+    let yes = child(alloc, yes, scope)?;
+    let no = child(alloc, no, scope)?;
+    choice_of(alloc, at, condition, yes, no)
+}
+
+/// An operand, or what stands in where it is nil.
+#[cycle(typed)]
+fn typed_default<'s>(
+    alloc: Global,
+    at: usize,
+    operand: Box<Tree>,
+    otherwise: Box<Tree>,
+    scope: Scope<'s>,
+) -> Result<Operand<'s>, TypeError>
+    ensures { Gives is_memory operand_view result (typed_of (shape_view scope.entry.measured.now) (option_map (λ shape. shape_view shape.now) scope.entry.item) scope.entry.around (DefaultAt at (expression_of operand.value) (expression_of otherwise.value))) }
+{
+    let operand = child(alloc, operand, scope)?;
+    let otherwise = child(alloc, otherwise, scope)?;
+    default_of(alloc, at, operand, otherwise)
+}
+
+/// What a predicate makes of a list.
+#[cycle(typed)]
+fn typed_predicate<'s>(
+    alloc: Global,
+    at: usize,
+    predicate: Predicate,
+    list: Box<Tree>,
+    body: Box<Tree>,
+    scope: Scope<'s>,
+) -> Result<Operand<'s>, TypeError>
+    ensures { Gives is_memory operand_view result (typed_of (shape_view scope.entry.measured.now) (option_map (λ shape. shape_view shape.now) scope.entry.item) scope.entry.around (PredicateAt at predicate (expression_of list.value) (expression_of body.value))) }
+{
+    let list = child(alloc, list, scope)?;
+    let body = typed_body(alloc, at, body, &list.kind, scope)?;
+    predicate_of(alloc, at, predicate, list, body)
 }
 
 /// The items of a list literal, made plain.
 #[cycle(typed)]
 #[tactic(auto, using(crate::proofs::Items::all_left))]
-fn typed_items(
-    alloc: Global,
-    trees: Vec<Tree>,
-    measured: &Shape,
-    item: Option<&Shape>,
-    around: usize,
-) -> Result<Vec<Item>, TypeError>
-    ensures { Gives is_memory (λ items. map item_view items.items) result (items_typed (shape_view measured.now) (option_map (λ shape. shape_view shape.now) item.entry) around (expressions (map expression_of trees.items))) }
+fn typed_items(alloc: Global, trees: Vec<Tree>, scope: Scope<'_>) -> Result<Vec<Item>, TypeError>
+    ensures { Gives is_memory (λ items. map item_view items.items) result (items_typed (shape_view scope.entry.measured.now) (option_map (λ shape. shape_view shape.now) scope.entry.item) scope.entry.around (expressions (map expression_of trees.items))) }
 {
     let mut items = Vec::with_capacity(alloc, trees.len())?;
     for tree in trees {
-        items.push(typed_item(alloc, tree, measured, item, around)?)?;
+        items.push(typed_item(alloc, tree, scope)?)?;
     }
     Ok(items)
 }
 
 /// An item of a list literal, made plain.
 #[cycle(typed)]
-fn typed_item(
-    alloc: Global,
-    tree: Tree,
-    measured: &Shape,
-    item: Option<&Shape>,
-    around: usize,
-) -> Result<Item, TypeError>
-    ensures { Gives is_memory item_view result (item_typed (shape_view measured.now) (option_map (λ shape. shape_view shape.now) item.entry) around (expression_of tree)) }
+fn typed_item(alloc: Global, tree: Tree, scope: Scope<'_>) -> Result<Item, TypeError>
+    ensures { Gives is_memory item_view result (item_typed (shape_view scope.entry.measured.now) (option_map (λ shape. shape_view shape.now) scope.entry.item) scope.entry.around (expression_of tree)) }
 {
     let at = tree.place();
-    let operand = typed(alloc, tree, measured, item, around)?;
+    let operand = typed(alloc, tree, scope)?;
     let scalar = scalar(&operand);
     let tree = made_plain(alloc, operand)?;
     Ok(Item { at, scalar, tree })
@@ -184,25 +238,32 @@ fn typed_body(
     at: usize,
     body: Box<Tree>,
     list: &Kind<'_>,
-    measured: &Shape,
-    around: usize,
+    scope: Scope<'_>,
 ) -> Result<(bool, Typed), TypeError>
-    ensures { Gives is_memory (λ found. (found.0, typed_view found.1)) result (over_items at around (kind_view list.now) (λ shape. typed_of (shape_view measured.now) (Some shape) (suc around) (expression_of body.value))) }
+    ensures { Gives is_memory (λ found. (found.0, typed_view found.1)) result (over_items at scope.entry.around (kind_view list.now) (λ shape. typed_of (shape_view scope.entry.measured.now) (Some shape) (suc scope.entry.around) (expression_of body.value))) }
 {
     let shape = item_shape(at, list)?;
-    if around >= MOST_PREDICATES {
+    if scope.around >= MOST_PREDICATES {
         return Err(TypeError::PredicatesTooDeep(at));
     }
-    let body = typed(
-        alloc,
-        Box::into_inner(body),
-        measured,
-        Some(shape),
-        around + 1,
-    )?;
+    let inside = Scope {
+        measured: scope.measured,
+        item: Some(shape),
+        around: scope.around + 1,
+    };
+    let body = child(alloc, body, inside)?;
     let is_truth = is_truth(&body);
     let tree = made_plain(alloc, body)?;
     Ok((is_truth, tree))
+}
+
+fn measured_of(shape: &Shape) -> Operand<'_>
+    ensures { operand_view result ≡ operand typed.result (shaped (shape_view shape.now)) }
+{
+    Operand {
+        tree: Typed::Result,
+        kind: Kind::Declared(shape),
+    }
 }
 
 fn item_of(at: usize, item: Option<&Shape>) -> Result<Operand<'_>, TypeError>

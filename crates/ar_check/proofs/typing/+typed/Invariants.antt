@@ -1,8 +1,9 @@
-use Rattle.std.proofs.Common.{◌≡◌, length, map, option_map}
+use Rattle.std.proofs.Common.{◌≡◌, ◌+◌, ◌*◌, length, map, max, option_map}
 use Rattle.std.specs.Vec.Iter.{into_iter_items, into_iter_len}
 use Rattle.ar_value.specs.View.{shape_view}
 use Rattle.ar_syntax.specs.Expression.{expressions}
 use Rattle.ar_syntax.specs.Views.{expression_of}
+use Rattle.ar_syntax.specs.declared.tree.Tree.{size-Tree}
 use Rattle.ar_check.specs.Check.{items_typed}
 use Rattle.ar_check.specs.Views.{item_view}
 use Rattle.ar_check.proofs.Items.{behind}
@@ -12,5 +13,36 @@ use Rattle.ar_check.proofs.typing.+typed.Given as goal
 abbrev pub invariant-typed_items-loop-tree : goal.invariant-typed_items-loop-tree
 invariant-typed_items-loop-tree l =
     (goal.iterator-typed_items-loop-tree).can_next l.tree-iterator × (goal.iterator-typed_items-loop-tree).is_finite l.tree-iterator × (into_iter_len l.tree-iterator ≡ length (into_iter_items l.tree-iterator)) ×
-    (items_typed (shape_view l.measured) (option_map (λ shape. shape_view shape.now) l.item) l.around (expressions (map expression_of l.fn.trees.items))
-    ≡ behind (shape_view l.measured) (option_map (λ shape. shape_view shape.now) l.item) l.around (map item_view l.items.items) (expressions (map expression_of (into_iter_items l.tree-iterator))))
+    (items_typed (shape_view l.scope.measured.now) (option_map (λ shape. shape_view shape.now) l.scope.item) l.scope.around (expressions (map expression_of l.fn.trees.items))
+    ≡ behind (shape_view l.scope.measured.now) (option_map (λ shape. shape_view shape.now) l.scope.item) l.scope.around (map item_view l.items.items) (expressions (map expression_of (into_iter_items l.tree-iterator))))
+
+-- four times the depth that is left; what is called with all of it stands lower among the four
+abbrev pub decreases-typed : goal.decreases-typed
+decreases-typed l = 4 * goal.size-typed l
+
+abbrev pub decreases-child : goal.decreases-child
+decreases-child l = 4 * goal.size-child l + 1
+
+abbrev pub decreases-typed_item : goal.decreases-typed_item
+decreases-typed_item l = 4 * goal.size-typed_item l + 1
+
+abbrev pub decreases-typed_items : goal.decreases-typed_items
+decreases-typed_items l = 4 * goal.size-typed_items l + 2
+
+abbrev pub decreases-typed_body : goal.decreases-typed_body
+decreases-typed_body l = 4 * goal.size-typed_body l + 2
+
+abbrev pub decreases-typed_index : goal.decreases-typed_index
+decreases-typed_index l = 4 * max (size-Tree l.list.value) (size-Tree l.index.value) + 3
+
+abbrev pub decreases-typed_binary : goal.decreases-typed_binary
+decreases-typed_binary l = 4 * max (size-Tree l.left.value) (size-Tree l.right.value) + 3
+
+abbrev pub decreases-typed_default : goal.decreases-typed_default
+decreases-typed_default l = 4 * max (size-Tree l.operand.value) (size-Tree l.otherwise.value) + 3
+
+abbrev pub decreases-typed_predicate : goal.decreases-typed_predicate
+decreases-typed_predicate l = 4 * max (size-Tree l.list.value) (size-Tree l.body.value) + 3
+
+abbrev pub decreases-typed_choice : goal.decreases-typed_choice
+decreases-typed_choice l = 4 * max (size-Tree l.condition.value) (max (size-Tree l.yes.value) (size-Tree l.no.value)) + 3
