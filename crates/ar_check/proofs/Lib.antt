@@ -8,6 +8,7 @@ pub mod Branches
 pub mod Lists
 pub mod Predicates
 pub mod Sound
+pub mod Defaults
 pub mod Tables
 pub mod OperatorTables
 pub mod SignTables
