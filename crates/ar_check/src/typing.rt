@@ -246,15 +246,24 @@ fn typed_body(
     if scope.around >= MOST_PREDICATES {
         return Err(TypeError::PredicatesTooDeep(at));
     }
-    let inside = Scope {
-        measured: scope.measured,
-        item: Some(shape),
-        around: scope.around + 1,
-    };
+    let inside = in_predicate(scope, shape, scope.around + 1);
     let body = child(alloc, body, inside)?;
     let is_truth = is_truth(&body);
     let tree = made_plain(alloc, body)?;
     Ok((is_truth, tree))
+}
+
+/// What names stand for where a predicate speaks of an item, inside so many predicates.
+fn in_predicate<'s>(scope: Scope<'s>, item: &'s Shape, around: usize) -> Scope<'s>
+    ensures measured { shape_view result.measured.now ≡ shape_view scope.entry.measured.now }
+    ensures item { option_map (λ shape. shape_view shape.now) result.item ≡ Some (shape_view item.now) }
+    ensures around { result.around ≡ around }
+{
+    Scope {
+        measured: scope.measured,
+        item: Some(item),
+        around,
+    }
 }
 
 fn measured_of(shape: &Shape) -> Operand<'_>
