@@ -1,6 +1,9 @@
 //! From the tree of a condition to its typed tree.
 
-ghost use Rattle.std.specs.Prelude.{◌≡◌, suc, IfOk, map, Some, option_map};
+ghost use Rattle.std.specs.Prelude.{◌≡◌, suc, IfOk, map, None, Some, option_map, true};
+ghost use Rattle.ar_check.specs.Meaning.{IsTruthOrFault, mean};
+ghost use Rattle.ar_value.specs.Fits.{fits};
+ghost use Rattle.ar_value.specs.Value.{Value};
 ghost use Rattle.ar_value.specs.Answer.{Gives};
 ghost use Rattle.ar_value.specs.Kind.{shaped};
 ghost use Rattle.ar_value.specs.View.{shape_view};
@@ -38,6 +41,9 @@ const MOST_PREDICATES: usize = 4;
 /// where the whole is no truth value.
 pub fn check(alloc: Global, tree: Tree, shape: &Shape) -> Result<Typed, TypeError>
     ensures exact { Gives is_memory typed_view result (checked (shape_view shape.now) (expression_of tree)) }
+
+    // On each value of the shape the condition is true or false or meets a fault.
+    ensures answers { IfOk result (λ condition. (value : Value) → fits value (shape_view shape.now) ≡ true → IsTruthOrFault (mean value None (typed_view condition))) }
 {
     let at = tree.place();
     let scope = Scope {
