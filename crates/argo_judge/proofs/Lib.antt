@@ -1,3 +1,4 @@
 pub mod Documents
-pub mod Fitting
+pub mod Items
+pub mod Walks
 mod Facts

@@ -15,11 +15,14 @@ use Rattle.ar_value.specs.declared.value_reading.ShapeFault.TheVariants as shape
 use Rattle.ar_syntax.specs.Parse.{parse_of}
 use Rattle.ar_syntax.specs.declared.error.SyntaxError.{SyntaxError}
 use Rattle.ar_syntax.specs.declared.error.SyntaxError.TheVariants as syntax
+use Rattle.ar_check.specs.Check.{checked}
+use Rattle.ar_check.specs.Meaning.{Meaning, faulted, mean}
+use Rattle.ar_check.specs.declared.error.TypeError.{TypeError}
+use Rattle.ar_check.specs.declared.error.TypeError.TheVariants as types
+use Rattle.ar_value.specs.Value.{bool}
+use Rattle.ar_value.specs.declared.fault.Fault.{Fault}
+use Rattle.ar_value.specs.declared.fault.Fault.TheVariants.{IndexOutOfRange, NilOperand, Overflow, DivisionByZero}
 use Rattle.argo_judge.specs.Input.{most_bytes}
-use Rattle.argo_judge.specs.Typing.{condition_kind}
-use Rattle.argo_judge.specs.Meaning.{mean}
-use Rattle.argo_judge.specs.declared.meaning.Operand.{Operand}
-use Rattle.argo_judge.specs.declared.meaning.Operand.TheVariants.{Truth}
 use Rattle.argo_judge.specs.declared.eval.EvalError.{EvalError}
 use Rattle.argo_judge.specs.declared.eval.EvalError.TheVariants.{TooLarge, Utf8OrJson, BadDocument, Shape as BadShape, Grammar, Kinds, Misfit, OutOfMemory}
 
@@ -33,51 +36,63 @@ abbrev pub there : {A : Type 0} → Option A → Result A EvalError
 there (Some x) = Ok x
 there None = Err BadDocument
 
--- the truth that a condition's value is; its kind says that it is one
-abbrev pub truth_of : Option Operand → Bool
-truth_of (Some (Truth truth)) = truth
-truth_of operand = false
+-- What a checked condition says: true or false, or the fault that it meets. It means nothing else, which is a law of `ar_check`.
+abbrev pub answer_of : Meaning → Result Bool Fault
+answer_of (Ok (bool holds)) = Ok holds
+answer_of (Err (faulted fault)) = Err fault
+answer_of meaning = Ok false
 
 -- A document's condition, shape and value have to be there. Then the shape is read, the condition, its kinds
 -- under the shape, and the value under the shape.
-unfoldable pub judged : Data → Result Bool EvalError
+unfoldable pub judged : Data → Result (Result Bool Fault) EvalError
 judged document = do
-  condition ← there (option_and_then as_str (get (codes "condition") document))
+  text ← there (option_and_then as_str (get (codes "condition") document))
   declared ← there (get (codes "shape") document)
   measured ← there (get (codes "value") document)
   shape ← refused_as BadShape (shape_of declared)
-  tree ← refused_as Grammar (parse_of condition)
-  kind ← refused_as Kinds (condition_kind shape tree)
+  tree ← refused_as Grammar (parse_of text)
+  condition ← refused_as Kinds (checked shape tree)
   value ← refused_as Misfit (read shape measured)
-  Ok (truth_of (mean value tree))
+  Ok (answer_of (mean value None condition))
 
 -- the JSON value (RFC 8259) whose text in UTF-8 an input is
 abbrev pub document_of : List ℕ → Option Data
 document_of input = if is_utf8 input then read_text input else None
 
-abbrev pub judged_document : Option Data → Result Bool EvalError
+abbrev pub judged_document : Option Data → Result (Result Bool Fault) EvalError
 judged_document None = Err Utf8OrJson
 judged_document (Some document) = judged document
 
--- the truth that an input's condition has on its value, or the first fault that stands in the input
-unfoldable pub evaluation_of : List ℕ → Result Bool EvalError
+-- what an input's condition says of its value, or the first fault that stands in the input
+unfoldable pub evaluation_of : List ℕ → Result (Result Bool Fault) EvalError
 evaluation_of input = if nat_lt most_bytes (length input) then Err TooLarge else judged_document (document_of input)
 
--- the line that is written: a truth value and a line feed
-abbrev pub line_of : Bool → List ℕ
-line_of true = codes "true" ++ 10 ∷ []
-line_of false = codes "false" ++ 10 ∷ []
+abbrev pub name_of : Fault → List ℕ
+name_of IndexOutOfRange = codes "IndexOutOfRange"
+name_of NilOperand = codes "NilOperand"
+name_of Overflow = codes "Overflow"
+name_of DivisionByZero = codes "DivisionByZero"
+
+-- the line that is written: a truth value, or a fault by its name, and a line feed
+abbrev pub line_of : Result Bool Fault → List ℕ
+line_of (Ok true) = codes "true" ++ 10 ∷ []
+line_of (Ok false) = codes "false" ++ 10 ∷ []
+line_of (Err fault) = codes "fault " ++ name_of fault ++ 10 ∷ []
 
 -- what is written for an input, or why it is refused
 abbrev pub output_of : List ℕ → Result (List ℕ) EvalError
-output_of input = evaluation_of input >>= λ truth. Ok (line_of truth)
+output_of input = evaluation_of input >>= λ answer. Ok (line_of answer)
 
 -- a fault of the condition's text, as `eval` answers it
 abbrev pub of_syntax : SyntaxError → EvalError
 of_syntax syntax.OutOfMemory = OutOfMemory
 of_syntax fault = Grammar fault
 
--- a fault of the shape, and of the value, likewise
+-- a fault of kinds, of the shape, and of the value, likewise
+abbrev pub of_type : TypeError → EvalError
+of_type types.OutOfMemory = OutOfMemory
+of_type error = Kinds error
+
 abbrev pub of_shape : ShapeError → EvalError
 of_shape shape_error.OutOfMemory = OutOfMemory
 of_shape error = BadShape error
@@ -91,5 +106,5 @@ is_memory OutOfMemory = true
 is_memory error = false
 
 -- what a function answered is what is defined, unless memory ran out
-abbrev pub Gives : Result Bool EvalError → Result Bool EvalError → Type 0
-Gives given defined = answer.Gives is_memory (λ truth. truth) given defined
+abbrev pub Gives : Result (Result Bool Fault) EvalError → Result (Result Bool Fault) EvalError → Type 0
+Gives given defined = answer.Gives is_memory (λ said. said) given defined

@@ -1,6 +1,5 @@
 pub mod Device
 pub mod Input
-pub mod Typing
-pub mod Meaning
+pub mod Operand
 pub mod Evaluation
 pub mod Serving

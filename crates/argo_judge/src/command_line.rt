@@ -15,14 +15,18 @@ Example:
   echo '{\"condition\":\"result >= 0.95\",\"shape\":\"decimal\",\"value\":\"0.9523\"}' | argo_judge eval";
 
 const EVAL_HELP: &str = "Standard input is {\"condition\":TEXT,\"shape\":SHAPE,\"value\":VALUE}.
-  condition  result OP LITERAL, with OP one of == != < <= > >= and LITERAL true, false,
-             a whole number as 500, or a decimal as 0.95
-  shape      \"bool\", \"whole\" or \"decimal\"
-  value      true or false, a whole JSON number, or a decimal as a text, as \"0.9523\"
-Standard output is true or false.
+  condition  as a successCondition or failureCondition of Argo Rollouts: `result`, literals,
+             fields, indices, + - * / %, == != < <= > >=, in, not in, and, or, not, ? :, lists,
+             len, isNil, default, all, any, count, filter
+  shape      \"bool\", \"whole\", \"decimal\", \"text\", {\"list\":SHAPE,\"max\":NUMBER},
+             {\"record\":{NAME:SHAPE,..}} or {\"optional\":SHAPE}
+  value      JSON of that shape; a decimal is a text, as \"0.9523\", or a whole number
+Standard output is true, false, or `fault` and a name: IndexOutOfRange, NilOperand, Overflow or
+DivisionByZero.
 
-Example:
-  echo '{\"condition\":\"result >= 0.95\",\"shape\":\"decimal\",\"value\":\"0.9523\"}' | argo_judge eval";
+Examples:
+  echo '{\"condition\":\"result >= 0.95\",\"shape\":\"decimal\",\"value\":\"0.9523\"}' | argo_judge eval
+  echo '{\"condition\":\"all(result, # < 500)\",\"shape\":{\"list\":\"whole\",\"max\":10},\"value\":[437,512]}' | argo_judge eval";
 
 /// What a command line asks for.
 #[derive(Debug, Drop)]

@@ -1,19 +1,30 @@
 //! `eval`: one condition, judged on one value.
 
-ghost use Rattle.std.specs.Prelude.{◌≡◌, Ok, Err, IfOk, option_and_then};
+ghost use Rattle.std.specs.Prelude.{◌≡◌, Ok, Err, IfOk, None, option_and_then};
 ghost use Rattle.serde_json.specs.View.{view};
-ghost use Rattle.argo_judge.specs.Evaluation.{Gives, evaluation_of, judged};
+ghost use Rattle.ar_check.specs.Meaning.{IsTruthOrFault, mean};
+ghost use Rattle.ar_check.specs.Views.{typed_view};
+ghost use Rattle.ar_value.specs.View.{value_view};
+ghost use Rattle.argo_judge.specs.Evaluation.{Gives, answer_of, evaluation_of, judged};
 
 use crate::input::MOST_BYTES;
-use crate::kind::condition_kind;
-use crate::meaning::{Operand, meaning};
+use crate::meaning::{Scope, meaning};
+use crate::operand::{Failure, Operand, Part, part_of};
+use ar_check::check;
+use ar_check::error::TypeError;
+use ar_check::typed::Typed;
 use ar_syntax::error::SyntaxError;
 use ar_syntax::parse;
+use ar_value::fault::Fault;
 use ar_value::shape_reading::{ShapeError, read_shape};
+use ar_value::value::Value;
 use ar_value::value_reading::{ShapeFault, read_value};
 use serde_json::Value as Json;
 use std::alloc::Global;
 use thiserror::Error;
+
+/// What a condition says of a value: true or false, or the fault that it meets.
+pub type Answer = Result<bool, Fault>;
 
 /// Why an input can't be evaluated, in the order in which it is looked at.
 #[derive(Clone, Copy, Debug, PartialEq, Eq, Error)]
@@ -28,8 +39,8 @@ pub enum EvalError {
     Shape(ShapeError),
     #[error("condition, {0}")]
     Grammar(SyntaxError),
-    #[error("condition, byte {0}: Kinds: expected `result`, a comparison and a literal: two numbers, or truth values beside == or !=")]
-    Kinds(usize),
+    #[error("condition, {0}")]
+    Kinds(TypeError),
     #[error("value: {0}")]
     Misfit(ShapeFault),
     #[error("out of memory")]
@@ -46,6 +57,20 @@ impl From<SyntaxError> for EvalError {
         match error {
             SyntaxError::OutOfMemory => EvalError::OutOfMemory,
             error => EvalError::Grammar(error),
+        }
+    }
+}
+
+impl From<TypeError> for EvalError {
+    ghost use Rattle.std.specs.Prelude.{◌≡◌};
+    ghost use Rattle.argo_judge.specs.Evaluation.{of_type};
+
+    ghost from_gives = { λ error e. e ≡ of_type error };
+
+    fn from(error: TypeError) -> EvalError {
+        match error {
+            TypeError::OutOfMemory => EvalError::OutOfMemory,
+            error => EvalError::Kinds(error),
         }
     }
 }
@@ -78,14 +103,14 @@ impl From<ShapeFault> for EvalError {
     }
 }
 
-/// The truth that the condition of a JSON document has on its value: the document is an object
-/// with a text `condition`, a `shape` and a `value`.
+/// What the condition of a JSON document says of its value: the document is an object with a text
+/// `condition`, a `shape` and a `value`.
 ///
 /// # Errors
 ///
 /// The first fault that stands in the input, in the order of `EvalError`.
 #[tactic(auto, using(crate::proofs::Documents::json, crate::proofs::Documents::no_json), unfolding(crate::specs::Evaluation::evaluation_of))]
-pub fn evaluate(alloc: Global, input: &[u8]) -> Result<bool, EvalError>
+pub fn evaluate(alloc: Global, input: &[u8]) -> Result<Answer, EvalError>
     ensures { Gives result (evaluation_of input.now) }
 {
     if input.len() > MOST_BYTES {
@@ -98,9 +123,9 @@ pub fn evaluate(alloc: Global, input: &[u8]) -> Result<bool, EvalError>
     }
 }
 
-/// The truth that the condition of a document has on its value.
-#[tactic(auto, using(crate::proofs::Fitting::is_truth), unfolding(crate::specs::Evaluation::judged))]
-fn judge(alloc: Global, document: &Json) -> Result<bool, EvalError>
+/// What the condition of a document says of its value.
+#[tactic(auto, unfolding(crate::specs::Evaluation::judged))]
+fn judge(alloc: Global, document: &Json) -> Result<Answer, EvalError>
     ensures { Gives result (judged (view document.now)) }
 {
     let condition = document
@@ -110,14 +135,24 @@ fn judge(alloc: Global, document: &Json) -> Result<bool, EvalError>
     let declared = document.get("shape").ok_or(EvalError::BadDocument)?;
     let measured = document.get("value").ok_or(EvalError::BadDocument)?;
     let shape = read_shape(alloc, declared)?;
-    let tree = parse(alloc, condition)?;
-    match condition_kind(&tree, &shape) {
-        Ok(_) => {}
-        Err(at) => return Err(EvalError::Kinds(at)),
-    }
+    let condition = check(alloc, parse(alloc, condition)?, &shape)?;
     let value = read_value(alloc, measured, &shape)?;
-    match meaning(&tree, &value) {
-        Some(Operand::Truth(truth)) => Ok(truth),
+    answer(alloc, &condition, &value)
+}
+
+/// What a condition says of a value, where it means true, false or a fault.
+fn answer(alloc: Global, condition: &Typed, value: &Value) -> Result<Answer, EvalError>
+    requires { IsTruthOrFault (mean (value_view value.now) None (typed_view condition.now)) }
+    ensures { Gives result (Ok (answer_of (mean (value_view value.now) None (typed_view condition.now)))) }
+{
+    let scope = Scope {
+        result: part_of(value),
+        item: None,
+    };
+    match meaning(alloc, &scope, condition) {
+        Ok(Operand::Part(Part::Bool(holds))) => Ok(Ok(holds)),
+        Err(Failure::Fault(fault)) => Ok(Err(fault)),
+        Err(Failure::OutOfMemory) => Err(EvalError::OutOfMemory),
         _ => unreachable!(),
     }
 }

@@ -5,8 +5,9 @@ ghost use Rattle.std.specs.Io.KnownBytes.{Appends};
 ghost use Rattle.argo_judge.specs.Evaluation.{line_of, output_of};
 
 use crate::device::{Sink, Source};
-use crate::eval::{EvalError, evaluate};
+use crate::eval::{Answer, EvalError, evaluate};
 use crate::input::{InputError, read_input};
+use ar_value::fault::Fault;
 use std::alloc::Global;
 use thiserror::Error;
 
@@ -107,8 +108,8 @@ pub fn serve_plain<R: Source, W: Sink>(
     match command {
         Command::Eval => {
             let input = read_input(alloc, reader)?;
-            let truth = evaluate(alloc, &input)?;
-            match writer.write_all(line(truth)) {
+            let answer = evaluate(alloc, &input)?;
+            match writer.write_all(line(answer)) {
                 Ok(()) => Ok(Closing::Good),
                 Err(_) => Err(ServeError::Write),
             }
@@ -116,8 +117,15 @@ pub fn serve_plain<R: Source, W: Sink>(
     }
 }
 
-fn line(truth: bool) -> &'static [u8]
-    ensures { result.now ≡ line_of truth }
+fn line(answer: Answer) -> &'static [u8]
+    ensures { result.now ≡ line_of answer }
 {
-    if truth { b"true\n" } else { b"false\n" }
+    match answer {
+        Ok(true) => b"true\n",
+        Ok(false) => b"false\n",
+        Err(Fault::IndexOutOfRange) => b"fault IndexOutOfRange\n",
+        Err(Fault::NilOperand) => b"fault NilOperand\n",
+        Err(Fault::Overflow) => b"fault Overflow\n",
+        Err(Fault::DivisionByZero) => b"fault DivisionByZero\n",
+    }
 }

@@ -4,6 +4,7 @@ use crate::command_line::{Request, UsageError, request_of};
 use crate::device::{Device, DeviceFault, Source};
 use crate::eval::EvalError;
 use crate::serve::{Closing, Command, Refusal, ServeError, serve_plain};
+use ar_check::error::TypeError;
 use ar_syntax::error::SyntaxError;
 use ar_value::shape_reading::ShapeError;
 use ar_value::value_reading::ShapeFault;
@@ -107,15 +108,15 @@ fn refusals(rt: HostRuntime) {
         ),
         (
             r#"{"condition":"result > 1","shape":{"list":"whole","max":3},"value":[true]}"#,
-            EvalError::Kinds(7),
+            EvalError::Kinds(TypeError::WrongOperand(7)),
         ),
         (
             r#"{"condition":"result == 1","shape":{"optional":"whole"},"value":true}"#,
-            EvalError::Kinds(7),
+            EvalError::Misfit(ShapeFault::WrongKind),
         ),
         (
             r#"{"condition":"result == 1","shape":{"record":{"a":"whole"}},"value":{}}"#,
-            EvalError::Kinds(7),
+            EvalError::Kinds(TypeError::WrongOperand(7)),
         ),
         (
             r#"{"condition":"result >","shape":null,"value":1}"#,
@@ -131,27 +132,23 @@ fn refusals(rt: HostRuntime) {
         ),
         (
             r#"{"condition":"result < true","shape":"bool","value":1}"#,
-            EvalError::Kinds(7),
+            EvalError::Kinds(TypeError::WrongOperand(7)),
         ),
         (
             r#"{"condition":"result == 1","shape":"bool","value":1}"#,
-            EvalError::Kinds(7),
+            EvalError::Kinds(TypeError::WrongOperand(7)),
         ),
         (
-            r#"{"condition":"result != true","shape":"whole","value":1}"#,
-            EvalError::Kinds(7),
-        ),
-        (
-            r#"{"condition":"1 < result","shape":"whole","value":1}"#,
-            EvalError::Kinds(2),
+            r#"{"condition":"result","shape":"whole","value":true}"#,
+            EvalError::Kinds(TypeError::NotTruth(0)),
         ),
         (
             r#"{"condition":"len(result) > 1","shape":"whole","value":1}"#,
-            EvalError::Kinds(12),
+            EvalError::Kinds(TypeError::NotAList(0)),
         ),
         (
-            r#"{"condition":"result > -1","shape":"whole","value":1}"#,
-            EvalError::Kinds(7),
+            r#"{"condition":"result.b","shape":{"record":{"a":"bool"}},"value":{"a":true}}"#,
+            EvalError::Kinds(TypeError::NoSuchField(6)),
         ),
         (
             r#"{"condition":"result != true","shape":"bool","value":1}"#,
@@ -182,6 +179,81 @@ fn refusals(rt: HostRuntime) {
         let refused = Err(ServeError::Refused(Refusal::Eval(fault)));
         assert_eq!(rt; eval(rt.alloc(), document, ""), refused, "{document}");
     }
+}
+
+/// Conditions of the whole language, on values of the lists, records and texts that they are for.
+#[test]
+fn whole_language(rt: HostRuntime) -> Result<(), Fail> {
+    let rates = r#"{"list":"decimal","max":10}"#;
+    let optional = r#"{"optional":"decimal"}"#;
+    let truths = r#"{"record":{"a":"bool","b":"bool"}}"#;
+    let latest = "result[0] >= 0.95";
+    let few = "len(result) == 0 || result[0] >= 0.95";
+    let below = "all(result, # < 0.5)";
+    let counts = r#"{"list":"whole","max":5}"#;
+    let series = r#"{"list":{"record":{"Values":{"list":"decimal","max":100}}},"max":3}"#;
+    let nine = r#"["0.1","0.1","0.1","0.1","0.1","0.1","0.1","0.1","0.1","0.9"]"#;
+    let rows = [
+        (latest, rates, r#"["0.9523809523809523"]"#, "true\n"),
+        (latest, rates, "[]", "fault IndexOutOfRange\n"),
+        (few, rates, "[]", "true\n"),
+        (few, rates, r#"["0.9"]"#, "false\n"),
+        ("isNil(result) || result < 0.05", optional, "null", "true\n"),
+        ("result < 0.05", optional, "null", "fault NilOperand\n"),
+        ("default(result, 0) < 0.05", optional, "null", "true\n"),
+        (below, rates, "[]", "true\n"),
+        (below, rates, r#"["0.5"]"#, "false\n"),
+        (below, rates, nine, "false\n"),
+        (
+            "all(result, all(result, # < 0.5))",
+            rates,
+            r#"["0.1","0.2"]"#,
+            "true\n",
+        ),
+        (
+            "9223372036854775807 + 1 > 0",
+            r#""whole""#,
+            "0",
+            "fault Overflow\n",
+        ),
+        ("1 / 0 == 0", r#""whole""#, "0", "fault DivisionByZero\n"),
+        ("9223372036854775807 > 0.5", r#""whole""#, "0", "true\n"),
+        (
+            "-result[-1] * 2 not in [1, 2.5]",
+            rates,
+            r#"["0.25","-0.5"]"#,
+            "false\n",
+        ),
+        (
+            "!result.a == result.b",
+            truths,
+            r#"{"a":true,"b":false}"#,
+            "true\n",
+        ),
+        (
+            "len(filter(result, # > 1)) == 2",
+            counts,
+            "[1,2,3]",
+            "true\n",
+        ),
+        (
+            "all(result[0].Values, {# <= 0.01})",
+            series,
+            r#"[{"Values":["0.004","0.01"]}]"#,
+            "true\n",
+        ),
+    ];
+    for (condition, shape, value, line) in rows {
+        let document = format!(in rt.alloc();
+            "{{\"condition\":\"{condition}\",\"shape\":{shape},\"value\":{value}}}"
+        )?;
+        assert_eq!(rt;
+            eval(rt.alloc(), document.as_str(), line),
+            Ok(true),
+            "{document}"
+        );
+    }
+    Ok(())
 }
 
 /// A member that is read over may nest to 127 levels, the document's own among them.
@@ -293,8 +365,8 @@ fn refusal_texts(rt: HostRuntime) -> Result<(), Fail> {
             "condition, byte 9: LiteralTooFine: a decimal has at most six digits after the point",
         ),
         (
-            EvalError::Kinds(7),
-            "condition, byte 7: Kinds: expected `result`, a comparison and a literal: two numbers, or truth values beside == or !=",
+            EvalError::Kinds(TypeError::NoSuchField(6)),
+            "condition, byte 6: NoSuchField: the record has no such field",
         ),
         (
             EvalError::Misfit(ShapeFault::FloatNumber),
