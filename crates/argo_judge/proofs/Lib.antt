@@ -1,4 +1,5 @@
 pub mod Documents
 pub mod Items
+pub mod Pairs
 pub mod Walks
 mod Facts

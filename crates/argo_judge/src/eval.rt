@@ -9,7 +9,7 @@ ghost use Rattle.argo_judge.specs.Evaluation.{Gives, answer_of, evaluation_of, j
 
 use crate::input::MOST_BYTES;
 use crate::meaning::{Scope, meaning};
-use crate::operand::{Failure, Operand, Part, part_of};
+use crate::operand::{Failure, Operand, ValueRef, value_ref};
 use ar_check::check;
 use ar_check::error::TypeError;
 use ar_check::typed::Typed;
@@ -146,11 +146,11 @@ fn answer(alloc: Global, condition: &Typed, value: &Value) -> Result<Answer, Eva
     ensures { Gives result (Ok (answer_of (mean (value_view value.now) None (typed_view condition.now)))) }
 {
     let scope = Scope {
-        result: part_of(value),
+        result: value_ref(value),
         item: None,
     };
     match meaning(alloc, &scope, condition) {
-        Ok(Operand::Part(Part::Bool(holds))) => Ok(Ok(holds)),
+        Ok(Operand::Value(ValueRef::Bool(holds))) => Ok(Ok(holds)),
         Err(Failure::Fault(fault)) => Ok(Err(fault)),
         Err(Failure::OutOfMemory) => Err(EvalError::OutOfMemory),
         _ => unreachable!(),

@@ -10,8 +10,8 @@
 //! - `serve`: a command, from the bytes read to the bytes written
 //! - `eval`: a document with a condition, a shape and a value: what the condition says of the value
 //! - `meaning`: what a condition comes to, by a walk through its typed tree
-//! - `operand`, `list`: what the parts of a condition come to, lent by the value where they are its
-//! - `operators`, `joint`: what is made of one operand, and of two
+//! - `operand`, `list`: what the parts of a condition come to, lent by the value where it has them
+//! - `operators`, `operation`: what is made of one operand, and of two
 //! - `input`: reading a whole document
 //! - `device`: readers and writers that remember whether they failed
 //! - `status`: exit statuses
@@ -22,10 +22,10 @@ mod command_line;
 pub mod device;
 pub mod eval;
 pub mod input;
-mod joint;
 mod list;
 mod meaning;
 mod operand;
+mod operation;
 mod operators;
 pub mod serve;
 pub mod status;

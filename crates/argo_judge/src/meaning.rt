@@ -2,17 +2,18 @@
 
 ghost use Rattle.std.specs.Prelude.{◌≡◌, ◌<◌, ◌^◌, IfOk, Ok, drop, false, if◌then◌else◌, length, map, option_map, true};
 ghost use Rattle.ar_check.specs.Meaning.{all_hold, any_holds, ill_kinded, items_mean, mean, there, those};
+ghost use Rattle.ar_check.specs.Typed as typed;
 ghost use Rattle.ar_check.specs.Typed.{typeds};
 ghost use Rattle.ar_check.specs.Views.{typed_view};
 ghost use Rattle.ar_value.specs.Value.{bool, items_of};
-ghost use Rattle.argo_judge.specs.Operand.{Meets, first_holds, holds_of, how_many, operand_view, over_items, part_view, values_in};
+ghost use Rattle.argo_judge.specs.Operand.{Meets, first_holds, holds_of, how_many, of_both, operand_view, value_of, values_in};
 
-use crate::joint::{Joint, joined};
 use crate::list::{List, add, len_of, list_of};
 use crate::operand::{
-    Failure, Operand, Part, field_of, is_nil, literal_part, not_nil, scalar_part, truth_of,
+    Failure, Operand, ValueRef, field_of, is_nil, literal_ref, not_nil, scalar_ref, truth_of,
 };
-use crate::operators::{in_millionths, negative};
+use crate::operation::{Operation, apply};
+use crate::operators::{in_millionths, negative, opposite};
 use ar_check::typed::Typed;
 use ar_syntax::tree::Predicate;
 use std::alloc::Global;
@@ -20,8 +21,8 @@ use std::alloc::Global;
 /// What the names of a condition stand for: `result`, and the innermost item.
 #[derive(Clone, Copy, Debug)]
 pub(crate) struct Scope<'v> {
-    pub result: Part<'v>,
-    pub item: Option<Part<'v>>,
+    pub result: ValueRef<'v>,
+    pub item: Option<ValueRef<'v>>,
 }
 
 /// What a condition, or a part of it, comes to.
@@ -31,86 +32,63 @@ pub(crate) fn meaning<'v>(
     scope: &Scope<'v>,
     tree: &'v Typed,
 ) -> Result<Operand<'v>, Failure>
-    ensures { Meets operand_view result (mean (part_view scope.now.result) (option_map part_view scope.now.item) (typed_view tree.now)) }
+    ensures { Meets operand_view result (mean (value_of scope.now.result) (option_map value_of scope.now.item) (typed_view tree.now)) }
 {
     match tree {
-        Typed::Result => Ok(Operand::Part(scope.result)),
+        Typed::Result => Ok(Operand::Value(scope.result)),
         Typed::Item => innermost(scope),
-        Typed::Literal(literal) => Ok(Operand::Part(literal_part(literal))),
+        Typed::Literal(literal) => Ok(Operand::Value(literal_ref(literal))),
         Typed::Field { whole, name } => field_of(meaning(alloc, scope, whole)?, name.as_bytes()),
         Typed::Plain(operand) => not_nil(meaning(alloc, scope, operand)?),
         Typed::AsDecimal(operand) => in_millionths(meaning(alloc, scope, operand)?),
-        Typed::Negative { operand, .. } => {
-            let number = negative(&meaning(alloc, scope, operand)?)?;
-            Ok(Operand::number(number))
-        }
-        Typed::Len(list) => Ok(Operand::whole(len_of(meaning(alloc, scope, list)?)?)),
+        Typed::Negative { operand, .. } => negative(meaning(alloc, scope, operand)?),
+        Typed::Not(operand) => opposite(meaning(alloc, scope, operand)?),
+        Typed::Len(list) => len_of(meaning(alloc, scope, list)?),
         Typed::IsNil(operand) => Ok(Operand::truth(is_nil(&meaning(alloc, scope, operand)?))),
-        Typed::Not(operand) => Ok(Operand::truth(!truth_of(&meaning(alloc, scope, operand)?)?)),
-        Typed::Index { list, index } => {
-            let list = meaning(alloc, scope, list)?;
-            joined(Joint::Index, list, meaning(alloc, scope, index)?)
-        }
+        Typed::Index { list, index } => of_two(alloc, scope, Operation::Index, list, index),
         Typed::Arithmetic {
             operator,
             left,
             right,
             ..
-        } => {
-            let left = meaning(alloc, scope, left)?;
-            let right = meaning(alloc, scope, right)?;
-            joined(Joint::Arithmetic(*operator), left, right)
-        }
+        } => of_two(alloc, scope, Operation::Arithmetic(*operator), left, right),
         Typed::Ordered {
             order,
             left,
             right,
             ..
-        } => {
-            let left = meaning(alloc, scope, left)?;
-            joined(Joint::Order(*order), left, meaning(alloc, scope, right)?)
-        }
-        Typed::Equal { left, right, .. } => {
-            let left = meaning(alloc, scope, left)?;
-            joined(Joint::Equal, left, meaning(alloc, scope, right)?)
-        }
-        Typed::Within { operand, list } => {
-            let operand = meaning(alloc, scope, operand)?;
-            joined(Joint::Within, operand, meaning(alloc, scope, list)?)
-        }
+        } => of_two(alloc, scope, Operation::Order(*order), left, right),
+        Typed::Equal { left, right, .. } => of_two(alloc, scope, Operation::Equal, left, right),
+        Typed::Within { operand, list } => of_two(alloc, scope, Operation::Within, operand, list),
         Typed::Default { operand, otherwise } => {
-            let operand = meaning(alloc, scope, operand)?;
-            joined(Joint::Default, operand, meaning(alloc, scope, otherwise)?)
+            of_two(alloc, scope, Operation::Default, operand, otherwise)
         }
-        Typed::And { left, right } => both(
-            alloc,
-            scope,
-            truth_of(&meaning(alloc, scope, left)?)?,
-            right,
-        ),
-        Typed::Or { left, right } => either(
-            alloc,
-            scope,
-            truth_of(&meaning(alloc, scope, left)?)?,
-            right,
-        ),
-        Typed::Choice { condition, yes, no } => {
-            if truth_of(&meaning(alloc, scope, condition)?)? {
-                meaning(alloc, scope, yes)
-            } else {
-                meaning(alloc, scope, no)
-            }
-        }
+        Typed::And { left, right } => both(alloc, scope, left, right),
+        Typed::Or { left, right } => either(alloc, scope, left, right),
+        Typed::Choice { condition, yes, no } => choice(alloc, scope, condition, yes, no),
         Typed::List { items, .. } => Ok(Operand::Made(listed(alloc, scope, &items.items)?)),
         Typed::Predicate {
             predicate,
             list,
             body,
-        } => {
-            let list = meaning(alloc, scope, list)?;
-            over(alloc, scope, *predicate, list, body)
-        }
+        } => over(alloc, scope, *predicate, list, body),
     }
+}
+
+/// What is made of two operands, the left one first.
+#[cycle(meaning)]
+fn of_two<'v>(
+    alloc: Global,
+    scope: &Scope<'v>,
+    operation: Operation,
+    left: &'v Typed,
+    right: &'v Typed,
+) -> Result<Operand<'v>, Failure>
+    ensures { Meets operand_view result (of_both operation (mean (value_of scope.now.result) (option_map value_of scope.now.item) (typed_view left.now)) (mean (value_of scope.now.result) (option_map value_of scope.now.item) (typed_view right.now))) }
+{
+    let left = meaning(alloc, scope, left)?;
+    let right = meaning(alloc, scope, right)?;
+    apply(operation, left, right)
 }
 
 /// The right side only where the left one is true.
@@ -118,12 +96,12 @@ pub(crate) fn meaning<'v>(
 fn both<'v>(
     alloc: Global,
     scope: &Scope<'v>,
-    left: bool,
+    left: &'v Typed,
     right: &'v Typed,
 ) -> Result<Operand<'v>, Failure>
-    ensures { Meets operand_view result (if left then mean (part_view scope.now.result) (option_map part_view scope.now.item) (typed_view right.now) else Ok (bool false)) }
+    ensures { Meets operand_view result (mean (value_of scope.now.result) (option_map value_of scope.now.item) (typed.both (typed_view left.now) (typed_view right.now))) }
 {
-    if left {
+    if truth_of(&meaning(alloc, scope, left)?)? {
         meaning(alloc, scope, right)
     } else {
         Ok(Operand::truth(false))
@@ -135,15 +113,33 @@ fn both<'v>(
 fn either<'v>(
     alloc: Global,
     scope: &Scope<'v>,
-    left: bool,
+    left: &'v Typed,
     right: &'v Typed,
 ) -> Result<Operand<'v>, Failure>
-    ensures { Meets operand_view result (if left then Ok (bool true) else mean (part_view scope.now.result) (option_map part_view scope.now.item) (typed_view right.now)) }
+    ensures { Meets operand_view result (mean (value_of scope.now.result) (option_map value_of scope.now.item) (typed.either (typed_view left.now) (typed_view right.now))) }
 {
-    if left {
+    if truth_of(&meaning(alloc, scope, left)?)? {
         Ok(Operand::truth(true))
     } else {
         meaning(alloc, scope, right)
+    }
+}
+
+/// One branch.
+#[cycle(meaning)]
+fn choice<'v>(
+    alloc: Global,
+    scope: &Scope<'v>,
+    condition: &'v Typed,
+    met: &'v Typed,
+    unmet: &'v Typed,
+) -> Result<Operand<'v>, Failure>
+    ensures { Meets operand_view result (mean (value_of scope.now.result) (option_map value_of scope.now.item) (typed.choice (typed_view condition.now) (typed_view met.now) (typed_view unmet.now))) }
+{
+    if truth_of(&meaning(alloc, scope, condition)?)? {
+        meaning(alloc, scope, met)
+    } else {
+        meaning(alloc, scope, unmet)
     }
 }
 
@@ -154,15 +150,15 @@ fn listed<'v>(
     alloc: Global,
     scope: &Scope<'v>,
     trees: &'v [Typed],
-) -> Result<Vec<Part<'v>>, Failure>
-    ensures { Meets (λ parts. items_of (map part_view parts.items)) result (items_mean (part_view scope.now.result) (option_map part_view scope.now.item) (typeds (map typed_view trees.now))) }
+) -> Result<Vec<ValueRef<'v>>, Failure>
+    ensures { Meets (λ items. items_of (map value_of items.items)) result (items_mean (value_of scope.now.result) (option_map value_of scope.now.item) (typeds (map typed_view trees.now))) }
 {
-    let mut parts = Vec::with_capacity(alloc, trees.len())?;
+    let mut items = Vec::with_capacity(alloc, trees.len())?;
     for tree in trees {
-        let part = scalar_part(&meaning(alloc, scope, tree)?)?;
-        add(&mut parts, part)?;
+        let item = scalar_ref(&meaning(alloc, scope, tree)?)?;
+        add(&mut items, item)?;
     }
-    Ok(parts)
+    Ok(items)
 }
 
 /// What a predicate says of the items of a list.
@@ -171,12 +167,12 @@ fn over<'v>(
     alloc: Global,
     scope: &Scope<'v>,
     predicate: Predicate,
-    list: Operand<'v>,
+    list: &'v Typed,
     body: &'v Typed,
 ) -> Result<Operand<'v>, Failure>
-    ensures { Meets operand_view result (over_items predicate (holds_of (part_view scope.now.result) (typed_view body.now)) (operand_view list.entry)) }
+    ensures { Meets operand_view result (mean (value_of scope.now.result) (option_map value_of scope.now.item) (typed.predicate predicate (typed_view list.now) (typed_view body.now))) }
 {
-    let list = list_of(list)?;
+    let list = list_of(meaning(alloc, scope, list)?)?;
     Ok(match predicate {
         Predicate::All => Operand::truth(all_hold(alloc, scope, &list, body)?),
         Predicate::Any => Operand::truth(any_holds(alloc, scope, &list, body)?),
@@ -194,7 +190,7 @@ fn all_hold<'v>(
     list: &List<'v>,
     body: &'v Typed,
 ) -> Result<bool, Failure>
-    ensures { Meets bool result (all_hold (holds_of (part_view scope.now.result) (typed_view body.now)) (items_of (values_in list.now))) }
+    ensures { Meets bool result (all_hold (holds_of (value_of scope.now.result) (typed_view body.now)) (items_of (values_in list.now))) }
 {
     for index in 0..list.len() {
         if !holds(alloc, scope, list, index, body)? {
@@ -213,7 +209,7 @@ fn any_holds<'v>(
     list: &List<'v>,
     body: &'v Typed,
 ) -> Result<bool, Failure>
-    ensures { Meets bool result (any_holds (holds_of (part_view scope.now.result) (typed_view body.now)) (items_of (values_in list.now))) }
+    ensures { Meets bool result (any_holds (holds_of (value_of scope.now.result) (typed_view body.now)) (items_of (values_in list.now))) }
 {
     for index in 0..list.len() {
         if holds(alloc, scope, list, index, body)? {
@@ -231,13 +227,13 @@ fn those<'v>(
     scope: &Scope<'v>,
     list: &List<'v>,
     body: &'v Typed,
-) -> Result<Vec<Part<'v>>, Failure>
-    ensures { Meets (λ parts. items_of (map part_view parts.items)) result (those (holds_of (part_view scope.now.result) (typed_view body.now)) (items_of (values_in list.now))) }
+) -> Result<Vec<ValueRef<'v>>, Failure>
+    ensures { Meets (λ items. items_of (map value_of items.items)) result (those (holds_of (value_of scope.now.result) (typed_view body.now)) (items_of (values_in list.now))) }
 {
     let mut found = Vec::new(alloc);
     for index in 0..list.len() {
         if holds(alloc, scope, list, index, body)? {
-            add(&mut found, list.part(index))?;
+            add(&mut found, list.item(index))?;
         }
     }
     Ok(found)
@@ -252,7 +248,7 @@ fn how_many<'v>(
     list: &List<'v>,
     body: &'v Typed,
 ) -> Result<usize, Failure>
-    ensures counted { Meets (λ n. n) result (how_many (those (holds_of (part_view scope.now.result) (typed_view body.now)) (items_of (values_in list.now)))) }
+    ensures counted { Meets (λ n. n) result (how_many (those (holds_of (value_of scope.now.result) (typed_view body.now)) (items_of (values_in list.now)))) }
     ensures few { IfOk result (λ n. n < 2 ^ 63) }
 {
     let mut count = 0;
@@ -274,20 +270,20 @@ fn holds<'v>(
     body: &'v Typed,
 ) -> Result<bool, Failure>
     requires { index < length (values_in list.now) }
-    ensures { Meets (λ holds. holds) result (first_holds (holds_of (part_view scope.now.result) (typed_view body.now)) (drop index (values_in list.now))) }
+    ensures { Meets (λ holds. holds) result (first_holds (holds_of (value_of scope.now.result) (typed_view body.now)) (drop index (values_in list.now))) }
 {
     let inner = Scope {
         result: scope.result,
-        item: Some(list.part(index)),
+        item: Some(list.item(index)),
     };
     truth_of(&meaning(alloc, &inner, body)?)
 }
 
 fn innermost<'v>(scope: &Scope<'v>) -> Result<Operand<'v>, Failure>
-    ensures { Meets operand_view result (there ill_kinded (option_map part_view scope.now.item)) }
+    ensures { Meets operand_view result (there ill_kinded (option_map value_of scope.now.item)) }
 {
     match scope.item {
-        Some(part) => Ok(Operand::Part(part)),
+        Some(item) => Ok(Operand::Value(item)),
         None => Err(Failure::IllKinded),
     }
 }

@@ -1,16 +1,16 @@
-//! What is made of two operands.
+//! Operations on two operands.
 
 ghost use Rattle.std.specs.Prelude.{◌≡◌};
-ghost use Rattle.argo_judge.specs.Operand.{Meets, joint_of, operand_view};
+ghost use Rattle.argo_judge.specs.Operand.{Meets, applied, operand_view};
 
 use crate::list::{has_item, item_at, list_of};
 use crate::operand::{Failure, Operand, is_nil, number_of};
 use crate::operators::{arithmetic, is_ordered, same};
 use ar_check::typed::{Arithmetic, Order};
 
-/// What is made of two operands.
+/// An operation on two operands.
 #[derive(Clone, Copy, Debug)]
-pub(crate) enum Joint {
+pub(crate) enum Operation {
     /// The item of a list at an index.
     Index,
     Arithmetic(Arithmetic),
@@ -22,26 +22,26 @@ pub(crate) enum Joint {
     Default,
 }
 
-/// What is made of two operands.
-pub(crate) fn joined<'v>(
-    joint: Joint,
+/// What an operation makes of two operands.
+pub(crate) fn apply<'v>(
+    operation: Operation,
     left: Operand<'v>,
     right: Operand<'v>,
 ) -> Result<Operand<'v>, Failure>
-    ensures { Meets operand_view result (joint_of joint (operand_view left.entry) (operand_view right.entry)) }
+    ensures { Meets operand_view result (applied operation (operand_view left.entry) (operand_view right.entry)) }
 {
-    match joint {
-        Joint::Index => item_at(left, &right),
-        Joint::Arithmetic(operator) => {
+    match operation {
+        Operation::Index => item_at(left, &right),
+        Operation::Arithmetic(operator) => {
             let left = number_of(&left)?;
             Ok(Operand::number(arithmetic(operator, left, number_of(&right)?)?))
         }
-        Joint::Order(order) => {
+        Operation::Order(order) => {
             let left = number_of(&left)?;
             Ok(Operand::truth(is_ordered(order, left, number_of(&right)?)))
         }
-        Joint::Equal => Ok(Operand::truth(same(&left, &right))),
-        Joint::Within => Ok(Operand::truth(has_item(&left, &list_of(right)?))),
-        Joint::Default => Ok(if is_nil(&left) { right } else { left }),
+        Operation::Equal => Ok(Operand::truth(same(&left, &right))),
+        Operation::Within => Ok(Operand::truth(has_item(&left, &list_of(right)?))),
+        Operation::Default => Ok(if is_nil(&left) { right } else { left }),
     }
 }
