@@ -14,13 +14,13 @@ use Rattle.ar_limits.specs.declared.limits.Limits.{Limits}
 use Rattle.ar_limits.specs.declared.metric.Metric.{Metric}
 use Rattle.ar_limits.specs.declared.phase.Phase.{Phase}
 use Rattle.ar_limits.specs.declared.phase.Phase.TheVariants as phase
-use Rattle.ar_limits.specs.Bounds.{AreAtMost}
+use Rattle.ar_limits.specs.Private.Bounds.{AreAtMost}
 use Rattle.ar_limits.specs.Metric.{is_complete, is_unsuccessful, HasPositiveCounts}
 use Rattle.ar_limits.specs.Run.{settled, closed_by_metrics}
 use Rattle.ar_limits.specs.Replay.{Standing}
-use Rattle.ar_limits.specs.Step.{with_mark, no_counts, no_limits, comes_late, with_event, closed, next, answer}
-use Rattle.ar_limits.specs.MetricStep.{with_mark_added, after_closing}
-use Rattle.ar_limits.specs.Kept.{incomplete_count, standing_of, AreConsistent, AreWithin, Takes}
+use Rattle.ar_limits.specs.Private.Step.{with_mark, no_counts, no_limits, comes_late, with_event, closed, next, answer}
+use Rattle.ar_limits.specs.Private.MetricStep.{with_mark_added, after_closing}
+use Rattle.ar_limits.specs.Private.Kept.{incomplete_count, standing_of, AreConsistent, AreWithin, Takes}
 use Rattle.ar_limits.proofs.RunLemmas.{closed_by_metrics-complete}
 use Rattle.ar_limits.proofs.PhaseLemmas.{list_any-set, incomplete_count-settled, incomplete_count-set, incomplete_count-some, closed_by_metrics-unsuccessful, closed_by_metrics-last, closed_by_metrics-none}
 

@@ -12,7 +12,7 @@ use Rattle.ar_limits.specs.Prefixes.{prefixes, deciding_prefix, with_earlier}
 use Rattle.ar_limits.specs.Metric.{decision, phase_of_marks, is_complete, HasPositiveCounts}
 use Rattle.ar_limits.specs.Run.{phases_by_marks, closing_prefix, run_phase, settled, metric_phases, metric_counts, is_late, effect_of, timely}
 use Rattle.ar_limits.specs.Replay.{Standing, IsOfMetricBelow}
-use Rattle.ar_limits.specs.Step.{comes_late, with_event, closing_now, closed, next, answer}
+use Rattle.ar_limits.specs.Private.Step.{comes_late, with_event, closing_now, closed, next, answer}
 use Rattle.ar_limits.specs.Laws.{OneMetricPhase, MetricPhaseStays, SameOutcome, RunPhaseStays, LateChangesNothing, OnlyTimelyMatters, ClosedMetricsAreComplete, FailuresFirst, InconclusiveSecond, ErrorsThird, CountLast, OneForEachMetric}
 use Rattle.ar_limits.proofs.PrefixLemmas.{push_induction, value_of_some, phase_by-decided}
 use Rattle.ar_limits.proofs.NumberedLemmas.{length-numbered}

@@ -8,4 +8,3 @@ pub mod PrefixLemmas
 pub mod ReplayLemmas
 pub mod RunLemmas
 pub mod StepLemmas
-pub mod WorkedRuns

@@ -11,7 +11,7 @@ use Rattle.ar_limits.specs.declared.limits.Limits.{Limits}
 use Rattle.ar_limits.specs.declared.phase.Phase.{Phase}
 use Rattle.ar_limits.specs.declared.phase.Phase.TheVariants as phase
 use Rattle.ar_limits.specs.Metric.{is_successful, is_failed, is_inconclusive, is_error, errors_at_end, counts_of, counted, reaches, decided_by, decision, is_complete}
-use Rattle.ar_limits.specs.Step.{with_mark}
+use Rattle.ar_limits.specs.Private.Step.{with_mark}
 use Rattle.ar_limits.proofs.PrefixLemmas.{DecidesComplete}
 
 -- ---- Counts

@@ -9,7 +9,7 @@ use Rattle.ar_limits.specs.declared.phase.Phase.{Phase}
 use Rattle.ar_limits.specs.declared.phase.Phase.TheVariants as phase
 use Rattle.ar_limits.specs.Metric.{is_complete, is_unsuccessful, succeeded}
 use Rattle.ar_limits.specs.Run.{closed_by_metrics, settled}
-use Rattle.ar_limits.specs.Kept.{incomplete_count}
+use Rattle.ar_limits.specs.Private.Kept.{incomplete_count}
 
 pub list_any-set : {A : Type 0} (test : A → Bool) (xs : List A) (i : ℕ) (x : A) → i < length xs
     → list_any test xs ≡ false → list_any test (set xs i x) ≡ test x

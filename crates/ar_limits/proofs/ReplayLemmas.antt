@@ -12,14 +12,14 @@ use Rattle.ar_limits.specs.declared.limits.Limits.{Limits}
 use Rattle.ar_limits.specs.declared.metric.Metric.{Metric}
 use Rattle.ar_limits.specs.declared.phase.Phase.{Phase}
 use Rattle.ar_limits.specs.declared.phase.Phase.TheVariants as phase
-use Rattle.ar_limits.specs.Bounds.{AreAtMost}
+use Rattle.ar_limits.specs.Private.Bounds.{AreAtMost}
 use Rattle.ar_limits.specs.Prefixes.{with_earlier}
 use Rattle.ar_limits.specs.Metric.{counts_of, decision, phase_of_marks, is_unsuccessful, HasPositiveCounts}
 use Rattle.ar_limits.specs.Run.{marks_of, phases_by_marks, closing, closing_prefix, effect_of, timely, metric_counts}
 use Rattle.ar_limits.specs.Replay.{Standing, Replays, IsOfMetricBelow}
-use Rattle.ar_limits.specs.Step.{no_counts, comes_late, with_event, closing_now, closed, next, answer}
-use Rattle.ar_limits.specs.MetricStep.{opening}
-use Rattle.ar_limits.specs.Kept.{incomplete_count, standing_of, AreConsistent, AreWithin}
+use Rattle.ar_limits.specs.Private.Step.{no_counts, comes_late, with_event, closing_now, closed, next, answer}
+use Rattle.ar_limits.specs.Private.MetricStep.{opening}
+use Rattle.ar_limits.specs.Private.Kept.{incomplete_count, standing_of, AreConsistent, AreWithin}
 use Rattle.ar_limits.proofs.PrefixLemmas.{deciding_prefix-nil, phase_by-open}
 use Rattle.ar_limits.proofs.MetricLemmas.{decision-nil}
 use Rattle.ar_limits.proofs.NumberedLemmas.{numbered_plain}

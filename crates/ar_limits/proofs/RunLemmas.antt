@@ -150,7 +150,7 @@ pub timely-push : (limits : List Limits) (events : List Event) (e : Event)
     → timely limits (events ++ e ∷ []) ≡ timely limits events ++ cond (is_late limits events e) [] (e ∷ [])
 unfolding timely
 timely-push limits events e =
-    let keep = λ (later : List Event × Event). if is_late limits later.0 later.1 then None else Some later.1 in
+    let keep = λ (step : List Event × Event). if is_late limits step.0 step.1 then None else Some step.1 in
     ap (filter_map keep) (with_earlier-push events e)
     ∙ filter_map-append keep (with_earlier events) ((events, e) ∷ [])
     ∙ ap (λ last. filter_map keep (with_earlier events) ++ last) (at (is_late limits events e))
@@ -170,4 +170,4 @@ timely-push_applied limits events e h = rw (timely-push limits events e, h) refl
 pub effects-push : (limits : List Limits) (events : List Event) (e : Event)
     → effects limits (events ++ e ∷ []) ≡ effects limits events ++ effect_of limits events e ∷ []
 unfolding effects
-effects-push limits events e = ap (map (λ later. effect_of limits later.0 later.1)) (with_earlier-push events e) ∙ map_push (λ later. effect_of limits later.0 later.1) (with_earlier events) (events, e)
+effects-push limits events e = ap (map (λ step. effect_of limits step.0 step.1)) (with_earlier-push events e) ∙ map_push (λ step. effect_of limits step.0 step.1) (with_earlier events) (events, e)

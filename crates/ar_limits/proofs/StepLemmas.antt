@@ -17,7 +17,7 @@ use Rattle.ar_limits.specs.Prefixes.{deciding_prefix, with_earlier}
 use Rattle.ar_limits.specs.Metric.{counts_of, decision, phase_of_marks, is_complete, HasPositiveCounts}
 use Rattle.ar_limits.specs.Run.{mark_of, marks_of, phases_by_marks, ends_with_stop, closed_by_metrics, closing, closing_prefix, run_phase, metric_phases, metric_was_complete, is_late, effect_of, timely, metric_counts}
 use Rattle.ar_limits.specs.Replay.{Standing, IsOfMetricBelow}
-use Rattle.ar_limits.specs.Step.{with_mark, phase_by_counts, no_counts, no_limits, comes_late, with_event, closing_now, next, answer}
+use Rattle.ar_limits.specs.Private.Step.{with_mark, phase_by_counts, no_counts, no_limits, comes_late, with_event, closing_now, next, answer}
 use Rattle.ar_limits.proofs.PrefixLemmas.{option_cases, none_of, option_or-none, deciding_prefix-nil, deciding_prefix-whole, push_induction, phase_by-push_complete, phase_by-push_open, is_complete-phase_by}
 use Rattle.ar_limits.proofs.MetricLemmas.{counts_of-push, decision-complete, decision-nil}
 use Rattle.ar_limits.proofs.NumberedLemmas.{numbered_same, numbered_set, numbered_get}

@@ -1,10 +1,7 @@
-pub mod Bounds
-pub mod Inside
-pub mod Kept
-pub mod Laws
-pub mod Metric
-pub mod MetricStep
 pub mod Prefixes
-pub mod Replay
+pub mod Metric
 pub mod Run
-pub mod Step
+pub mod Replay
+pub mod Laws
+pub mod Examples
+pub mod Private

@@ -26,4 +26,4 @@ phase_by decides items =
 -- each item of a list, behind the items that come before it
 unfoldable pub with_earlier : {A : Type 0} → List A → List (List A × A)
 with_earlier [] = []
-with_earlier (item ∷ items) = ([], item) ∷ map (λ later. (item ∷ later.0, later.1)) (with_earlier items)
+with_earlier (item ∷ items) = ([], item) ∷ map (λ (earlier, last). (item ∷ earlier, last)) (with_earlier items)

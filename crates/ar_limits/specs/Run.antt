@@ -106,12 +106,12 @@ effect_of limits earlier event =
 
 -- the effect of each event, in their order
 unfoldable pub effects : List Limits → List Event → List Effect
-effects limits events = map (λ later. effect_of limits later.0 later.1) (with_earlier events)
+effects limits events = map (λ (earlier, event). effect_of limits earlier event) (with_earlier events)
 
 -- the events that aren't late, in their order
 unfoldable pub timely : List Limits → List Event → List Event
 timely limits events =
-    filter_map (λ later. if is_late limits later.0 later.1 then None else Some later.1) (with_earlier events)
+    filter_map (λ (earlier, event). if is_late limits earlier event then None else Some event) (with_earlier events)
 
 -- the counts of each metric, over its marks that aren't late
 unfoldable pub metric_counts : List Limits → List Event → List Counts

@@ -1,3 +1,5 @@
+//! Counts of the marks of a metric, by kind.
+
 ghost use Rattle.std.specs.Prelude.{◌≡◌};
 ghost use Rattle.ar_limits.specs.declared.run.TheConstants.{MAX_EVENTS};
 
@@ -15,8 +17,8 @@ pub struct Counts {
 }
 
 impl Counts {
-    ghost use Rattle.ar_limits.specs.Bounds.{AreAtMost};
-    ghost use Rattle.ar_limits.specs.Step.{with_mark};
+    ghost use Rattle.ar_limits.specs.Private.Bounds.{AreAtMost};
+    ghost use Rattle.ar_limits.specs.Private.Step.{with_mark};
 
     /// Counts one mark more.
     pub(crate) fn add(&mut self, mark: Mark)

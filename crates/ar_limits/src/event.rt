@@ -1,3 +1,5 @@
+//! What happens to a run, and what each event does to it.
+
 use crate::phase::Phase;
 
 /// What one measurement of a metric was found to be.

@@ -14,13 +14,16 @@
 //!
 //! | Module | What it has |
 //! |---|---|
-//! | `event` | marks, events, and what an event does |
-//! | `phase` | the phases of metrics and runs |
-//! | `limits`, `counts` | the limits of a metric, the counts of its marks, and what they decide |
+//! | `event` | [`Mark`], [`Event`], and what an event does: [`Effect`] |
+//! | `phase` | [`Phase`], of metrics and runs |
+//! | `limits`, `counts` | [`Limits`] of a metric, [`Counts`] of its marks, and what they decide |
 //! | `metric` | a metric with its counts and phase |
 //! | `progress` | the metrics of a run, one event after another |
 //! | `run` | [`RunState`], which callers use |
-//! | `laws` | what follows from the definitions, each law a contract |
+//! | [`laws`] | what follows from the definitions, each law a contract |
+//!
+//! In `specs`, `Laws` states the laws, and `Examples` has worked runs. `Private` is what the private
+//! contracts speak of: how the code keeps a run, by running counts.
 #![tactic(auto)]
 
 mod counts;
@@ -31,8 +34,6 @@ mod metric;
 mod phase;
 mod progress;
 mod run;
-#[cfg(test)]
-mod tests;
 
 pub use counts::Counts;
 pub use event::{Effect, Event, Mark};

@@ -1,3 +1,5 @@
+//! The limits of a metric, and what counts of marks decide under them.
+
 ghost use Rattle.std.specs.Prelude.{◌≡◌, ◌+◌, ◌↔◌, IsTrue};
 ghost use Rattle.ar_limits.specs.declared.run.TheConstants.{MAX_EVENTS};
 
@@ -19,7 +21,7 @@ pub struct Limits {
 }
 
 impl Limits {
-    ghost use Rattle.ar_limits.specs.Bounds.{AreAtMost};
+    ghost use Rattle.ar_limits.specs.Private.Bounds.{AreAtMost};
     ghost use Rattle.ar_limits.specs.Metric.{decided_by, HasPositiveCounts};
 
     /// Whether each `count` that is there is 1 or more, as a run asks of its metrics.

@@ -1,3 +1,5 @@
+//! A metric of a run, one mark after another.
+
 ghost use Rattle.std.specs.Prelude.{◌≡◌};
 ghost use Rattle.ar_limits.specs.declared.run.TheConstants.{MAX_EVENTS};
 
@@ -15,8 +17,8 @@ pub(crate) struct Metric {
 }
 
 impl Metric {
-    ghost use Rattle.ar_limits.specs.Bounds.{AreAtMost};
-    ghost use Rattle.ar_limits.specs.MetricStep.{opening, with_mark_added, after_closing};
+    ghost use Rattle.ar_limits.specs.Private.Bounds.{AreAtMost};
+    ghost use Rattle.ar_limits.specs.Private.MetricStep.{opening, with_mark_added, after_closing};
 
     /// A metric without marks.
     pub(crate) fn new(limits: Limits) -> Self

@@ -1,3 +1,5 @@
+//! Phases, of metrics and of runs.
+
 /// How far a metric or a run has come, as Argo Rollouts names it.
 #[derive(Clone, Copy, Debug, PartialEq, Eq, Hash)]
 pub enum Phase {

@@ -1,7 +1,9 @@
+//! The metrics and the phase of a run, one event after another.
+
 ghost use Rattle.std.specs.Prelude.{◌≡◌, ◌<◌, false, map, length, IfOk};
-ghost use Rattle.ar_limits.specs.Kept.{AreConsistent, AreWithin, Takes};
+ghost use Rattle.ar_limits.specs.Private.Kept.{AreConsistent, AreWithin, Takes};
 ghost use Rattle.ar_limits.specs.Metric.{is_complete};
-ghost use Rattle.ar_limits.specs.MetricStep.{opening, after_closing};
+ghost use Rattle.ar_limits.specs.Private.MetricStep.{opening, after_closing};
 ghost use Rattle.ar_limits.specs.Replay.{IsOfMetricBelow};
 ghost use Rattle.ar_limits.specs.declared.run.TheConstants.{MAX_EVENTS};
 

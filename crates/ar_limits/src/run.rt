@@ -1,3 +1,5 @@
+//! A run, as callers see it.
+
 ghost use Rattle.std.specs.Prelude.{◌≡◌, ◌+◌, ◌<◌, [], ◌∷◌, ◌++◌, length, slice_get, IfOk};
 ghost use Rattle.ar_limits.specs.Metric.{HasPositiveCounts};
 ghost use Rattle.ar_limits.specs.Replay.{Replays, ForEachReplay, IsOfMetricBelow};
@@ -27,7 +29,7 @@ impl Model for RunState {
 
     ghost Value = { Standing };
 
-    ghost use Rattle.ar_limits.specs.Inside.{standing, IsSound};
+    ghost use Rattle.ar_limits.specs.Private.Inside.{standing, IsSound};
 
     ghost view = { standing };
 

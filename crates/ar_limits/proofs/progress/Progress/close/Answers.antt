@@ -2,7 +2,7 @@
 use Rattle.std.proofs.Common.{arith}
 use Rattle.std.proofs.lemmas.List.{get_or_default}
 use Rattle.std.proofs.lemmas.List.Edits.{map_over_more}
-use Rattle.ar_limits.specs.MetricStep.{after_closing}
+use Rattle.ar_limits.specs.Private.MetricStep.{after_closing}
 use Rattle.ar_limits.proofs.progress.Progress.close.Goals as goal
 
 pub loop-metric-preserved : goal.loop-metric-preserved

@@ -5,8 +5,8 @@ use Rattle.ar_limits.specs.declared.event.Mark.{Mark}
 use Rattle.ar_limits.specs.declared.metric.Metric.{Metric}
 use Rattle.ar_limits.specs.declared.phase.Phase.{Phase}
 use Rattle.ar_limits.specs.Metric.{is_complete, is_unsuccessful}
-use Rattle.ar_limits.specs.MetricStep.{with_mark_added}
-use Rattle.ar_limits.specs.Kept.{AreConsistent}
+use Rattle.ar_limits.specs.Private.MetricStep.{with_mark_added}
+use Rattle.ar_limits.specs.Private.Kept.{AreConsistent}
 use Rattle.ar_limits.proofs.KeptLemmas.{IsAt, IsMarked, some_incomplete, takes_at_complete, takes_mark_on, takes_mark_closed}
 use Rattle.ar_limits.proofs.progress.Progress.mark.Goals as goal
 use Rattle.ar_limits.proofs.progress.Progress.mark.Goals.{then-is_unsuccessful-via-then-is_unsuccessful, then-is_unsuccessful-via-else-is_unsuccessful+then-self-eq0}

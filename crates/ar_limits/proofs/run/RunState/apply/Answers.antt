@@ -1,6 +1,6 @@
 -- The step of the metrics is one event more of each list that led here.
 use Rattle.std.proofs.Common.{ap, ◌∙◌}
-use Rattle.ar_limits.specs.Inside.{standing}
+use Rattle.ar_limits.specs.Private.Inside.{standing}
 use Rattle.ar_limits.proofs.ReplayLemmas.{replays-push, effect_of-replayed, next-limits}
 use Rattle.ar_limits.proofs.run.RunState.apply.Goals as goal
 

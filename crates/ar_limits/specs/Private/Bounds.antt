@@ -1,4 +1,4 @@
--- How large the counts of a metric are.
+-- How large the counts of a metric are. No public contract speaks of this.
 use Rattle.std.specs.Prelude.{ℕ, ◌≤◌}
 use Rattle.ar_limits.specs.declared.counts.Counts.{Counts}
 

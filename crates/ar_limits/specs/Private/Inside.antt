@@ -1,7 +1,10 @@
--- A run's state, as a caller sees it.
+-- A `RunState` as a caller sees it, and what always holds of its fields: its view and its invariant.
+--
+-- No public contract names these. Those of `RunState` speak of the `Standing` that the view gives, and each reader's
+-- contract ties a part of it to the answer.
 use Rattle.ar_limits.specs.declared.run.RunState.TheInside.{Inside}
 use Rattle.ar_limits.specs.Replay.{Standing}
-use Rattle.ar_limits.specs.Kept.{standing_of, AreConsistent, AreWithin}
+use Rattle.ar_limits.specs.Private.Kept.{standing_of, AreConsistent, AreWithin}
 
 abbrev pub standing : Inside → Standing
 standing state = standing_of state.progress.metrics.items state.progress.phase state.handed

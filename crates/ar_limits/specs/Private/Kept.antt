@@ -1,14 +1,14 @@
--- What the code keeps of a run, and what a caller sees of it.
+-- What the code keeps of a run, and what a caller sees of it. No public contract speaks of this.
 use Rattle.std.specs.Prelude.{◌≡◌, ℕ, ◌+◌, false, not, List, map, count_by, All}
 use Rattle.std.specs.List.{list_any}
 use Rattle.ar_limits.specs.declared.event.Effect.{Effect}
 use Rattle.ar_limits.specs.declared.event.Event.{Event}
 use Rattle.ar_limits.specs.declared.metric.Metric.{Metric}
 use Rattle.ar_limits.specs.declared.phase.Phase.{Phase}
-use Rattle.ar_limits.specs.Bounds.{AreAtMost}
+use Rattle.ar_limits.specs.Private.Bounds.{AreAtMost}
 use Rattle.ar_limits.specs.Metric.{is_complete, is_unsuccessful, HasPositiveCounts}
 use Rattle.ar_limits.specs.Replay.{Standing}
-use Rattle.ar_limits.specs.Step.{next, answer}
+use Rattle.ar_limits.specs.Private.Step.{next, answer}
 
 -- how many of the phases aren't complete
 abbrev pub incomplete_count : List Phase → ℕ

@@ -1,6 +1,6 @@
 //! Runs whose effects, phases and counts are worked out by hand from the definition.
 
-use crate::{Counts, Effect, Event, Limits, MAX_EVENTS, Mark, Phase, RunState};
+use ar_limits::{Counts, Effect, Event, Limits, MAX_EVENTS, Mark, Phase, RunState, laws};
 use std::process::Abort;
 use std::test::Fail;
 
@@ -599,18 +599,78 @@ fn runs_by_hand(rt: HostRuntime) -> Result<(), Fail> {
 }
 
 #[test]
-fn sixty_four_metrics(rt: HostRuntime) -> Result<(), Fail> {
-    let limits = [ONCE; 64];
+fn many_metrics(rt: HostRuntime) -> Result<(), Fail> {
+    let limits = [ONCE; 1_000];
     assert!(rt; Limits::have_positive_counts(&limits));
     let mut state = RunState::new(rt.alloc(), &limits)?;
-    for metric in 0..64 {
+    assert_eq!(rt; state.metrics(), 1_000);
+    for metric in 0..1_000 {
         let effect = apply(&rt, &mut state, Event::Mark(metric, Mark::Successful));
-        assert_eq!(rt; effect, if metric == 63 { SUCCEEDS } else { APPLIED });
+        assert_eq!(rt; effect, if metric == 999 { SUCCEEDS } else { APPLIED });
     }
     assert_eq!(rt; state.phase(), Phase::Successful);
     assert_eq!(rt; apply(&rt, &mut state, F), LATE);
-    assert_eq!(rt; state.handed(), 65);
+    assert_eq!(rt; state.handed(), 1_001);
     Ok(())
+}
+
+#[test]
+fn most_events(rt: HostRuntime) -> Result<(), Fail> {
+    let limits = [ENDLESS];
+    assert!(rt; Limits::have_positive_counts(&limits));
+    let mut state = RunState::new(rt.alloc(), &limits)?;
+    for _ in 0..MAX_EVENTS {
+        assert_eq!(rt; apply(&rt, &mut state, S), APPLIED);
+    }
+    assert_eq!(rt; state.phase(), Phase::Running);
+    assert_eq!(rt; state.metrics(), 1);
+    assert_eq!(rt; state.counts(0).successful, 100_000);
+    assert_eq!(rt; state.handed(), 100_000);
+    Ok(())
+}
+
+#[test]
+fn no_count_of_zero(rt: HostRuntime) {
+    let never = Limits {
+        count: Some(0),
+        ..ONCE
+    };
+    assert!(rt; Limits::have_positive_counts(&[]));
+    assert!(rt; Limits::have_positive_counts(&[ENDLESS, ONCE, MOST_ALLOWED]));
+    assert!(rt; !Limits::have_positive_counts(&[ENDLESS, ONCE, never]));
+}
+
+#[test]
+fn phases_told_apart(rt: HostRuntime) {
+    // Each phase: whether it is complete, and whether it is so without success.
+    let phases = [
+        (Phase::Pending, false, false),
+        (Phase::Running, false, false),
+        (Phase::Successful, true, false),
+        (Phase::Failed, true, true),
+        (Phase::Error, true, true),
+        (Phase::Inconclusive, true, true),
+    ];
+    for (phase, complete, unsuccessful) in phases {
+        assert_eq!(rt; phase.is_complete(), complete, "{phase:?}");
+        assert_eq!(rt; phase.is_unsuccessful(), unsuccessful, "{phase:?}");
+    }
+}
+
+/// A law does nothing but hold, so a call returns.
+#[test]
+fn laws_can_be_called(_: HostRuntime) {
+    laws::at_most_one_metric_phase();
+    laws::at_most_one_run_phase();
+    laws::closed_for_a_reason();
+    laws::metric_phase_stays();
+    laws::run_phase_stays();
+    laws::late_changes_nothing();
+    laws::only_timely_matters();
+    laws::closed_metrics_are_complete();
+    laws::limits_before_count();
+    laws::one_for_each_metric();
+    laws::effects_in_order();
 }
 
 /// The worked example of docs/PHASES.md.

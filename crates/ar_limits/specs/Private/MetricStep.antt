@@ -1,10 +1,12 @@
 -- What the code keeps of one metric, and how a mark and the closing of the run change it.
+--
+-- No public contract speaks of this.
 use Rattle.ar_limits.specs.declared.event.Mark.{Mark}
 use Rattle.ar_limits.specs.declared.limits.Limits.{Limits}
 use Rattle.ar_limits.specs.declared.metric.Metric.{Metric}
 use Rattle.ar_limits.specs.declared.phase.Phase.TheVariants as phase
 use Rattle.ar_limits.specs.Run.{settled}
-use Rattle.ar_limits.specs.Step.{with_mark, phase_by_counts, no_counts}
+use Rattle.ar_limits.specs.Private.Step.{with_mark, phase_by_counts, no_counts}
 
 -- a metric without marks
 abbrev pub opening : Limits → Metric
