@@ -11,7 +11,7 @@ use Rattle.ar_value.specs.Value.{Value}
 use Rattle.ar_value.specs.Value as values
 use Rattle.ar_value.specs.declared.fault.Fault.{Fault}
 use Rattle.ar_value.proofs.Merges.{merge_has_both}
-use Rattle.ar_check.specs.Check.{choice_in, choice_of, default_kind, default_of, in_common, plain_kind, truth}
+use Rattle.ar_check.specs.Check.{choice_in, choice_of, default_kind, default_of, in_common, plain_kind, truth_kind}
 use Rattle.ar_check.specs.Meaning.{Meaning, Failure, mean}
 use Rattle.ar_check.specs.Meaning as meaning
 use Rattle.ar_check.specs.Operand.{Operand, is_truth, is_whole, made_plain, turned}
@@ -147,7 +147,7 @@ module _ (result : Value) (here : Option Value) where
   -- ---- choices
 
   -- either branch of one kind
-  choice_means : (kind : Kind) (condition met unmet : Typed) → MeansKind truth (mean result here condition) → MeansKind kind (mean result here met) → MeansKind kind (mean result here unmet)
+  choice_means : (kind : Kind) (condition met unmet : Typed) → MeansKind truth_kind (mean result here condition) → MeansKind kind (mean result here met) → MeansKind kind (mean result here unmet)
       → MeansKind kind (mean result here (typed.choice condition met unmet))
   choice_means kind condition met unmet h k l =
       truth_then kind (mean result here condition) (λ b. if b then mean result here met else mean result here unmet) h

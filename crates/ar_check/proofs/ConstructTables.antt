@@ -15,7 +15,9 @@ use Rattle.ar_syntax.specs.declared.tree.Literal.TheVariants as literals
 use Rattle.ar_syntax.specs.declared.tree.Predicate.{Predicate}
 use Rattle.ar_syntax.specs.declared.tree.Predicate.TheVariants as predicates
 use Rattle.ar_syntax.specs.declared.tree.Unary.{Unary}
-use Rattle.ar_check.specs.Check.{Answer, binary_of, body_of, choice_in, choice_of, default_kind, default_of, entered, equality_of, field_of, field_shape, given, in_common, index_of, is_nil_literal, is_whole_number, item_shape, len_of, most_predicates, negated, over_items, plain_kind, predicate_kind, predicate_of, shape_named, truth, unary_of, where_wanted}
+use Rattle.ar_check.specs.Check.{Answer, binary_of, body_of, choice_in, choice_of, default_kind, default_of, entered, equality_of, field_of, field_shape, given, in_common, index_of, is_nil_literal, is_whole_number, item_shape, len_of, negated, over_items, plain_kind, predicate_kind, predicate_of, truth_kind, unary_of, where_wanted}
+use Rattle.ar_check.specs.Basics.{most_predicates}
+use Rattle.ar_value.specs.Shape.{shape_named}
 use Rattle.ar_check.specs.Operand.{Operand, operand, is_truth, made_plain, plain_of, scalar}
 use Rattle.ar_check.specs.Typed.{Typed}
 use Rattle.ar_check.specs.Typed as typed
@@ -165,12 +167,12 @@ module _ (result : Shape) (item : Option Shape) (around : ℕ) where
       → HasKind result item around (trees.BinaryAt at operator left right) found.kind
   equality_has at operator left right first second found true nil_right on_left on_right equality h k is =
       let literal = nil_literal left on_left in
-      by_kind (trees.BinaryAt at operator left right) truth found.kind (given_kind (typed.is_nil second.tree) truth found is)
-      (subst (λ left. HasKind result item around (trees.BinaryAt at operator left right) truth) (sym literal.1) (typing.nil_on_the_left equality k))
+      by_kind (trees.BinaryAt at operator left right) truth_kind found.kind (given_kind (typed.is_nil second.tree) truth_kind found is)
+      (subst (λ left. HasKind result item around (trees.BinaryAt at operator left right) truth_kind) (sym literal.1) (typing.nil_on_the_left equality k))
   equality_has at operator left right first second found false true on_left on_right equality h k is =
       let literal = nil_literal right on_right in
-      by_kind (trees.BinaryAt at operator left right) truth found.kind (given_kind (typed.is_nil first.tree) truth found is)
-      (subst (λ right. HasKind result item around (trees.BinaryAt at operator left right) truth) (sym literal.1) (typing.nil_on_the_right equality h))
+      by_kind (trees.BinaryAt at operator left right) truth_kind found.kind (given_kind (typed.is_nil first.tree) truth_kind found is)
+      (subst (λ right. HasKind result item around (trees.BinaryAt at operator left right) truth_kind) (sym literal.1) (typing.nil_on_the_right equality h))
   equality_has at operator left right first second found false false on_left on_right equality h k is =
       applied_has at operator left right first.kind second.kind found.kind h k (equal_applies at operator equality first second found is)
 
@@ -219,10 +221,10 @@ module _ (result : Shape) (item : Option Shape) (around : ℕ) where
       let of = list_within at list.kind shape has in
       let given = wanted_kind at holds.0 _ (predicate_kind predicate (plain_kind list.kind)) found is in
       let row = predicate_row predicate (plain of.0) in
-      let truth = truth_within inside.kind (same ∙ given.0) in
+      let truth_kind = truth_within inside.kind (same ∙ given.0) in
       let kind : shaped row.0 ≡ found.kind = row.1 ∙ ap (λ kind. predicate_kind predicate (plain_kind kind)) (sym of.2) ∙ given.1 in
       by_kind (trees.PredicateAt at predicate items body) (shaped row.0) found.kind kind
-      (typing.of_predicate (by_kind items list.kind (shaped of.0) of.2 h) of.3 less (subst (λ kind. HasKind result (Some shape) (suc around) body kind) truth.1 k) truth.2 row.2)
+      (typing.of_predicate (by_kind items list.kind (shaped of.0) of.2 h) of.3 less (subst (λ kind. HasKind result (Some shape) (suc around) body kind) truth_kind.1 k) truth_kind.2 row.2)
 
 -- ---- what has a row is typed
 
@@ -258,7 +260,7 @@ len_typed at list of shape max h k =
     (items_are at (plain of) shape max k) (typed.len (made_plain (operand tree (shaped of))), refl))
 
 -- equality with the literal `nil`
-nil_equality : (at : ℕ) (nil_left nil_right : Bool) (left right : Operand) → nil_left ≡ true ⊎ nil_right ≡ true → IsTyped (equality_of at nil_left nil_right left right) truth
+nil_equality : (at : ℕ) (nil_left nil_right : Bool) (left right : Operand) → nil_left ≡ true ⊎ nil_right ≡ true → IsTyped (equality_of at nil_left nil_right left right) truth_kind
 nil_equality at true nil_right left right some = (typed.is_nil right.tree, refl)
 nil_equality at false true left right some = (typed.is_nil left.tree, refl)
 nil_equality at false false left right (inl is) = absurd (cc)
@@ -266,9 +268,9 @@ nil_equality at false false left right (inr is) = absurd (cc)
 
 -- likewise where it is negated
 pub nil_typed : (at : ℕ) (nil_left nil_right : Bool) {operator : Binary} → IsEquality operator → (left right : Operand) → nil_left ≡ true ⊎ nil_right ≡ true
-    → IsTyped (binary_of at operator nil_left nil_right left right) truth
+    → IsTyped (binary_of at operator nil_left nil_right left right) truth_kind
 nil_typed at nil_left nil_right typing.is_equal left right some = nil_equality at nil_left nil_right left right some
-nil_typed at nil_left nil_right typing.is_unequal left right some = negated_typed (equality_of at nil_left nil_right left right) truth (nil_equality at nil_left nil_right left right some)
+nil_typed at nil_left nil_right typing.is_unequal left right some = negated_typed (equality_of at nil_left nil_right left right) truth_kind (nil_equality at nil_left nil_right left right some)
 
 -- branches with a kind in common
 found_choice : (at : ℕ) (found : Option Kind) (is_truth : Bool) (tree : Typed) (kind : Kind) → found ≡ Some kind → is_truth ≡ true → IsTyped (choice_in at found is_truth tree) kind

@@ -8,7 +8,7 @@ use Rattle.ar_syntax.specs.Views.{expression_of}
 use Rattle.ar_syntax.specs.declared.tree.Tree.{Tree}
 use Rattle.ar_check.specs.Check.{Item, item_of, item_typed, items_typed, typed_of}
 use Rattle.ar_check.specs.Operand.{Operand}
-use Rattle.ar_check.specs.Views.{item_view}
+use Rattle.ar_check.specs.Private.Inside.{item_view}
 use Rattle.ar_check.specs.declared.error.TypeError.{TypeError}
 use Rattle.ar_check.specs.declared.list.Item.{Item as ItemCode}
 

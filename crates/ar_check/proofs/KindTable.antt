@@ -7,7 +7,8 @@ use Rattle.ar_value.specs.Shape as shapes
 use Rattle.ar_syntax.specs.Expression.{Expression, Expressions, place_of}
 use Rattle.ar_syntax.specs.Expression as trees
 use Rattle.ar_syntax.specs.declared.tree.Literal.TheVariants as literals
-use Rattle.ar_check.specs.Check.{Item, binary_of, choice_of, common_of, common_scalar, default_of, field_of, given, index_of, is_nil_literal, item_at, item_of, items_typed, len_of, list_of, literal_kind, no_scalar, over_items, predicate_of, scalar_shape, truth, typed_of, unary_of}
+use Rattle.ar_check.specs.Check.{Item, binary_of, choice_of, common_of, common_scalar, default_of, field_of, given, index_of, is_nil_literal, innermost, item_of, items_typed, len_of, list_of, no_scalar, over_items, predicate_of, scalar_shape, truth_kind, typed_of, unary_of}
+use Rattle.ar_check.specs.Basics.{literal_kind}
 use Rattle.ar_check.specs.Operand.{Operand, operand, scalar}
 use Rattle.ar_check.specs.Typed.{Typed}
 use Rattle.ar_check.specs.Typed as typed
@@ -71,7 +72,7 @@ module _ (result : Shape) where
   -- ---- what is typed has a row
 
   -- the innermost item
-  item_has : (item : Option Shape) (around at : ℕ) (found : Operand) → item_at at item ≡ Ok found → HasKind result item around (trees.ItemAt at) found.kind
+  item_has : (item : Option Shape) (around at : ℕ) (found : Operand) → innermost at item ≡ Ok found → HasKind result item around (trees.ItemAt at) found.kind
   item_has (Some shape) around at found h = by_kind result (Some shape) around (trees.ItemAt at) (shaped shape) found.kind (given_kind typed.item (shaped shape) found h) typing.innermost
   item_has None around at found h = absurd (cc)
 
@@ -115,8 +116,8 @@ module _ (result : Shape) where
         let a = from_bind (typed_of result item around list) (len_of at) found h in
         len_has result item around at list a.0 found (tree_has item around list a.0 a.1) a.2
     tree_has item around (trees.IsNilAt at operand) found h =
-        let a = from_bind (typed_of result item around operand) (λ operand. given (typed.is_nil operand.tree) truth) found h in
-        by_kind result item around (trees.IsNilAt at operand) truth found.kind (given_kind (typed.is_nil a.0.tree) truth found a.2) (typing.of_nil_test (tree_has item around operand a.0 a.1))
+        let a = from_bind (typed_of result item around operand) (λ operand. given (typed.is_nil operand.tree) truth_kind) found h in
+        by_kind result item around (trees.IsNilAt at operand) truth_kind found.kind (given_kind (typed.is_nil a.0.tree) truth_kind found a.2) (typing.of_nil_test (tree_has item around operand a.0 a.1))
     tree_has item around (trees.DefaultAt at operand otherwise) found h =
         let a = from_bind (typed_of result item around operand) (λ first. typed_of result item around otherwise >>= default_of at first) found h in
         let b = from_bind (typed_of result item around otherwise) (default_of at a.0) found a.2 in
@@ -199,16 +200,16 @@ module _ (result : Shape) where
         both_typed _ _ (binary_of at operator (is_nil_literal left) (is_nil_literal right)) (shaped of) (shaped beside) (shaped shape) (tree_typed h) (tree_typed k)
         (λ first second. operator_typed at (is_nil_literal left) (is_nil_literal right) row of beside first second refl refl)
     tree_typed (typing.nil_on_the_left {item = item} {around = around} {at = at} {place = place} {operator = operator} {right = right} {kind = kind} equality h) =
-        then_typed (typed_of result item around right) (binary_of at operator true (is_nil_literal right) (operand (typed.literal literals.Nil) nil)) kind truth (tree_typed h)
+        then_typed (typed_of result item around right) (binary_of at operator true (is_nil_literal right) (operand (typed.literal literals.Nil) nil)) kind truth_kind (tree_typed h)
         (λ tree. nil_typed at true (is_nil_literal right) equality (operand (typed.literal literals.Nil) nil) (operand tree kind) (inl refl))
     tree_typed (typing.nil_on_the_right {item = item} {around = around} {at = at} {place = place} {operator = operator} {left = left} {kind = kind} equality h) =
-        then_typed (typed_of result item around left) (λ first. binary_of at operator (is_nil_literal left) true first (operand (typed.literal literals.Nil) nil)) kind truth (tree_typed h)
+        then_typed (typed_of result item around left) (λ first. binary_of at operator (is_nil_literal left) true first (operand (typed.literal literals.Nil) nil)) kind truth_kind (tree_typed h)
         (λ tree. nil_typed at (is_nil_literal left) true equality (operand tree kind) (operand (typed.literal literals.Nil) nil) (inr refl))
     tree_typed (typing.of_choice {at = at} h is k l found) = choice_typed at _ _ _ _ _ _ _ (tree_typed h) is (tree_typed k) (tree_typed l) found
     tree_typed (typing.of_list {item = item} {around = around} {at = at} {items = items} {shape = shape} h) = items_list item around at items shape (are_typed h)
     tree_typed (typing.of_len {at = at} h k) = len_typed at _ _ _ _ (tree_typed h) k
     tree_typed (typing.of_nil_test {item = item} {around = around} {operand = operand} {kind = kind} h) =
-        then_typed (typed_of result item around operand) (λ operand. given (typed.is_nil operand.tree) truth) kind truth (tree_typed h) (λ tree. (typed.is_nil tree, refl))
+        then_typed (typed_of result item around operand) (λ operand. given (typed.is_nil operand.tree) truth_kind) kind truth_kind (tree_typed h) (λ tree. (typed.is_nil tree, refl))
     tree_typed (typing.of_default {at = at} h k row) = default_typed at _ _ _ _ _ (tree_typed h) (tree_typed k) row
     tree_typed (typing.of_predicate {item = item} {around = around} {at = at} {predicate = predicate} {items = items} {body = body} h k less l is row) =
         predicate_typed at around predicate (typed_of result item around items) (λ shape. typed_of result (Some shape) (suc around) body) _ _ _ _ _ (tree_typed h) k less (tree_typed l) is row

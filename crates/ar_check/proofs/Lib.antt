@@ -15,3 +15,4 @@ pub mod SignTables
 pub mod ListTables
 pub mod ConstructTables
 pub mod KindTable
+pub mod Conditions

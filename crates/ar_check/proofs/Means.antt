@@ -6,7 +6,7 @@ use Rattle.ar_value.specs.Fits.{fits}
 use Rattle.ar_value.specs.Kind.{Kind, fits_kind}
 use Rattle.ar_value.specs.Shape.{Shape}
 use Rattle.ar_value.specs.Value.{Value}
-use Rattle.ar_check.specs.Check.{truth, where_wanted}
+use Rattle.ar_check.specs.Check.{truth_kind, where_wanted}
 use Rattle.ar_check.specs.Meaning.{Failure, Meaning, faulted, ill_kinded, mean}
 use Rattle.ar_check.specs.Operand.{Operand}
 use Rattle.ar_check.specs.Typed.{Typed}
@@ -34,7 +34,7 @@ IsThere None value = Unit {0}
 
 -- an operand is a truth value
 abbrev pub IsTruth : Value → Option Value → Operand → Type 0
-IsTruth result here operand = (operand.kind ≡ truth) × MeansKind truth (mean result here operand.tree)
+IsTruth result here operand = (operand.kind ≡ truth_kind) × MeansKind truth_kind (mean result here operand.tree)
 
 -- what a meaning leads to, where each value that it may be leads there
 pub means_then : {A B : Type 0} (P : A → Type 0) (Q : B → Type 0) (m : Result A Failure) (f : A → Result B Failure) → Means P m → ((x : A) → P x → Means Q (f x)) → Means Q (m >>= f)
@@ -74,7 +74,7 @@ wanted result here at true tree kind h = h refl
 wanted result here at false tree kind h = tt
 
 -- a truth value, where operands are what is wanted
-pub truth_wanted : (result : Value) (here : Option Value) (at : ℕ) (is_wanted : Bool) (tree : Typed) → MeansKind truth (mean result here tree) → IfOk (where_wanted at is_wanted tree truth) (IsTruth result here)
+pub truth_wanted : (result : Value) (here : Option Value) (at : ℕ) (is_wanted : Bool) (tree : Typed) → MeansKind truth_kind (mean result here tree) → IfOk (where_wanted at is_wanted tree truth_kind) (IsTruth result here)
 truth_wanted result here at true tree h = (refl, h)
 truth_wanted result here at false tree h = tt
 

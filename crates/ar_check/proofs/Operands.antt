@@ -7,11 +7,13 @@ use Rattle.ar_value.specs.Fits.{all_items, fields_fit, fits}
 use Rattle.ar_value.specs.Kind.{Kind, nil, shaped, plain}
 use Rattle.ar_value.specs.Shape.{Shape, FieldShapes}
 use Rattle.ar_value.specs.Shape as shapes
-use Rattle.ar_value.specs.Value.{Value, Items, Fields, count}
+use Rattle.ar_value.specs.Value.{Value, Items, Fields, count, value_named}
 use Rattle.ar_value.specs.Value as values
 use Rattle.ar_syntax.specs.declared.tree.Literal.{Literal}
 use Rattle.ar_syntax.specs.declared.tree.Literal.TheVariants as literals
-use Rattle.ar_check.specs.Check.{given, is_whole_number, item_at, literal_kind, number_kind, plain_kind, scalar_shape, shape_named, truth}
+use Rattle.ar_check.specs.Check.{given, is_whole_number, innermost, number_kind, plain_kind, scalar_shape, truth_kind}
+use Rattle.ar_check.specs.Basics.{literal_kind}
+use Rattle.ar_value.specs.Shape.{shape_named}
 use Rattle.ar_check.specs.Meaning.{Meaning, Failure, mean}
 use Rattle.ar_check.specs.Meaning as meaning
 use Rattle.ar_check.specs.Operand.{Operand, made_plain, numbers, numbers_in, plain_of, plain_tree, scalar, scalar_of, is_bool, is_truth}
@@ -77,7 +79,7 @@ numbers_of_scalar (Some scalars.Text) m h = tt
 numbers_of_scalar None m h = tt
 
 -- scalars that are truth values
-truth_of_scalar : (scalar : Option Scalar) (m : Meaning) → MeansScalar scalar m → is_bool scalar ≡ true → MeansKind truth m
+truth_of_scalar : (scalar : Option Scalar) (m : Meaning) → MeansScalar scalar m → is_bool scalar ≡ true → MeansKind truth_kind m
 truth_of_scalar (Some scalars.Bool) m h is = h
 truth_of_scalar scalar m h is = absurd (cc)
 
@@ -95,7 +97,7 @@ field_fits true shape v first value fit rest = fit
 field_fits false shape v first value fit rest = rest
 
 -- what a name finds in a record fits what it finds in the record's shape
-pub named_fits : (name : List ℕ) (given : Fields) (fields : FieldShapes) → fields_fit given fields ≡ true → IsThere (shape_named name fields) (meaning.named name given)
+pub named_fits : (name : List ℕ) (given : Fields) (fields : FieldShapes) → fields_fit given fields ≡ true → IsThere (shape_named name fields) (value_named name given)
 named_fits name values.no_fields shapes.no_fields h = tt
 named_fits name values.no_fields (shapes.field of shape others) h = absurd (cc)
 named_fits name (values.field n v given) shapes.no_fields h = absurd (cc)
@@ -103,7 +105,7 @@ named_fits name (values.field n v given) (shapes.field of shape others) h =
     let parts = both_hold (bytes_eq n of && fits v shape) (fields_fit given others) h in
     let front = both_hold (bytes_eq n of) (fits v shape) parts.0 in
     let same : n ≡ of = (bytes_eq-Decides n of).0 front.0 in
-    rw same (field_fits (bytes_eq of name) (shape_named name others) (meaning.named name given) shape v front.1 (named_fits name given others parts.1))
+    rw same (field_fits (bytes_eq of name) (shape_named name others) (value_named name given) shape v front.1 (named_fits name given others parts.1))
 
 -- what is there, else a failure
 pub there_fits : (shape : Shape) (failure : Failure) (v : Option Value) → IsThere (Some shape) v → MeansKind (shaped shape) (meaning.there failure v)
@@ -142,7 +144,7 @@ module _ (result : Value) (here : Option Value) where
   are_numbers operand h = numbers_of_scalar (scalar operand) (mean result here (made_plain operand)) (is_scalar operand h)
 
   -- an operand of the kind of truth values, made plain, is one
-  pub is_true : (operand : Operand) → Sound result here operand → is_truth operand ≡ true → MeansKind truth (mean result here (made_plain operand))
+  pub is_true : (operand : Operand) → Sound result here operand → is_truth operand ≡ true → MeansKind truth_kind (mean result here (made_plain operand))
   is_true operand h is = truth_of_scalar (scalar operand) (mean result here (made_plain operand)) (is_scalar operand h) is
 
   -- an operand of the kind of wholes, made plain, is one
@@ -160,6 +162,6 @@ module _ (result : Value) (here : Option Value) where
   literal_sound (literals.Text t) = refl
 
   -- the innermost item has its shape
-  pub item_sound : (at : ℕ) (item : Option Shape) → IsThere item here → IfOk (item_at at item) (Sound result here)
+  pub item_sound : (at : ℕ) (item : Option Shape) → IsThere item here → IfOk (innermost at item) (Sound result here)
   item_sound at (Some shape) h = there_fits shape meaning.ill_kinded here h
   item_sound at None h = tt

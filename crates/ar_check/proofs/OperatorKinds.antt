@@ -11,7 +11,7 @@ use Rattle.ar_syntax.specs.declared.tree.Binary.{Binary}
 use Rattle.ar_syntax.specs.declared.tree.Binary.TheVariants as binaries
 use Rattle.ar_syntax.specs.declared.tree.Unary.{Unary}
 use Rattle.ar_syntax.specs.declared.tree.Unary.TheVariants as unaries
-use Rattle.ar_check.specs.Check.{Answer, binary_of, comparison_of, equal_of, equality_of, in_of, negated, same_family, truth, unary_of}
+use Rattle.ar_check.specs.Check.{Answer, binary_of, comparison_of, equal_of, equality_of, in_of, negated, same_family, truth_kind, unary_of}
 use Rattle.ar_check.specs.Meaning.{Meaning, Failure, mean}
 use Rattle.ar_check.specs.Meaning as meaning
 use Rattle.ar_check.specs.Operand.{Operand, family_in, is_truth, made_plain, numbers, scalar}
@@ -27,34 +27,34 @@ use Rattle.ar_check.proofs.Parts.{in_sound}
 use Rattle.ar_check.proofs.Sums.{negative_sound, order_sound, positive_sound, sum_sound}
 
 -- what a truth value leads to
-pub truth_then : (kind : Kind) (m : Meaning) (f : Bool → Meaning) → MeansKind truth m → ((b : Bool) → MeansKind kind (f b)) → MeansKind kind (m >>= λ v. meaning.truth v >>= f)
+pub truth_then : (kind : Kind) (m : Meaning) (f : Bool → Meaning) → MeansKind truth_kind m → ((b : Bool) → MeansKind kind (f b)) → MeansKind kind (m >>= λ v. meaning.truth v >>= f)
 truth_then kind m f h step =
     means_then _ _ m (λ v. meaning.truth v >>= f) h (λ v fit. on_bool (λ v. MeansKind kind (meaning.truth v >>= f)) step v fit)
 
 module _ (result : Value) (here : Option Value) where
   -- `not` gives a truth value of one
-  opposite_means : (tree : Typed) → MeansKind truth (mean result here tree) → MeansKind truth (mean result here (typed.opposite tree))
-  opposite_means tree h = truth_then truth (mean result here tree) (λ b. Ok (values.bool (not b))) h (λ b. refl)
+  opposite_means : (tree : Typed) → MeansKind truth_kind (mean result here tree) → MeansKind truth_kind (mean result here (typed.opposite tree))
+  opposite_means tree h = truth_then truth_kind (mean result here tree) (λ b. Ok (values.bool (not b))) h (λ b. refl)
 
   -- `and` gives a truth value of two
-  both_means : (left right : Typed) → MeansKind truth (mean result here left) → MeansKind truth (mean result here right) → MeansKind truth (mean result here (typed.both left right))
+  both_means : (left right : Typed) → MeansKind truth_kind (mean result here left) → MeansKind truth_kind (mean result here right) → MeansKind truth_kind (mean result here (typed.both left right))
   both_means left right h k =
-      truth_then truth (mean result here left) (λ b. if b then mean result here right else Ok (values.bool false)) h
-      (λ b. either_means truth b (mean result here right) (Ok (values.bool false)) k refl)
+      truth_then truth_kind (mean result here left) (λ b. if b then mean result here right else Ok (values.bool false)) h
+      (λ b. either_means truth_kind b (mean result here right) (Ok (values.bool false)) k refl)
 
   -- `or` gives a truth value of two
-  one_means : (left right : Typed) → MeansKind truth (mean result here left) → MeansKind truth (mean result here right) → MeansKind truth (mean result here (typed.either left right))
+  one_means : (left right : Typed) → MeansKind truth_kind (mean result here left) → MeansKind truth_kind (mean result here right) → MeansKind truth_kind (mean result here (typed.either left right))
   one_means left right h k =
-      truth_then truth (mean result here left) (λ b. if b then Ok (values.bool true) else mean result here right) h
-      (λ b. either_means truth b (Ok (values.bool true)) (mean result here right) refl k)
+      truth_then truth_kind (mean result here left) (λ b. if b then Ok (values.bool true) else mean result here right) h
+      (λ b. either_means truth_kind b (Ok (values.bool true)) (mean result here right) refl k)
 
   -- whether something is nil is a truth value
-  pub is_nil_means : (kind : Kind) (tree : Typed) → MeansKind kind (mean result here tree) → MeansKind truth (mean result here (typed.is_nil tree))
+  pub is_nil_means : (kind : Kind) (tree : Typed) → MeansKind kind (mean result here tree) → MeansKind truth_kind (mean result here (typed.is_nil tree))
   is_nil_means kind tree h = means_then _ _ (mean result here tree) (λ v. Ok (values.bool (meaning.is_nil v))) h (λ v fit. refl)
 
   -- whether two are equal is a truth value
   equal_means : (l r : Kind) (family : Family) (left right : Typed) → MeansKind l (mean result here left) → MeansKind r (mean result here right)
-      → MeansKind truth (mean result here (typed.equal family left right))
+      → MeansKind truth_kind (mean result here (typed.equal family left right))
   equal_means l r family left right h k =
       means_then _ _ (mean result here left) (λ v. mean result here right >>= λ w. Ok (values.bool (meaning.same v w))) h
       (λ v fit. means_then _ _ (mean result here right) (λ w. Ok (values.bool (meaning.same v w))) k (λ w also. refl))
@@ -105,11 +105,11 @@ module _ (result : Value) (here : Option Value) where
   unary_sound at unaries.Minus operand h = negative_sound result here at (numbers operand) (made_plain operand) (are_numbers result here operand h)
   unary_sound at unaries.Plus operand h = positive_sound result here at (numbers operand) (made_plain operand) (are_numbers result here operand h)
   unary_sound at unaries.Not operand h =
-      wanted result here at (is_truth operand) (typed.opposite (made_plain operand)) truth (λ is. opposite_means (made_plain operand) (is_true result here operand h is))
+      wanted result here at (is_truth operand) (typed.opposite (made_plain operand)) truth_kind (λ is. opposite_means (made_plain operand) (is_true result here operand h is))
 
   -- two operands that are truth values, made plain
   truths : (left right : Operand) → Sound result here left → Sound result here right → (is_truth left && is_truth right) ≡ true
-      → MeansKind truth (mean result here (made_plain left)) × MeansKind truth (mean result here (made_plain right))
+      → MeansKind truth_kind (mean result here (made_plain left)) × MeansKind truth_kind (mean result here (made_plain right))
   truths left right h k is =
       let parts = both_hold (is_truth left) (is_truth right) is in (is_true result here left h parts.0, is_true result here right k parts.1)
 
@@ -117,10 +117,10 @@ module _ (result : Value) (here : Option Value) where
   pub binary_sound : (at : ℕ) (operator : Binary) (nil_left nil_right : Bool) (left right : Operand) → Sound result here left → Sound result here right
       → IfOk (binary_of at operator nil_left nil_right left right) (Sound result here)
   binary_sound at binaries.Or nil_left nil_right left right h k =
-      wanted result here at (is_truth left && is_truth right) (typed.either (made_plain left) (made_plain right)) truth
+      wanted result here at (is_truth left && is_truth right) (typed.either (made_plain left) (made_plain right)) truth_kind
       (λ is. let each = truths left right h k is in one_means (made_plain left) (made_plain right) each.0 each.1)
   binary_sound at binaries.And nil_left nil_right left right h k =
-      wanted result here at (is_truth left && is_truth right) (typed.both (made_plain left) (made_plain right)) truth
+      wanted result here at (is_truth left && is_truth right) (typed.both (made_plain left) (made_plain right)) truth_kind
       (λ is. let each = truths left right h k is in both_means (made_plain left) (made_plain right) each.0 each.1)
   binary_sound at (binaries.Comparison comparison) nil_left nil_right left right h k = comparison_sound at comparison nil_left nil_right left right h k
   binary_sound at binaries.In nil_left nil_right left right h k = truth_sound (in_of at left right) (in_sound result here at left right h k)

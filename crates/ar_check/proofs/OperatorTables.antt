@@ -8,7 +8,7 @@ use Rattle.ar_value.specs.Shape as shapes
 use Rattle.ar_syntax.specs.declared.token.Comparison.TheVariants as comparisons
 use Rattle.ar_syntax.specs.declared.tree.Binary.{Binary}
 use Rattle.ar_syntax.specs.declared.tree.Binary.TheVariants as binaries
-use Rattle.ar_check.specs.Check.{Answer, arithmetic_kind, arithmetic_of, binary_of, equal_of, equality_of, in_of, item_shape, member_of, negated, order_of, ordered_of, same_family, scalar_shape, sum_of, takes, truth, where_wanted, widened}
+use Rattle.ar_check.specs.Check.{Answer, arithmetic_kind, arithmetic_on, binary_of, equal_of, equality_of, in_of, item_shape, member_of, negated, ordering_of, ordered_of, same_family, scalar_shape, calculation_of, takes, truth_kind, where_wanted, widened}
 use Rattle.ar_check.specs.Operand.{Operand, operand, family_in, is_truth, made_plain, numbers, plain_of, scalar, scalar_of}
 use Rattle.ar_check.specs.Typed.{Typed}
 use Rattle.ar_check.specs.Typed as typed
@@ -111,7 +111,7 @@ arithmetic_row Remainder Wholes Decimals h = absurd (cc)
 arithmetic_row Remainder Decimals n h = absurd (cc)
 
 -- what arithmetic gives
-arithmetic_found : (at : ℕ) (operator : Arithmetic) (m n : Option Numbers) (left right : Typed) (found : Operand) → arithmetic_of at operator m n left right ≡ Ok found
+arithmetic_found : (at : ℕ) (operator : Arithmetic) (m n : Option Numbers) (left right : Typed) (found : Operand) → arithmetic_on at operator m n left right ≡ Ok found
     → (a b : Numbers) × (m ≡ Some a) × (n ≡ Some b) × (takes operator (widened a b) ≡ true) × (arithmetic_kind operator (widened a b) ≡ found.kind)
 arithmetic_found at operator (Some a) (Some b) left right found h =
     let given = wanted_kind at (takes operator (widened a b)) _ (arithmetic_kind operator (widened a b)) found h in (a, b, refl, refl, given.0, given.1)
@@ -120,7 +120,7 @@ arithmetic_found at operator None n left right found h = absurd (cc)
 
 -- arithmetic of two numbers
 arithmetic_typed : (at : ℕ) (operator : Arithmetic) (m n : Option Numbers) (a b : Numbers) (left right : Typed) → m ≡ Some a → n ≡ Some b → takes operator (widened a b) ≡ true
-    → IsTyped (arithmetic_of at operator m n left right) (arithmetic_kind operator (widened a b))
+    → IsTyped (arithmetic_on at operator m n left right) (arithmetic_kind operator (widened a b))
 arithmetic_typed at operator m n a b left right h k is = rw h (rw k (wanted_typed at (takes operator (widened a b)) _ (arithmetic_kind operator (widened a b)) is))
 
 -- ---- operators on two operands
@@ -134,7 +134,7 @@ row_by : (operator : Binary) (p q of beside shape : Shape) → of ≡ p → besi
 row_by operator p q of beside shape h k row = rw h (rw k row)
 
 -- arithmetic has a row
-sum_applies : (at : ℕ) (operator : Arithmetic) (left right found : Operand) → sum_of at operator left right ≡ Ok found → Applies (arithmetic_operator operator) left.kind right.kind found.kind
+sum_applies : (at : ℕ) (operator : Arithmetic) (left right found : Operand) → calculation_of at operator left right ≡ Ok found → Applies (arithmetic_operator operator) left.kind right.kind found.kind
 sum_applies at operator left right found h =
     let sum = arithmetic_found at operator (numbers left) (numbers right) (made_plain left) (made_plain right) found h in
     let first = numbers_within left.kind sum.0 sum.2 in
@@ -165,13 +165,13 @@ order_row GreaterOrEqual left right = typing.greater_or_equal left right
 
 -- what an order gives
 ordered_found : (at : ℕ) (order : Order) (m n : Option Numbers) (left right : Typed) (found : Operand) → ordered_of at order m n left right ≡ Ok found
-    → (a b : Numbers) × (m ≡ Some a) × (n ≡ Some b) × (truth ≡ found.kind)
-ordered_found at order (Some a) (Some b) left right found h = (a, b, refl, refl, given_kind _ truth found h)
+    → (a b : Numbers) × (m ≡ Some a) × (n ≡ Some b) × (truth_kind ≡ found.kind)
+ordered_found at order (Some a) (Some b) left right found h = (a, b, refl, refl, given_kind _ truth_kind found h)
 ordered_found at order (Some a) None left right found h = absurd (cc)
 ordered_found at order None n left right found h = absurd (cc)
 
 -- an order has a row
-order_applies : (at : ℕ) (order : Order) (left right found : Operand) → order_of at order left right ≡ Ok found → Applies (order_operator order) left.kind right.kind found.kind
+order_applies : (at : ℕ) (order : Order) (left right found : Operand) → ordering_of at order left right ≡ Ok found → Applies (order_operator order) left.kind right.kind found.kind
 order_applies at order left right found h =
     let ordered = ordered_found at order (numbers left) (numbers right) (made_plain left) (made_plain right) found h in
     let first = numbers_within left.kind ordered.0 ordered.2 in
@@ -189,9 +189,9 @@ order_applies at order left right found h =
 
 -- what equality gives
 equal_found : (at : ℕ) (m n : Option Scalar) (left right : Typed) (found : Operand) → equal_of at m n left right ≡ Ok found
-    → (a b : Scalar) × (m ≡ Some a) × (n ≡ Some b) × (same_family (family_in a) (family_in b) ≡ true) × (truth ≡ found.kind)
+    → (a b : Scalar) × (m ≡ Some a) × (n ≡ Some b) × (same_family (family_in a) (family_in b) ≡ true) × (truth_kind ≡ found.kind)
 equal_found at (Some a) (Some b) left right found h =
-    let given = wanted_kind at (same_family (family_in a) (family_in b)) _ truth found h in (a, b, refl, refl, given.0, given.1)
+    let given = wanted_kind at (same_family (family_in a) (family_in b)) _ truth_kind found h in (a, b, refl, refl, given.0, given.1)
 equal_found at (Some a) None left right found h = absurd (cc)
 equal_found at None n left right found h = absurd (cc)
 
@@ -218,9 +218,9 @@ equal_applies at operator equality left right found h =
 
 -- what membership gives
 member_found : (at : ℕ) (m n : Option Scalar) (left right : Typed) (found : Operand) → member_of at m n left right ≡ Ok found
-    → (a b : Scalar) × (m ≡ Some a) × (n ≡ Some b) × (same_family (family_in a) (family_in b) ≡ true) × (truth ≡ found.kind)
+    → (a b : Scalar) × (m ≡ Some a) × (n ≡ Some b) × (same_family (family_in a) (family_in b) ≡ true) × (truth_kind ≡ found.kind)
 member_found at (Some a) (Some b) left right found h =
-    let given = wanted_kind at (same_family (family_in a) (family_in b)) _ truth found h in (a, b, refl, refl, given.0, given.1)
+    let given = wanted_kind at (same_family (family_in a) (family_in b)) _ truth_kind found h in (a, b, refl, refl, given.0, given.1)
 member_found at (Some a) None left right found h = absurd (cc)
 member_found at None n left right found h = absurd (cc)
 
@@ -264,9 +264,9 @@ negated_applies operator left right found answer applies h =
 
 -- `and` and `or` are of two truth values
 truths_apply : (at : ℕ) (operator : Binary) (left right found : Operand) (tree : Typed) → Operates operator shapes.bool shapes.bool shapes.bool
-    → where_wanted at (is_truth left && is_truth right) tree truth ≡ Ok found → Applies operator left.kind right.kind found.kind
+    → where_wanted at (is_truth left && is_truth right) tree truth_kind ≡ Ok found → Applies operator left.kind right.kind found.kind
 truths_apply at operator left right found tree row h =
-    let given = wanted_kind at (is_truth left && is_truth right) tree truth found h in
+    let given = wanted_kind at (is_truth left && is_truth right) tree truth_kind found h in
     let sides = both_hold (is_truth left) (is_truth right) given.0 in
     let first = truth_within left.kind sides.0 in
     let second = truth_within right.kind sides.1 in
@@ -295,9 +295,9 @@ operator_applies at binaries.Remainder nil_left nil_right left right found h = i
 
 -- arithmetic of two numbers
 sum_typed : (at : ℕ) (operator : Arithmetic) (of beside : Shape) (left right : Typed) (m n : Numbers) → plain of ≡ number_shape m → plain beside ≡ number_shape n → takes operator (widened m n) ≡ true
-    → IsTyped (sum_of at operator (operand left (shaped of)) (operand right (shaped beside))) (shaped (arithmetic_shape operator (widened m n)))
+    → IsTyped (calculation_of at operator (operand left (shaped of)) (operand right (shaped beside))) (shaped (arithmetic_shape operator (widened m n)))
 sum_typed at operator of beside left right m n h k is =
-    same_kind (sum_of at operator (operand left (shaped of)) (operand right (shaped beside))) (arithmetic_kind operator (widened m n)) (shaped (arithmetic_shape operator (widened m n)))
+    same_kind (calculation_of at operator (operand left (shaped of)) (operand right (shaped beside))) (arithmetic_kind operator (widened m n)) (shaped (arithmetic_shape operator (widened m n)))
     (kind_of_arithmetic operator (widened m n))
     (arithmetic_typed at operator (numbers (operand left (shaped of))) (numbers (operand right (shaped beside))) m n (made_plain (operand left (shaped of))) (made_plain (operand right (shaped beside)))
     (are_numbers (plain of) m h) (are_numbers (plain beside) n k) is)
@@ -305,31 +305,31 @@ sum_typed at operator of beside left right m n h k is =
 -- sums, differences and products
 added_typed : (at : ℕ) (operator : Arithmetic) → ((numbers : Numbers) → arithmetic_shape operator numbers ≡ number_shape numbers) → ((numbers : Numbers) → takes operator numbers ≡ true)
     → {p q both : Shape} → SumOf p q both → (of beside : Shape) (left right : Typed) → plain of ≡ p → plain beside ≡ q
-    → IsTyped (sum_of at operator (operand left (shaped of)) (operand right (shaped beside))) (shaped both)
+    → IsTyped (calculation_of at operator (operand left (shaped of)) (operand right (shaped beside))) (shaped both)
 added_typed at operator shape takes sum of beside left right h k =
     let row = summed_row sum in
-    same_kind (sum_of at operator (operand left (shaped of)) (operand right (shaped beside))) (shaped (arithmetic_shape operator (widened row.0 row.1))) _
+    same_kind (calculation_of at operator (operand left (shaped of)) (operand right (shaped beside))) (shaped (arithmetic_shape operator (widened row.0 row.1))) _
     (ap shaped (shape (widened row.0 row.1) ∙ sym row.4)) (sum_typed at operator of beside left right row.0 row.1 (h ∙ row.2) (k ∙ row.3) (takes (widened row.0 row.1)))
 
 -- the order of two numbers
-ordered_typed : (at : ℕ) (order : Order) (m n : Option Numbers) (a b : Numbers) (left right : Typed) → m ≡ Some a → n ≡ Some b → IsTyped (ordered_of at order m n left right) truth
+ordered_typed : (at : ℕ) (order : Order) (m n : Option Numbers) (a b : Numbers) (left right : Typed) → m ≡ Some a → n ≡ Some b → IsTyped (ordered_of at order m n left right) truth_kind
 ordered_typed at order m n a b left right h k = rw h (rw k (typed.ordered a b order left right, refl))
 
 -- likewise of two operands
 order_typed : (at : ℕ) (order : Order) {p q : Shape} → IsNumber p → IsNumber q → (of beside : Shape) (left right : Typed) → plain of ≡ p → plain beside ≡ q
-    → IsTyped (order_of at order (operand left (shaped of)) (operand right (shaped beside))) truth
+    → IsTyped (ordering_of at order (operand left (shaped of)) (operand right (shaped beside))) truth_kind
 order_typed at order first second of beside left right h k =
     let m = numbers_row first in let n = numbers_row second in
     ordered_typed at order (numbers (operand left (shaped of))) (numbers (operand right (shaped beside))) m.0 n.0 (made_plain (operand left (shaped of))) (made_plain (operand right (shaped beside)))
     (are_numbers (plain of) m.0 (h ∙ m.1)) (are_numbers (plain beside) n.0 (k ∙ n.1))
 
 -- equality of two scalars
-equal_typed : (at : ℕ) (m n : Option Scalar) (a b : Scalar) (left right : Typed) → m ≡ Some a → n ≡ Some b → same_family (family_in a) (family_in b) ≡ true → IsTyped (equal_of at m n left right) truth
-equal_typed at m n a b left right h k is = rw h (rw k (wanted_typed at (same_family (family_in a) (family_in b)) _ truth is))
+equal_typed : (at : ℕ) (m n : Option Scalar) (a b : Scalar) (left right : Typed) → m ≡ Some a → n ≡ Some b → same_family (family_in a) (family_in b) ≡ true → IsTyped (equal_of at m n left right) truth_kind
+equal_typed at m n a b left right h k is = rw h (rw k (wanted_typed at (same_family (family_in a) (family_in b)) _ truth_kind is))
 
 -- equality, also with nil
 equality_typed : (at : ℕ) (nil_left nil_right : Bool) {p q : Shape} → SameFamily p q → (of beside : Shape) (left right : Typed) → plain of ≡ p → plain beside ≡ q
-    → IsTyped (equality_of at nil_left nil_right (operand left (shaped of)) (operand right (shaped beside))) truth
+    → IsTyped (equality_of at nil_left nil_right (operand left (shaped of)) (operand right (shaped beside))) truth_kind
 equality_typed at true nil_right same of beside left right h k = (typed.is_nil right, refl)
 equality_typed at false true same of beside left right h k = (typed.is_nil left, refl)
 equality_typed at false false same of beside left right h k =
@@ -337,15 +337,15 @@ equality_typed at false false same of beside left right h k =
     equal_typed at (scalar (operand left (shaped of))) (scalar (operand right (shaped beside))) row.0 row.1 left right (is_scalar (plain of) row.0 (h ∙ row.2)) (is_scalar (plain beside) row.1 (k ∙ row.3)) row.4
 
 -- membership of a scalar
-member_typed : (at : ℕ) (m n : Option Scalar) (a b : Scalar) (left right : Typed) → m ≡ Some a → n ≡ Some b → same_family (family_in a) (family_in b) ≡ true → IsTyped (member_of at m n left right) truth
-member_typed at m n a b left right h k is = rw h (rw k (wanted_typed at (same_family (family_in a) (family_in b)) _ truth is))
+member_typed : (at : ℕ) (m n : Option Scalar) (a b : Scalar) (left right : Typed) → m ≡ Some a → n ≡ Some b → same_family (family_in a) (family_in b) ≡ true → IsTyped (member_of at m n left right) truth_kind
+member_typed at m n a b left right h k is = rw h (rw k (wanted_typed at (same_family (family_in a) (family_in b)) _ truth_kind is))
 
 -- likewise in a list
 in_typed : (at : ℕ) {p item : Shape} {max : ℕ} → SameFamily p (plain item) → (of beside : Shape) (left right : Typed) → plain of ≡ p → plain beside ≡ shapes.list item max
-    → IsTyped (in_of at (operand left (shaped of)) (operand right (shaped beside))) truth
+    → IsTyped (in_of at (operand left (shaped of)) (operand right (shaped beside))) truth_kind
 in_typed at {item = item} {max = max} same of beside left right h k =
     let row = families_row same in
-    bind_typed (item_shape at (Some (plain beside))) (λ shape. member_of at (scalar (operand left (shaped of))) (scalar_of (plain shape)) left (made_plain (operand right (shaped beside)))) item truth
+    bind_typed (item_shape at (Some (plain beside))) (λ shape. member_of at (scalar (operand left (shaped of))) (scalar_of (plain shape)) left (made_plain (operand right (shaped beside)))) item truth_kind
     (items_are at (plain beside) item max k)
     (member_typed at (scalar (operand left (shaped of))) (scalar_of (plain item)) row.0 row.1 left (made_plain (operand right (shaped beside)))
     (is_scalar (plain of) row.0 (h ∙ row.2)) (is_scalar (plain item) row.1 row.3) row.4)
@@ -356,9 +356,9 @@ negated_typed answer kind h = then_typed answer negated kind kind h (λ tree. (t
 
 -- two truth values
 truths_typed : (at : ℕ) (of beside : Shape) (tree left right : Typed) → plain of ≡ shapes.bool → plain beside ≡ shapes.bool
-    → IsTyped (where_wanted at (is_truth (operand left (shaped of)) && is_truth (operand right (shaped beside))) tree truth) truth
+    → IsTyped (where_wanted at (is_truth (operand left (shaped of)) && is_truth (operand right (shaped beside))) tree truth_kind) truth_kind
 truths_typed at of beside tree left right h k =
-    wanted_typed at (is_truth (operand left (shaped of)) && is_truth (operand right (shaped beside))) tree truth
+    wanted_typed at (is_truth (operand left (shaped of)) && is_truth (operand right (shaped beside))) tree truth_kind
     (means.both (is_truth (operand left (shaped of))) (is_truth (operand right (shaped beside))) (truth_is (plain of) h) (truth_is (plain beside) k))
 
 -- an operator with a row for two operands is typed
@@ -376,9 +376,9 @@ operator_typed at nil_left nil_right (typing.greater first second) of beside lef
 operator_typed at nil_left nil_right (typing.greater_or_equal first second) of beside left right h k = order_typed at GreaterOrEqual first second of beside left right h k
 operator_typed at nil_left nil_right (typing.equal same) of beside left right h k = equality_typed at nil_left nil_right same of beside left right h k
 operator_typed at nil_left nil_right (typing.not_equal same) of beside left right h k =
-    negated_typed (equality_of at nil_left nil_right (operand left (shaped of)) (operand right (shaped beside))) truth (equality_typed at nil_left nil_right same of beside left right h k)
+    negated_typed (equality_of at nil_left nil_right (operand left (shaped of)) (operand right (shaped beside))) truth_kind (equality_typed at nil_left nil_right same of beside left right h k)
 operator_typed at nil_left nil_right typing.both of beside left right h k = truths_typed at of beside _ left right h k
 operator_typed at nil_left nil_right typing.either of beside left right h k = truths_typed at of beside _ left right h k
 operator_typed at nil_left nil_right (typing.within same) of beside left right h k = in_typed at same of beside left right h k
 operator_typed at nil_left nil_right (typing.not_within same) of beside left right h k =
-    negated_typed (in_of at (operand left (shaped of)) (operand right (shaped beside))) truth (in_typed at same of beside left right h k)
+    negated_typed (in_of at (operand left (shaped of)) (operand right (shaped beside))) truth_kind (in_typed at same of beside left right h k)

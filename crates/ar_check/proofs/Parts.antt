@@ -6,10 +6,11 @@ use Rattle.ar_value.specs.Fits.{all_items, fits}
 use Rattle.ar_value.specs.Kind.{Kind, nil, shaped, plain}
 use Rattle.ar_value.specs.Shape.{Shape, FieldShapes}
 use Rattle.ar_value.specs.Shape as shapes
-use Rattle.ar_value.specs.Value.{Value, Items, Fields, count}
+use Rattle.ar_value.specs.Value.{Value, Items, Fields, count, value_named}
 use Rattle.ar_value.specs.Value as values
 use Rattle.ar_value.specs.declared.fault.Fault.TheVariants.{IndexOutOfRange}
-use Rattle.ar_check.specs.Check.{field_of, field_shape, found_field, given, in_of, index_of, is_whole_number, item_shape, len_of, member_of, plain_kind, same_family, shape_named, truth}
+use Rattle.ar_check.specs.Check.{field_of, field_shape, found_field, given, in_of, index_of, is_whole_number, item_shape, len_of, member_of, plain_kind, same_family, truth_kind}
+use Rattle.ar_value.specs.Shape.{shape_named}
 use Rattle.ar_check.specs.Meaning.{Meaning, Failure, mean}
 use Rattle.ar_check.specs.Meaning as meaning
 use Rattle.ar_check.specs.Operand.{Operand, family_in, made_plain, plain_of, scalar, scalar_of}
@@ -96,14 +97,14 @@ module _ (result : Value) (here : Option Value) where
 
   -- membership in a list is a truth value
   member_means : (kind : Kind) (shape : Shape) (max : ℕ) (operand list : Typed) → MeansKind kind (mean result here operand) → MeansKind (shaped (shapes.list shape max)) (mean result here list)
-      → MeansKind truth (mean result here (typed.within operand list))
+      → MeansKind truth_kind (mean result here (typed.within operand list))
   member_means kind shape max operand list h k =
       means_then _ _ (mean result here operand) (λ value. mean result here list >>= λ v. meaning.items_in v >>= λ items. Ok (values.bool (meaning.has_item value items))) h
       (λ value fit. means_then _ _ (mean result here list) (λ v. meaning.items_in v >>= λ items. Ok (values.bool (meaning.has_item value items))) k
-      (λ v is. on_list (λ v. MeansKind truth (meaning.items_in v >>= λ items. Ok (values.bool (meaning.has_item value items)))) shape max (λ items short all. refl) v is))
+      (λ v is. on_list (λ v. MeansKind truth_kind (meaning.items_in v >>= λ items. Ok (values.bool (meaning.has_item value items)))) shape max (λ items short all. refl) v is))
 
   -- membership of scalars of one family is a truth value
-  member_sound : (at : ℕ) (left right : Option Scalar) (operand list : Typed) → MeansKind truth (mean result here (typed.within operand list)) → IfOk (member_of at left right operand list) (IsTruth result here)
+  member_sound : (at : ℕ) (left right : Option Scalar) (operand list : Typed) → MeansKind truth_kind (mean result here (typed.within operand list)) → IfOk (member_of at left right operand list) (IsTruth result here)
   member_sound at (Some m) (Some n) operand list h = truth_wanted result here at (same_family (family_in m) (family_in n)) (typed.within operand list) h
   member_sound at (Some m) None operand list h = tt
   member_sound at None n operand list h = tt
@@ -123,8 +124,8 @@ module _ (result : Value) (here : Option Value) where
   field_means wanted shape whole name is h =
       means_then _ _ (mean result here whole) (meaning.field_in name) h
       (λ v fit. on_object (λ v. MeansKind (shaped shape) (meaning.field_in name v)) wanted
-      (λ given fit. let found : IsThere (shape_named name wanted) (meaning.named name given) = named_fits name given wanted fit in
-      there_fits shape meaning.ill_kinded (meaning.named name given) (rw is at found)) v fit)
+      (λ given fit. let found : IsThere (shape_named name wanted) (value_named name given) = named_fits name given wanted fit in
+      there_fits shape meaning.ill_kinded (value_named name given) (rw is at found)) v fit)
 
   -- a field, where the record's shape has one of the name
   found_sound : (at : ℕ) (fields : FieldShapes) (found : Option Shape) (whole : Typed) (name : List ℕ) → shape_named name fields ≡ found → MeansKind (shaped (shapes.object fields)) (mean result here whole)

@@ -11,7 +11,7 @@ use Rattle.ar_value.specs.Value.{Value, Items, count}
 use Rattle.ar_value.specs.Value as values
 use Rattle.ar_syntax.specs.declared.tree.Predicate.{Predicate}
 use Rattle.ar_syntax.specs.declared.tree.Predicate.TheVariants as predicates
-use Rattle.ar_check.specs.Check.{plain_kind, predicate_kind, predicate_of, truth}
+use Rattle.ar_check.specs.Check.{plain_kind, predicate_kind, predicate_of, truth_kind}
 use Rattle.ar_check.specs.Meaning.{Meaning, Failure, all_hold, any_holds, mean, over, those}
 use Rattle.ar_check.specs.Meaning as meaning
 use Rattle.ar_check.specs.Operand.{Operand, made_plain}
@@ -49,20 +49,20 @@ short_enough k m n h is = grind (arith, nat_tests)
 
 module _ (holds : Value → Result Bool Failure) (shape : Shape) (says : Says holds shape) where
   -- whether all hold is a truth value
-  all_means : (items : Items) → AllFit shape items → MeansKind truth (all_hold holds items)
+  all_means : (items : Items) → AllFit shape items → MeansKind truth_kind (all_hold holds items)
   all_means values.no_items h = refl
   all_means (values.item v items) h =
       let parts = both_hold (fits v shape) (all_items (λ v. fits v shape) items) h in
       means_then (λ it. Unit {0}) _ (holds v) (λ it. if it then all_hold holds items else Ok (values.bool false)) (says v parts.0)
-      (λ it any. either_means truth it (all_hold holds items) (Ok (values.bool false)) (all_means items parts.1) refl)
+      (λ it any. either_means truth_kind it (all_hold holds items) (Ok (values.bool false)) (all_means items parts.1) refl)
 
   -- whether any holds is a truth value
-  any_means : (items : Items) → AllFit shape items → MeansKind truth (any_holds holds items)
+  any_means : (items : Items) → AllFit shape items → MeansKind truth_kind (any_holds holds items)
   any_means values.no_items h = refl
   any_means (values.item v items) h =
       let parts = both_hold (fits v shape) (all_items (λ v. fits v shape) items) h in
       means_then (λ it. Unit {0}) _ (holds v) (λ it. if it then Ok (values.bool true) else any_holds holds items) (says v parts.0)
-      (λ it any. either_means truth it (Ok (values.bool true)) (any_holds holds items) refl (any_means items parts.1))
+      (λ it any. either_means truth_kind it (Ok (values.bool true)) (any_holds holds items) refl (any_means items parts.1))
 
   -- one item more, where it holds
   with_or_without : (it : Bool) (v : Value) (most : ℕ) (others : Items) → fits v shape ≡ true → Among shape most others → Among shape (suc most) (if it then values.item v others else others)
@@ -91,17 +91,17 @@ module _ (holds : Value → Result Bool Failure) (shape : Shape) (says : Says ho
 
 -- the body of a predicate over the items of a list: where it is a truth value, it means one for each item
 abbrev pub Body : Value → Kind → (Bool × Typed) → Type 0
-Body result list body = (shape : Shape) × (of : ListOf list shape) × (body.0 ≡ true → (v : Value) → fits v shape ≡ true → MeansKind truth (mean result (Some v) body.1))
+Body result list body = (shape : Shape) × (of : ListOf list shape) × (body.0 ≡ true → (v : Value) → fits v shape ≡ true → MeansKind truth_kind (mean result (Some v) body.1))
 
 module _ (result : Value) (here : Option Value) where
   -- a body that is a truth value of each item says of each whether it holds
-  body_says : (shape : Shape) (body : Typed) → ((v : Value) → fits v shape ≡ true → MeansKind truth (mean result (Some v) body)) → Says (λ v. mean result (Some v) body >>= meaning.truth) shape
+  body_says : (shape : Shape) (body : Typed) → ((v : Value) → fits v shape ≡ true → MeansKind truth_kind (mean result (Some v) body)) → Says (λ v. mean result (Some v) body >>= meaning.truth) shape
   body_says shape body each v fit =
       means_then _ _ (mean result (Some v) body) meaning.truth (each v fit) (λ w is. on_bool (λ w. Means (λ it. Unit {0}) (meaning.truth w)) (λ b. tt) w is)
 
   -- a predicate over a list means its kind, where its body is a truth value
   predicate_means : (predicate : Predicate) (shape : Shape) (max : ℕ) (list body : Typed) → MeansKind (shaped (shapes.list shape max)) (mean result here list)
-      → ((v : Value) → fits v shape ≡ true → MeansKind truth (mean result (Some v) body))
+      → ((v : Value) → fits v shape ≡ true → MeansKind truth_kind (mean result (Some v) body))
       → MeansKind (predicate_kind predicate (shaped (shapes.list shape max))) (mean result here (typed.predicate predicate list body))
   predicate_means predicate shape max list body h each =
       means_then _ _ (mean result here list) (λ v. meaning.items_in v >>= over predicate (λ v. mean result (Some v) body >>= meaning.truth)) h

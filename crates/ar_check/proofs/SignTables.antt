@@ -6,7 +6,7 @@ use Rattle.ar_value.specs.Shape.{Shape}
 use Rattle.ar_value.specs.Shape as shapes
 use Rattle.ar_syntax.specs.declared.tree.Unary.{Unary}
 use Rattle.ar_syntax.specs.declared.tree.Unary.TheVariants as unaries
-use Rattle.ar_check.specs.Check.{Answer, negative_of, number_kind, positive_of, truth, unary_of}
+use Rattle.ar_check.specs.Check.{Answer, negation_of, number_kind, plus_of, truth_kind, unary_of}
 use Rattle.ar_check.specs.Operand.{Operand, operand, is_truth, made_plain, numbers, numbers_in, plain_of, scalar_of}
 use Rattle.ar_check.specs.Typed.{Typed}
 use Rattle.ar_check.specs.Typed as typed
@@ -25,12 +25,12 @@ one_row_by : (operator : Unary) (p of shape : Shape) → of ≡ p → OperatesOn
 one_row_by operator p of shape h row = rw h row
 
 -- what a negative gives
-negative_found : (at : ℕ) (numbers : Option Numbers) (tree : Typed) (found : Operand) → negative_of at numbers tree ≡ Ok found → (n : Numbers) × (numbers ≡ Some n) × (number_kind n ≡ found.kind)
+negative_found : (at : ℕ) (numbers : Option Numbers) (tree : Typed) (found : Operand) → negation_of at numbers tree ≡ Ok found → (n : Numbers) × (numbers ≡ Some n) × (number_kind n ≡ found.kind)
 negative_found at (Some n) tree found h = (n, refl, given_kind _ (number_kind n) found h)
 negative_found at None tree found h = absurd (cc)
 
 -- what `+` gives
-positive_found : (at : ℕ) (numbers : Option Numbers) (tree : Typed) (found : Operand) → positive_of at numbers tree ≡ Ok found → (n : Numbers) × (numbers ≡ Some n) × (number_kind n ≡ found.kind)
+positive_found : (at : ℕ) (numbers : Option Numbers) (tree : Typed) (found : Operand) → plus_of at numbers tree ≡ Ok found → (n : Numbers) × (numbers ≡ Some n) × (number_kind n ≡ found.kind)
 positive_found at (Some n) tree found h = (n, refl, given_kind _ (number_kind n) found h)
 positive_found at None tree found h = absurd (cc)
 
@@ -48,16 +48,16 @@ sign_row at unaries.Minus operand found h =
 sign_row at unaries.Plus operand found h =
     let n = positive_found at (numbers operand) (made_plain operand) found h in sign_applies unaries.Plus operand.kind found.kind n.0 n.1 n.2 (typing.plus (number_row n.0))
 sign_row at unaries.Not operand found h =
-    let given = wanted_kind at (is_truth operand) _ truth found h in
+    let given = wanted_kind at (is_truth operand) _ truth_kind found h in
     let first = truth_within operand.kind given.0 in
     (first.0, shapes.bool, first.1, given.1, one_row_by unaries.Not shapes.bool (plain first.0) shapes.bool first.2 typing.opposite)
 
 -- the negative of a number
-negative_typed : (at : ℕ) (numbers : Option Numbers) (n : Numbers) (tree : Typed) → numbers ≡ Some n → IsTyped (negative_of at numbers tree) (number_kind n)
+negative_typed : (at : ℕ) (numbers : Option Numbers) (n : Numbers) (tree : Typed) → numbers ≡ Some n → IsTyped (negation_of at numbers tree) (number_kind n)
 negative_typed at numbers n tree h = rw h (typed.negative n tree, refl)
 
 -- a number behind `+`
-positive_typed : (at : ℕ) (numbers : Option Numbers) (n : Numbers) (tree : Typed) → numbers ≡ Some n → IsTyped (positive_of at numbers tree) (number_kind n)
+positive_typed : (at : ℕ) (numbers : Option Numbers) (n : Numbers) (tree : Typed) → numbers ≡ Some n → IsTyped (plus_of at numbers tree) (number_kind n)
 positive_typed at numbers n tree h = rw h (tree, refl)
 
 -- a number's kind, by its shape
@@ -74,4 +74,4 @@ sign_typed at (typing.plus is) of tree h =
     let n = numbers_row is in
     by_shape (unary_of at unaries.Plus (operand tree (shaped of))) n.0 _ n.1
     (positive_typed at (numbers (operand tree (shaped of))) n.0 (made_plain (operand tree (shaped of))) (are_numbers (plain of) n.0 (h ∙ n.1)))
-sign_typed at typing.opposite of tree h = wanted_typed at (is_truth (operand tree (shaped of))) _ truth (truth_is (plain of) h)
+sign_typed at typing.opposite of tree h = wanted_typed at (is_truth (operand tree (shaped of))) _ truth_kind (truth_is (plain of) h)

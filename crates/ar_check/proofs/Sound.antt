@@ -9,7 +9,8 @@ use Rattle.ar_value.specs.Value.{Value}
 use Rattle.ar_value.specs.Value as values
 use Rattle.ar_syntax.specs.Expression.{Expression, Expressions, place_of}
 use Rattle.ar_syntax.specs.Expression as trees
-use Rattle.ar_check.specs.Check.{Answer, body_of, checked, choice_of, condition_of, default_of, entered, field_of, index_of, item_of, item_shape, items_typed, is_nil_literal, len_of, list_of, most_predicates, no_scalar, over_items, predicate_of, given, truth, typed_of, unary_of, binary_of}
+use Rattle.ar_check.specs.Check.{Answer, body_of, checked, choice_of, condition_of, default_of, entered, field_of, index_of, item_of, item_shape, items_typed, is_nil_literal, len_of, list_of, no_scalar, over_items, predicate_of, given, truth_kind, typed_of, unary_of, binary_of}
+use Rattle.ar_check.specs.Basics.{most_predicates}
 use Rattle.ar_check.specs.Meaning.{IsTruthOrFault, Meaning, faulted, ill_kinded, is_fault, is_truth, mean}
 use Rattle.ar_check.specs.Operand.{Operand, made_plain, plain_of}
 use Rattle.ar_check.specs.Operand as operands
@@ -82,7 +83,7 @@ module _ (wanted : Shape) (result : Value) (fit : fits result wanted ≡ true) w
     tree_sound item here there around (trees.LenAt at list) =
         answers _ _ (typed_of wanted item around list) (len_of at) (tree_sound item here there around list) (len_sound result here at)
     tree_sound item here there around (trees.IsNilAt at operand) =
-        answers _ _ (typed_of wanted item around operand) (λ operand. given (typed.is_nil operand.tree) truth) (tree_sound item here there around operand)
+        answers _ _ (typed_of wanted item around operand) (λ operand. given (typed.is_nil operand.tree) truth_kind) (tree_sound item here there around operand)
         (λ operand h. is_nil_means result here operand.kind operand.tree h)
     tree_sound item here there around (trees.DefaultAt at operand otherwise) =
         answers _ _ (typed_of wanted item around operand) (λ first. typed_of wanted item around otherwise >>= default_of at first) (tree_sound item here there around operand)
@@ -107,7 +108,7 @@ module _ (wanted : Shape) (result : Value) (fit : fits result wanted ≡ true) w
 -- ---- conditions
 
 -- what has the kind of truth values is one, or a fault
-truth_or_fault : (m : Meaning) → MeansKind truth m → IsTruthOrFault m
+truth_or_fault : (m : Meaning) → MeansKind truth_kind m → IsTruthOrFault m
 truth_or_fault (Ok (values.bool holds)) h = is_truth holds
 truth_or_fault (Ok v) h = absurd (cc)
 truth_or_fault (Err (faulted fault)) h = is_fault fault
@@ -115,12 +116,12 @@ truth_or_fault (Err ill_kinded) h = absurd h
 
 -- an operand that is a condition, made plain
 condition_means : (value : Value) (at : ℕ) (operand : Operand) (is_truth : Bool) → operands.is_truth operand ≡ is_truth → Sound value None operand
-    → IfOk (if is_truth then Ok (made_plain operand) else Err (NotTruth at)) (λ condition. MeansKind truth (mean value None condition))
+    → IfOk (if is_truth then Ok (made_plain operand) else Err (NotTruth at)) (λ condition. MeansKind truth_kind (mean value None condition))
 condition_means value at operand true is h = is_true value None operand h is
 condition_means value at operand false is h = tt
 
 -- what is checked is a truth value, or a fault
-checked_means : (shape : Shape) (tree : Expression) (value : Value) → fits value shape ≡ true → IfOk (checked shape tree) (λ condition. MeansKind truth (mean value None condition))
+checked_means : (shape : Shape) (tree : Expression) (value : Value) → fits value shape ≡ true → IfOk (checked shape tree) (λ condition. MeansKind truth_kind (mean value None condition))
 checked_means shape tree value fit =
     answers _ _ (typed_of shape None 0 tree) (condition_of (place_of tree)) (tree_sound shape value fit None None tt 0 tree)
     (λ operand h. condition_means value (place_of tree) operand (operands.is_truth operand) refl h)
@@ -129,5 +130,5 @@ checked_means shape tree value fit =
 pub is_truth_or_fault : (shape : Shape) (tree : Expression) (condition : Typed) (value : Value)
     → checked shape tree ≡ Ok condition → fits value shape ≡ true → IsTruthOrFault (mean value None condition)
 is_truth_or_fault shape tree condition value is fit =
-    let means : IfOk (checked shape tree) (λ condition. MeansKind truth (mean value None condition)) = checked_means shape tree value fit in
+    let means : IfOk (checked shape tree) (λ condition. MeansKind truth_kind (mean value None condition)) = checked_means shape tree value fit in
     truth_or_fault (mean value None condition) (rw is at means)

@@ -7,7 +7,7 @@ use Rattle.ar_value.specs.Shape as shapes
 use Rattle.ar_value.specs.Value.{Value}
 use Rattle.ar_value.specs.Value as values
 use Rattle.ar_value.specs.declared.fault.Fault.{Fault}
-use Rattle.ar_check.specs.Check.{arithmetic_kind, arithmetic_of, negative_of, number_kind, order_of, ordered_of, positive_of, sum_of, takes, truth, widened}
+use Rattle.ar_check.specs.Check.{arithmetic_kind, arithmetic_on, negation_of, number_kind, ordering_of, ordered_of, plus_of, calculation_of, takes, truth_kind, widened}
 use Rattle.ar_check.specs.Meaning.{Meaning, Failure, mean}
 use Rattle.ar_check.specs.Meaning as meaning
 use Rattle.ar_check.specs.Operand.{Operand, among, made_plain, numbers}
@@ -78,11 +78,11 @@ calculates operator Decimals h v w fit also =
     (λ x. on_decimal (λ w. MeansKind (arithmetic_kind operator Decimals) (meaning.arithmetic_of operator (values.decimal x) w)) (λ y. of_decimals operator x y h) w also) v fit
 
 -- the order of any two numbers is a truth value
-orders : (way : Order) (m n : Numbers) (v w : Value) → fits_kind v (number_kind m) ≡ true → fits_kind w (number_kind n) ≡ true → MeansKind truth (meaning.order_of way v w)
+orders : (way : Order) (m n : Numbers) (v w : Value) → fits_kind v (number_kind m) ≡ true → fits_kind w (number_kind n) ≡ true → MeansKind truth_kind (meaning.order_of way v w)
 orders way m n v w fit also =
-    on_number (λ v. MeansKind truth (meaning.order_of way v w)) m
-    (λ x. on_number (λ w. MeansKind truth (meaning.order_of way (values.whole x) w)) n (λ y. refl) (λ y. refl) w also)
-    (λ x. on_number (λ w. MeansKind truth (meaning.order_of way (values.decimal x) w)) n (λ y. refl) (λ y. refl) w also) v fit
+    on_number (λ v. MeansKind truth_kind (meaning.order_of way v w)) m
+    (λ x. on_number (λ w. MeansKind truth_kind (meaning.order_of way (values.whole x) w)) n (λ y. refl) (λ y. refl) w also)
+    (λ x. on_number (λ w. MeansKind truth_kind (meaning.order_of way (values.decimal x) w)) n (λ y. refl) (λ y. refl) w also) v fit
 
 module _ (result : Value) (here : Option Value) where
   -- a whole turned into decimal is one
@@ -112,7 +112,7 @@ module _ (result : Value) (here : Option Value) where
 
   -- arithmetic where both are numbers
   arithmetic_sound : (at : ℕ) (operator : Arithmetic) (m n : Option Numbers) (left right : Typed) → MeansNumbers m (mean result here left) → MeansNumbers n (mean result here right)
-      → IfOk (arithmetic_of at operator m n left right) (Sound result here)
+      → IfOk (arithmetic_on at operator m n left right) (Sound result here)
   arithmetic_sound at operator (Some m) (Some n) left right h k =
       wanted result here at (takes operator (widened m n)) (typed.arithmetic (widened m n) operator (among n m left) (among m n right)) (arithmetic_kind operator (widened m n))
       (λ is. arithmetic_means operator (widened m n) (among n m left) (among m n right) is (left_among m n left h) (right_among m n right k))
@@ -120,7 +120,7 @@ module _ (result : Value) (here : Option Value) where
   arithmetic_sound at operator None n left right h k = tt
 
   -- arithmetic means its kind
-  pub sum_sound : (at : ℕ) (operator : Arithmetic) (left right : Operand) → Sound result here left → Sound result here right → IfOk (sum_of at operator left right) (Sound result here)
+  pub sum_sound : (at : ℕ) (operator : Arithmetic) (left right : Operand) → Sound result here left → Sound result here right → IfOk (calculation_of at operator left right) (Sound result here)
   sum_sound at operator left right h k =
       arithmetic_sound at operator (numbers left) (numbers right) (made_plain left) (made_plain right) (are_numbers result here left h) (are_numbers result here right k)
 
@@ -134,16 +134,16 @@ module _ (result : Value) (here : Option Value) where
   ordered_sound at way None n left right h k = tt
 
   -- order means its kind
-  pub order_sound : (at : ℕ) (way : Order) (left right : Operand) → Sound result here left → Sound result here right → IfOk (order_of at way left right) (Sound result here)
+  pub order_sound : (at : ℕ) (way : Order) (left right : Operand) → Sound result here left → Sound result here right → IfOk (ordering_of at way left right) (Sound result here)
   order_sound at way left right h k =
       ordered_sound at way (numbers left) (numbers right) (made_plain left) (made_plain right) (are_numbers result here left h) (are_numbers result here right k)
 
   -- a negative means its kind
-  pub negative_sound : (at : ℕ) (numbers : Option Numbers) (tree : Typed) → MeansNumbers numbers (mean result here tree) → IfOk (negative_of at numbers tree) (Sound result here)
+  pub negative_sound : (at : ℕ) (numbers : Option Numbers) (tree : Typed) → MeansNumbers numbers (mean result here tree) → IfOk (negation_of at numbers tree) (Sound result here)
   negative_sound at (Some numbers) tree h = means_then _ _ (mean result here tree) meaning.negative_of h (negates numbers)
   negative_sound at None tree h = tt
 
   -- a number behind `+` means its kind
-  pub positive_sound : (at : ℕ) (numbers : Option Numbers) (tree : Typed) → MeansNumbers numbers (mean result here tree) → IfOk (positive_of at numbers tree) (Sound result here)
+  pub positive_sound : (at : ℕ) (numbers : Option Numbers) (tree : Typed) → MeansNumbers numbers (mean result here tree) → IfOk (plus_of at numbers tree) (Sound result here)
   positive_sound at (Some numbers) tree h = h
   positive_sound at None tree h = tt

@@ -5,7 +5,8 @@ use Rattle.ar_value.specs.Answer.{◌>>=◌}
 use Rattle.ar_value.specs.Kind.{Kind, nil, shaped, plain}
 use Rattle.ar_value.specs.Shape.{Shape, FieldShapes}
 use Rattle.ar_value.specs.Shape as shapes
-use Rattle.ar_check.specs.Check.{Answer, field_shape, found_field, given, is_whole_number, item_shape, number_kind, scalar_shape, shape_named, where_wanted}
+use Rattle.ar_check.specs.Check.{Answer, field_shape, found_field, given, is_whole_number, item_shape, number_kind, scalar_shape, where_wanted}
+use Rattle.ar_value.specs.Shape.{shape_named}
 use Rattle.ar_check.specs.Operand.{Operand, operand, is_bool, numbers_in, plain_of, scalar_of}
 use Rattle.ar_check.specs.Typed.{Typed}
 use Rattle.ar_check.specs.declared.error.TypeError.{TypeError}

@@ -1,9 +1,8 @@
 -- The typed tree of a condition and its kind, or its first type fault. Children come first, from left to right.
 use Rattle.std.specs.Prelude.{ℕ, suc, is_some, Bool, true, false, ◌&&◌, if◌then◌else◌, nat_lt, List, [], ◌∷◌, length, map, Option, Some, None, Result, Ok, Err}
-use Rattle.std.specs.Str.{bytes_eq}
 use Rattle.ar_value.specs.Answer.{◌>>=◌}
 use Rattle.ar_value.specs.Kind.{Kind, nil, shaped, common, plain}
-use Rattle.ar_value.specs.Shape.{Shape, FieldShapes}
+use Rattle.ar_value.specs.Shape.{Shape, shape_named}
 use Rattle.ar_value.specs.Shape as shapes
 use Rattle.ar_syntax.specs.Expression.{Expression, Expressions, place_of}
 use Rattle.ar_syntax.specs.Expression as trees
@@ -11,12 +10,12 @@ use Rattle.ar_syntax.specs.declared.token.Comparison.{Comparison}
 use Rattle.ar_syntax.specs.declared.token.Comparison.TheVariants as comparisons
 use Rattle.ar_syntax.specs.declared.tree.Binary.{Binary}
 use Rattle.ar_syntax.specs.declared.tree.Binary.TheVariants as binaries
-use Rattle.ar_syntax.specs.declared.tree.Literal.{Literal}
 use Rattle.ar_syntax.specs.declared.tree.Literal.TheVariants as literals
 use Rattle.ar_syntax.specs.declared.tree.Predicate.{Predicate}
 use Rattle.ar_syntax.specs.declared.tree.Predicate.TheVariants as predicates
 use Rattle.ar_syntax.specs.declared.tree.Unary.{Unary}
 use Rattle.ar_syntax.specs.declared.tree.Unary.TheVariants as unaries
+use Rattle.ar_check.specs.Basics.{literal_kind, most_predicates}
 use Rattle.ar_check.specs.Operand.{Operand, operand, among, family_in, is_truth, made_plain, numbers, plain_of, scalar, scalar_of, turned}
 use Rattle.ar_check.specs.Typed.{Typed, typeds}
 use Rattle.ar_check.specs.Typed as typed
@@ -36,29 +35,18 @@ use Rattle.ar_check.specs.declared.typed.Scalar.TheVariants as scalars
 abbrev pub Answer : Type 0
 Answer = Result Operand TypeError
 
-abbrev pub truth : Kind
-truth = shaped shapes.bool
+abbrev pub truth_kind : Kind
+truth_kind = shaped shapes.bool
 
 abbrev pub given : Typed → Kind → Answer
 given tree kind = Ok (operand tree kind)
 
 -- ---- literals, fields, items
 
-abbrev pub literal_kind : Literal → Kind
-literal_kind literals.Nil = nil
-literal_kind (literals.Bool holds) = shaped shapes.bool
-literal_kind (literals.Whole value) = shaped shapes.whole
-literal_kind (literals.Decimal millionths) = shaped shapes.decimal
-literal_kind (literals.Text text) = shaped shapes.text
-
 -- `#` stands inside predicates alone, which the grammar sees to
-abbrev pub item_at : ℕ → Option Shape → Answer
-item_at at (Some shape) = given typed.item (shaped shape)
-item_at at None = Err (WrongOperand at)
-
-abbrev pub shape_named : List ℕ → FieldShapes → Option Shape
-shape_named name shapes.no_fields = None
-shape_named name (shapes.field of shape fields) = if bytes_eq of name then Some shape else shape_named name fields
+abbrev pub innermost : ℕ → Option Shape → Answer
+innermost at (Some shape) = given typed.item (shaped shape)
+innermost at None = Err (WrongOperand at)
 
 abbrev pub found_field : ℕ → Option Shape → Result Shape TypeError
 found_field at (Some shape) = Ok shape
@@ -75,9 +63,9 @@ item_shape at (Some (shapes.list shape max)) = Ok shape
 item_shape at shape = Err (NotAList at)
 
 abbrev pub field_of : ℕ → List ℕ → Operand → Answer
-field_of at name whole = do
-  shape ← field_shape at name (plain_of whole.kind)
-  given (typed.field (made_plain whole) name) (shaped shape)
+field_of at name owner = do
+  shape ← field_shape at name (plain_of owner.kind)
+  given (typed.field (made_plain owner) name) (shaped shape)
 
 abbrev pub len_of : ℕ → Operand → Answer
 len_of at list = do
@@ -109,13 +97,13 @@ abbrev pub widened : Numbers → Numbers → Numbers
 widened Wholes Wholes = Wholes
 widened left right = Decimals
 
-abbrev pub negative_of : ℕ → Option Numbers → Typed → Answer
-negative_of at (Some numbers) tree = given (typed.negative numbers tree) (number_kind numbers)
-negative_of at None tree = Err (WrongOperand at)
+abbrev pub negation_of : ℕ → Option Numbers → Typed → Answer
+negation_of at (Some numbers) tree = given (typed.negative numbers tree) (number_kind numbers)
+negation_of at None tree = Err (WrongOperand at)
 
-abbrev pub positive_of : ℕ → Option Numbers → Typed → Answer
-positive_of at (Some numbers) tree = given tree (number_kind numbers)
-positive_of at None tree = Err (WrongOperand at)
+abbrev pub plus_of : ℕ → Option Numbers → Typed → Answer
+plus_of at (Some numbers) tree = given tree (number_kind numbers)
+plus_of at None tree = Err (WrongOperand at)
 
 -- quotients are decimals, also of wholes
 abbrev pub arithmetic_kind : Arithmetic → Numbers → Kind
@@ -131,12 +119,12 @@ abbrev pub arithmetic_among : ℕ → Arithmetic → Numbers → Typed → Typed
 arithmetic_among at operator numbers left right =
     where_wanted at (takes operator numbers) (typed.arithmetic numbers operator left right) (arithmetic_kind operator numbers)
 
-abbrev pub arithmetic_of : ℕ → Arithmetic → Option Numbers → Option Numbers → Typed → Typed → Answer
-arithmetic_of at operator (Some m) (Some n) left right = arithmetic_among at operator (widened m n) (among n m left) (among m n right)
-arithmetic_of at operator m n left right = Err (WrongOperand at)
+abbrev pub arithmetic_on : ℕ → Arithmetic → Option Numbers → Option Numbers → Typed → Typed → Answer
+arithmetic_on at operator (Some m) (Some n) left right = arithmetic_among at operator (widened m n) (among n m left) (among m n right)
+arithmetic_on at operator m n left right = Err (WrongOperand at)
 
 abbrev pub ordered_of : ℕ → Order → Option Numbers → Option Numbers → Typed → Typed → Answer
-ordered_of at order (Some m) (Some n) left right = given (typed.ordered m n order left right) truth
+ordered_of at order (Some m) (Some n) left right = given (typed.ordered m n order left right) truth_kind
 ordered_of at order m n left right = Err (WrongOperand at)
 
 -- ---- equality and membership
@@ -149,7 +137,7 @@ same_family left right = false
 
 -- two scalars of one family, each of which may be nil
 abbrev pub equal_of : ℕ → Option Scalar → Option Scalar → Typed → Typed → Answer
-equal_of at (Some m) (Some n) left right = where_wanted at (same_family (family_in m) (family_in n)) (typed.equal (family_in m) left right) truth
+equal_of at (Some m) (Some n) left right = where_wanted at (same_family (family_in m) (family_in n)) (typed.equal (family_in m) left right) truth_kind
 equal_of at m n left right = Err (WrongOperand at)
 
 abbrev pub is_nil_literal : Expression → Bool
@@ -158,8 +146,8 @@ is_nil_literal tree = false
 
 -- anything compares with the literal `nil`
 abbrev pub equality_of : ℕ → (nil_left nil_right : Bool) → Operand → Operand → Answer
-equality_of at true nil_right left right = given (typed.is_nil right.tree) truth
-equality_of at false true left right = given (typed.is_nil left.tree) truth
+equality_of at true nil_right left right = given (typed.is_nil right.tree) truth_kind
+equality_of at false true left right = given (typed.is_nil left.tree) truth_kind
 equality_of at false false left right = equal_of at (scalar left) (scalar right) left.tree right.tree
 
 abbrev pub negated : Operand → Answer
@@ -167,44 +155,50 @@ negated condition = given (typed.opposite condition.tree) condition.kind
 
 -- a scalar in a list of scalars of its family, any of which may be nil
 abbrev pub member_of : ℕ → Option Scalar → Option Scalar → Typed → Typed → Answer
-member_of at (Some m) (Some n) operand list = where_wanted at (same_family (family_in m) (family_in n)) (typed.within operand list) truth
+member_of at (Some m) (Some n) operand list = where_wanted at (same_family (family_in m) (family_in n)) (typed.within operand list) truth_kind
 member_of at m n operand list = Err (WrongOperand at)
 
 -- ---- operators
 
 abbrev pub unary_of : ℕ → Unary → Operand → Answer
-unary_of at unaries.Minus operand = negative_of at (numbers operand) (made_plain operand)
-unary_of at unaries.Plus operand = positive_of at (numbers operand) (made_plain operand)
-unary_of at unaries.Not operand = where_wanted at (is_truth operand) (typed.opposite (made_plain operand)) truth
+unary_of at unaries.Minus operand = negation_of at (numbers operand) (made_plain operand)
+unary_of at unaries.Plus operand = plus_of at (numbers operand) (made_plain operand)
+unary_of at unaries.Not operand = where_wanted at (is_truth operand) (typed.opposite (made_plain operand)) truth_kind
 
-abbrev pub sum_of : ℕ → Arithmetic → Operand → Operand → Answer
-sum_of at operator left right = arithmetic_of at operator (numbers left) (numbers right) (made_plain left) (made_plain right)
+abbrev pub calculation_of : ℕ → Arithmetic → Operand → Operand → Answer
+calculation_of at operator left right = arithmetic_on at operator (numbers left) (numbers right) (made_plain left) (made_plain right)
 
-abbrev pub order_of : ℕ → Order → Operand → Operand → Answer
-order_of at order left right = ordered_of at order (numbers left) (numbers right) (made_plain left) (made_plain right)
+abbrev pub ordering_of : ℕ → Order → Operand → Operand → Answer
+ordering_of at order left right = ordered_of at order (numbers left) (numbers right) (made_plain left) (made_plain right)
 
 abbrev pub comparison_of : ℕ → Comparison → (nil_left nil_right : Bool) → Operand → Operand → Answer
 comparison_of at comparisons.Equal nil_left nil_right left right = equality_of at nil_left nil_right left right
 comparison_of at comparisons.NotEqual nil_left nil_right left right = equality_of at nil_left nil_right left right >>= negated
-comparison_of at comparisons.Less nil_left nil_right left right = order_of at Less left right
-comparison_of at comparisons.LessOrEqual nil_left nil_right left right = order_of at LessOrEqual left right
-comparison_of at comparisons.Greater nil_left nil_right left right = order_of at Greater left right
-comparison_of at comparisons.GreaterOrEqual nil_left nil_right left right = order_of at GreaterOrEqual left right
+comparison_of at comparisons.Less nil_left nil_right left right = ordering_of at Less left right
+comparison_of at comparisons.LessOrEqual nil_left nil_right left right = ordering_of at LessOrEqual left right
+comparison_of at comparisons.Greater nil_left nil_right left right = ordering_of at Greater left right
+comparison_of at comparisons.GreaterOrEqual nil_left nil_right left right = ordering_of at GreaterOrEqual left right
 
 abbrev pub in_of : ℕ → Operand → Operand → Answer
 in_of at left right = item_shape at (plain_of right.kind) >>= λ shape. member_of at (scalar left) (scalar_of (plain shape)) left.tree (made_plain right)
 
+abbrev pub either_of : ℕ → Operand → Operand → Answer
+either_of at left right = where_wanted at (is_truth left && is_truth right) (typed.either (made_plain left) (made_plain right)) truth_kind
+
+abbrev pub both_of : ℕ → Operand → Operand → Answer
+both_of at left right = where_wanted at (is_truth left && is_truth right) (typed.both (made_plain left) (made_plain right)) truth_kind
+
 abbrev pub binary_of : ℕ → Binary → (nil_left nil_right : Bool) → Operand → Operand → Answer
-binary_of at binaries.Or nil_left nil_right left right = where_wanted at (is_truth left && is_truth right) (typed.either (made_plain left) (made_plain right)) truth
-binary_of at binaries.And nil_left nil_right left right = where_wanted at (is_truth left && is_truth right) (typed.both (made_plain left) (made_plain right)) truth
+binary_of at binaries.Or nil_left nil_right left right = either_of at left right
+binary_of at binaries.And nil_left nil_right left right = both_of at left right
 binary_of at (binaries.Comparison comparison) nil_left nil_right left right = comparison_of at comparison nil_left nil_right left right
 binary_of at binaries.In nil_left nil_right left right = in_of at left right
 binary_of at binaries.NotIn nil_left nil_right left right = in_of at left right >>= negated
-binary_of at binaries.Add nil_left nil_right left right = sum_of at Add left right
-binary_of at binaries.Subtract nil_left nil_right left right = sum_of at Subtract left right
-binary_of at binaries.Multiply nil_left nil_right left right = sum_of at Multiply left right
-binary_of at binaries.Divide nil_left nil_right left right = sum_of at Divide left right
-binary_of at binaries.Remainder nil_left nil_right left right = sum_of at Remainder left right
+binary_of at binaries.Add nil_left nil_right left right = calculation_of at Add left right
+binary_of at binaries.Subtract nil_left nil_right left right = calculation_of at Subtract left right
+binary_of at binaries.Multiply nil_left nil_right left right = calculation_of at Multiply left right
+binary_of at binaries.Divide nil_left nil_right left right = calculation_of at Divide left right
+binary_of at binaries.Remainder nil_left nil_right left right = calculation_of at Remainder left right
 
 -- ---- branches, defaults, lists
 
@@ -212,11 +206,14 @@ abbrev pub choice_in : ℕ → Option Kind → Bool → Typed → Answer
 choice_in at None is_truth tree = Err (NoCommonKind at)
 choice_in at (Some kind) is_truth tree = where_wanted at is_truth tree kind
 
+-- the branches are turned beside one another
+abbrev pub choice_tree : Typed → Operand → Operand → Typed
+choice_tree condition met unmet = typed.choice condition (turned unmet.kind met.kind met.tree) (turned met.kind unmet.kind unmet.tree)
+
 -- both branches have their common kind
 abbrev pub choice_of : ℕ → Operand → Operand → Operand → Answer
 choice_of at condition met unmet =
-    choice_in at (common met.kind unmet.kind) (is_truth condition)
-    (typed.choice (made_plain condition) (turned unmet.kind met.kind met.tree) (turned met.kind unmet.kind unmet.tree))
+    choice_in at (common met.kind unmet.kind) (is_truth condition) (choice_tree (made_plain condition) met unmet)
 
 abbrev pub plain_kind : Kind → Kind
 plain_kind nil = nil
@@ -231,10 +228,13 @@ abbrev pub in_common : ℕ → Typed → Option Kind → Answer
 in_common at tree (Some kind) = given tree kind
 in_common at tree None = Err (NoCommonKind at)
 
+-- both sides are turned beside one another
+abbrev pub default_tree : Typed → Kind → Typed → Kind → Typed
+default_tree first plain other of_other = typed.otherwise (turned of_other plain first) (turned plain of_other other)
+
 abbrev pub default_of : ℕ → Operand → Operand → Answer
 default_of at first other =
-    in_common at (typed.otherwise (turned other.kind (plain_kind first.kind) first.tree) (turned (plain_kind first.kind) other.kind other.tree))
-    (default_kind (plain_kind first.kind) other.kind)
+    in_common at (default_tree first.tree (plain_kind first.kind) other.tree other.kind) (default_kind (plain_kind first.kind) other.kind)
 
 -- ---- lists
 
@@ -293,10 +293,6 @@ list_of at items None = list_in_common at items (common_of items)
 
 -- ---- predicates
 
--- how many predicates may stand in one another
-abbrev pub most_predicates : ℕ
-most_predicates = 4
-
 -- one more predicate, inside so many others
 abbrev pub entered : ℕ → ℕ → Shape → Result Shape TypeError
 entered at around shape = if nat_lt around most_predicates then Ok shape else Err (PredicatesTooDeep at)
@@ -315,8 +311,8 @@ over_items at around list typed = do
 
 -- the kind of what a predicate makes of a list
 abbrev pub predicate_kind : Predicate → Kind → Kind
-predicate_kind predicates.All list = truth
-predicate_kind predicates.Any list = truth
+predicate_kind predicates.All list = truth_kind
+predicate_kind predicates.Any list = truth_kind
 predicate_kind predicates.Count list = shaped shapes.whole
 predicate_kind predicates.Filter list = list
 
@@ -330,11 +326,11 @@ abbrev mutual
   -- A tree where `result` has a shape, and so does the innermost item, inside so many predicates.
   pub typed_of : Shape → Option Shape → ℕ → Expression → Answer
   typed_of result item around (trees.ResultAt at) = given typed.result (shaped result)
-  typed_of result item around (trees.ItemAt at) = item_at at item
+  typed_of result item around (trees.ItemAt at) = innermost at item
   typed_of result item around (trees.LiteralAt at literal) = given (typed.literal literal) (literal_kind literal)
-  typed_of result item around (trees.FieldAt at whole name) = do
-    whole ← typed_of result item around whole
-    field_of at name whole
+  typed_of result item around (trees.FieldAt at owner name) = do
+    owner ← typed_of result item around owner
+    field_of at name owner
   typed_of result item around (trees.IndexAt at list index) = do
     list ← typed_of result item around list
     index ← typed_of result item around index
@@ -359,7 +355,7 @@ abbrev mutual
     len_of at list
   typed_of result item around (trees.IsNilAt at operand) = do
     operand ← typed_of result item around operand
-    given (typed.is_nil operand.tree) truth
+    given (typed.is_nil operand.tree) truth_kind
   typed_of result item around (trees.DefaultAt at operand otherwise) = do
     operand ← typed_of result item around operand
     otherwise ← typed_of result item around otherwise

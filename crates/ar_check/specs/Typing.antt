@@ -1,8 +1,8 @@
 -- Which kinds conditions have, row by row of the table of kinds. `plain` stands where a plain kind is wanted: an operand
 -- of an optional shape is then taken as one of its plain shape.
-use Rattle.std.specs.Prelude.{◌≡◌, ◌<◌, ℕ, suc, List, Option, Some}
+use Rattle.std.specs.Prelude.{◌≡◌, ◌<◌, ℕ, suc, List, Option, Some, None}
 use Rattle.ar_value.specs.Kind.{Kind, nil, shaped, common, plain}
-use Rattle.ar_value.specs.Shape.{Shape, FieldShapes, bool, whole, decimal, text, list, object}
+use Rattle.ar_value.specs.Shape.{Shape, FieldShapes, bool, whole, decimal, text, list, object, shape_named}
 use Rattle.ar_syntax.specs.Expression.{Expression, Expressions, none, more, ResultAt, ItemAt, LiteralAt, FieldAt, IndexAt, UnaryAt, BinaryAt, ChoiceAt, ListAt, LenAt, IsNilAt, DefaultAt, PredicateAt}
 use Rattle.ar_syntax.specs.declared.token.Comparison.TheVariants as comparisons
 use Rattle.ar_syntax.specs.declared.tree.Binary.{Binary}
@@ -13,7 +13,7 @@ use Rattle.ar_syntax.specs.declared.tree.Predicate.{Predicate}
 use Rattle.ar_syntax.specs.declared.tree.Predicate.TheVariants as predicates
 use Rattle.ar_syntax.specs.declared.tree.Unary.{Unary}
 use Rattle.ar_syntax.specs.declared.tree.Unary.TheVariants as unaries
-use Rattle.ar_check.specs.Check.{literal_kind, most_predicates, shape_named}
+use Rattle.ar_check.specs.Basics.{literal_kind, most_predicates}
 
 -- ---- scalars
 
@@ -146,3 +146,11 @@ mutual
     one_more : {item : Option Shape} {around : ℕ} {first : Expression} {others : Expressions} {of shape both : Shape}
         → HasKind result item around first (shaped of) → HaveInCommon result item around others shape → InCommon (plain of) shape both
         → HaveInCommon result item around (more first others) both
+
+-- ---- whole conditions
+
+-- a tree is a condition where `result` has a shape: it is a truth value there, which may be nil
+pub record IsCondition (result : Shape) (tree : Expression) : Type 0 where
+  pub shape : Shape
+  pub typed : HasKind result None 0 tree (shaped shape)
+  pub truth : plain shape ≡ bool

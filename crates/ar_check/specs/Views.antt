@@ -1,19 +1,9 @@
--- What typed trees and operands in memory stand for.
-use Rattle.std.specs.Prelude.{Bool, true, false, Result, Ok, Err}
-use Rattle.ar_value.specs.Kind.{Kind}
-use Rattle.ar_value.specs.Kind as kind
-use Rattle.ar_value.specs.Shape.{Shape}
-use Rattle.ar_value.specs.View.{shape_view}
-use Rattle.ar_check.specs.Check.{Item}
-use Rattle.ar_check.specs.Operand.{Operand, operand}
+-- What typed trees in memory stand for.
+use Rattle.std.specs.Prelude.{Bool, true, false}
 use Rattle.ar_check.specs.Typed.{Typed, Typeds, typeds}
 use Rattle.ar_check.specs.Typed as typed
 use Rattle.ar_check.specs.declared.error.TypeError.{TypeError}
 use Rattle.ar_check.specs.declared.error.TypeError.TheVariants.{OutOfMemory}
-use Rattle.ar_check.specs.declared.list.Item as items
-use Rattle.ar_check.specs.declared.operand.Kind as code
-use Rattle.ar_check.specs.declared.operand.Kind.TheVariants as kinds
-use Rattle.ar_check.specs.declared.operand.Operand as operands
 use Rattle.ar_check.specs.declared.typed.Typed.{Typed as TypedCode, fold-Typed}
 use Rattle.ar_check.specs.declared.typed.Typed.TheOpen.{Typed-F, TypedItems-F}
 use Rattle.ar_check.specs.declared.typed.TypedItems.{TypedItems as TypedItemsCode, fold-TypedItems}
@@ -23,7 +13,7 @@ abbrev pub typed_step : Typed-F Typed Typeds → Typed
 typed_step Typed-F.Result = typed.result
 typed_step Typed-F.Item = typed.item
 typed_step (Typed-F.Literal literal) = typed.literal literal
-typed_step (Typed-F.Field whole name) = typed.field whole.value name
+typed_step (Typed-F.Field owner name) = typed.field owner.value name
 typed_step (Typed-F.Index list index) = typed.index list.value index.value
 typed_step (Typed-F.Plain operand) = typed.plain operand.value
 typed_step (Typed-F.AsDecimal operand) = typed.as_decimal operand.value
@@ -51,24 +41,7 @@ typed_view = fold-Typed Typed Typeds typed_step typed_items_step
 abbrev pub typed_items_view : TypedItemsCode → Typeds
 typed_items_view = fold-TypedItems Typed Typeds typed_step typed_items_step
 
--- the kind of an operand, wherever its shape lies
-abbrev pub kind_view : code.Kind → Kind
-kind_view kinds.Nil = kind.nil
-kind_view (kinds.Declared shape) = kind.shaped (shape_view shape.now)
-kind_view (kinds.Made shape) = kind.shaped (shape_view shape)
-
-abbrev pub operand_view : operands.Operand → Operand
-operand_view o = operand (typed_view o.tree) (kind_view o.kind)
-
+-- which errors are want of memory
 abbrev pub is_memory : TypeError → Bool
 is_memory OutOfMemory = true
 is_memory error = false
-
--- a shape's answer as a kind's
-abbrev pub shaped_answer : Result Shape TypeError → Result Kind TypeError
-shaped_answer (Ok shape) = Ok (kind.shaped shape)
-shaped_answer (Err error) = Err error
-
--- an item of a list literal
-abbrev pub item_view : items.Item → Item
-item_view i = record { at = i.at; scalar = i.scalar; tree = typed_view i.tree }

@@ -6,8 +6,8 @@ ghost use Rattle.ar_check.specs.Typed.{typeds};
 ghost use Rattle.ar_check.specs.Views.{typed_view};
 
 use crate::typed::{Arithmetic, Family, Numbers, Order, Scalar, Typed, TypedItems};
-use ar_syntax::text::Text;
 use ar_syntax::tree::Predicate;
+use ar_value::text::Text;
 use std::alloc::{AllocError, Global};
 
 pub(crate) fn plain(alloc: Global, operand: Typed) -> Result<Typed, AllocError>
@@ -22,11 +22,11 @@ pub(crate) fn as_decimal(alloc: Global, operand: Typed) -> Result<Typed, AllocEr
     Ok(Typed::AsDecimal(Box::new(alloc, operand)?))
 }
 
-pub(crate) fn field(alloc: Global, whole: Typed, name: Text) -> Result<Typed, AllocError>
-    ensures { IfOk result (λ tree. typed_view tree ≡ typed.field (typed_view whole) name) }
+pub(crate) fn field(alloc: Global, owner: Typed, name: Text) -> Result<Typed, AllocError>
+    ensures { IfOk result (λ tree. typed_view tree ≡ typed.field (typed_view owner) name) }
 {
     Ok(Typed::Field {
-        whole: Box::new(alloc, whole)?,
+        owner: Box::new(alloc, owner)?,
         name,
     })
 }

@@ -14,8 +14,9 @@
 //!
 //! In `specs`, `Typed` has typed trees, `Operand` says what is made of operands where a plain kind
 //! or a decimal is wanted, and `Check` goes through the constructs one by one: what each wants and
-//! gives, and its faults. `Typing` is the table of kinds as a relation, which laws say is the same.
-//! `Meaning` defines what a typed condition means on a value.
+//! gives, and its faults. `Typing` is the table of kinds as a relation, which laws say is the same;
+//! `Basics` has what both begin with. `Meaning` defines what a typed condition means on a value.
+//! `Private` has what only private contracts speak of.
 #![tactic(auto)]
 
 mod build;
@@ -27,7 +28,6 @@ mod operators;
 pub mod typed;
 mod typing;
 
+pub use error::TypeError;
+pub use typed::Typed;
 pub use typing::check;
-
-#[cfg(test)]
-mod tests;

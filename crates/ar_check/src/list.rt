@@ -6,7 +6,8 @@ ghost use Rattle.ar_value.specs.Kind.{shaped};
 ghost use Rattle.ar_value.specs.Shape.{list};
 ghost use Rattle.ar_value.specs.View.{shape_view};
 ghost use Rattle.ar_check.specs.Check.{common_of, common_scalar, joined, list_of, no_scalar, scalar_shape, turned_item};
-ghost use Rattle.ar_check.specs.Views.{is_memory, item_view, kind_view, operand_view, typed_view};
+ghost use Rattle.ar_check.specs.Views.{is_memory, typed_view};
+ghost use Rattle.ar_check.specs.Private.Inside.{item_view, kind_view, operand_view};
 
 use crate::build::{as_decimal, listed};
 use crate::error::TypeError;
@@ -85,7 +86,8 @@ fn common_scalar(left: Option<Scalar>, right: Option<Scalar>) -> Option<Scalar>
 
 /// The trees of items in a list of scalars.
 fn turned(alloc: Global, scalar: Scalar, items: Vec<Item>) -> Result<Vec<Typed>, AllocError>
-    ensures { IfOk result (λ trees. map typed_view trees.items ≡ map (λ item. turned_item scalar item.scalar item.tree) (map item_view items.items)) }
+    ensures { IfOk result (λ trees. map typed_view trees.items
+        ≡ map (λ item. turned_item scalar item.scalar item.tree) (map item_view items.items)) }
 {
     let mut trees = Vec::with_capacity(alloc, items.len())?;
     for item in items {

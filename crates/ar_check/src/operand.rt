@@ -1,20 +1,22 @@
 //! Operands whose kinds are known.
 
-ghost use Rattle.std.specs.Prelude.{◌≡◌, IfOk, map, option_and_then, option_map};
+ghost use Rattle.std.specs.Prelude.{◌≡◌, IfOk, option_and_then, option_map};
 ghost use Rattle.ar_value.specs.Answer.{Gives};
 ghost use Rattle.ar_value.specs.Kind.{common, shaped};
-ghost use Rattle.ar_value.specs.Shape.{field_shapes_of};
+ghost use Rattle.ar_value.specs.Kind as shapes;
 ghost use Rattle.ar_value.specs.View as values;
-ghost use Rattle.ar_value.specs.View.{field_shape_view, shape_view};
-ghost use Rattle.ar_check.specs.Check.{field_shape, item_shape, plain_kind, shape_named};
+ghost use Rattle.ar_value.specs.View.{shape_view};
+ghost use Rattle.ar_check.specs.Check.{field_shape, item_shape, plain_kind};
+ghost use Rattle.ar_value.specs.Shape.{shape_named};
 ghost use Rattle.ar_check.specs.Operand.{is_bool, is_truth, is_whole, made_plain, numbers, numbers_in, plain_of, plain_tree, scalar, scalar_of, turned};
-ghost use Rattle.ar_check.specs.Views.{is_memory, kind_view, operand_view, shaped_answer, typed_view};
+ghost use Rattle.ar_check.specs.Views.{is_memory, typed_view};
+ghost use Rattle.ar_check.specs.Private.Inside.{kind_view, operand_view, shaped_answer};
 
 use crate::build::{as_decimal, plain};
 use crate::error::TypeError;
 use crate::typed::{Numbers, Scalar, Typed};
 use ar_value::kind;
-use ar_value::shape::{FieldShape, Shape};
+use ar_value::shape::Shape;
 use std::alloc::{AllocError, Global};
 
 /// The kind of an operand: that of the literal `nil`, or a shape, which is lent where it is a part
@@ -68,6 +70,22 @@ pub(crate) fn made_plain(alloc: Global, operand: Operand<'_>) -> Result<Typed, A
     plain_tree(alloc, &kind, tree)
 }
 
+/// An operand's tree, where its kind is known.
+pub(crate) fn into_tree(operand: Operand<'_>) -> Typed
+    ensures { typed_view result ≡ (operand_view operand.entry).tree }
+{
+    operand.tree
+}
+
+/// Whether an operand is a truth value once it is plain, and its tree made plain.
+pub(crate) fn as_truth(alloc: Global, operand: Operand<'_>) -> Result<(bool, Typed), AllocError>
+    ensures truth { IfOk result (λ made. made.0 ≡ is_truth (operand_view operand.entry)) }
+    ensures tree { IfOk result (λ made. typed_view made.1 ≡ made_plain (operand_view operand.entry)) }
+{
+    let is_truth = is_truth(&operand);
+    Ok((is_truth, made_plain(alloc, operand)?))
+}
+
 pub(crate) fn scalar_of(shape: &Shape) -> Option<Scalar>
     ensures { result ≡ scalar_of (shape_view shape.now) }
 {
@@ -105,22 +123,11 @@ pub(crate) fn is_truth(operand: &Operand<'_>) -> bool
     matches!(scalar(operand), Some(Scalar::Bool))
 }
 
-fn shape_named<'a>(fields: &'a [FieldShape], name: &[u8]) -> Option<&'a Shape>
-    ensures { option_map (λ shape. shape_view shape.now) result ≡ shape_named name.now (field_shapes_of (map field_shape_view fields.now)) }
-{
-    for field in fields {
-        if field.name.as_str().as_bytes() == name {
-            return Some(&field.shape);
-        }
-    }
-    None
-}
-
-fn field_in<'a>(at: usize, name: &[u8], shape: &'a Shape) -> Result<&'a Shape, TypeError>
+fn field_in<'a>(at: usize, name: &str, shape: &'a Shape) -> Result<&'a Shape, TypeError>
     ensures { Gives is_memory (λ found. shape_view found.now) result (field_shape at name.now (plain_of (shaped (shape_view shape.now)))) }
 {
     match kind::plain(shape) {
-        Shape::Object(fields) => match shape_named(&fields.items, name) {
+        Shape::Object(fields) => match fields.get(name) {
             Some(found) => Ok(found),
             None => Err(TypeError::NoSuchField(at)),
         },
@@ -137,7 +144,7 @@ fn field_in<'a>(at: usize, name: &[u8], shape: &'a Shape) -> Result<&'a Shape, T
 pub(crate) fn field_kind<'s>(
     alloc: Global,
     at: usize,
-    name: &[u8],
+    name: &str,
     kind: &Kind<'s>,
 ) -> Result<Kind<'s>, TypeError>
     ensures { Gives is_memory kind_view result (shaped_answer (field_shape at name.now (plain_of (kind_view kind.now)))) }
@@ -244,5 +251,69 @@ pub(crate) fn turned(
         as_decimal(alloc, tree)
     } else {
         Ok(tree)
+    }
+}
+
+/// The trees of two operands, made plain.
+pub(crate) fn both_plain(
+    alloc: Global,
+    left: Operand<'_>,
+    right: Operand<'_>,
+) -> Result<(Typed, Typed), AllocError>
+    ensures left { IfOk result (λ trees. typed_view trees.0 ≡ made_plain (operand_view left.entry)) }
+    ensures right { IfOk result (λ trees. typed_view trees.1 ≡ made_plain (operand_view right.entry)) }
+{
+    let first = made_plain(alloc, left)?;
+    let second = made_plain(alloc, right)?;
+    Ok((first, second))
+}
+
+/// The trees of two operands, each turned beside the other.
+pub(crate) fn turned_both(
+    alloc: Global,
+    left: Operand<'_>,
+    right: Operand<'_>,
+) -> Result<(Typed, Typed), AllocError>
+    ensures left { IfOk result (λ trees. typed_view trees.0
+        ≡ turned (operand_view right.entry).kind (operand_view left.entry).kind (operand_view left.entry).tree) }
+    ensures right { IfOk result (λ trees. typed_view trees.1
+        ≡ turned (operand_view left.entry).kind (operand_view right.entry).kind (operand_view right.entry).tree) }
+{
+    let Operand {
+        tree: first,
+        kind: of_first,
+    } = left;
+    let Operand {
+        tree: second,
+        kind: of_second,
+    } = right;
+    let first = turned(alloc, &of_second, &of_first, first)?;
+    let second = turned(alloc, &of_first, &of_second, second)?;
+    Ok((first, second))
+}
+
+/// The kind without nil.
+pub(crate) fn without_nil<'s>(kind: Kind<'s>) -> Kind<'s>
+    ensures { kind_view result ≡ plain_kind (kind_view kind.entry) }
+{
+    match kind {
+        Kind::Nil => Kind::Nil,
+        Kind::Declared(shape) => Kind::Declared(kind::plain(shape)),
+        Kind::Made(shape) => Kind::Made(into_plain(shape)),
+    }
+}
+
+/// The shape of what isn't nil.
+fn into_plain(shape: Shape) -> Shape
+    ensures { shape_view result ≡ shapes.plain (shape_view shape) }
+{
+    match shape {
+        Shape::Optional(plain) => Box::into_inner(plain),
+        Shape::Bool
+        | Shape::Whole
+        | Shape::Decimal
+        | Shape::Text
+        | Shape::List { .. }
+        | Shape::Object(_) => shape,
     }
 }

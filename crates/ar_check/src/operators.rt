@@ -1,19 +1,22 @@
 //! Operators whose operands have kinds.
 
-ghost use Rattle.std.specs.Prelude.{◌≡◌, ◌&&◌, IfOk};
+ghost use Rattle.std.specs.Prelude.{◌≡◌, ◌&&◌, IfOk, Some};
 ghost use Rattle.ar_value.specs.Answer.{Gives};
 ghost use Rattle.ar_value.specs.Kind.{shaped};
 ghost use Rattle.ar_value.specs.View.{shape_view};
-ghost use Rattle.ar_check.specs.Check.{arithmetic_kind, binary_of, comparison_of, equality_of, in_of, negated, number_kind, order_of, sum_of, takes, truth, unary_of, where_wanted, widened};
+ghost use Rattle.ar_check.specs.Check.{arithmetic_kind, binary_of, comparison_of, equality_of, in_of, negated, number_kind, ordering_of, arithmetic_on, calculation_of, both_of, either_of, given, takes, truth_kind, unary_of, where_wanted, widened};
 ghost use Rattle.ar_check.specs.Operand.{among, family_in};
-ghost use Rattle.ar_check.specs.Views.{is_memory, kind_view, operand_view, typed_view};
+ghost use Rattle.ar_check.specs.Typed as typed;
+ghost use Rattle.ar_check.specs.Views.{is_memory, typed_view};
+ghost use Rattle.ar_check.specs.Private.Inside.{kind_view, operand_view};
 
 use crate::build::{
     arithmetic, as_decimal, both, either, equal, is_nil, negative, opposite, ordered, within,
 };
 use crate::error::TypeError;
 use crate::operand::{
-    Kind, Operand, is_truth, item_shape, made_plain, numbers, plain_tree, scalar, scalar_of,
+    Kind, Operand, both_plain, into_tree, is_truth, item_shape, made_plain, numbers, scalar,
+    scalar_of,
 };
 use crate::typed::{Arithmetic, Family, Numbers, Order, Scalar, Typed};
 use ar_syntax::token::Comparison;
@@ -40,7 +43,7 @@ pub(crate) fn where_wanted<'s>(
 
 /// The kind of truth values.
 pub(crate) fn truth<'s>() -> Kind<'s>
-    ensures { kind_view result ≡ truth }
+    ensures { kind_view result ≡ truth_kind }
 {
     Kind::Made(Shape::Bool)
 }
@@ -98,19 +101,12 @@ pub(crate) fn binary<'s>(
     left: Operand<'_>,
     right: Operand<'_>,
 ) -> Result<Operand<'s>, TypeError>
-    ensures { Gives is_memory operand_view result (binary_of at operator nil_left nil_right (operand_view left.entry) (operand_view right.entry)) }
+    ensures { Gives is_memory operand_view result
+        (binary_of at operator nil_left nil_right (operand_view left.entry) (operand_view right.entry)) }
 {
     match operator {
-        Binary::Or => {
-            let wanted = is_truth(&left) && is_truth(&right);
-            let tree = either(alloc, made_plain(alloc, left)?, made_plain(alloc, right)?)?;
-            where_wanted(at, wanted, tree, truth())
-        }
-        Binary::And => {
-            let wanted = is_truth(&left) && is_truth(&right);
-            let tree = both(alloc, made_plain(alloc, left)?, made_plain(alloc, right)?)?;
-            where_wanted(at, wanted, tree, truth())
-        }
+        Binary::Or => either_of(alloc, at, left, right),
+        Binary::And => both_of(alloc, at, left, right),
         Binary::Comparison(comparison) => {
             compare(alloc, at, comparison, nil_left, nil_right, left, right)
         }
@@ -122,6 +118,32 @@ pub(crate) fn binary<'s>(
         Binary::Divide => calculate(alloc, at, Arithmetic::Divide, left, right),
         Binary::Remainder => calculate(alloc, at, Arithmetic::Remainder, left, right),
     }
+}
+
+fn either_of<'s>(
+    alloc: Global,
+    at: usize,
+    left: Operand<'_>,
+    right: Operand<'_>,
+) -> Result<Operand<'s>, TypeError>
+    ensures { Gives is_memory operand_view result (either_of at (operand_view left.entry) (operand_view right.entry)) }
+{
+    let wanted = is_truth(&left) && is_truth(&right);
+    let (left, right) = both_plain(alloc, left, right)?;
+    where_wanted(at, wanted, either(alloc, left, right)?, truth())
+}
+
+fn both_of<'s>(
+    alloc: Global,
+    at: usize,
+    left: Operand<'_>,
+    right: Operand<'_>,
+) -> Result<Operand<'s>, TypeError>
+    ensures { Gives is_memory operand_view result (both_of at (operand_view left.entry) (operand_view right.entry)) }
+{
+    let wanted = is_truth(&left) && is_truth(&right);
+    let (left, right) = both_plain(alloc, left, right)?;
+    where_wanted(at, wanted, both(alloc, left, right)?, truth())
 }
 
 fn negated(alloc: Global, condition: Operand<'_>) -> Result<Operand<'_>, TypeError>
@@ -141,7 +163,8 @@ fn compare<'s>(
     left: Operand<'_>,
     right: Operand<'_>,
 ) -> Result<Operand<'s>, TypeError>
-    ensures { Gives is_memory operand_view result (comparison_of at comparison nil_left nil_right (operand_view left.entry) (operand_view right.entry)) }
+    ensures { Gives is_memory operand_view result
+        (comparison_of at comparison nil_left nil_right (operand_view left.entry) (operand_view right.entry)) }
 {
     match comparison {
         Comparison::Equal => equate(alloc, at, nil_left, nil_right, left, right),
@@ -166,20 +189,26 @@ fn equate<'s>(
 ) -> Result<Operand<'s>, TypeError>
     ensures { Gives is_memory operand_view result (equality_of at nil_left nil_right (operand_view left.entry) (operand_view right.entry)) }
 {
-    let kind = truth();
     if nil_left {
-        let tree = is_nil(alloc, right.tree)?;
-        return Ok(Operand { tree, kind });
+        return is_nil_of(alloc, right);
     }
     if nil_right {
-        let tree = is_nil(alloc, left.tree)?;
-        return Ok(Operand { tree, kind });
+        return is_nil_of(alloc, left);
     }
     let (Some(of), Some(beside)) = (scalar(&left), scalar(&right)) else {
         return Err(TypeError::WrongOperand(at));
     };
-    let tree = equal(alloc, family(of), left.tree, right.tree)?;
-    where_wanted(at, family(of) == family(beside), tree, kind)
+    let tree = equal(alloc, family(of), into_tree(left), into_tree(right))?;
+    where_wanted(at, family(of) == family(beside), tree, truth())
+}
+
+/// Whether an operand is nil.
+pub(crate) fn is_nil_of<'s>(alloc: Global, operand: Operand<'_>) -> Result<Operand<'s>, TypeError>
+    ensures { Gives is_memory operand_view result (given (typed.is_nil (operand_view operand.entry).tree) truth_kind) }
+{
+    let tree = is_nil(alloc, into_tree(operand))?;
+    let kind = truth();
+    Ok(Operand { tree, kind })
 }
 
 fn family(scalar: Scalar) -> Family
@@ -199,13 +228,12 @@ fn order<'s>(
     left: Operand<'_>,
     right: Operand<'_>,
 ) -> Result<Operand<'s>, TypeError>
-    ensures { Gives is_memory operand_view result (order_of at order (operand_view left.entry) (operand_view right.entry)) }
+    ensures { Gives is_memory operand_view result (ordering_of at order (operand_view left.entry) (operand_view right.entry)) }
 {
     let (Some(of), Some(beside)) = (numbers(&left), numbers(&right)) else {
         return Err(TypeError::WrongOperand(at));
     };
-    let left = made_plain(alloc, left)?;
-    let right = made_plain(alloc, right)?;
+    let (left, right) = both_plain(alloc, left, right)?;
     let tree = ordered(alloc, (of, beside), order, left, right)?;
     let kind = truth();
     Ok(Operand { tree, kind })
@@ -224,7 +252,8 @@ fn contains<'s>(
     let (Some(of), Some(beside)) = (scalar(&operand), item) else {
         return Err(TypeError::WrongOperand(at));
     };
-    let tree = within(alloc, operand.tree, made_plain(alloc, list)?)?;
+    let operand = into_tree(operand);
+    let tree = within(alloc, operand, made_plain(alloc, list)?)?;
     where_wanted(at, family(of) == family(beside), tree, truth())
 }
 
@@ -235,14 +264,31 @@ fn calculate<'s>(
     left: Operand<'_>,
     right: Operand<'_>,
 ) -> Result<Operand<'s>, TypeError>
-    ensures { Gives is_memory operand_view result (sum_of at operator (operand_view left.entry) (operand_view right.entry)) }
+    ensures { Gives is_memory operand_view result (calculation_of at operator (operand_view left.entry) (operand_view right.entry)) }
 {
     let (Some(of), Some(beside)) = (numbers(&left), numbers(&right)) else {
         return Err(TypeError::WrongOperand(at));
     };
+    let (left, right) = both_plain(alloc, left, right)?;
+    calculate_on(alloc, at, operator, (of, beside), left, right)
+}
+
+/// Arithmetic on plain operands of these numbers.
+fn calculate_on<'s>(
+    alloc: Global,
+    at: usize,
+    operator: Arithmetic,
+    sides: (Numbers, Numbers),
+    left: Typed,
+    right: Typed,
+) -> Result<Operand<'s>, TypeError>
+    ensures { Gives is_memory operand_view result
+        (arithmetic_on at operator (Some sides.0) (Some sides.1) (typed_view left) (typed_view right)) }
+{
+    let (of, beside) = sides;
     let numbers = widened(of, beside);
-    let left = among(alloc, beside, of, made_plain(alloc, left)?)?;
-    let right = among(alloc, of, beside, made_plain(alloc, right)?)?;
+    let left = among(alloc, beside, of, left)?;
+    let right = among(alloc, of, beside, right)?;
     let tree = arithmetic(alloc, numbers, operator, left, right)?;
     let kind = arithmetic_kind(operator, numbers);
     where_wanted(at, takes(operator, numbers), tree, kind)

@@ -1,7 +1,7 @@
 //! Typed conditions: what a condition says once its kinds are known.
 
-use ar_syntax::text::Text;
 use ar_syntax::tree::{Literal, Predicate};
+use ar_value::text::Text;
 
 /// The kinds of a list's items, where these are scalars.
 #[derive(Clone, Copy, Debug, PartialEq, Eq)]
@@ -57,7 +57,7 @@ pub enum Typed {
     Item,
     Literal(Literal),
     Field {
-        whole: Box<Typed>,
+        owner: Box<Typed>,
         name: Text,
     },
     Index {

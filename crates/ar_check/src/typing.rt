@@ -1,31 +1,34 @@
 //! From the tree of a condition to its typed tree.
 
-ghost use Rattle.std.specs.Prelude.{◌≡◌, suc, IfOk, map, None, Some, option_map, true};
-ghost use Rattle.ar_check.specs.Meaning.{IsTruthOrFault, mean};
+ghost use Rattle.std.specs.Prelude.{◌≡◌, IfErr, IfOk, map, None, Some, option_map, true};
+ghost use Rattle.ar_value.specs.Answer.{Gives, Unless};
 ghost use Rattle.ar_value.specs.Fits.{fits};
-ghost use Rattle.ar_value.specs.Value.{Value};
-ghost use Rattle.ar_value.specs.Answer.{Gives};
 ghost use Rattle.ar_value.specs.Kind.{shaped};
+ghost use Rattle.ar_value.specs.Value.{Value};
 ghost use Rattle.ar_value.specs.View.{shape_view};
 ghost use Rattle.ar_syntax.specs.Expression.{expressions, BinaryAt, ChoiceAt, DefaultAt, IndexAt, PredicateAt};
 ghost use Rattle.ar_syntax.specs.Views.{expression_of};
-ghost use Rattle.ar_check.specs.Check.{checked, choice_of, default_kind, default_of, field_of, given, index_of, is_nil_literal, item_at, item_typed, items_typed, len_of, literal_kind, over_items, plain_kind, predicate_kind, predicate_of, truth, typed_of};
-ghost use Rattle.ar_check.specs.Operand.{operand};
+ghost use Rattle.ar_check.specs.Basics.{literal_kind};
+ghost use Rattle.ar_check.specs.Check.{checked, choice_tree, default_kind, default_of, default_tree, field_of, index_of, innermost, is_nil_literal, len_of, over_items, plain_kind, predicate_kind, predicate_of};
+ghost use Rattle.ar_check.specs.Meaning.{IsTruthOrFault, mean};
+ghost use Rattle.ar_check.specs.Operand.{made_plain, operand};
+ghost use Rattle.ar_check.specs.Private.Inside.{choice_between, inside, item_in, item_view, items_in, kind_view, operand_view, typed_in};
 ghost use Rattle.ar_check.specs.Typed as typed;
-ghost use Rattle.ar_check.specs.Views.{is_memory, item_view, kind_view, operand_view, typed_view};
+ghost use Rattle.ar_check.specs.Typing.{IsCondition};
+ghost use Rattle.ar_check.specs.Views.{is_memory, typed_view};
 
-use crate::build::{choice, field, index, is_nil, len, otherwise, predicate};
+use crate::build::{choice, field, index, len, otherwise, predicate};
 use crate::error::TypeError;
 use crate::list::{Item, list};
 use crate::operand::{
-    Kind, Operand, common, field_kind, is_truth, item_kind, item_shape, made_plain, plain_kind,
-    scalar, turned,
+    Kind, Operand, as_truth, common, field_kind, is_truth, item_kind, item_shape, made_plain,
+    plain_kind, scalar, turned, turned_both, without_nil,
 };
-use crate::operators::{binary, truth, unary, where_wanted};
+use crate::operators::{binary, is_nil_of, truth, unary, where_wanted};
 use crate::typed::{Scalar, Typed};
-use ar_syntax::text::Text;
 use ar_syntax::tree::{Binary, Literal, Predicate, Tree};
 use ar_value::shape::Shape;
+use ar_value::text::Text;
 use std::alloc::{AllocError, Global};
 
 /// How many predicates may stand in one another.
@@ -40,10 +43,16 @@ const MOST_PREDICATES: usize = 4;
 /// `NotAList`, `NoSuchField`, `NotScalar` and `NoCommonKind` go before `WrongOperand`. `NotTruth`
 /// where the whole is no truth value.
 pub fn check(alloc: Global, tree: Tree, shape: &Shape) -> Result<Typed, TypeError>
+    // This typed tree, or this fault.
     ensures exact { Gives is_memory typed_view result (checked (shape_view shape.now) (expression_of tree)) }
 
+    // The same by the table of kinds: a truth value, plain or optional, or none.
+    ensures condition { IfOk result (λ _. IsCondition (shape_view shape.now) (expression_of tree)) }
+    ensures refused { IfErr result (λ error. Unless (is_memory error) (¬ (IsCondition (shape_view shape.now) (expression_of tree)))) }
+
     // On each value of the shape the condition is true or false or meets a fault.
-    ensures answers { IfOk result (λ condition. (value : Value) → fits value (shape_view shape.now) ≡ true → IsTruthOrFault (mean value None (typed_view condition))) }
+    ensures answers { IfOk result (λ condition. (value : Value) → fits value (shape_view shape.now) ≡ true
+        → IsTruthOrFault (mean value None (typed_view condition))) }
 {
     let at = tree.place();
     let scope = Scope {
@@ -73,14 +82,14 @@ struct Scope<'s> {
 /// A tree where `result` has a shape, and so has the innermost item, inside so many predicates.
 #[cycle(typed)]
 fn typed<'s>(alloc: Global, tree: Tree, scope: Scope<'s>) -> Result<Operand<'s>, TypeError>
-    ensures { Gives is_memory operand_view result (typed_of (shape_view scope.entry.measured.now) (option_map (λ shape. shape_view shape.now) scope.entry.item) scope.entry.around (expression_of tree)) }
+    ensures { Gives is_memory operand_view result (typed_in scope.entry (expression_of tree)) }
 {
     match tree {
         Tree::Result { .. } => Ok(measured_of(scope.measured)),
         Tree::Item { at } => item_of(at, scope.item),
         Tree::Literal { literal, .. } => Ok(literal_of(literal)),
-        Tree::Field { at, whole, name } => {
-            field_of(alloc, at, name, child(alloc, whole, scope)?)
+        Tree::Field { at, owner, name } => {
+            field_of(alloc, at, name, child(alloc, owner, scope)?)
         }
         Tree::Index { at, list, index } => typed_index(alloc, at, list, index, scope),
         Tree::Unary {
@@ -100,7 +109,7 @@ fn typed<'s>(alloc: Global, tree: Tree, scope: Scope<'s>) -> Result<Operand<'s>,
             yes,
             no,
         } => typed_choice(alloc, at, condition, yes, no, scope),
-        Tree::List { at, items } => list(alloc, at, typed_items(alloc, items, scope)?),
+        Tree::List { at, items } => list(alloc, at, typed_items(alloc, items.items, scope)?),
         Tree::Len { at, list } => len_of(alloc, at, child(alloc, list, scope)?),
         Tree::IsNil { operand, .. } => is_nil_of(alloc, child(alloc, operand, scope)?),
         Tree::Default {
@@ -120,7 +129,7 @@ fn typed<'s>(alloc: Global, tree: Tree, scope: Scope<'s>) -> Result<Operand<'s>,
 /// A tree below another.
 #[cycle(typed)]
 fn child<'s>(alloc: Global, tree: Box<Tree>, scope: Scope<'s>) -> Result<Operand<'s>, TypeError>
-    ensures { Gives is_memory operand_view result (typed_of (shape_view scope.entry.measured.now) (option_map (λ shape. shape_view shape.now) scope.entry.item) scope.entry.around (expression_of tree.value)) }
+    ensures { Gives is_memory operand_view result (typed_in scope.entry (expression_of tree.value)) }
 {
     typed(alloc, Box::into_inner(tree), scope)
 }
@@ -134,7 +143,8 @@ fn typed_index<'s>(
     index: Box<Tree>,
     scope: Scope<'s>,
 ) -> Result<Operand<'s>, TypeError>
-    ensures { Gives is_memory operand_view result (typed_of (shape_view scope.entry.measured.now) (option_map (λ shape. shape_view shape.now) scope.entry.item) scope.entry.around (IndexAt at (expression_of list.value) (expression_of index.value))) }
+    ensures { Gives is_memory operand_view result
+        (typed_in scope.entry (IndexAt at (expression_of list.value) (expression_of index.value))) }
 {
     let list = child(alloc, list, scope)?;
     let index = child(alloc, index, scope)?;
@@ -151,7 +161,8 @@ fn typed_binary<'s>(
     right: Box<Tree>,
     scope: Scope<'s>,
 ) -> Result<Operand<'s>, TypeError>
-    ensures { Gives is_memory operand_view result (typed_of (shape_view scope.entry.measured.now) (option_map (λ shape. shape_view shape.now) scope.entry.item) scope.entry.around (BinaryAt at operator (expression_of left.value) (expression_of right.value))) }
+    ensures { Gives is_memory operand_view result
+        (typed_in scope.entry (BinaryAt at operator (expression_of left.value) (expression_of right.value))) }
 {
     let nil_left = is_nil_literal(&left);
     let nil_right = is_nil_literal(&right);
@@ -170,9 +181,10 @@ fn typed_choice<'s>(
     no: Box<Tree>,
     scope: Scope<'s>,
 ) -> Result<Operand<'s>, TypeError>
-    ensures { Gives is_memory operand_view result (typed_of (shape_view scope.entry.measured.now) (option_map (λ shape. shape_view shape.now) scope.entry.item) scope.entry.around (ChoiceAt at (expression_of condition.value) (expression_of yes.value) (expression_of no.value))) }
+    ensures { Gives is_memory operand_view result
+        (typed_in scope.entry (ChoiceAt at (expression_of condition.value) (expression_of yes.value) (expression_of no.value))) }
 {
-    let condition = child(alloc, condition, scope)?;
+    let condition = as_truth(alloc, child(alloc, condition, scope)?)?;
     let yes = child(alloc, yes, scope)?;
     let no = child(alloc, no, scope)?;
     choice_of(alloc, at, condition, yes, no)
@@ -187,7 +199,8 @@ fn typed_default<'s>(
     otherwise: Box<Tree>,
     scope: Scope<'s>,
 ) -> Result<Operand<'s>, TypeError>
-    ensures { Gives is_memory operand_view result (typed_of (shape_view scope.entry.measured.now) (option_map (λ shape. shape_view shape.now) scope.entry.item) scope.entry.around (DefaultAt at (expression_of operand.value) (expression_of otherwise.value))) }
+    ensures { Gives is_memory operand_view result
+        (typed_in scope.entry (DefaultAt at (expression_of operand.value) (expression_of otherwise.value))) }
 {
     let operand = child(alloc, operand, scope)?;
     let otherwise = child(alloc, otherwise, scope)?;
@@ -204,7 +217,8 @@ fn typed_predicate<'s>(
     body: Box<Tree>,
     scope: Scope<'s>,
 ) -> Result<Operand<'s>, TypeError>
-    ensures { Gives is_memory operand_view result (typed_of (shape_view scope.entry.measured.now) (option_map (λ shape. shape_view shape.now) scope.entry.item) scope.entry.around (PredicateAt at predicate (expression_of list.value) (expression_of body.value))) }
+    ensures { Gives is_memory operand_view result
+        (typed_in scope.entry (PredicateAt at predicate (expression_of list.value) (expression_of body.value))) }
 {
     let list = child(alloc, list, scope)?;
     let body = typed_body(alloc, at, body, &list.kind, scope)?;
@@ -215,7 +229,8 @@ fn typed_predicate<'s>(
 #[cycle(typed)]
 #[tactic(auto, using(crate::proofs::Items::all_left))]
 fn typed_items(alloc: Global, trees: Vec<Tree>, scope: Scope<'_>) -> Result<Vec<Item>, TypeError>
-    ensures { Gives is_memory (λ items. map item_view items.items) result (items_typed (shape_view scope.entry.measured.now) (option_map (λ shape. shape_view shape.now) scope.entry.item) scope.entry.around (expressions (map expression_of trees.items))) }
+    ensures { Gives is_memory (λ items. map item_view items.items) result
+        (items_in scope.entry (expressions (map expression_of trees.items))) }
 {
     let mut items = Vec::with_capacity(alloc, trees.len())?;
     for tree in trees {
@@ -227,7 +242,7 @@ fn typed_items(alloc: Global, trees: Vec<Tree>, scope: Scope<'_>) -> Result<Vec<
 /// An item of a list literal, made plain.
 #[cycle(typed)]
 fn typed_item(alloc: Global, tree: Tree, scope: Scope<'_>) -> Result<Item, TypeError>
-    ensures { Gives is_memory item_view result (item_typed (shape_view scope.entry.measured.now) (option_map (λ shape. shape_view shape.now) scope.entry.item) scope.entry.around (expression_of tree)) }
+    ensures { Gives is_memory item_view result (item_in scope.entry (expression_of tree)) }
 {
     let at = tree.place();
     let operand = typed(alloc, tree, scope)?;
@@ -246,17 +261,15 @@ fn typed_body(
     list: &Kind<'_>,
     scope: Scope<'_>,
 ) -> Result<(bool, Typed), TypeError>
-    ensures { Gives is_memory (λ found. (found.0, typed_view found.1)) result (over_items at scope.entry.around (kind_view list.now) (λ shape. typed_of (shape_view scope.entry.measured.now) (Some shape) (suc scope.entry.around) (expression_of body.value))) }
+    ensures { Gives is_memory (λ found. (found.0, typed_view found.1)) result
+        (over_items at scope.entry.around (kind_view list.now) (λ shape. inside scope.entry shape (expression_of body.value))) }
 {
     let shape = item_shape(at, list)?;
     if scope.around >= MOST_PREDICATES {
         return Err(TypeError::PredicatesTooDeep(at));
     }
     let inside = in_predicate(scope, shape, scope.around + 1);
-    let body = child(alloc, body, inside)?;
-    let is_truth = is_truth(&body);
-    let tree = made_plain(alloc, body)?;
-    Ok((is_truth, tree))
+    Ok(as_truth(alloc, child(alloc, body, inside)?)?)
 }
 
 /// What names stand for where a predicate speaks of an item, inside so many predicates.
@@ -282,7 +295,7 @@ fn measured_of(shape: &Shape) -> Operand<'_>
 }
 
 fn item_of(at: usize, item: Option<&Shape>) -> Result<Operand<'_>, TypeError>
-    ensures { Gives is_memory operand_view result (item_at at (option_map (λ shape. shape_view shape.now) item.entry)) }
+    ensures { Gives is_memory operand_view result (innermost at (option_map (λ shape. shape_view shape.now) item.entry)) }
 {
     match item {
         Some(shape) => Ok(Operand {
@@ -309,14 +322,6 @@ fn literal_of<'s>(literal: Literal) -> Operand<'s>
     }
 }
 
-fn is_nil_of<'s>(alloc: Global, operand: Operand<'_>) -> Result<Operand<'s>, TypeError>
-    ensures { Gives is_memory operand_view result (given (typed.is_nil (operand_view operand.entry).tree) truth) }
-{
-    let tree = is_nil(alloc, operand.tree)?;
-    let kind = truth();
-    Ok(Operand { tree, kind })
-}
-
 /// Whether a tree is the literal `nil`.
 fn is_nil_literal(tree: &Tree) -> bool
     ensures { result ≡ is_nil_literal (expression_of tree.now) }
@@ -331,12 +336,12 @@ fn field_of<'s>(
     alloc: Global,
     at: usize,
     name: Text,
-    whole: Operand<'s>,
+    owner: Operand<'s>,
 ) -> Result<Operand<'s>, TypeError>
-    ensures { Gives is_memory operand_view result (field_of at name (operand_view whole.entry)) }
+    ensures { Gives is_memory operand_view result (field_of at name (operand_view owner.entry)) }
 {
-    let kind = field_kind(alloc, at, name.as_bytes(), &whole.kind)?;
-    let tree = field(alloc, made_plain(alloc, whole)?, name)?;
+    let kind = field_kind(alloc, at, name.as_str(), &owner.kind)?;
+    let tree = field(alloc, made_plain(alloc, owner)?, name)?;
     Ok(Operand { tree, kind })
 }
 
@@ -350,9 +355,17 @@ fn index_of<'s>(
 {
     let kind = item_kind(alloc, at, &list.kind)?;
     let wanted = matches!(scalar(&position), Some(Scalar::Whole));
-    let list = made_plain(alloc, list)?;
-    let tree = index(alloc, list, made_plain(alloc, position)?)?;
+    let tree = index_tree(alloc, list, position)?;
     where_wanted(at, wanted, tree, kind)
+}
+
+/// The tree of an item, of a plain list at a plain index.
+fn index_tree(alloc: Global, list: Operand<'_>, position: Operand<'_>) -> Result<Typed, AllocError>
+    ensures { IfOk result (λ tree. typed_view tree
+        ≡ typed.index (made_plain (operand_view list.entry)) (made_plain (operand_view position.entry))) }
+{
+    let list = made_plain(alloc, list)?;
+    index(alloc, list, made_plain(alloc, position)?)
 }
 
 fn len_of<'s>(alloc: Global, at: usize, list: Operand<'_>) -> Result<Operand<'s>, TypeError>
@@ -368,29 +381,33 @@ fn len_of<'s>(alloc: Global, at: usize, list: Operand<'_>) -> Result<Operand<'s>
 fn choice_of<'s>(
     alloc: Global,
     at: usize,
-    condition: Operand<'_>,
+    condition: (bool, Typed),
     yes: Operand<'_>,
     no: Operand<'_>,
 ) -> Result<Operand<'s>, TypeError>
-    ensures { Gives is_memory operand_view result (choice_of at (operand_view condition.entry) (operand_view yes.entry) (operand_view no.entry)) }
+    ensures { Gives is_memory operand_view result
+        (choice_between at condition.0 (typed_view condition.1) (operand_view yes.entry) (operand_view no.entry)) }
 {
-    let Operand {
-        tree: met,
-        kind: of_met,
-    } = yes;
-    let Operand {
-        tree: unmet,
-        kind: of_unmet,
-    } = no;
-    let Some(kind) = common(alloc, &of_met, &of_unmet)? else {
+    let Some(kind) = common(alloc, &yes.kind, &no.kind)? else {
         return Err(TypeError::NoCommonKind(at));
     };
-    let wanted = is_truth(&condition);
-    let condition = made_plain(alloc, condition)?;
-    let met = turned(alloc, &of_unmet, &of_met, met)?;
-    let unmet = turned(alloc, &of_met, &of_unmet, unmet)?;
-    let tree = choice(alloc, condition, met, unmet)?;
+    let (wanted, condition) = condition;
+    let tree = choice_tree(alloc, condition, yes, no)?;
     where_wanted(at, wanted, tree, kind)
+}
+
+/// The tree of a choice, whose branches are turned beside one another.
+fn choice_tree(
+    alloc: Global,
+    condition: Typed,
+    yes: Operand<'_>,
+    no: Operand<'_>,
+) -> Result<Typed, AllocError>
+    ensures { IfOk result (λ tree. typed_view tree
+        ≡ choice_tree (typed_view condition) (operand_view yes.entry) (operand_view no.entry)) }
+{
+    let (yes, no) = turned_both(alloc, yes, no)?;
+    choice(alloc, condition, yes, no)
 }
 
 /// An operand, or what stands in where it is nil.
@@ -402,22 +419,33 @@ fn default_of<'s>(
 ) -> Result<Operand<'s>, TypeError>
     ensures { Gives is_memory operand_view result (default_of at (operand_view first.entry) (operand_view other.entry)) }
 {
+    let Operand { tree, kind } = first;
+    let plain = without_nil(kind);
     let Operand {
-        tree: left,
-        kind: of_left,
-    } = first;
-    let Operand {
-        tree: right,
-        kind: of_right,
+        tree: other,
+        kind: of_other,
     } = other;
-    let plain = plain_kind(alloc, &of_left)?;
-    let left = turned(alloc, &of_right, &plain, left)?;
-    let right = turned(alloc, &plain, &of_right, right)?;
-    let tree = otherwise(alloc, left, right)?;
-    match default_kind(alloc, plain, of_right)? {
+    let tree = default_tree(alloc, tree, &plain, other, &of_other)?;
+    match default_kind(alloc, plain, of_other)? {
         Some(kind) => Ok(Operand { tree, kind }),
         None => Err(TypeError::NoCommonKind(at)),
     }
+}
+
+/// The tree of a default, whose sides are turned beside one another.
+fn default_tree(
+    alloc: Global,
+    first: Typed,
+    plain: &Kind<'_>,
+    other: Typed,
+    of_other: &Kind<'_>,
+) -> Result<Typed, AllocError>
+    ensures { IfOk result (λ tree. typed_view tree
+        ≡ default_tree (typed_view first) (kind_view plain.now) (typed_view other) (kind_view of_other.now)) }
+{
+    let first = turned(alloc, of_other, plain, first)?;
+    let other = turned(alloc, plain, of_other, other)?;
+    otherwise(alloc, first, other)
 }
 
 /// The kind of a default: the other's where the first is always nil.

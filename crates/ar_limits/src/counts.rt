@@ -1,7 +1,7 @@
 //! Counts of the marks of a metric, by kind.
 
 ghost use Rattle.std.specs.Prelude.{◌≡◌};
-ghost use Rattle.ar_limits.specs.declared.run.TheConstants.{MAX_EVENTS};
+ghost use Rattle.ar_limits.specs.declared.run.TheConstants.{MOST_EVENTS};
 
 use crate::event::Mark;
 
@@ -22,7 +22,7 @@ impl Counts {
 
     /// Counts one mark more.
     pub(crate) fn add(&mut self, mark: Mark)
-        requires { AreAtMost MAX_EVENTS self.old }
+        requires { AreAtMost MOST_EVENTS self.old }
         ensures { self.new ≡ with_mark self.old mark }
     {
         match mark {

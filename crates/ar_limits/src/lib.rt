@@ -1,7 +1,7 @@
 //! The phases of an analysis run, from the marks of its metrics and its stops, in their order.
 //!
 //! A [`RunState`] takes one [`Event`] after another. Whatever the events were, up to
-//! [`MAX_EVENTS`] of them, it shows the phase of the run, the phase and the counts of each
+//! [`MOST_EVENTS`] of them, it shows the phase of the run, the phase and the counts of each
 //! metric, and what each event did, just as the definition of that list of events says:
 //! `specs/Metric.antt` and `specs/Run.antt`, by prefixes of the list and counts over them.
 //! `Replays` of `specs/Replay.antt` ties a state to the lists that lead to it: `new` ensures it
@@ -39,4 +39,4 @@ pub use counts::Counts;
 pub use event::{Effect, Event, Mark};
 pub use limits::Limits;
 pub use phase::Phase;
-pub use run::{MAX_EVENTS, RunState};
+pub use run::{MOST_EVENTS, RunState};

@@ -1,7 +1,7 @@
 //! The limits of a metric, and what counts of marks decide under them.
 
 ghost use Rattle.std.specs.Prelude.{◌≡◌, ◌+◌, ◌↔◌, IsTrue};
-ghost use Rattle.ar_limits.specs.declared.run.TheConstants.{MAX_EVENTS};
+ghost use Rattle.ar_limits.specs.declared.run.TheConstants.{MOST_EVENTS};
 
 use crate::counts::Counts;
 use crate::phase::Phase;
@@ -33,7 +33,7 @@ impl Limits {
 
     /// What marks with these counts decide: the limits come first, and then the count.
     pub(crate) fn decide(&self, counts: &Counts) -> Option<Phase>
-        requires { AreAtMost (MAX_EVENTS + 1) counts.now }
+        requires { AreAtMost (MOST_EVENTS + 1) counts.now }
         ensures { result ≡ decided_by self.now counts.now }
     {
         if counts.failed > u64::from(self.failure) {

@@ -1,7 +1,7 @@
 //! A metric of a run, one mark after another.
 
 ghost use Rattle.std.specs.Prelude.{◌≡◌};
-ghost use Rattle.ar_limits.specs.declared.run.TheConstants.{MAX_EVENTS};
+ghost use Rattle.ar_limits.specs.declared.run.TheConstants.{MOST_EVENTS};
 
 use crate::counts::Counts;
 use crate::event::Mark;
@@ -33,7 +33,7 @@ impl Metric {
 
     /// Counts one mark more, and goes by the new counts.
     pub(crate) fn add(&mut self, mark: Mark)
-        requires { AreAtMost MAX_EVENTS self.old.counts }
+        requires { AreAtMost MOST_EVENTS self.old.counts }
         ensures { self.new ≡ with_mark_added self.old mark }
     {
         self.counts.add(mark);

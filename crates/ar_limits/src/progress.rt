@@ -5,7 +5,7 @@ ghost use Rattle.ar_limits.specs.Private.Kept.{AreConsistent, AreWithin, Takes};
 ghost use Rattle.ar_limits.specs.Metric.{is_complete};
 ghost use Rattle.ar_limits.specs.Private.MetricStep.{opening, after_closing};
 ghost use Rattle.ar_limits.specs.Replay.{IsOfMetricBelow};
-ghost use Rattle.ar_limits.specs.declared.run.TheConstants.{MAX_EVENTS};
+ghost use Rattle.ar_limits.specs.declared.run.TheConstants.{MOST_EVENTS};
 
 use crate::event::{Effect, Event, Mark};
 use crate::limits::Limits;
@@ -56,7 +56,7 @@ impl Progress {
         requires metric { number < length self.old.metrics.items }
         requires running { is_complete self.old.phase ≡ false }
         requires consistent { AreConsistent self.old.metrics.items self.old.phase self.old.incomplete }
-        requires small { AreWithin MAX_EVENTS self.old.metrics.items }
+        requires small { AreWithin MOST_EVENTS self.old.metrics.items }
 
         ensures { Takes self.old.metrics.items self.old.phase self.old.incomplete
             (Event.Mark number mark) result
@@ -80,7 +80,7 @@ impl Progress {
     pub(crate) fn apply(&mut self, event: Event) -> Effect
         requires metric { IsOfMetricBelow (length self.old.metrics.items) event }
         requires consistent { AreConsistent self.old.metrics.items self.old.phase self.old.incomplete }
-        requires small { AreWithin MAX_EVENTS self.old.metrics.items }
+        requires small { AreWithin MOST_EVENTS self.old.metrics.items }
 
         ensures { Takes self.old.metrics.items self.old.phase self.old.incomplete event result
             self.new.metrics.items self.new.phase self.new.incomplete }

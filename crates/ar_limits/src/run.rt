@@ -14,13 +14,13 @@ use std::alloc::{AllocError, Global};
 use std::marker::Model;
 
 /// How many events one run takes at most, late ones included.
-pub const MAX_EVENTS: u64 = 100_000;
+pub const MOST_EVENTS: u64 = 100_000;
 
 /// Where a run stands after the events that it was handed.
 #[derive(Debug, Drop)]
 pub struct RunState {
     progress: Progress,
-    /// The events so far, at most `MAX_EVENTS`.
+    /// The events so far, at most `MOST_EVENTS`.
     handed: u32,
 }
 
@@ -50,10 +50,10 @@ impl RunState {
     }
 
     /// Takes one event more, of a metric that is there, and tells what it did. A run takes
-    /// `MAX_EVENTS` events at most. No memory is taken, and only the event that closes the run goes
+    /// `MOST_EVENTS` events at most. No memory is taken, and only the event that closes the run goes
     /// over its metrics.
     pub fn apply(&mut self, event: Event) -> Effect
-        requires room { self.old.handed < MAX_EVENTS }
+        requires room { self.old.handed < MOST_EVENTS }
         requires metric { IsOfMetricBelow (length self.old.limits) event }
 
         ensures replays { ForEachReplay self.old (λ limits events.

@@ -7,7 +7,7 @@ use Rattle.ar_manifest.specs.Answer.{each_behind}
 use Rattle.ar_manifest.specs.Binding.{bound_text, filled, referred_value}
 use Rattle.ar_manifest.specs.Bound.{bound_limit, effective_count, limit_of_text}
 use Rattle.ar_manifest.specs.Cut.{cut_at, parts_of, parts_within, whole, reference}
-use Rattle.ar_manifest.specs.Template.{TemplateArguments, argument_of, listed_metrics, metric_limits, metric_of, named_metric, template_of}
+use Rattle.ar_manifest.specs.Template.{TemplateArguments, argument_of, metric_limits, metric_of, named_metric, template_of}
 use Rattle.ar_manifest.specs.declared.error.ManifestError.TheVariants.{BadArgs, OpenBraces, UnknownArg, NoValue, BadLimit, IntervalMissing, WrongKind, Unsupported}
 use Rattle.ar_manifest.specs.declared.template.Limit.TheVariants as limits
 
@@ -94,7 +94,7 @@ other_kind = refl
 
 unsupported : option_map template_of (read (codes "{\"apiVersion\":\"argoproj.io/v1alpha1\",\"kind\":\"AnalysisTemplate\",\"metadata\":{\"name\":\"t\"},\"spec\":{\"metrics\":[{\"name\":\"m\",\"consecutiveSuccessLimit\":1}]}}"))
     ≡ Some (Err (Unsupported 0))
-unfolding template_of listed_metrics each_behind metric_of named_metric metric_limits serde_json_on_literals
+unfolding template_of each_behind metric_of named_metric metric_limits serde_json_on_literals
 unsupported = refl
 
 no_value_is_a_number : option_map template_of (read (codes "{\"apiVersion\":\"argoproj.io/v1alpha1\",\"kind\":\"AnalysisTemplate\",\"metadata\":{\"name\":\"t\"},\"spec\":{\"args\":[{\"name\":\"a\"},{\"name\":\"b\",\"value\":1}]}}"))

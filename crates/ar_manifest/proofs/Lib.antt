@@ -3,6 +3,7 @@ pub mod Cuts
 pub mod Entries
 mod Facts
 pub mod Filling
+pub mod First
 pub mod LimitTexts
 pub mod Lists
 pub mod Memory

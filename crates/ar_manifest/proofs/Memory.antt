@@ -1,16 +1,17 @@
--- No refusal that is defined is want of memory.
-use Rattle.std.proofs.Common.{◌≢◌, ℕ, zero, suc, Bool, true, false, List, [], ◌∷◌, ◌++◌, length, Option, Some, None, Result, Ok, Err, cond}
-use Rattle.std.specs.Prelude.{◌&&◌, codes, is_none, nat_le, nat_lt, not}
+-- Which refusals are defined where: none is want of memory, and those of a document as a whole are found before its parts are looked at.
+use Rattle.std.proofs.Common.{◌≡◌, ◌≢◌, ℕ, zero, suc, Bool, true, false, List, [], ◌∷◌, ◌++◌, length, Option, Some, None, Result, Ok, Err, ap, cond}
+use Rattle.std.specs.Prelude.{◌↔◌, ◌&&◌, codes, option_and_then, is_none, nat_le, nat_lt, not}
 use Rattle.std.specs.List.{list_any}
 use Rattle.std.specs.Option.{option_or}
 use Rattle.serde_json.specs.Data.{Data, null, boolean, number, string, array, object}
-use Rattle.ar_manifest.specs.Answer.{◌>>=◌, each_behind, holds_or, there_or}
+use Rattle.ar_manifest.specs.Answer.{◌>>=◌, Gives, Unless, each_behind, holds_or, is_memory, there_or}
 use Rattle.ar_manifest.specs.Arguments.{value_of}
 use Rattle.ar_manifest.specs.Binding.{RunArguments, argument_name, bound_text, filled, referred_value, trimmed}
 use Rattle.ar_manifest.specs.Bound.{bound_condition, bound_limit, bound_metric, bound_of, effective_count, is_limit_text, limit_of_number, limit_of_text, most, next_bound}
 use Rattle.ar_manifest.specs.Cut.{Parts, whole, unclosed, reference, parts_of}
 use Rattle.ar_manifest.specs.Json.{list_of, member, member_of_member, text_member, text_or}
-use Rattle.ar_manifest.specs.Template.{TemplateArguments, argument_of, arguments_of, has_text_or, is_named, is_no_dry_run, is_text, limit_or, listed_metrics, metric_limits, metric_of, metrics_of, named_metric, template_name, template_of}
+use Rattle.ar_manifest.specs.Private.Early.{first_counted}
+use Rattle.ar_manifest.specs.Template.{TemplateArguments, argument_of, arguments_of, counted, counted_metrics, has_text_or, head_of, is_named, is_text, limit_or, lists_nothing, metric_limits, metric_of, named_metric, new_name, template_name, template_of}
 use Rattle.ar_manifest.specs.declared.error.ManifestError.{ManifestError}
 use Rattle.ar_manifest.specs.declared.error.ManifestError.TheVariants.{WrongVersion, WrongKind, NameMissing, BadArgs, NoMetrics, TooManyMetrics, MetricNameMissing, DoubleMetric, BadField, Unsupported, UnknownArg, NoValue, BadLimit, IntervalMissing, OutOfMemory}
 use Rattle.ar_manifest.specs.declared.template.Limit.{Limit}
@@ -18,28 +19,30 @@ use Rattle.ar_manifest.specs.declared.template.Limit.TheVariants as limits
 use Rattle.ar_manifest.specs.declared.template.Metric.{Metric}
 use Rattle.ar_manifest.specs.declared.template.Template.{Template}
 
--- a refusal is of the input
-abbrev pub IsOfInput : ManifestError → Type 0
-IsOfInput OutOfMemory = ⊥
-IsOfInput refusal = Unit {0}
+-- a refusal of an argument, of a metric or of `dryRun`
+abbrev pub IsOfPart : ManifestError → Type 0
+IsOfPart WrongVersion = ⊥
+IsOfPart WrongKind = ⊥
+IsOfPart NameMissing = ⊥
+IsOfPart NoMetrics = ⊥
+IsOfPart TooManyMetrics = ⊥
+IsOfPart OutOfMemory = ⊥
+IsOfPart refusal = Unit {0}
 
--- an answer isn't want of memory
+-- an answer is no other refusal
 abbrev pub Judges : {A : Type 0} → Result A ManifestError → Type 0
 Judges (Ok x) = Unit {0}
-Judges (Err refusal) = IsOfInput refusal
-
-not_memory : {A : Type 0} (answer : Result A ManifestError) → Judges answer → answer ≢ Err OutOfMemory
-not_memory answer judges e = rw e at judges
+Judges (Err refusal) = IsOfPart refusal
 
 judges_then : {A B : Type 0} (first : Result A ManifestError) (next : A → Result B ManifestError) → Judges first → ((x : A) → Judges (next x)) → Judges (first >>= next)
 judges_then (Ok x) next first-is next-is = next-is x
 judges_then (Err refusal) next first-is next-is = first-is
 
-judges_there : {A : Type 0} (refusal : ManifestError) (found : Option A) → IsOfInput refusal → Judges (there_or refusal found)
+judges_there : {A : Type 0} (refusal : ManifestError) (found : Option A) → IsOfPart refusal → Judges (there_or refusal found)
 judges_there refusal None is = is
 judges_there refusal (Some x) is = tt
 
-judges_holds : (refusal : ManifestError) (fact : Bool) → IsOfInput refusal → Judges (holds_or refusal fact)
+judges_holds : (refusal : ManifestError) (fact : Bool) → IsOfPart refusal → Judges (holds_or refusal fact)
 judges_holds refusal false is = is
 judges_holds refusal true is = tt
 
@@ -48,7 +51,7 @@ unfolding each_behind
 judges_each step step-is earlier [] = tt
 judges_each step step-is earlier (item ∷ items) = judges_then (step earlier item) _ (step-is earlier item) (λ made. judges_each step step-is (earlier ++ made ∷ []) items)
 
-judges_text : (refusal : ManifestError) (found : Option Data) → IsOfInput refusal → Judges (text_or refusal found)
+judges_text : (refusal : ManifestError) (found : Option Data) → IsOfPart refusal → Judges (text_or refusal found)
 judges_text refusal None is = tt
 judges_text refusal (Some null) is = is
 judges_text refusal (Some (boolean b)) is = is
@@ -57,7 +60,7 @@ judges_text refusal (Some (string text)) is = tt
 judges_text refusal (Some (array ds)) is = is
 judges_text refusal (Some (object ms)) is = is
 
-judges_limit : (refusal : ManifestError) (found : Option Data) → IsOfInput refusal → Judges (limit_or refusal found)
+judges_limit : (refusal : ManifestError) (found : Option Data) → IsOfPart refusal → Judges (limit_or refusal found)
 judges_limit refusal None is = tt
 judges_limit refusal (Some null) is = is
 judges_limit refusal (Some (boolean b)) is = is
@@ -93,35 +96,129 @@ named_judges i name d =
     judges_then (has_text_or (BadField i) (member (codes "interval") d)) _ (judges_then (text_or (BadField i) (member (codes "interval") d)) _ (judges_text _ (member (codes "interval") d) tt) (λ text. tt)) (λ interval.
     judges_then (metric_limits i d) _ (limits_judge i d) (λ limits. tt))))
 
+name_judges : (earlier : List Metric) (d : Data) → Judges (new_name earlier d)
+name_judges earlier d =
+    judges_then (there_or (MetricNameMissing (length earlier)) (text_member (codes "name") d)) _ (judges_there _ (text_member (codes "name") d) tt) (λ name.
+    judges_then (holds_or (DoubleMetric (length earlier)) (not (list_any (is_named name) earlier))) _ (judges_holds _ (not (list_any (is_named name) earlier)) tt) (λ new. tt))
+
 metric_judges : (earlier : List Metric) (d : Data) → Judges (metric_of earlier d)
 unfolding metric_of
 metric_judges earlier d =
-    judges_then (there_or (MetricNameMissing (length earlier)) (text_member (codes "name") d)) _ (judges_there _ (text_member (codes "name") d) tt) (λ name.
-    judges_then (holds_or (DoubleMetric (length earlier)) (not (list_any (is_named name) earlier))) _ (judges_holds _ (not (list_any (is_named name) earlier)) tt) (λ new.
+    judges_then (new_name earlier d) _ (name_judges earlier d) (λ name.
     judges_then (named_metric (length earlier) name d) _ (named_judges (length earlier) name d) (λ metric.
-    judges_then (holds_or (Unsupported (length earlier)) (is_none (member (codes "consecutiveSuccessLimit") d))) _ (judges_holds _ (is_none (member (codes "consecutiveSuccessLimit") d)) tt) (λ supported. tt))))
+    judges_then (holds_or (Unsupported (length earlier)) (is_none (member (codes "consecutiveSuccessLimit") d))) _ (judges_holds _ (is_none (member (codes "consecutiveSuccessLimit") d)) tt) (λ supported. tt)))
 
 judges_cond : {A : Type 0} (test : Bool) (held failed : Result A ManifestError) → Judges held → Judges failed → Judges (cond test held failed)
 judges_cond true held failed held-is failed-is = held-is
 judges_cond false held failed held-is failed-is = failed-is
 
-listed_judge : (ds : List Data) → Judges (listed_metrics ds)
-unfolding listed_metrics
-listed_judge [] = tt
-listed_judge (d ∷ ds) = judges_cond (nat_lt 64 (length (d ∷ ds))) (Err TooManyMetrics) (each_behind metric_of [] (d ∷ ds)) tt (judges_each metric_of metric_judges [] (d ∷ ds))
+-- a refusal of two steps that the second never gives is one of the first
+of_first : {A B : Type 0} (refusal : ManifestError) (first : Result A ManifestError) (next : A → Result B ManifestError) → ((x : A) → next x ≢ Err refusal)
+    → (first >>= next) ≡ Err refusal → first ≡ Err refusal
+of_first refusal (Ok x) next never e = absurd (never x e)
+of_first refusal (Err other) next never e = let same : other ≡ refusal = cc in ap (λ fault. Err fault) same
 
-template_judges : (d : Data) → Judges (template_of d)
-unfolding template_of
-template_judges d =
-    judges_then (holds_or WrongVersion (is_text (codes "argoproj.io/v1alpha1") (text_member (codes "apiVersion") d))) _ (judges_holds _ (is_text (codes "argoproj.io/v1alpha1") (text_member (codes "apiVersion") d)) tt) (λ version.
-    judges_then (holds_or WrongKind (is_text (codes "AnalysisTemplate") (text_member (codes "kind") d))) _ (judges_holds _ (is_text (codes "AnalysisTemplate") (text_member (codes "kind") d)) tt) (λ kind.
-    judges_then (there_or NameMissing (template_name d)) _ (judges_there _ (template_name d) tt) (λ name.
-    judges_then (arguments_of (member_of_member (codes "spec") (codes "args") d)) _ (arguments_judge (member_of_member (codes "spec") (codes "args") d)) (λ arguments.
-    judges_then (metrics_of (member_of_member (codes "spec") (codes "metrics") d)) _ (judges_then (there_or NoMetrics _) listed_metrics (judges_there _ _ tt) listed_judge) (λ metrics.
-    judges_then (holds_or (Unsupported 0) (is_no_dry_run (member_of_member (codes "spec") (codes "dryRun") d))) _ (judges_holds _ (is_no_dry_run (member_of_member (codes "spec") (codes "dryRun") d)) tt) (λ supported. tt))))))
+-- what stands at `spec.args` and `spec.metrics`
+abbrev spec_arguments : Data → Option Data
+spec_arguments d = member_of_member (codes "spec") (codes "args") d
 
-pub template_not_memory : (document : Data) → template_of document ≢ Err OutOfMemory
-template_not_memory document = not_memory (template_of document) (template_judges document)
+abbrev spec_metrics : Data → Option Data
+spec_metrics d = member_of_member (codes "spec") (codes "metrics") d
+
+-- a template, once its metrics are counted
+abbrev behind_items : Data → List ℕ → TemplateArguments → List Data → Result Template ManifestError
+behind_items d name arguments items = do
+  metrics ← each_behind metric_of [] items
+  supported ← holds_or (Unsupported 0) (lists_nothing (member_of_member (codes "spec") (codes "dryRun") d))
+  Ok (record { name = name; arguments = arguments; metrics = metrics })
+
+module _ (refusal : ManifestError) (other : IsOfPart refusal → ⊥) where
+  never : {A : Type 0} (answer : Result A ManifestError) → Judges answer → answer ≢ Err refusal
+  never answer judges e = other (rw e at judges)
+
+  module _ (d : Data) where
+    -- behind the number of metrics only parts are refused
+    behind_judges : (name : List ℕ) (arguments : TemplateArguments) (items : List Data) → Judges (behind_items d name arguments items)
+    behind_judges name arguments items =
+        judges_then (each_behind metric_of [] items) _ (judges_each metric_of metric_judges [] items) (λ metrics.
+        judges_then (holds_or (Unsupported 0) (lists_nothing (member_of_member (codes "spec") (codes "dryRun") d))) _ (judges_holds _ (lists_nothing (member_of_member (codes "spec") (codes "dryRun") d)) tt) (λ supported. tt))
+
+    by_arguments : (name : List ℕ) (found : Result TemplateArguments ManifestError) → Judges found
+        → (found >>= λ arguments. counted_metrics (spec_metrics d) >>= behind_items d name arguments) ≡ Err refusal
+        → counted_metrics (spec_metrics d) ≡ Err refusal
+    by_arguments name (Ok arguments) judges e = of_first refusal (counted_metrics (spec_metrics d)) (behind_items d name arguments) (λ items. never (behind_items d name arguments items) (behind_judges name arguments items)) e
+    by_arguments name (Err fault) judges e = let same : fault ≡ refusal = cc in absurd (other (rw same at judges))
+
+    by_head : (head : Result (List ℕ) ManifestError)
+        → (head >>= λ name. arguments_of (spec_arguments d) >>= λ arguments. counted_metrics (spec_metrics d) >>= behind_items d name arguments) ≡ Err refusal
+        → (head >>= λ name. counted_metrics (spec_metrics d)) ≡ Err refusal
+    by_head (Ok name) e = by_arguments name (arguments_of (spec_arguments d)) (arguments_judge (spec_arguments d)) e
+    by_head (Err fault) e = let same : fault ≡ refusal = cc in ap (λ refused. Err refused) same
+
+    -- what no part is refused as is found before any is looked at
+    early : template_of d ≡ Err refusal → first_counted d ≡ Err refusal
+    unfolding template_of
+    early e = by_head (head_of d) e
+
+-- a refusal of the number of metrics
+abbrev IsOfCount : ManifestError → Type 0
+IsOfCount NoMetrics = Unit {0}
+IsOfCount TooManyMetrics = Unit {0}
+IsOfCount refusal = ⊥
+
+counted_is : (found : Option Data) (refusal : ManifestError) → (IsOfCount refusal → ⊥) → counted_metrics found ≢ Err refusal
+counted_is found refusal other e = by_list (option_and_then list_of found) e
+  where
+    by_list : (list : Option (List Data)) → (there_or NoMetrics list >>= counted) ≡ Err refusal → ⊥
+    by_list None e = let same : refusal ≡ NoMetrics = cc in other (rw same tt)
+    by_list (Some []) e = let same : refusal ≡ NoMetrics = cc in other (rw same tt)
+    by_list (Some (d ∷ ds)) e = by_test (nat_lt 64 (length (d ∷ ds))) e
+      where
+        by_test : (test : Bool) → cond test (Err TooManyMetrics) (Ok (d ∷ ds)) ≡ Err refusal → ⊥
+        by_test true e = let same : refusal ≡ TooManyMetrics = cc in other (rw same tt)
+        by_test false e = cc
+
+-- the version, the kind and the name of a template are refused as what they are
+module _ (d : Data) where
+  first_head : (refusal : ManifestError) → (IsOfCount refusal → ⊥) → first_counted d ≡ Err refusal → head_of d ≡ Err refusal
+  first_head refusal other e = of_first refusal (head_of d) _ (λ name. counted_is (spec_metrics d) refusal other) e
+
+  pub version_early : template_of d ≡ Err WrongVersion → head_of d ≡ Err WrongVersion
+  version_early e = first_head WrongVersion (λ is. is) (early WrongVersion (λ is. is) d e)
+
+  pub kind_early : template_of d ≡ Err WrongKind → head_of d ≡ Err WrongKind
+  kind_early e = first_head WrongKind (λ is. is) (early WrongKind (λ is. is) d e)
+
+  pub name_early : template_of d ≡ Err NameMissing → head_of d ≡ Err NameMissing
+  name_early e = first_head NameMissing (λ is. is) (early NameMissing (λ is. is) d e)
+
+  pub none_early : template_of d ≡ Err NoMetrics → first_counted d ≡ Err NoMetrics
+  none_early e = early NoMetrics (λ is. is) d e
+
+  pub many_early : template_of d ≡ Err TooManyMetrics → first_counted d ≡ Err TooManyMetrics
+  many_early e = early TooManyMetrics (λ is. is) d e
+
+  head_not_memory : head_of d ≢ Err OutOfMemory
+  head_not_memory e = by_version (is_text (codes "argoproj.io/v1alpha1") (text_member (codes "apiVersion") d)) (is_text (codes "AnalysisTemplate") (text_member (codes "kind") d)) (template_name d) e
+    where
+      by_version : (version kind : Bool) (name : Option (List ℕ))
+          → (holds_or WrongVersion version >>= λ of_version. holds_or WrongKind kind >>= λ of_kind. there_or NameMissing name) ≡ Err OutOfMemory → ⊥
+      by_version false kind name e = cc
+      by_version true false name e = cc
+      by_version true true None e = cc
+      by_version true true (Some text) e = cc
+
+  pub template_not_memory : template_of d ≢ Err OutOfMemory
+  template_not_memory e = head_not_memory (first_head OutOfMemory (λ is. is) (early OutOfMemory (λ is. is) d e))
+
+-- a refusal that is always returned where it is defined is returned exactly there
+pub exactly : {X : Type 0} (refusal : ManifestError) (result answer : Result X ManifestError) → is_memory refusal ≡ false → Gives is_memory (λ x. x) result answer
+    → (answer ≡ Err refusal → result ≡ Err refusal) → (result ≡ Err refusal) ↔ (answer ≡ Err refusal)
+exactly refusal result answer other gives refuses = (λ is. unless_not (is_memory refusal) other (rw is at gives), refuses)
+  where
+    unless_not : {P : Type 0} (memory : Bool) → memory ≡ false → Unless memory P → P
+    unless_not true is holds = absurd (let impossible : true ≡ false = is in cc)
+    unless_not false is holds = holds
 
 module _ (arguments : TemplateArguments) (own : RunArguments) (i : ℕ) where
   value_judges : (between : List ℕ) → Judges (referred_value arguments own i between)
@@ -182,5 +279,5 @@ module _ (arguments : TemplateArguments) (own : RunArguments) (i : ℕ) where
 pub bound_not_memory : (template : Template) (own : RunArguments) → bound_of template own ≢ Err OutOfMemory
 unfolding bound_of
 bound_not_memory template own =
-    not_memory (bound_of template own)
+    never OutOfMemory (λ is. is) (bound_of template own)
     (judges_each (next_bound template.arguments own) (λ earlier metric. bound_judges template.arguments own (length earlier) metric) [] template.metrics)

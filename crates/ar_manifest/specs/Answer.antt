@@ -5,7 +5,7 @@ use Rattle.ar_manifest.specs.declared.error.ManifestError.TheVariants.{OutOfMemo
 
 -- a value leads on, a refusal stands
 infixl 10 ◌>>=◌
-abbrev pub ◌>>=◌ : {A B : Type 0} → Result A ManifestError → (A → Result B ManifestError) → Result B ManifestError
+abbrev pub ◌>>=◌ : {A B E : Type 0} → Result A E → (A → Result B E) → Result B E
 (Ok x) >>= f = f x
 (Err e) >>= f = Err e
 
@@ -24,12 +24,20 @@ unfoldable pub each_behind : {A B : Type 0} → (List B → A → Result B Manif
 each_behind step earlier [] = Ok earlier
 each_behind step earlier (item ∷ items) = step earlier item >>= λ made. each_behind step (earlier ++ made ∷ []) items
 
--- a refusal is the one that is defined, unless memory ran out
-abbrev pub Refuses : {Y : Type 0} → ManifestError → Result Y ManifestError → Type 0
-Refuses OutOfMemory answer = Unit {0}
-Refuses refusal answer = answer ≡ Err refusal
+-- which refusals are want of memory
+abbrev pub is_memory : ManifestError → Bool
+is_memory OutOfMemory = true
+is_memory refusal = false
 
--- what a function returned is the answer that is defined, unless memory ran out
-abbrev pub Gives : {Y : Type 0} → Result Y ManifestError → Result Y ManifestError → Type 0
-Gives (Ok x) answer = answer ≡ Ok x
-Gives (Err refusal) answer = Refuses refusal answer
+abbrev pub Unless : Bool → Type 0 → Type 0
+Unless true P = Unit {0}
+Unless false P = P
+
+-- What a function returned, seen by a view, is the answer that is defined. So is a refusal, unless it is want of memory.
+abbrev pub Gives : {X Y E : Type 0} → (E → Bool) → (X → Y) → Result X E → Result Y E → Type 0
+Gives is_memory view (Ok x) answer = answer ≡ Ok (view x)
+Gives is_memory view (Err e) answer = Unless (is_memory e) (answer ≡ Err e)
+
+-- Each refusal that is defined is returned: want of memory can't stand in its place.
+abbrev pub Refuses : {X Y : Type 0} → Result X ManifestError → Result Y ManifestError → Type 0
+Refuses result answer = (refusal : ManifestError) → answer ≡ Err refusal → result ≡ Err refusal

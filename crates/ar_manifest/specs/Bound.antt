@@ -1,9 +1,9 @@
 -- A template whose arguments are bound: conditions, limits and effective counts of its metrics.
-use Rattle.std.specs.Prelude.{ℕ, zero, suc, nat_le, nat_lt, Bool, ◌&&◌, not, if◌then◌else◌, List, [], length, Option, Some, None, unwrap_or, Result, Ok, Err}
+use Rattle.std.specs.Prelude.{◌≡◌, ℕ, zero, suc, nat_le, nat_lt, Bool, ◌&&◌, not, if◌then◌else◌, List, [], ◌∷◌, length, Option, Some, None, unwrap_or, Result, Ok, Err, IsOk}
 use Rattle.std.specs.Char.{is_ascii_digit}
 use Rattle.std.specs.List.{list_all}
 use Rattle.std.specs.Str.Parse.{digits_value}
-use Rattle.ar_manifest.specs.Answer.{◌>>=◌, each_behind}
+use Rattle.ar_manifest.specs.Answer.{◌>>=◌, Refuses, each_behind}
 use Rattle.ar_manifest.specs.Binding.{RunArguments, bound_text}
 use Rattle.ar_manifest.specs.Json.{unless_empty}
 use Rattle.ar_manifest.specs.Template.{TemplateArguments}
@@ -79,3 +79,26 @@ next_bound arguments own earlier metric = bound_metric arguments own (length ear
 -- the metrics of a template, bound one after another
 unfoldable pub bound_of : Template → RunArguments → Result (List BoundMetric) ManifestError
 bound_of template own = each_behind (next_bound template.arguments own) [] template.metrics
+
+-- a limit that is missing or a number, which takes no memory to bind
+abbrev pub IsNumber : Option Limit → Type 0
+IsNumber (Some (limits.Text text)) = ⊥
+IsNumber limit = Unit {0}
+
+-- metric i, if no text is bound before it is refused: it has no condition, and no limit is a text but behind one that is refused
+pub record IsPlain (arguments : TemplateArguments) (own : RunArguments) (i : ℕ) (metric : Metric) : Type 0 where
+  pub success : metric.success_condition ≡ None
+  pub failure : metric.failure_condition ≡ None
+  pub count : IsNumber metric.limits.count
+  pub failure_limit : IsOk (bound_limit arguments own i metric.limits.count) → IsNumber metric.limits.failure
+  pub inconclusive_limit :
+      IsOk (bound_limit arguments own i metric.limits.count) → IsOk (bound_limit arguments own i metric.limits.failure)
+      → IsNumber metric.limits.inconclusive
+  pub consecutive_error_limit :
+      IsOk (bound_limit arguments own i metric.limits.count) → IsOk (bound_limit arguments own i metric.limits.failure)
+      → IsOk (bound_limit arguments own i metric.limits.inconclusive) → IsNumber metric.limits.consecutive_error
+
+-- The refusal of a plain first metric, as `BadLimit` of a number, is returned: want of memory can't stand in its place.
+abbrev pub RefusesFirst : {X : Type 0} → TemplateArguments → RunArguments → List Metric → Result X ManifestError → Type 0
+RefusesFirst arguments own metrics result =
+    (first : Metric) (rest : List Metric) → metrics ≡ first ∷ rest → IsPlain arguments own 0 first → Refuses result (bound_metric arguments own 0 first)

@@ -5,3 +5,4 @@ pub mod Template
 pub mod Cut
 pub mod Binding
 pub mod Bound
+pub mod Private

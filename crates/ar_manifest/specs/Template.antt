@@ -1,5 +1,5 @@
 -- What a JSON document is as an AnalysisTemplate of Argo Rollouts, or its first fault.
-use Rattle.std.specs.Prelude.{ℕ, nat_lt, Bool, true, false, not, List, [], ◌∷◌, length, codes, Option, Some, None, is_some, is_none, option_and_then, Result, Ok, Err, if◌then◌else◌}
+use Rattle.std.specs.Prelude.{◌≡◌, ℕ, nat_lt, Bool, true, false, not, List, [], ◌∷◌, length, codes, Option, Some, None, is_some, is_none, option_and_then, Result, Ok, Err, if◌then◌else◌}
 use Rattle.std.specs.List.{list_any}
 use Rattle.std.specs.Str.{bytes_eq}
 use Rattle.serde_json.specs.Data.{Data, number, string}
@@ -70,32 +70,38 @@ named_metric i name d = do
 abbrev pub is_named : List ℕ → Metric → Bool
 is_named name metric = bytes_eq metric.name name
 
--- a metric has a text as name, which no earlier one has, and no `consecutiveSuccessLimit`
-unfoldable pub metric_of : List Metric → Data → Result Metric ManifestError
-metric_of earlier d = do
+-- a metric has a text as name, which no earlier one has
+abbrev pub new_name : List Metric → Data → Result (List ℕ) ManifestError
+new_name earlier d = do
   name ← there_or (MetricNameMissing (length earlier)) (text_member (codes "name") d)
   new ← holds_or (DoubleMetric (length earlier)) (not (list_any (is_named name) earlier))
+  Ok name
+
+-- a metric has a name of its own, and no `consecutiveSuccessLimit`
+unfoldable pub metric_of : List Metric → Data → Result Metric ManifestError
+metric_of earlier d = do
+  name ← new_name earlier d
   metric ← named_metric (length earlier) name d
   supported ← holds_or (Unsupported (length earlier)) (is_none (member (codes "consecutiveSuccessLimit") d))
   Ok metric
 
 -- there are 1 to 64 metrics
-unfoldable pub listed_metrics : List Data → Result (List Metric) ManifestError
-listed_metrics [] = Err NoMetrics
-listed_metrics (d ∷ ds) = if nat_lt 64 (length (d ∷ ds)) then Err TooManyMetrics else each_behind metric_of [] (d ∷ ds)
+abbrev pub counted : List Data → Result (List Data) ManifestError
+counted [] = Err NoMetrics
+counted (d ∷ ds) = if nat_lt 64 (length (d ∷ ds)) then Err TooManyMetrics else Ok (d ∷ ds)
 
-abbrev pub metrics_of : Option Data → Result (List Metric) ManifestError
-metrics_of found = there_or NoMetrics (option_and_then list_of found) >>= listed_metrics
+abbrev pub counted_metrics : Option Data → Result (List Data) ManifestError
+counted_metrics found = there_or NoMetrics (option_and_then list_of found) >>= counted
 
 abbrev pub is_some_empty : Option (List Data) → Bool
 is_some_empty None = false
 is_some_empty (Some []) = true
 is_some_empty (Some (d ∷ ds)) = false
 
--- nothing but an empty list is supported as `dryRun`
-abbrev pub is_no_dry_run : Option Data → Bool
-is_no_dry_run None = true
-is_no_dry_run (Some d) = is_some_empty (list_of d)
+-- nothing, or an empty list
+abbrev pub lists_nothing : Option Data → Bool
+lists_nothing None = true
+lists_nothing (Some d) = is_some_empty (list_of d)
 
 -- whether there is such a text
 abbrev pub is_text : List ℕ → Option (List ℕ) → Bool
@@ -106,13 +112,24 @@ is_text wanted (Some text) = bytes_eq text wanted
 abbrev pub template_name : Data → Option (List ℕ)
 template_name d = option_and_then unless_empty (option_and_then as_str (member_of_member (codes "metadata") (codes "name") d))
 
--- A template's version, kind and name are looked at first, then its arguments, its metrics, and `dryRun`.
-unfoldable pub template_of : Data → Result Template ManifestError
-template_of d = do
+-- a template's name, behind its version and kind
+abbrev pub head_of : Data → Result (List ℕ) ManifestError
+head_of d = do
   version ← holds_or WrongVersion (is_text (codes "argoproj.io/v1alpha1") (text_member (codes "apiVersion") d))
   kind ← holds_or WrongKind (is_text (codes "AnalysisTemplate") (text_member (codes "kind") d))
-  name ← there_or NameMissing (template_name d)
+  there_or NameMissing (template_name d)
+
+-- A template's version, kind and name are looked at first, then its arguments, its metrics, and `dryRun`, of which nothing
+-- but an empty list is supported.
+unfoldable pub template_of : Data → Result Template ManifestError
+template_of d = do
+  name ← head_of d
   arguments ← arguments_of (member_of_member (codes "spec") (codes "args") d)
-  metrics ← metrics_of (member_of_member (codes "spec") (codes "metrics") d)
-  supported ← holds_or (Unsupported 0) (is_no_dry_run (member_of_member (codes "spec") (codes "dryRun") d))
+  items ← counted_metrics (member_of_member (codes "spec") (codes "metrics") d)
+  metrics ← each_behind metric_of [] items
+  supported ← holds_or (Unsupported 0) (lists_nothing (member_of_member (codes "spec") (codes "dryRun") d))
   Ok (record { name = name; arguments = arguments; metrics = metrics })
+
+-- a document without arguments: its `spec.args` is missing or an empty list
+abbrev pub HasNoArguments : Data → Type 0
+HasNoArguments d = lists_nothing (member_of_member (codes "spec") (codes "args") d) ≡ true

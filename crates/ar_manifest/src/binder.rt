@@ -1,8 +1,8 @@
 //! Binding the metrics of a template.
 
-ghost use Rattle.std.specs.Prelude.{[]};
-ghost use Rattle.ar_manifest.specs.Answer.{Gives, each_behind};
-ghost use Rattle.ar_manifest.specs.Bound.{bound_condition, bound_limit, bound_metric, bound_of, next_bound};
+ghost use Rattle.std.specs.Prelude.{◌≡◌, [], None, Ok};
+ghost use Rattle.ar_manifest.specs.Answer.{Gives, Refuses, each_behind, is_memory};
+ghost use Rattle.ar_manifest.specs.Bound.{IsNumber, IsPlain, RefusesFirst, bound_condition, bound_limit, bound_metric, bound_of, next_bound};
 
 use crate::arguments::{Args, Arguments};
 use crate::binding::Scope;
@@ -29,8 +29,9 @@ fn condition(
     scope: &Scope,
     condition: &Option<Text>,
 ) -> Result<Option<Text>, ManifestError>
-    ensures { Gives result
+    ensures exact { Gives is_memory (λ bound. bound) result
         (bound_condition scope.now.arguments.now scope.now.own.now scope.now.metric condition.now) }
+    ensures none { condition.now ≡ None → result ≡ Ok None }
 {
     let Some(condition) = condition else {
         return Ok(None);
@@ -46,8 +47,10 @@ fn condition(
 /// A limit, bound.
 #[tactic(auto, unfolding(crate::specs::Bound::bound_limit))]
 fn limit(alloc: Global, scope: &Scope, limit: &Option<Limit>) -> Result<Option<u32>, ManifestError>
-    ensures { Gives result
+    ensures exact { Gives is_memory (λ bound. bound) result
         (bound_limit scope.now.arguments.now scope.now.own.now scope.now.metric limit.now) }
+    ensures number { IsNumber limit.now
+        → result ≡ bound_limit scope.now.arguments.now scope.now.own.now scope.now.metric limit.now }
 {
     match limit {
         None => Ok(None),
@@ -63,8 +66,10 @@ fn limit(alloc: Global, scope: &Scope, limit: &Option<Limit>) -> Result<Option<u
 /// A metric, bound.
 #[tactic(auto, unfolding(crate::specs::Bound::bound_metric))]
 fn metric(alloc: Global, scope: &Scope, metric: &Metric) -> Result<BoundMetric, ManifestError>
-    ensures { Gives result
+    ensures exact { Gives is_memory (λ bound. bound) result
         (bound_metric scope.now.arguments.now scope.now.own.now scope.now.metric metric.now) }
+    ensures plain { IsPlain scope.now.arguments.now scope.now.own.now scope.now.metric metric.now
+        → Refuses result (bound_metric scope.now.arguments.now scope.now.own.now scope.now.metric metric.now) }
 {
     let success_condition = condition(alloc, scope, &metric.success_condition)?;
     let failure_condition = condition(alloc, scope, &metric.failure_condition)?;
@@ -92,7 +97,8 @@ fn metrics(
     arguments: &Arguments<Option<Text>>,
     own: &Args,
 ) -> Result<Bound, ManifestError>
-    ensures { Gives result (each_behind (next_bound arguments.now own.now) [] list.now) }
+    ensures exact { Gives is_memory (λ bound. bound) result (each_behind (next_bound arguments.now own.now) [] list.now) }
+    ensures first { RefusesFirst arguments.now own.now list.now result }
 {
     let mut metrics: Vec<BoundMetric> = Vec::new(alloc);
     for metric in list {
@@ -110,7 +116,8 @@ fn metrics(
 /// The template, bound.
 #[tactic(auto, unfolding(crate::specs::Bound::bound_of))]
 pub(crate) fn bound(alloc: Global, template: &Template, own: &Args) -> Result<Bound, ManifestError>
-    ensures { Gives result (bound_of template.now own.now) }
+    ensures exact { Gives is_memory (λ bound. bound) result (bound_of template.now own.now) }
+    ensures first { RefusesFirst template.now.arguments own.now template.now.metrics result }
 {
     metrics(alloc, template.metrics.as_slice(), &template.arguments, own)
 }

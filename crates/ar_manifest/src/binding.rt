@@ -1,7 +1,7 @@
 //! Binding the arguments of a text: each `{{args.name}}` gives way to the argument's value.
 
-ghost use Rattle.std.specs.Prelude.{◌≡◌, ◌<◌, MatchResult, length, option_map};
-ghost use Rattle.ar_manifest.specs.Answer.{Gives};
+ghost use Rattle.std.specs.Prelude.{◌≡◌, ◌<◌, false, length, option_map};
+ghost use Rattle.ar_manifest.specs.Answer.{Gives, is_memory};
 ghost use Rattle.ar_manifest.specs.Binding.{argument_name, bound_text, referred_value, trimmed, without_leading_spaces, without_trailing_spaces};
 ghost use Rattle.ar_manifest.specs.Cut.{cut_at};
 
@@ -60,8 +60,8 @@ impl Scope<'_> {
     /// The value of what stands in braces.
     #[tactic(auto, unfolding(crate::specs::Binding::referred_value))]
     fn value(&self, between: &str) -> Result<&str, ManifestError>
-        ensures { let answer = referred_value self.now.arguments.now self.now.own.now self.now.metric between.now in
-            MatchResult result (λ value. answer ≡ Ok value.now) (λ refusal. answer ≡ Err refusal) }
+        ensures { Gives (λ _. false) (λ value. value.now) result
+            (referred_value self.now.arguments.now self.now.own.now self.now.metric between.now) }
     {
         let name = argument_name(trimmed(between)).ok_or(ManifestError::UnknownArg(self.metric))?;
         let value = self
@@ -78,7 +78,7 @@ impl Scope<'_> {
     /// A text of the metric, bound.
     #[tactic(auto, using(crate::proofs::Filling::bind_begin, crate::proofs::Filling::bind_end, crate::proofs::Filling::bind_open, crate::proofs::Filling::bind_fault, crate::proofs::Filling::bind_more))]
     pub(crate) fn text(&self, alloc: Global, text: &str) -> Result<Text, ManifestError>
-        ensures { Gives result
+        ensures { Gives is_memory (λ bound. bound) result
             (bound_text self.now.arguments.now self.now.own.now self.now.metric text.now) }
     {
         let mut bound = String::new(alloc);

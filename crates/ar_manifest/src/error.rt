@@ -21,7 +21,7 @@ pub enum ManifestError {
     NameMissing,
     /// The argument has no name, that of an earlier argument, or a value that is no text; or
     /// `spec.args` is no list, and the number is 0.
-    #[error("argument {0}: BadArgs: expected a list of arguments, each with a text `name` of its own and no `value` but a text")]
+    #[error("spec.args: BadArgs: expected a list, and of argument {0} a text `name` of its own and no `value` but a text")]
     BadArgs(usize),
     /// `spec.metrics` is no list, or an empty one.
     #[error("NoMetrics: expected a list `spec.metrics` of at least one metric")]
@@ -40,7 +40,7 @@ pub enum ManifestError {
     BadField(usize),
     /// The metric has `consecutiveSuccessLimit`; or the template has `spec.dryRun` other than an
     /// empty list, and the number is 0.
-    #[error("metric {0}: Unsupported: expected no `consecutiveSuccessLimit`, and no `spec.dryRun` but an empty list")]
+    #[error("spec: Unsupported: expected no `consecutiveSuccessLimit` of metric {0}, and no `dryRun` but an empty list")]
     Unsupported(usize),
     /// In a text of the metric, `{{` stands without a `}}` behind it.
     #[error("metric {0}: OpenBraces: expected }}}} behind {{{{")]

@@ -1,14 +1,12 @@
 //! Looking into a JSON document.
 
-ghost use Rattle.std.specs.Prelude.{◌≡◌, map, option_map};
+ghost use Rattle.std.specs.Prelude.{◌≡◌, false, map, option_map};
 ghost use Rattle.serde_json.specs.View.{view};
 ghost use Rattle.ar_manifest.specs.Answer.{Gives};
 ghost use Rattle.ar_manifest.specs.Json.{list_of, member, member_of_member, text_member, text_or};
 
 use crate::error::ManifestError;
-use crate::text::Text;
 use serde_json::Value as Json;
-use std::alloc::Global;
 
 /// The member of an object, where it is there and not null.
 pub(crate) fn member<'a>(json: &'a Json, name: &str) -> Option<&'a Json>
@@ -36,15 +34,15 @@ pub(crate) fn text_member<'a>(json: &'a Json, name: &str) -> Option<&'a str>
 
 /// A text that may be missing, and is refused where it is any other value.
 pub(crate) fn text_or(
-    alloc: Global,
     found: Option<&Json>,
     refusal: ManifestError,
-) -> Result<Option<Text>, ManifestError>
-    ensures { Gives result (text_or refusal (option_map (λ json. view json.now) found.entry)) }
+) -> Result<Option<&str>, ManifestError>
+    ensures { Gives (λ _. false) (λ text. option_map (λ text. text.now) text) result
+        (text_or refusal (option_map (λ json. view json.now) found.entry)) }
 {
     match found {
         None => Ok(None),
-        Some(Json::String(text)) => Ok(Some(Text::copied(alloc, text)?)),
+        Some(Json::String(text)) => Ok(Some(text)),
         Some(_) => Err(refusal),
     }
 }

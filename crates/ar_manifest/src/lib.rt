@@ -1,42 +1,47 @@
 //! AnalysisTemplates of Argo Rollouts, as `kubectl get analysistemplate NAME -o json` prints them:
 //! read from JSON, and their arguments bound.
 //!
-//! [`template::Template::read`] takes each template as it stands, with all fields that say nothing
-//! of how measurements are judged, and names the first fault of one that it refuses.
-//! [`template::Template::bind`] puts a run's arguments in, and gives each metric's conditions,
-//! limits and effective count.
+//! [`Template::read`] takes each template as it stands, with all fields that say nothing of how
+//! measurements are judged, and names the first fault of one that it refuses. [`Template::bind`]
+//! puts a run's arguments in, and gives each metric's conditions, limits and effective count.
 //!
 //! What is proved: a document is read as the template that `specs/Template` defines, and bound as
 //! `specs/Bound` defines, or it is refused by the one name that stands first in the stated order.
-//! Only want of memory can keep a call from its answer. The names and the meaning of fields are
+//! Only want of memory can keep a call from its answer, and no fault that is found before memory is
+//! taken is told as want of memory. The names and the meaning of fields are
 //! those of Argo Rollouts' documentation, page "Analysis & Progressive Delivery", and of the
 //! AnalysisTemplate spec.
 //!
 //! | Module | What it has |
 //! |---|---|
-//! | [`template`] | templates and their metrics, before arguments are bound |
-//! | [`arguments`] | values by name: a template's arguments, and a run's own |
-//! | [`bound`] | metrics whose arguments are bound |
-//! | [`error`] | why a template is refused |
-//! | [`text`] | texts |
+//! | `template` | templates and their metrics, before arguments are bound |
+//! | `arguments` | values by name: a template's arguments, and a run's own |
+//! | `bound` | metrics whose arguments are bound |
+//! | `error` | why a template is refused |
+//! | `text` | texts |
 //! | [`laws`] | what holds of binding, for all texts |
 //! | `json`, `reader` | looking into a JSON document, and reading it as a template |
 //! | `binding`, `limit`, `binder` | binding a text, a limit, and a template's metrics |
 //!
 //! In `specs`, `Json` and `Template` define reading, `Cut` where a text is cut at its braces,
-//! `Binding` what becomes of a text, `Bound` limits, counts and the order of refusals.
+//! `Binding` what becomes of a text, `Bound` limits, counts and the order of refusals. `Private`
+//! has what only the proofs use.
 #![tactic(auto)]
 
-pub mod arguments;
+mod arguments;
 mod binder;
 mod binding;
-pub mod bound;
-pub mod error;
+mod bound;
+mod error;
 mod json;
 pub mod laws;
 mod limit;
 mod reader;
-pub mod template;
-#[cfg(test)]
-mod tests;
-pub mod text;
+mod template;
+mod text;
+
+pub use arguments::{Args, Arguments};
+pub use bound::{Bound, BoundMetric};
+pub use error::ManifestError;
+pub use template::{Limit, Metric, MetricLimits, Metrics, Template};
+pub use text::Text;

@@ -8,17 +8,17 @@ ghost use Rattle.ar_manifest.specs.Bound.{effective_count, is_limit_text, limit_
 use crate::error::ManifestError;
 
 /// The greatest limit.
-const MOST: u32 = 1_000_000_000;
+const MOST_LIMIT: u32 = 1_000_000_000;
 
 /// How many digits a limit may have.
-const MOST_DIGITS: usize = 10;
+const MOST_LIMIT_DIGITS: usize = 10;
 
 /// A number as a limit of metric `i`.
 pub(crate) fn limit_of_number(number: u64, i: usize) -> Result<u32, ManifestError>
     ensures { result ≡ limit_of_number i number }
 {
     match u32::try_from(number) {
-        Ok(limit) if limit <= MOST => Ok(limit),
+        Ok(limit) if limit <= MOST_LIMIT => Ok(limit),
         _ => Err(ManifestError::BadLimit(i)),
     }
 }
@@ -32,7 +32,7 @@ fn are_digits(text: &str) -> bool
 fn is_limit_text(text: &str) -> bool
     ensures { result ≡ is_limit_text text.now }
 {
-    1 <= text.len() && text.len() <= MOST_DIGITS && are_digits(text)
+    1 <= text.len() && text.len() <= MOST_LIMIT_DIGITS && are_digits(text)
 }
 
 /// A text as a limit of metric `i`.

@@ -1,18 +1,19 @@
 //! Reading a template from JSON.
 
-ghost use Rattle.std.specs.Prelude.{◌≡◌, [], IfOk, map, option_map};
+ghost use Rattle.std.specs.Prelude.{◌≡◌, [], IfOk, IsOk, false, length, map, option_map, true};
 ghost use Rattle.std.specs.List.{list_any};
 ghost use Rattle.serde_json.specs.Find.{as_u64};
 ghost use Rattle.serde_json.specs.View.{number_view, view};
-ghost use Rattle.ar_manifest.specs.Answer.{Gives, each_behind};
+ghost use Rattle.ar_manifest.specs.Answer.{Gives, Refuses, each_behind, is_memory};
 ghost use Rattle.ar_manifest.specs.Arguments.{value_of};
-ghost use Rattle.ar_manifest.specs.Template.{argument_of, arguments_of, has_text_or, is_named, is_no_dry_run, is_text, limit_or, listed_metrics, metric_limits, metric_of, metrics_of, named_metric, number_limit, template_name, template_of};
+ghost use Rattle.ar_manifest.specs.Private.Early.{first_counted};
+ghost use Rattle.ar_manifest.specs.Template.{HasNoArguments, argument_of, arguments_of, counted_metrics, has_text_or, head_of, is_named, is_text, limit_or, lists_nothing, metric_limits, metric_of, named_metric, new_name, number_limit, template_name, template_of};
 
 use crate::arguments::Arguments;
 use crate::error::ManifestError;
 use crate::json::{list_of, member, member_of_member, text_member, text_or};
 use crate::template::{Limit, Metric, MetricLimits, Metrics, Template};
-use crate::text::Text;
+use crate::text::{Text, copied};
 use serde_json::{Number, Value as Json};
 use std::alloc::Global;
 
@@ -39,7 +40,9 @@ fn limit_or(
     found: Option<&Json>,
     refusal: ManifestError,
 ) -> Result<Option<Limit>, ManifestError>
-    ensures { Gives result (limit_or refusal (option_map (λ json. view json.now) found.entry)) }
+    ensures exact { Gives is_memory (λ limit. limit) result
+        (limit_or refusal (option_map (λ json. view json.now) found.entry)) }
+    ensures refused { Refuses result (limit_or refusal (option_map (λ json. view json.now) found.entry)) }
 {
     match found {
         None => Ok(None),
@@ -63,7 +66,7 @@ fn has_text_or(found: Option<&Json>, refusal: ManifestError) -> Result<bool, Man
 /// The limits of a metric.
 #[tactic(auto, unfolding(crate::specs::Template::metric_limits))]
 fn metric_limits(alloc: Global, json: &Json, i: usize) -> Result<MetricLimits, ManifestError>
-    ensures { Gives result (metric_limits i (view json.now)) }
+    ensures { Gives is_memory (λ made. made) result (metric_limits i (view json.now)) }
 {
     let refusal = ManifestError::BadField(i);
     Ok(MetricLimits {
@@ -77,11 +80,11 @@ fn metric_limits(alloc: Global, json: &Json, i: usize) -> Result<MetricLimits, M
 /// The metric of a name.
 #[tactic(auto, unfolding(crate::specs::Template::named_metric))]
 fn named_metric(alloc: Global, json: &Json, name: &str, i: usize) -> Result<Metric, ManifestError>
-    ensures { Gives result (named_metric i name.now (view json.now)) }
+    ensures { Gives is_memory (λ made. made) result (named_metric i name.now (view json.now)) }
 {
     let refusal = ManifestError::BadField(i);
-    let success_condition = text_or(alloc, member(json, "successCondition"), refusal)?;
-    let failure_condition = text_or(alloc, member(json, "failureCondition"), refusal)?;
+    let success_condition = copied(alloc, text_or(member(json, "successCondition"), refusal)?)?;
+    let failure_condition = copied(alloc, text_or(member(json, "failureCondition"), refusal)?)?;
     let has_interval = has_text_or(member(json, "interval"), refusal)?;
     let limits = metric_limits(alloc, json, i)?;
     Ok(Metric {
@@ -100,16 +103,25 @@ fn is_taken(name: &str, metrics: &[Metric]) -> bool
     metrics.iter().any(|metric| metric.name.as_str() == name)
 }
 
-/// A metric behind earlier ones.
-#[tactic(auto, unfolding(crate::specs::Template::metric_of))]
-fn metric(alloc: Global, json: &Json, earlier: &[Metric]) -> Result<Metric, ManifestError>
-    ensures { Gives result (metric_of earlier.now (view json.now)) }
+/// The name of a metric behind earlier ones.
+fn new_name<'a>(json: &'a Json, earlier: &[Metric]) -> Result<&'a str, ManifestError>
+    ensures { Gives (λ _. false) (λ name. name.now) result (new_name earlier.now (view json.now)) }
 {
     let i = earlier.len();
     let name = text_member(json, "name").ok_or(ManifestError::MetricNameMissing(i))?;
     if is_taken(name, earlier) {
         return Err(ManifestError::DoubleMetric(i));
     }
+    Ok(name)
+}
+
+/// A metric behind earlier ones.
+#[tactic(auto, unfolding(crate::specs::Template::metric_of))]
+fn metric(alloc: Global, json: &Json, earlier: &[Metric]) -> Result<Metric, ManifestError>
+    ensures { Gives is_memory (λ metric. metric) result (metric_of earlier.now (view json.now)) }
+{
+    let i = earlier.len();
+    let name = new_name(json, earlier)?;
     let metric = named_metric(alloc, json, name, i)?;
     if member(json, "consecutiveSuccessLimit").is_some() {
         return Err(ManifestError::Unsupported(i));
@@ -120,7 +132,7 @@ fn metric(alloc: Global, json: &Json, earlier: &[Metric]) -> Result<Metric, Mani
 /// The metrics of a JSON list.
 #[tactic(auto, using(crate::proofs::Steps::step_more, crate::proofs::Steps::step_fault, crate::proofs::Steps::step_end))]
 fn metrics(alloc: Global, list: &[Json]) -> Result<Metrics, ManifestError>
-    ensures { Gives result (each_behind metric_of [] (map (λ json. view json) list.now)) }
+    ensures { Gives is_memory (λ made. made) result (each_behind metric_of [] (map (λ json. view json) list.now)) }
 {
     let mut metrics = Vec::new(alloc);
     for json in list {
@@ -130,51 +142,60 @@ fn metrics(alloc: Global, list: &[Json]) -> Result<Metrics, ManifestError>
     Ok(Metrics::from(metrics))
 }
 
-/// The metrics of a JSON list, 1 to 64 of them.
-#[tactic(auto, using(crate::proofs::Lists::listed_metrics_many, crate::proofs::Lists::listed_metrics_some), unfolding(crate::specs::Template::listed_metrics))]
-fn listed_metrics(alloc: Global, list: &[Json]) -> Result<Metrics, ManifestError>
-    ensures { Gives result (listed_metrics (map (λ json. view json) list.now)) }
+/// The values at `spec.metrics`, 1 to 64 of them.
+#[tactic(auto, using(crate::proofs::Lists::counted_many, crate::proofs::Lists::counted_some))]
+fn counted_metrics(found: Option<&Json>) -> Result<&[Json], ManifestError>
+    ensures { Gives (λ _. false) (λ list. map (λ json. view json) list.now) result
+        (counted_metrics (option_map (λ json. view json.now) found.entry)) }
 {
+    let list = found.and_then(list_of).ok_or(ManifestError::NoMetrics)?;
     if list.is_empty() {
         return Err(ManifestError::NoMetrics);
     }
     if list.len() > MOST_METRICS {
         return Err(ManifestError::TooManyMetrics);
     }
-    metrics(alloc, list)
+    Ok(list)
 }
 
-/// The metrics at `spec.metrics`.
-fn metrics_of(alloc: Global, found: Option<&Json>) -> Result<Metrics, ManifestError>
-    ensures { Gives result (metrics_of (option_map (λ json. view json.now) found.entry)) }
-{
-    let list = found.and_then(list_of).ok_or(ManifestError::NoMetrics)?;
-    listed_metrics(alloc, list)
-}
-
-/// An argument behind earlier ones.
+/// The name and the value of an argument behind earlier ones, before they are copied.
 #[tactic(auto, unfolding(crate::specs::Template::argument_of))]
-fn argument(
-    alloc: Global,
-    json: &Json,
+fn found_argument<'a>(
+    json: &'a Json,
     earlier: &Arguments<Option<Text>>,
-) -> Result<(Text, Option<Text>), ManifestError>
-    ensures exact { Gives result (argument_of earlier.now (view json.now)) }
-    ensures new { IfOk result (λ argument. value_of argument.0 earlier.now ≡ None) }
+) -> Result<(&'a str, Option<&'a str>), ManifestError>
+    ensures exact { Gives (λ _. false) (λ argument. (argument.0.now, option_map (λ text. text.now) argument.1)) result
+        (argument_of earlier.now (view json.now)) }
+    ensures new { IfOk result (λ argument. value_of argument.0.now earlier.now ≡ None) }
 {
     let refusal = ManifestError::BadArgs(earlier.len());
     let name = text_member(json, "name").ok_or(refusal)?;
     if earlier.get(name).is_some() {
         return Err(refusal);
     }
-    let value = text_or(alloc, member(json, "value"), refusal)?;
-    Ok((Text::copied(alloc, name)?, value))
+    Ok((name, text_or(member(json, "value"), refusal)?))
+}
+
+/// An argument behind earlier ones.
+fn argument(
+    alloc: Global,
+    json: &Json,
+    earlier: &Arguments<Option<Text>>,
+) -> Result<(Text, Option<Text>), ManifestError>
+    ensures exact { Gives is_memory (λ argument. argument) result (argument_of earlier.now (view json.now)) }
+    ensures refused { Refuses result (argument_of earlier.now (view json.now)) }
+    ensures new { IfOk result (λ argument. value_of argument.0 earlier.now ≡ None) }
+{
+    let (name, value) = found_argument(json, earlier)?;
+    Ok((Text::copied(alloc, name)?, copied(alloc, value)?))
 }
 
 /// The arguments of a JSON list.
 #[tactic(auto, using(crate::proofs::Steps::step_more, crate::proofs::Steps::step_fault, crate::proofs::Steps::step_end))]
 fn listed_arguments(alloc: Global, list: &[Json]) -> Result<Arguments<Option<Text>>, ManifestError>
-    ensures { Gives result (each_behind argument_of [] (map (λ json. view json) list.now)) }
+    ensures exact { Gives is_memory (λ arguments. arguments) result
+        (each_behind argument_of [] (map (λ json. view json) list.now)) }
+    ensures none { length list.now ≡ 0 → IsOk result }
 {
     let mut arguments = Arguments::new(alloc);
     for json in list {
@@ -189,7 +210,9 @@ fn arguments_of(
     alloc: Global,
     found: Option<&Json>,
 ) -> Result<Arguments<Option<Text>>, ManifestError>
-    ensures { Gives result (arguments_of (option_map (λ json. view json.now) found.entry)) }
+    ensures exact { Gives is_memory (λ arguments. arguments) result
+        (arguments_of (option_map (λ json. view json.now) found.entry)) }
+    ensures none { lists_nothing (option_map (λ json. view json.now) found.entry) ≡ true → IsOk result }
 {
     match found {
         None => Ok(Arguments::new(alloc)),
@@ -214,9 +237,9 @@ fn template_name(json: &Json) -> Option<&str>
     if name.is_empty() { None } else { Some(name) }
 }
 
-/// Whether what stands at `spec.dryRun` asks for no dry run.
-fn is_no_dry_run(found: Option<&Json>) -> bool
-    ensures { result ≡ is_no_dry_run (option_map (λ json. view json.now) found.entry) }
+/// Whether what is found is nothing, or an empty list.
+fn lists_nothing(found: Option<&Json>) -> bool
+    ensures { result ≡ lists_nothing (option_map (λ json. view json.now) found.entry) }
 {
     match found {
         Some(json) => match list_of(json) {
@@ -227,10 +250,9 @@ fn is_no_dry_run(found: Option<&Json>) -> bool
     }
 }
 
-/// The template that a JSON document is.
-#[tactic(auto, unfolding(crate::specs::Template::template_of))]
-pub(crate) fn template(alloc: Global, json: &Json) -> Result<Template, ManifestError>
-    ensures { Gives result (template_of (view json.now)) }
+/// The name of a template, looked at behind its version and kind.
+fn head(json: &Json) -> Result<&str, ManifestError>
+    ensures { Gives (λ _. false) (λ name. name.now) result (head_of (view json.now)) }
 {
     if !is_text(text_member(json, "apiVersion"), VERSION) {
         return Err(ManifestError::WrongVersion);
@@ -238,10 +260,21 @@ pub(crate) fn template(alloc: Global, json: &Json) -> Result<Template, ManifestE
     if !is_text(text_member(json, "kind"), KIND) {
         return Err(ManifestError::WrongKind);
     }
-    let name = template_name(json).ok_or(ManifestError::NameMissing)?;
+    template_name(json).ok_or(ManifestError::NameMissing)
+}
+
+/// The template that a JSON document is.
+#[tactic(auto, unfolding(crate::specs::Template::template_of))]
+pub(crate) fn template(alloc: Global, json: &Json) -> Result<Template, ManifestError>
+    ensures exact { Gives is_memory (λ template. template) result (template_of (view json.now)) }
+    ensures head { Refuses result (head_of (view json.now)) }
+    ensures counted { HasNoArguments (view json.now) → Refuses result (first_counted (view json.now)) }
+{
+    let name = head(json)?;
     let arguments = arguments_of(alloc, member_of_member(json, "spec", "args"))?;
-    let metrics = metrics_of(alloc, member_of_member(json, "spec", "metrics"))?;
-    if !is_no_dry_run(member_of_member(json, "spec", "dryRun")) {
+    let list = counted_metrics(member_of_member(json, "spec", "metrics"))?;
+    let metrics = metrics(alloc, list)?;
+    if !lists_nothing(member_of_member(json, "spec", "dryRun")) {
         return Err(ManifestError::Unsupported(0));
     }
     Ok(Template {

@@ -1,10 +1,11 @@
 //! Templates as they are read, before their arguments are bound.
 
-ghost use Rattle.std.specs.Prelude.{◌≡◌};
+ghost use Rattle.std.specs.Prelude.{◌≡◌, ◌↔◌, Err};
 ghost use Rattle.serde_json.specs.View.{view};
-ghost use Rattle.ar_manifest.specs.Answer.{Gives};
-ghost use Rattle.ar_manifest.specs.Bound.{bound_of};
-ghost use Rattle.ar_manifest.specs.Template.{template_of};
+ghost use Rattle.ar_manifest.specs.Answer.{Gives, is_memory};
+ghost use Rattle.ar_manifest.specs.Bound.{RefusesFirst, bound_of};
+ghost use Rattle.ar_manifest.specs.Template.{HasNoArguments, template_of};
+ghost use Rattle.ar_manifest.specs.declared.error.ManifestError.TheVariants.{NameMissing, NoMetrics, TooManyMetrics, WrongKind, WrongVersion};
 
 use crate::arguments::{Args, Arguments};
 use crate::binder::bound;
@@ -96,17 +97,25 @@ pub struct Template {
 impl Template {
     /// The template that a JSON document is, as `kubectl get analysistemplate NAME -o json` prints
     /// it. Of Argo Rollouts' AnalysisTemplate it reads `metadata.name`, `spec.args` and of each
-    /// metric of `spec.metrics` its name, conditions, limits and `interval`. Other fields are read
-    /// over, null counts as missing, and what should be an object and isn't has no fields.
+    /// metric of `spec.metrics` its name, conditions, limits and `interval`. Other fields are
+    /// ignored, null counts as missing, and what should be an object and isn't has no fields.
     ///
     /// # Errors
     ///
     /// The first that holds of `WrongVersion`, `WrongKind`, `NameMissing`, `BadArgs`, `NoMetrics`
     /// and `TooManyMetrics`; then, metric by metric, of `MetricNameMissing`, `DoubleMetric`,
     /// `BadField` and `Unsupported`; then `Unsupported(0)` for a `spec.dryRun` that isn't empty.
-    /// `OutOfMemory` where a growth was refused.
+    /// `OutOfMemory` where a growth was refused: never in place of the first three, nor of
+    /// `NoMetrics` and `TooManyMetrics` where there are no arguments.
     pub fn read(alloc: Global, json: &Json) -> Result<Template, ManifestError>
-        ensures { Gives result (template_of (view json.now)) }
+        ensures exact { Gives is_memory (λ template. template) result (template_of (view json.now)) }
+        ensures version { (result ≡ Err WrongVersion) ↔ (template_of (view json.now) ≡ Err WrongVersion) }
+        ensures kind { (result ≡ Err WrongKind) ↔ (template_of (view json.now) ≡ Err WrongKind) }
+        ensures name { (result ≡ Err NameMissing) ↔ (template_of (view json.now) ≡ Err NameMissing) }
+        ensures no_metrics { HasNoArguments (view json.now)
+            → (result ≡ Err NoMetrics) ↔ (template_of (view json.now) ≡ Err NoMetrics) }
+        ensures too_many_metrics { HasNoArguments (view json.now)
+            → (result ≡ Err TooManyMetrics) ↔ (template_of (view json.now) ≡ Err TooManyMetrics) }
     {
         template(alloc, json)
     }
@@ -114,7 +123,7 @@ impl Template {
     /// The template with its arguments bound: in both conditions and the four limits of each
     /// metric, `{{args.name}}` gives way to the argument's value. Spaces next to the braces are
     /// dropped, and a value isn't searched again. A run's own argument goes before the template's;
-    /// one that `spec.args` doesn't name is read over.
+    /// one that `spec.args` doesn't name is ignored.
     ///
     /// A limit is a whole JSON number, or a text of one to ten digits, from 0 to 1,000,000,000.
     /// `failureLimit` and `inconclusiveLimit` are 0 by default, `consecutiveErrorLimit` 4. A
@@ -125,9 +134,11 @@ impl Template {
     /// Metric by metric, over success condition, failure condition, `count`, `failureLimit`,
     /// `inconclusiveLimit` and `consecutiveErrorLimit`, the first in each from left to right:
     /// `OpenBraces`, `UnknownArg` or `NoValue`, and for a limit then `BadLimit`; last
-    /// `IntervalMissing`. `OutOfMemory` where a growth was refused.
+    /// `IntervalMissing`. `OutOfMemory` where a growth was refused: never in place of a refusal of
+    /// the first metric, as `BadLimit` of a number, that no text is bound before.
     pub fn bind(&self, alloc: Global, args: &Args) -> Result<Bound, ManifestError>
-        ensures { Gives result (bound_of self.now args.now) }
+        ensures exact { Gives is_memory (λ bound. bound) result (bound_of self.now args.now) }
+        ensures first { RefusesFirst self.now.arguments args.now self.now.metrics result }
     {
         bound(alloc, self, args)
     }

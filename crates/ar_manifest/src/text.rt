@@ -1,6 +1,6 @@
 //! Texts, which contracts see as their bytes.
 
-ghost use Rattle.std.specs.Prelude.{◌≡◌, IfOk, string_bytes};
+ghost use Rattle.std.specs.Prelude.{◌≡◌, IfOk, option_map, string_bytes};
 
 use std::alloc::{AllocError, Global};
 use std::marker::Model;
@@ -40,6 +40,16 @@ impl Text {
         ensures { string_bytes result ≡ self }
     {
         self.text
+    }
+}
+
+/// A copy of a text that may be missing.
+pub(crate) fn copied(alloc: Global, text: Option<&str>) -> Result<Option<Text>, AllocError>
+    ensures { IfOk result (λ copy. copy ≡ option_map (λ text. text.now) text.entry) }
+{
+    match text {
+        None => Ok(None),
+        Some(text) => Ok(Some(Text::copied(alloc, text)?)),
     }
 }
 

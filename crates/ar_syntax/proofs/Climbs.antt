@@ -3,7 +3,7 @@ use Rattle.std.proofs.Common.{◌≡◌, ℕ, zero, suc, ◌<◌, Some, true, fa
 use Rattle.std.specs.Prelude.{slice_get}
 use Rattle.ar_syntax.specs.Expression.{Expression}
 use Rattle.ar_syntax.specs.Machine.{Frame, RightOf, Prefixed, No, Have, climbed, unwound}
-use Rattle.ar_syntax.specs.Views.{closed_by, ends_below, frame_of, frames_of, top_ends, top_unwinds, unwinds}
+use Rattle.ar_syntax.specs.Private.Frames.{closed_by, ends_below, frame_of, frames_of, top_ends, top_unwinds, unwinds}
 use Rattle.ar_syntax.specs.declared.machine.Frame as rust
 
 -- the newest frame stands last in memory

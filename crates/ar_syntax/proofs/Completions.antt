@@ -27,7 +27,7 @@ use Rattle.ar_syntax.specs.Grammar.{BeginsBy}
 use Rattle.ar_syntax.specs.Machine.{finished_from, reached}
 use Rattle.ar_syntax.specs.Roles.{arity}
 use Rattle.ar_syntax.proofs.Runs.{IsState, IsStateFrom}
-use Rattle.ar_syntax.proofs.Trees.{DerivesBy-from_tree_by, from-end, keeps_from, run-to, tree_by-DerivesBy}
+use Rattle.ar_syntax.proofs.OneTree.{DerivesBy-from_tree_by, from-end, keeps_from, run-to, tree_by-DerivesBy}
 use Rattle.ar_syntax.proofs.Counts.{Fits, IsCounted, IsCountedFrom, IsCountedState, counts, next_fits, takes_one}
 use Rattle.std.proofs.Math.Bool.{or-true}
 

@@ -9,7 +9,7 @@ use Rattle.ar_syntax.specs.Machine.{finished, start_state, step_from}
 use Rattle.std.specs.Prelude.{nat_le}
 use Rattle.std.proofs.Common.{append_assoc}
 use Rattle.ar_syntax.specs.Machine.{finished_from, reached}
-use Rattle.ar_syntax.proofs.Trees.{DerivesBy-from_tree_by, tree_by-DerivesBy}
+use Rattle.ar_syntax.proofs.OneTree.{DerivesBy-from_tree_by, tree_by-DerivesBy}
 use Rattle.ar_syntax.specs.Fault.{accepts}
 use Rattle.ar_syntax.proofs.Completions.{BeginsBy-reached, reached-BeginsBy, run-append}
 use Rattle.ar_syntax.specs.Fault.{fault_of}
@@ -19,11 +19,11 @@ use Rattle.ar_syntax.specs.declared.error.SyntaxError.{SyntaxError}
 use Rattle.ar_syntax.specs.declared.error.SyntaxError.TheVariants.{Unexpected, TooDeep}
 use Rattle.std.proofs.Common.{Result, Ok, Err}
 use Rattle.std.proofs.lemmas.List.{append-nil}
-use Rattle.ar_syntax.specs.Answer.{◌>>=◌}
+use Rattle.ar_value.specs.Answer.{◌>>=◌}
 use Rattle.ar_syntax.specs.Parse.{ended, limited, stepped, tree_of, walk}
 use Rattle.ar_syntax.specs.Refusal.{depth, most_depth}
 use Rattle.ar_syntax.proofs.Refusals.{accepted, accepts-some, begins-accepts, is-refused, one-name}
-use Rattle.ar_syntax.proofs.Trees.{one_tree_by}
+use Rattle.ar_syntax.proofs.OneTree.{one_tree_by}
 
 -- ---- at most one refusal
 

@@ -5,9 +5,9 @@ use Rattle.std.specs.Global.{Vec}
 use Rattle.std.specs.List.{AllByRecursion}
 use Rattle.std.proofs.lemmas.List.{drop-drop}
 use Rattle.std.proofs.lemmas.List.Elements.{All-from_recursion}
-use Rattle.ar_syntax.specs.Answer.{Gives}
+use Rattle.ar_value.specs.Answer.{Gives}
 use Rattle.ar_syntax.specs.Token.{takes_field}
-use Rattle.ar_syntax.specs.Tokens.{AreInOrder, IsGapBetween, IsSpelled, front_of, is_blank, tokens_behind, tokens_of, with_front}
+use Rattle.ar_syntax.specs.Tokens.{AreInOrder, IsGapBetween, IsSpelled, front_of, is_blank, is_memory, tokens_behind, tokens_of, with_front}
 use Rattle.ar_syntax.specs.declared.error.SyntaxError.{SyntaxError}
 use Rattle.ar_syntax.specs.declared.error.SyntaxError.TheVariants.{TooLong}
 use Rattle.ar_syntax.specs.declared.token.Token.{Token}
@@ -100,14 +100,14 @@ items_of tokens = tokens.items
 
 -- what `tokens` answers by its exact clause
 module _ (text : List ℕ) where
-  pub in_order : (answer : Result (Vec Token) SyntaxError) → Gives items_of answer (tokens_of text) → IfOk answer (λ tokens. AreInOrder 0 (length text) tokens.items)
+  pub in_order : (answer : Result (Vec Token) SyntaxError) → Gives is_memory items_of answer (tokens_of text) → IfOk answer (λ tokens. AreInOrder 0 (length text) tokens.items)
   in_order (Ok tokens) gives = (AreCut-from_tokens_of text tokens.items gives).in_order
   in_order (Err error) gives = tt
 
-  pub spelled : (answer : Result (Vec Token) SyntaxError) → Gives items_of answer (tokens_of text) → IfOk answer (λ tokens. All (IsSpelled text) tokens.items)
+  pub spelled : (answer : Result (Vec Token) SyntaxError) → Gives is_memory items_of answer (tokens_of text) → IfOk answer (λ tokens. All (IsSpelled text) tokens.items)
   spelled (Ok tokens) gives = All-from_recursion (IsSpelled text) tokens.items (AreCut-from_tokens_of text tokens.items gives).spelled
   spelled (Err error) gives = tt
 
-  pub gap_between : (answer : Result (Vec Token) SyntaxError) → Gives items_of answer (tokens_of text) → IfOk answer (λ tokens. IsGapBetween text 0 tokens.items)
+  pub gap_between : (answer : Result (Vec Token) SyntaxError) → Gives is_memory items_of answer (tokens_of text) → IfOk answer (λ tokens. IsGapBetween text 0 tokens.items)
   gap_between (Ok tokens) gives = (AreCut-from_tokens_of text tokens.items gives).apart
   gap_between (Err error) gives = tt

@@ -10,7 +10,7 @@ use Rattle.std.proofs.lemmas.Bool.{eqb-true}
 use Rattle.std.proofs.lemmas.List.{take_at}
 use Rattle.std.specs.Char.{is_ascii_digit}
 use Rattle.std.specs.Int.{is_in_range}
-use Rattle.ar_syntax.specs.Answer.{◌>>=◌}
+use Rattle.ar_value.specs.Answer.{◌>>=◌}
 use Rattle.ar_syntax.specs.Token.{begins_word, continues_word, is_digit_in, named, prefix, spelling}
 use Rattle.ar_syntax.specs.Tokens.{all_signs, base_digits, base_named, base_of, begins_number, digits_at, digits_behind_point, found, fraction_at, number_text, sign_at, with_digit, word_at}
 use Rattle.ar_syntax.specs.declared.error.SyntaxError.{SyntaxError}

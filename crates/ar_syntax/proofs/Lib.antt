@@ -3,13 +3,15 @@ pub mod Bases
 pub mod Fronts
 pub mod Pieces
 pub mod Quotes
+pub mod Boundaries
+pub mod Escapes
 pub mod Scans
 pub mod Cuts
 pub mod Leads
 pub mod Passes
 pub mod Steps
 pub mod Runs
-pub mod Trees
+pub mod OneTree
 pub mod Counts
 pub mod Completions
 pub mod Relaxed

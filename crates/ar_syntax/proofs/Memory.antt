@@ -4,7 +4,7 @@ use Rattle.std.specs.Prelude.{nat_lt, slice_index}
 use Rattle.std.specs.Str.Parse.{digits_value}
 use Rattle.ar_value.specs.Decimal.{is_i64}
 use Rattle.ar_value.specs.Digits.{magnitude_of}
-use Rattle.ar_syntax.specs.Answer.{◌>>=◌}
+use Rattle.ar_value.specs.Answer.{◌>>=◌}
 use Rattle.ar_syntax.specs.Refusal.{IsNamedBehind, IsRefused, IsRefusedBehind}
 use Rattle.ar_syntax.specs.Refusal as refusal
 use Rattle.ar_syntax.specs.Parse.{IsRefusal, token_fault, grammar_fault, parse_of}

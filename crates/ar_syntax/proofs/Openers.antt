@@ -3,13 +3,15 @@ use Rattle.std.proofs.Common.{◌≡◌, ℕ, zero, suc, ◌<◌, ◌≤◌, Boo
 use Rattle.std.proofs.lemmas.Bool.Decides.{nat_tests}
 use Rattle.std.specs.Prelude.{nat_eq, nat_lt, pred}
 use Rattle.ar_syntax.specs.Grammar.{Rules, ends_bracket, may_continue, may_open, takes_all, takes_more}
-use Rattle.ar_syntax.specs.Machine.{Frame, Have, Indexed, State, close_empty, close_text, have, step, when, whole}
+use Rattle.ar_syntax.specs.Machine.{Argued, Body, Braced, Frame, Grouped, Have, Indexed, Listed, No, Prefixed, RightOf, State, Yes, close_empty, close_text, end_with, have, step, when, whole}
 use Rattle.ar_syntax.specs.Refusal.{at_any_depth, of_any_count, of_any_items, strict}
-use Rattle.ar_syntax.specs.Roles.{Call, Default, EndBracket, EndGroup, Ends, Follow, IsNil, Len, Over, arity}
-use Rattle.ar_syntax.specs.Steps.{Steps, ends_group, fault_by, forbids}
-use Rattle.ar_syntax.specs.Answer.{Refuses}
+use Rattle.ar_syntax.specs.Roles.{Call, Colon, Comma, Default, EndBrace, EndBracket, EndGroup, Ender, Ends, Follow, IsNil, Len, Over, arity}
+use Rattle.ar_syntax.specs.Private.Frames.{unwinds}
+use Rattle.ar_syntax.specs.Private.Steps.{Steps, ends_group, fault_by, forbids}
+use Rattle.ar_value.specs.Answer.{Unless}
+use Rattle.ar_syntax.specs.Tokens.{is_memory}
 use Rattle.ar_syntax.specs.Parse.{stepped}
-use Rattle.ar_syntax.proofs.Answers.{Refuses-same}
+use Rattle.ar_syntax.proofs.Answers.{unless_holds}
 use Rattle.ar_syntax.specs.Fault.{accepts, fault_of, is_inside, kind_fault, wants_operand}
 use Rattle.ar_syntax.specs.declared.error.SyntaxError.TheVariants.{TooDeep, TooManyItems, WrongCount}
 use Rattle.ar_syntax.specs.Views.{expression_of}
@@ -112,13 +114,13 @@ fault_forbidden state token refusal wants inside is is_wants is_inside_ =
     rw (← is, is_wants, is_inside_) (chosen (accepts (step of_any_count state token)) (accepts (step of_any_items state token)) (accepts (step at_any_depth state token)) (wants_operand state) (is_inside state) token)
 
 refused : (state : State) (token : Token) (refusal : Refusal) (wants inside : Bool) → (step strict state token ≡ None) × (forbids (λ rules. step rules state token) ≡ refusal) → wants ≡ wants_operand state → inside ≡ is_inside state
-    → Refuses (fault_by refusal wants inside token) (stepped state token (step strict state token))
+    → Unless (is_memory (fault_by refusal wants inside token)) (stepped state token (step strict state token) ≡ Err (fault_by refusal wants inside token))
 refused state token refusal wants inside h is_wants is_in_predicate =
-    Refuses-same (fault_by refusal wants inside token) (stepped state token (step strict state token)) (rw h.0 (ap Err (fault_forbidden state token refusal wants inside h.1 is_wants is_in_predicate)))
+    unless_holds (is_memory (fault_by refusal wants inside token)) (stepped state token (step strict state token) ≡ Err (fault_by refusal wants inside token)) (rw h.0 (ap Err (fault_forbidden state token refusal wants inside h.1 is_wants is_in_predicate)))
 
 -- a step that is refused is refused by its name
 pub stepped_refused : (state : State) (token : Token) (refusal : Refusal) (wants inside : Bool) (stack : List Frame) → Steps (λ rules. step rules state token) stack (Err refusal) → wants ≡ wants_operand state → inside ≡ is_inside state
-    → Refuses (fault_by refusal wants inside token) (stepped state token (step strict state token))
+    → Unless (is_memory (fault_by refusal wants inside token)) (stepped state token (step strict state token) ≡ Err (fault_by refusal wants inside token))
 stepped_refused state token Memory wants inside stack h is_wants is_in_predicate = tt
 stepped_refused state token Arguments wants inside stack h is_wants is_in_predicate = refused state token Arguments wants inside h is_wants is_in_predicate
 stepped_refused state token Items wants inside stack h is_wants is_in_predicate = refused state token Items wants inside h is_wants is_in_predicate
@@ -129,3 +131,39 @@ stepped_refused state token Other wants inside stack h is_wants is_in_predicate 
 pub no_whole : (stack : List Frame) (tree : Expression) (state : State) → Have stack tree ≡ state → (length stack ≡ 0 → ⊥) → None ≡ whole state
 no_whole [] tree state is some = absurd (some refl)
 no_whole (frame ∷ stack) tree state is some = rw (← is) refl
+
+-- ---- what ends nothing
+
+module _ (stack : List Frame) (tree : Expression) where
+  -- no sign ends a phrase that an operand ends
+  pub no_end : (ender : Ender) (frame : Frame) → unwinds frame ≡ true → Steps (λ rules. end_with rules ender (Have (frame ∷ stack) tree)) stack (Err Other)
+  no_end Comma (RightOf at operator first) is = (refl, refl)
+  no_end Comma (Prefixed at operator) is = (refl, refl)
+  no_end Comma (No at condition met) is = (refl, refl)
+  no_end Colon (RightOf at operator first) is = (refl, refl)
+  no_end Colon (Prefixed at operator) is = (refl, refl)
+  no_end Colon (No at condition met) is = (refl, refl)
+  no_end EndGroup (RightOf at operator first) is = (refl, refl)
+  no_end EndGroup (Prefixed at operator) is = (refl, refl)
+  no_end EndGroup (No at condition met) is = (refl, refl)
+  no_end EndBracket (RightOf at operator first) is = (refl, refl)
+  no_end EndBracket (Prefixed at operator) is = (refl, refl)
+  no_end EndBracket (No at condition met) is = (refl, refl)
+  no_end EndBrace (RightOf at operator first) is = (refl, refl)
+  no_end EndBrace (Prefixed at operator) is = (refl, refl)
+  no_end EndBrace (No at condition met) is = (refl, refl)
+  no_end ender (Yes at condition) is = absurd cc
+  no_end ender Grouped is = absurd cc
+  no_end ender (Listed at so_far) is = absurd cc
+  no_end ender (Indexed at list) is = absurd cc
+  no_end ender (Argued at function so_far) is = absurd cc
+  no_end ender (Body at function so_far) is = absurd cc
+  no_end ender (Braced at function so_far) is = absurd cc
+
+-- nor where no phrase is begun
+pub nothing_ends : (ender : Ender) (tree : Expression) → Steps (λ rules. end_with rules ender (Have [] tree)) [] (Err Other)
+nothing_ends Comma tree = (refl, refl)
+nothing_ends Colon tree = (refl, refl)
+nothing_ends EndGroup tree = (refl, refl)
+nothing_ends EndBracket tree = (refl, refl)
+nothing_ends EndBrace tree = (refl, refl)

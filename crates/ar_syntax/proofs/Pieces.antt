@@ -9,7 +9,7 @@ use Rattle.std.specs.Char.{is_ascii_digit}
 use Rattle.std.specs.Str.Parse.{digits_value}
 use Rattle.ar_value.specs.Decimal.{is_i64}
 use Rattle.ar_value.specs.Digits.{magnitude_of}
-use Rattle.ar_syntax.specs.Answer.{◌>>=◌}
+use Rattle.ar_value.specs.Answer.{◌>>=◌}
 use Rattle.ar_syntax.specs.Token.{Spells, SpellsText, SpellsWhole, begins_word, continues_word, comparison_sign, is_digit_in, is_quote, letters, named, named_words, prefix, radix, spelling, text_end, unescaped, word_of}
 use Rattle.ar_syntax.specs.Token as spelled
 use Rattle.ar_syntax.specs.Tokens.{BeginsWithGap, all_signs, base_digits, base_named, base_of, begins_block_comment, begins_line_comment, begins_number, block_comment, comment_end, comment_of, digits_at, digits_behind_point, ended, found, fraction_at, front_of, is_blank, is_coalescing, line_comment, number_in, number_of, number_text, plain_number, prefixed_number, sign_at, sign_of, sign_token, text_in, text_of, token, token_of, value_of, whole_of, with_digit, word_at, word_token}

@@ -2,7 +2,7 @@
 use Rattle.std.proofs.Common.{◌≡◌, ℕ, zero, suc, ◌+◌, ◌-◌, ◌≤◌, ◌<◌, Bool, false, List, [], ◌∷◌, ◌++◌, length, drop, refl, sym, ◌∙◌, ap, arith, Result, Ok, Err, length-drop, add-zero, append_assoc}
 use Rattle.std.proofs.Math.ListN.{drop_of_length-le}
 use Rattle.std.proofs.lemmas.List.{drop-drop, append-nil}
-use Rattle.ar_syntax.specs.Answer.{◌>>=◌}
+use Rattle.ar_value.specs.Answer.{◌>>=◌}
 use Rattle.ar_syntax.specs.Token.{takes_field}
 use Rattle.ar_syntax.specs.Tokens.{front_of, tokens_behind, with_front}
 use Rattle.ar_syntax.specs.declared.error.SyntaxError.{SyntaxError}

@@ -4,7 +4,7 @@ use Rattle.std.specs.Prelude.{◌||◌, pred}
 use Rattle.std.proofs.lemmas.List.{take_more, take_all}
 use Rattle.std.proofs.Math.Bool.{or-true, or-false}
 use Rattle.ar_syntax.specs.Machine.{Frame, RightOf, Body, Braced, inside, left}
-use Rattle.ar_syntax.specs.Views.{frame_of, frames_of, is_predicate, openers}
+use Rattle.ar_syntax.specs.Private.Frames.{frame_of, frames_of, is_predicate, openers}
 use Rattle.ar_syntax.specs.declared.machine.Frame as rust
 use Rattle.ar_syntax.proofs.Climbs.{frames_of-push}
 

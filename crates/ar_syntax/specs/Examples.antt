@@ -69,62 +69,66 @@ two_arguments : said (tokens_of (codes "len(result, 1)")) ≡ None
 unfolding tokens_of tokens_behind front_of token_of number_of base_of text_of sign_at word_of step starts follows name_of text_value is_in is_group is_brace
 two_arguments = refl
 
-tree1 : said (tokens_of (codes "+1 > -2 % 3")) ≡ Some (BinaryAt 3 (binaries.Comparison Greater) (UnaryAt 0 unaries.Plus (whole_at 1 1)) (BinaryAt 8 binaries.Remainder (UnaryAt 5 unaries.Minus (whole_at 6 2)) (whole_at 10 3)))
+signs_and_remainder : said (tokens_of (codes "+1 > -2 % 3")) ≡ Some (BinaryAt 3 (binaries.Comparison Greater) (UnaryAt 0 unaries.Plus (whole_at 1 1)) (BinaryAt 8 binaries.Remainder (UnaryAt 5 unaries.Minus (whole_at 6 2)) (whole_at 10 3)))
 unfolding tokens_of tokens_behind front_of token_of number_of base_of text_of sign_at word_of step starts follows name_of text_value is_in is_group is_brace
-tree1 = refl
+signs_and_remainder = refl
 
-tree2 : said (tokens_of (codes "not true && false")) ≡ Some (BinaryAt 9 binaries.And (UnaryAt 0 unaries.Not (LiteralAt 4 (literals.Bool true))) (LiteralAt 12 (literals.Bool false)))
+not_binds_tighter : said (tokens_of (codes "not true && false")) ≡ Some (BinaryAt 9 binaries.And (UnaryAt 0 unaries.Not (LiteralAt 4 (literals.Bool true))) (LiteralAt 12 (literals.Bool false)))
 unfolding tokens_of tokens_behind front_of token_of number_of base_of text_of sign_at word_of step starts follows name_of text_value is_in is_group is_brace
-tree2 = refl
+not_binds_tighter = refl
 
-tree3 : said (tokens_of (codes "(1 + 2) * 3")) ≡ Some (BinaryAt 8 binaries.Multiply (BinaryAt 3 binaries.Add (whole_at 1 1) (whole_at 5 2)) (whole_at 10 3))
+parentheses : said (tokens_of (codes "(1 + 2) * 3")) ≡ Some (BinaryAt 8 binaries.Multiply (BinaryAt 3 binaries.Add (whole_at 1 1) (whole_at 5 2)) (whole_at 10 3))
 unfolding tokens_of tokens_behind front_of token_of number_of base_of text_of sign_at word_of step starts follows name_of text_value is_in is_group is_brace
-tree3 = refl
+parentheses = refl
 
-tree4 : said (tokens_of (codes "1 == 2 == 3")) ≡ Some (BinaryAt 7 (binaries.Comparison Equal) (BinaryAt 2 (binaries.Comparison Equal) (whole_at 0 1) (whole_at 5 2)) (whole_at 10 3))
+comparisons_to_the_left : said (tokens_of (codes "1 == 2 == 3")) ≡ Some (BinaryAt 7 (binaries.Comparison Equal) (BinaryAt 2 (binaries.Comparison Equal) (whole_at 0 1) (whole_at 5 2)) (whole_at 10 3))
 unfolding tokens_of tokens_behind front_of token_of number_of base_of text_of sign_at word_of step starts follows name_of text_value is_in is_group is_brace
-tree4 = refl
+comparisons_to_the_left = refl
 
-tree5 : said (tokens_of (codes "1 in [2] not in [3]")) ≡ Some (BinaryAt 9 binaries.NotIn (BinaryAt 2 binaries.In (whole_at 0 1) (ListAt 5 (more (whole_at 6 2) none))) (ListAt 16 (more (whole_at 17 3) none)))
+in_and_not_in : said (tokens_of (codes "1 in [2] not in [3]")) ≡ Some (BinaryAt 9 binaries.NotIn (BinaryAt 2 binaries.In (whole_at 0 1) (ListAt 5 (more (whole_at 6 2) none))) (ListAt 16 (more (whole_at 17 3) none)))
 unfolding tokens_of tokens_behind front_of token_of number_of base_of text_of sign_at word_of step starts follows name_of text_value is_in is_group is_brace
-tree5 = refl
+in_and_not_in = refl
 
-tree6 : said (tokens_of (codes "-result.a[0]")) ≡ Some (UnaryAt 0 unaries.Minus (IndexAt 9 (FieldAt 7 (ResultAt 1) (codes "a")) (whole_at 10 0)))
+minus_of_item : said (tokens_of (codes "-result.a[0]")) ≡ Some (UnaryAt 0 unaries.Minus (IndexAt 9 (FieldAt 7 (ResultAt 1) (codes "a")) (whole_at 10 0)))
 unfolding tokens_of tokens_behind front_of token_of number_of base_of text_of sign_at word_of step starts follows name_of text_value is_in is_group is_brace
-tree6 = refl
+minus_of_item = refl
 
-tree7 : said (tokens_of (codes "result.len.in")) ≡ Some (FieldAt 10 (FieldAt 6 (ResultAt 0) (codes "len")) (codes "in"))
+words_as_fields : said (tokens_of (codes "result.len.in")) ≡ Some (FieldAt 10 (FieldAt 6 (ResultAt 0) (codes "len")) (codes "in"))
 unfolding tokens_of tokens_behind front_of token_of number_of base_of text_of sign_at word_of step starts follows name_of text_value is_in is_group is_brace
-tree7 = refl
+words_as_fields = refl
 
-tree8 : said (tokens_of (codes "result[('b')]")) ≡ Some (IndexAt 6 (ResultAt 0) (LiteralAt 8 (literals.Text (codes "b"))))
+text_in_parentheses_as_index : said (tokens_of (codes "result[('b')]")) ≡ Some (IndexAt 6 (ResultAt 0) (LiteralAt 8 (literals.Text (codes "b"))))
 unfolding tokens_of tokens_behind front_of token_of number_of base_of text_of sign_at word_of step starts follows name_of text_value is_in is_group is_brace
-tree8 = refl
+text_in_parentheses_as_index = refl
 
-tree9 : said (tokens_of (codes "nil")) ≡ Some (LiteralAt 0 literals.Nil)
+nil_alone : said (tokens_of (codes "nil")) ≡ Some (LiteralAt 0 literals.Nil)
 unfolding tokens_of tokens_behind front_of token_of number_of base_of text_of sign_at word_of step starts follows name_of text_value is_in is_group is_brace
-tree9 = refl
+nil_alone = refl
 
-tree10 : said (tokens_of (codes "len(result) / 2")) ≡ Some (BinaryAt 12 binaries.Divide (LenAt 0 (ResultAt 4)) (whole_at 14 2))
+len_divided : said (tokens_of (codes "len(result) / 2")) ≡ Some (BinaryAt 12 binaries.Divide (LenAt 0 (ResultAt 4)) (whole_at 14 2))
 unfolding tokens_of tokens_behind front_of token_of number_of base_of text_of sign_at word_of step starts follows name_of text_value is_in is_group is_brace
-tree10 = refl
+len_divided = refl
 
-tree11 : said (tokens_of (codes "isNil(result)")) ≡ Some (IsNilAt 0 (ResultAt 6))
+is_nil_of_result : said (tokens_of (codes "isNil(result)")) ≡ Some (IsNilAt 0 (ResultAt 6))
 unfolding tokens_of tokens_behind front_of token_of number_of base_of text_of sign_at word_of step starts follows name_of text_value is_in is_group is_brace
-tree11 = refl
+is_nil_of_result = refl
 
-tree12 : said (tokens_of (codes "default(result, 1)")) ≡ Some (DefaultAt 0 (ResultAt 8) (whole_at 16 1))
+default_of_result : said (tokens_of (codes "default(result, 1)")) ≡ Some (DefaultAt 0 (ResultAt 8) (whole_at 16 1))
 unfolding tokens_of tokens_behind front_of token_of number_of base_of text_of sign_at word_of step starts follows name_of text_value is_in is_group is_brace
-tree12 = refl
+default_of_result = refl
 
-tree13 : said (tokens_of (codes "all(result, any(#, # > 1) or true)")) ≡ Some (PredicateAt 0 All (ResultAt 4) (BinaryAt 26 binaries.Or (PredicateAt 12 predicates.Any (ItemAt 16) (BinaryAt 21 (binaries.Comparison Greater) (ItemAt 19) (whole_at 23 1))) (LiteralAt 29 (literals.Bool true))))
+predicate_in_predicate : said (tokens_of (codes "all(result, any(#, # > 1) or true)")) ≡ Some (PredicateAt 0 All (ResultAt 4) (BinaryAt 26 binaries.Or (PredicateAt 12 predicates.Any (ItemAt 16) (BinaryAt 21 (binaries.Comparison Greater) (ItemAt 19) (whole_at 23 1))) (LiteralAt 29 (literals.Bool true))))
 unfolding tokens_of tokens_behind front_of token_of number_of base_of text_of sign_at word_of step starts follows name_of text_value is_in is_group is_brace
-tree13 = refl
+predicate_in_predicate = refl
 
-tree14 : said (tokens_of (codes "count(filter(result, true), {false})")) ≡ Some (PredicateAt 0 predicates.Count (PredicateAt 6 predicates.Filter (ResultAt 13) (LiteralAt 21 (literals.Bool true))) (LiteralAt 29 (literals.Bool false)))
+predicates_with_constants : said (tokens_of (codes "count(filter(result, true), {false})")) ≡ Some (PredicateAt 0 predicates.Count (PredicateAt 6 predicates.Filter (ResultAt 13) (LiteralAt 21 (literals.Bool true))) (LiteralAt 29 (literals.Bool false)))
 unfolding tokens_of tokens_behind front_of token_of number_of base_of text_of sign_at word_of step starts follows name_of text_value is_in is_group is_brace
-tree14 = refl
+predicates_with_constants = refl
 
-tree15 : said (tokens_of (codes "true ? true ? 1 : 2 : 3")) ≡ Some (ChoiceAt 5 (LiteralAt 0 (literals.Bool true)) (ChoiceAt 12 (LiteralAt 7 (literals.Bool true)) (whole_at 14 1) (whole_at 18 2)) (whole_at 22 3))
+choice_in_choice : said (tokens_of (codes "true ? true ? 1 : 2 : 3")) ≡ Some (ChoiceAt 5 (LiteralAt 0 (literals.Bool true)) (ChoiceAt 12 (LiteralAt 7 (literals.Bool true)) (whole_at 14 1) (whole_at 18 2)) (whole_at 22 3))
 unfolding tokens_of tokens_behind front_of token_of number_of base_of text_of sign_at word_of step starts follows name_of text_value is_in is_group is_brace
-tree15 = refl
+choice_in_choice = refl
+
+measured_value_alone : said (tokens_of (codes "result")) ≡ Some (ResultAt 0)
+unfolding tokens_of tokens_behind front_of token_of number_of base_of text_of sign_at word_of step starts follows name_of text_value is_in is_group is_brace
+measured_value_alone = refl

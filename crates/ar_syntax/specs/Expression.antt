@@ -11,7 +11,7 @@ mutual
     ResultAt : (at : ℕ) → Expression
     ItemAt : (at : ℕ) → Expression
     LiteralAt : (at : ℕ) (literal : Literal) → Expression
-    FieldAt : (at : ℕ) (whole : Expression) (name : List ℕ) → Expression
+    FieldAt : (at : ℕ) (owner : Expression) (name : List ℕ) → Expression
     IndexAt : (at : ℕ) (list index : Expression) → Expression
     UnaryAt : (at : ℕ) (operator : Unary) (operand : Expression) → Expression
     BinaryAt : (at : ℕ) (operator : Binary) (left right : Expression) → Expression
@@ -35,7 +35,7 @@ abbrev pub place_of : Expression → ℕ
 place_of (ResultAt at) = at
 place_of (ItemAt at) = at
 place_of (LiteralAt at literal) = at
-place_of (FieldAt at whole name) = at
+place_of (FieldAt at owner name) = at
 place_of (IndexAt at list index) = at
 place_of (UnaryAt at operator operand) = at
 place_of (BinaryAt at operator left right) = at

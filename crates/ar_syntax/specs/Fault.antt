@@ -17,7 +17,7 @@ accepts None = false
 -- an operand may stand next
 abbrev pub wants_operand : State → Bool
 wants_operand (Want stack) = true
-wants_operand (WantIndex stack at whole) = true
+wants_operand (WantIndex stack at owner) = true
 wants_operand (WantArgument stack at function so_far) = true
 wants_operand state = false
 
@@ -25,9 +25,9 @@ wants_operand state = false
 abbrev pub is_inside : State → Bool
 is_inside (Want stack) = inside stack
 is_inside (Have stack tree) = inside stack
-is_inside (WantName stack at whole) = inside stack
-is_inside (WantIndex stack at whole) = inside stack
-is_inside (HaveText stack at whole text_at text) = inside stack
+is_inside (WantName stack at owner) = inside stack
+is_inside (WantIndex stack at owner) = inside stack
+is_inside (HaveText stack at owner text_at text) = inside stack
 is_inside (WantIn stack at first) = inside stack
 is_inside (WantGroup stack at function) = inside stack
 is_inside (WantArgument stack at function so_far) = inside stack || is_body function (length so_far)

@@ -14,8 +14,8 @@
 --          | ("all" | "any" | "count" | "filter") "(" tern "," pred ")"
 --     pred = "{" tern "}" | tern
 --
--- A rule relates the tokens before a phrase, what the phrase says, and the tokens behind it, inside a predicate or not,
--- where so many openers may still be unfinished at once.
+-- A rule relates the tokens from a phrase's first on, what the phrase says, and the tokens behind it, inside a predicate or
+-- not, where so many openers may still begin.
 use Rattle.std.specs.Prelude.{◌≡◌, ℕ, zero, suc, Bool, true, false, ◌||◌, nat_eq, nat_lt, List, [], ◌∷◌, ◌++◌, length, Option, Some, None, pred}
 use Rattle.ar_syntax.specs.Expression.{Expression, FieldAt, IndexAt, ItemAt, UnaryAt, BinaryAt, ChoiceAt, ListAt, expressions}
 use Rattle.ar_syntax.specs.Roles.{Call, Follow, Ends, Comma, Colon, EndGroup, EndBracket, EndBrace, Operator, NotOf, Choose, Select, Open, Leaf, Prefix, Group, Bracket, Calls, ItemPoint, arity, called, follows, is_body, is_brace, is_group, is_in, looseness, name_of, starts, text_value}
@@ -111,15 +111,15 @@ module _ (rules : Rules) where
     -- { "." word | "[" text "]" | "[" tern "]" }
     pub data Selections : Bool → ℕ → Expression → List Token → Expression → List Token → Type 0 where
       nothing_more : {inside : Bool} {left : ℕ} {tree : Expression} {rest : List Token} → Selections inside left tree rest tree rest
-      field : {inside : Bool} {left : ℕ} {point name : Token} {behind rest : List Token} {word : List ℕ} {whole tree : Expression}
-          → follows point ≡ Select → name_of name ≡ Some word → Selections inside left (FieldAt point.span.start whole word) behind tree rest
-          → Selections inside left whole (point ∷ name ∷ behind) tree rest
-      text_field : {inside : Bool} {left : ℕ} {opener text close : Token} {behind rest : List Token} {word : List ℕ} {whole tree : Expression}
+      field : {inside : Bool} {left : ℕ} {point name : Token} {behind rest : List Token} {word : List ℕ} {owner tree : Expression}
+          → follows point ≡ Select → name_of name ≡ Some word → Selections inside left (FieldAt point.span.start owner word) behind tree rest
+          → Selections inside left owner (point ∷ name ∷ behind) tree rest
+      text_field : {inside : Bool} {left : ℕ} {opener text close : Token} {behind rest : List Token} {word : List ℕ} {owner tree : Expression}
           → follows opener ≡ Open → may_open rules left ≡ true → text_value text ≡ Some word → follows close ≡ Ends EndBracket
-          → Selections inside left (FieldAt opener.span.start whole word) behind tree rest → Selections inside left whole (opener ∷ text ∷ close ∷ behind) tree rest
-      index : {inside : Bool} {left : ℕ} {opener close : Token} {behind after rest : List Token} {whole found tree : Expression}
+          → Selections inside left (FieldAt opener.span.start owner word) behind tree rest → Selections inside left owner (opener ∷ text ∷ close ∷ behind) tree rest
+      index : {inside : Bool} {left : ℕ} {opener close : Token} {behind after rest : List Token} {owner found tree : Expression}
           → follows opener ≡ Open → may_open rules left ≡ true → is_text_alone behind ≡ false → Phrase ternary inside (pred left) behind found (close ∷ after)
-          → follows close ≡ Ends EndBracket → Selections inside left (IndexAt opener.span.start whole found) after tree rest → Selections inside left whole (opener ∷ behind) tree rest
+          → follows close ≡ Ends EndBracket → Selections inside left (IndexAt opener.span.start owner found) after tree rest → Selections inside left owner (opener ∷ behind) tree rest
 
     pub data Primary : Bool → ℕ → List Token → Expression → List Token → Type 0 where
       -- number | text | "true" | "false" | "nil" | "result" | "#"

@@ -1,6 +1,5 @@
 pub use Rattle.ar_value.specs.Decimal
 pub use Rattle.ar_value.specs.Digits
-pub mod Answer
 pub mod Token
 pub mod Tokens
 pub mod Expression
@@ -11,6 +10,6 @@ pub mod Machine
 pub mod Refusal
 pub mod Fault
 pub mod Parse
-pub mod Steps
 pub mod Examples
 pub mod RefusalExamples
+pub mod Private

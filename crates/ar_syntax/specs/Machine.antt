@@ -21,7 +21,7 @@ pub data Frame : Type 0 where
   -- what stands in `(`, in the `[` of a list and in that of an index
   Grouped : Frame
   Listed : (at : ℕ) (so_far : List Expression) → Frame
-  Indexed : (at : ℕ) (whole : Expression) → Frame
+  Indexed : (at : ℕ) (list : Expression) → Frame
   -- an argument: plain, a predicate, and one in braces
   Argued : (at : ℕ) (function : Call) (so_far : List Expression) → Frame
   Body : (at : ℕ) (function : Call) (so_far : List Expression) → Frame
@@ -33,10 +33,10 @@ pub data State : Type 0 where
   Want : (stack : List Frame) → State
   Have : (stack : List Frame) (tree : Expression) → State
   -- a word is wanted, behind the point of a field
-  WantName : (stack : List Frame) (at : ℕ) (whole : Expression) → State
+  WantName : (stack : List Frame) (at : ℕ) (owner : Expression) → State
   -- behind the `[` of an index or field, and behind a text there
-  WantIndex : (stack : List Frame) (at : ℕ) (whole : Expression) → State
-  HaveText : (stack : List Frame) (at : ℕ) (whole : Expression) (text_at : ℕ) (text : List ℕ) → State
+  WantIndex : (stack : List Frame) (at : ℕ) (owner : Expression) → State
+  HaveText : (stack : List Frame) (at : ℕ) (owner : Expression) (text_at : ℕ) (text : List ℕ) → State
   -- `in` is wanted, behind `not`
   WantIn : (stack : List Frame) (at : ℕ) (first : Expression) → State
   -- `(` is wanted, behind the name of a call; an argument is wanted; one in braces is there
@@ -103,7 +103,7 @@ module _ (rules : Rules) where
   abbrev pub end_with : Ender → State → Option State
   end_with Colon (Have (Yes at condition ∷ stack) tree) = Some (Want (No at condition tree ∷ stack))
   end_with EndGroup (Have (Grouped ∷ stack) tree) = Some (Have stack tree)
-  end_with EndBracket (Have (Indexed at whole ∷ stack) tree) = Some (Have stack (IndexAt at whole tree))
+  end_with EndBracket (Have (Indexed at list ∷ stack) tree) = Some (Have stack (IndexAt at list tree))
   end_with EndBracket (Have (Listed at so_far ∷ stack) tree) = Some (Have stack (ListAt at (expressions (so_far ++ tree ∷ []))))
   end_with Comma (Have (Listed at so_far ∷ stack) tree) = when (may_continue rules (length (so_far ++ tree ∷ []))) (Want (Listed at (so_far ++ tree ∷ []) ∷ stack))
   end_with EndGroup (Have (Argued at function so_far ∷ stack) tree) = when (takes_all rules function (length (so_far ++ tree ∷ []))) (Have stack (called at function (so_far ++ tree ∷ [])))
@@ -141,18 +141,18 @@ module _ (rules : Rules) where
 
   -- behind the point of a field
   abbrev pub select : List Frame → ℕ → Expression → Option (List ℕ) → Option State
-  select stack at whole (Some word) = Some (Have stack (FieldAt at whole word))
-  select stack at whole None = None
+  select stack at owner (Some word) = Some (Have stack (FieldAt at owner word))
+  select stack at owner None = None
 
   -- behind `[`: a text may be a field's name
   abbrev pub open_index : List Frame → ℕ → Expression → Token → Option (List ℕ) → Option State
-  open_index stack at whole token (Some text) = Some (HaveText stack at whole token.span.start text)
-  open_index stack at whole token None = want (Indexed at whole ∷ stack) token
+  open_index stack at owner token (Some text) = Some (HaveText stack at owner token.span.start text)
+  open_index stack at owner token None = want (Indexed at owner ∷ stack) token
 
   -- it is where `]` stands behind it, and else an operand
   abbrev pub close_text : List Frame → ℕ → Expression → ℕ → List ℕ → Token → Follow → Option State
-  close_text stack at whole text_at text token (Ends EndBracket) = Some (Have stack (FieldAt at whole text))
-  close_text stack at whole text_at text token role = have (Indexed at whole ∷ stack) (LiteralAt text_at (Text text)) token
+  close_text stack at owner text_at text token (Ends EndBracket) = Some (Have stack (FieldAt at owner text))
+  close_text stack at owner text_at text token role = have (Indexed at owner ∷ stack) (LiteralAt text_at (Text text)) token
 
   -- an argument, in braces or not
   abbrev pub argue : List Frame → ℕ → Call → List Expression → Token → Bool → Bool → Option State
@@ -175,9 +175,9 @@ module _ (rules : Rules) where
   unfoldable pub step : State → Token → Option State
   step (Want stack) token = want stack token
   step (Have stack tree) token = have stack tree token
-  step (WantName stack at whole) token = select stack at whole (name_of token)
-  step (WantIndex stack at whole) token = open_index stack at whole token (text_value token)
-  step (HaveText stack at whole text_at text) token = close_text stack at whole text_at text token (follows token)
+  step (WantName stack at owner) token = select stack at owner (name_of token)
+  step (WantIndex stack at owner) token = open_index stack at owner token (text_value token)
+  step (HaveText stack at owner text_at text) token = close_text stack at owner text_at text token (follows token)
   step (WantIn stack at first) token = when (is_in token) (Want (RightOf at NotIn first ∷ stack))
   step (WantGroup stack at function) token = when (is_group token) (WantArgument stack at function [])
   step (WantArgument stack at function so_far) token = close_empty stack at function token so_far (follows token)

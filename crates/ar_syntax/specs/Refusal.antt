@@ -77,7 +77,7 @@ abbrev mutual
   depth (trees.ResultAt at) = 1
   depth (trees.ItemAt at) = 1
   depth (trees.LiteralAt at literal) = 1
-  depth (trees.FieldAt at whole name) = depth whole + 1
+  depth (trees.FieldAt at owner name) = depth owner + 1
   depth (trees.IndexAt at list index) = max (depth list) (depth index) + 1
   depth (trees.UnaryAt at operator operand) = depth operand + 1
   depth (trees.BinaryAt at operator left right) = max (depth left) (depth right) + 1

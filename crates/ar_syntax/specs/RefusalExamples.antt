@@ -1,6 +1,5 @@
--- Texts whose tokens are no condition, with their refusals, worked out by hand from the grammar.
-use Rattle.std.specs.Prelude.{◌≡◌, codes, Ok, Err, refl}
-use Rattle.ar_syntax.specs.Expression.{ResultAt}
+-- Texts with their refusals, worked out by hand from the grammar. Each is named for what it shows.
+use Rattle.std.specs.Prelude.{◌≡◌, codes, Err, refl}
 use Rattle.ar_syntax.specs.Fault.{fault_of}
 use Rattle.ar_syntax.specs.Machine.{step}
 use Rattle.ar_syntax.specs.Parse.{parse_of, tree_of}
@@ -9,438 +8,434 @@ use Rattle.ar_syntax.specs.Token.{word_of}
 use Rattle.ar_syntax.specs.Tokens.{base_of, front_of, number_of, sign_at, text_of, token_of, tokens_behind, tokens_of}
 use Rattle.ar_syntax.specs.declared.error.SyntaxError.TheVariants.{BadCharacter, OpenText, OpenComment, BadEscape, LiteralTooFine, NumberTooLarge, Unexpected, UnknownName, WrongCount, ItemOutside, TooManyItems, TooDeep}
 
-refusal1 : parse_of (codes "result > 0.1234567") ≡ Err (LiteralTooFine 9)
+seventh_digit : parse_of (codes "result > 0.1234567") ≡ Err (LiteralTooFine 9)
 unfolding parse_of tree_of fault_of tokens_of tokens_behind front_of token_of number_of base_of text_of sign_at word_of step starts follows name_of text_value is_in is_group is_brace
-refusal1 = refl
+seventh_digit = refl
 
-refusal2 : parse_of (codes "result ^ 2") ≡ Err (BadCharacter 7)
+sign_of_no_language : parse_of (codes "result ^ 2") ≡ Err (BadCharacter 7)
 unfolding parse_of tree_of fault_of tokens_of tokens_behind front_of token_of number_of base_of text_of sign_at word_of step starts follows name_of text_value is_in is_group is_brace
-refusal2 = refl
+sign_of_no_language = refl
 
-refusal3 : parse_of (codes "\"a") ≡ Err (OpenText 0)
+text_without_end : parse_of (codes "\"a") ≡ Err (OpenText 0)
 unfolding parse_of tree_of fault_of tokens_of tokens_behind front_of token_of number_of base_of text_of sign_at word_of step starts follows name_of text_value is_in is_group is_brace
-refusal3 = refl
+text_without_end = refl
 
-refusal4 : parse_of (codes "/* a") ≡ Err (OpenComment 0)
+comment_without_end : parse_of (codes "/* a") ≡ Err (OpenComment 0)
 unfolding parse_of tree_of fault_of tokens_of tokens_behind front_of token_of number_of base_of text_of sign_at word_of step starts follows name_of text_value is_in is_group is_brace
-refusal4 = refl
+comment_without_end = refl
 
-refusal5 : parse_of (codes "\"\\q\" == \"\"") ≡ Err (BadEscape 1)
+escape_of_no_language : parse_of (codes "\"\\q\" == \"\"") ≡ Err (BadEscape 1)
 unfolding parse_of tree_of fault_of tokens_of tokens_behind front_of token_of number_of base_of text_of sign_at word_of step starts follows name_of text_value is_in is_group is_brace
-refusal5 = refl
+escape_of_no_language = refl
 
-refusal6 : parse_of (codes "9223372036854775808 > 0") ≡ Err (NumberTooLarge 0)
+whole_too_large : parse_of (codes "9223372036854775808 > 0") ≡ Err (NumberTooLarge 0)
 unfolding parse_of tree_of fault_of tokens_of tokens_behind front_of token_of number_of base_of text_of sign_at word_of step starts follows name_of text_value is_in is_group is_brace
-refusal6 = refl
+whole_too_large = refl
 
-refusal7 : parse_of (codes "'a' 1a") ≡ Err (BadCharacter 5)
+letter_behind_number : parse_of (codes "'a' 1a") ≡ Err (BadCharacter 5)
 unfolding parse_of tree_of fault_of tokens_of tokens_behind front_of token_of number_of base_of text_of sign_at word_of step starts follows name_of text_value is_in is_group is_brace
-refusal7 = refl
+letter_behind_number = refl
 
-refusal8 : parse_of (codes "1 ? .5 : 2 ?. a") ≡ Err (BadCharacter 11)
+sign_of_optional_chain : parse_of (codes "1 ? .5 : 2 ?. a") ≡ Err (BadCharacter 11)
 unfolding parse_of tree_of fault_of tokens_of tokens_behind front_of token_of number_of base_of text_of sign_at word_of step starts follows name_of text_value is_in is_group is_brace
-refusal8 = refl
+sign_of_optional_chain = refl
 
-refusal9 : parse_of (codes "foo > 1") ≡ Err (UnknownName 0)
+name_first : parse_of (codes "foo > 1") ≡ Err (UnknownName 0)
 unfolding parse_of tree_of fault_of tokens_of tokens_behind front_of token_of number_of base_of text_of sign_at word_of step starts follows name_of text_value is_in is_group is_brace
-refusal9 = refl
+name_first = refl
 
-refusal10 : parse_of (codes "1 + foo") ≡ Err (UnknownName 4)
+name_behind_operator : parse_of (codes "1 + foo") ≡ Err (UnknownName 4)
 unfolding parse_of tree_of fault_of tokens_of tokens_behind front_of token_of number_of base_of text_of sign_at word_of step starts follows name_of text_value is_in is_group is_brace
-refusal10 = refl
+name_behind_operator = refl
 
-refusal11 : parse_of (codes "[foo]") ≡ Err (UnknownName 1)
+name_in_list : parse_of (codes "[foo]") ≡ Err (UnknownName 1)
 unfolding parse_of tree_of fault_of tokens_of tokens_behind front_of token_of number_of base_of text_of sign_at word_of step starts follows name_of text_value is_in is_group is_brace
-refusal11 = refl
+name_in_list = refl
 
-refusal12 : parse_of (codes "result[foo]") ≡ Err (UnknownName 7)
+name_in_index : parse_of (codes "result[foo]") ≡ Err (UnknownName 7)
 unfolding parse_of tree_of fault_of tokens_of tokens_behind front_of token_of number_of base_of text_of sign_at word_of step starts follows name_of text_value is_in is_group is_brace
-refusal12 = refl
+name_in_index = refl
 
-refusal13 : parse_of (codes "len(foo)") ≡ Err (UnknownName 4)
+name_as_argument : parse_of (codes "len(foo)") ≡ Err (UnknownName 4)
 unfolding parse_of tree_of fault_of tokens_of tokens_behind front_of token_of number_of base_of text_of sign_at word_of step starts follows name_of text_value is_in is_group is_brace
-refusal13 = refl
+name_as_argument = refl
 
-refusal14 : parse_of (codes "all(result, foo)") ≡ Err (UnknownName 12)
+name_in_predicate : parse_of (codes "all(result, foo)") ≡ Err (UnknownName 12)
 unfolding parse_of tree_of fault_of tokens_of tokens_behind front_of token_of number_of base_of text_of sign_at word_of step starts follows name_of text_value is_in is_group is_brace
-refusal14 = refl
+name_in_predicate = refl
 
-refusal15 : parse_of (codes "all(result, {foo})") ≡ Err (UnknownName 13)
+name_in_braces : parse_of (codes "all(result, {foo})") ≡ Err (UnknownName 13)
 unfolding parse_of tree_of fault_of tokens_of tokens_behind front_of token_of number_of base_of text_of sign_at word_of step starts follows name_of text_value is_in is_group is_brace
-refusal15 = refl
+name_in_braces = refl
 
-refusal16 : parse_of (codes "not foo") ≡ Err (UnknownName 4)
+name_behind_not : parse_of (codes "not foo") ≡ Err (UnknownName 4)
 unfolding parse_of tree_of fault_of tokens_of tokens_behind front_of token_of number_of base_of text_of sign_at word_of step starts follows name_of text_value is_in is_group is_brace
-refusal16 = refl
+name_behind_not = refl
 
-refusal17 : parse_of (codes "true ? foo : 1") ≡ Err (UnknownName 7)
+name_behind_question : parse_of (codes "true ? foo : 1") ≡ Err (UnknownName 7)
 unfolding parse_of tree_of fault_of tokens_of tokens_behind front_of token_of number_of base_of text_of sign_at word_of step starts follows name_of text_value is_in is_group is_brace
-refusal17 = refl
+name_behind_question = refl
 
-refusal18 : parse_of (codes "result foo") ≡ Err (Unexpected 7)
+name_behind_operand : parse_of (codes "result foo") ≡ Err (Unexpected 7)
 unfolding parse_of tree_of fault_of tokens_of tokens_behind front_of token_of number_of base_of text_of sign_at word_of step starts follows name_of text_value is_in is_group is_brace
-refusal18 = refl
+name_behind_operand = refl
 
-refusal19 : parse_of (codes "len foo") ≡ Err (Unexpected 4)
+name_behind_call_name : parse_of (codes "len foo") ≡ Err (Unexpected 4)
 unfolding parse_of tree_of fault_of tokens_of tokens_behind front_of token_of number_of base_of text_of sign_at word_of step starts follows name_of text_value is_in is_group is_brace
-refusal19 = refl
+name_behind_call_name = refl
 
-refusal20 : parse_of (codes "result['a' foo]") ≡ Err (Unexpected 11)
+name_behind_text_in_brackets : parse_of (codes "result['a' foo]") ≡ Err (Unexpected 11)
 unfolding parse_of tree_of fault_of tokens_of tokens_behind front_of token_of number_of base_of text_of sign_at word_of step starts follows name_of text_value is_in is_group is_brace
-refusal20 = refl
+name_behind_text_in_brackets = refl
 
-refusal21 : parse_of (codes "1 not foo") ≡ Err (Unexpected 6)
+name_behind_not_of_not_in : parse_of (codes "1 not foo") ≡ Err (Unexpected 6)
 unfolding parse_of tree_of fault_of tokens_of tokens_behind front_of token_of number_of base_of text_of sign_at word_of step starts follows name_of text_value is_in is_group is_brace
-refusal21 = refl
+name_behind_not_of_not_in = refl
 
-refusal22 : parse_of (codes "len() == 0") ≡ Err (WrongCount 4)
+len_of_none : parse_of (codes "len() == 0") ≡ Err (WrongCount 4)
 unfolding parse_of tree_of fault_of tokens_of tokens_behind front_of token_of number_of base_of text_of sign_at word_of step starts follows name_of text_value is_in is_group is_brace
-refusal22 = refl
+len_of_none = refl
 
-refusal23 : parse_of (codes "len(1, 2)") ≡ Err (WrongCount 5)
+len_of_two : parse_of (codes "len(1, 2)") ≡ Err (WrongCount 5)
 unfolding parse_of tree_of fault_of tokens_of tokens_behind front_of token_of number_of base_of text_of sign_at word_of step starts follows name_of text_value is_in is_group is_brace
-refusal23 = refl
+len_of_two = refl
 
-refusal24 : parse_of (codes "isNil()") ≡ Err (WrongCount 6)
+is_nil_of_none : parse_of (codes "isNil()") ≡ Err (WrongCount 6)
 unfolding parse_of tree_of fault_of tokens_of tokens_behind front_of token_of number_of base_of text_of sign_at word_of step starts follows name_of text_value is_in is_group is_brace
-refusal24 = refl
+is_nil_of_none = refl
 
-refusal25 : parse_of (codes "isNil(1,") ≡ Err (WrongCount 7)
+is_nil_goes_on : parse_of (codes "isNil(1,") ≡ Err (WrongCount 7)
 unfolding parse_of tree_of fault_of tokens_of tokens_behind front_of token_of number_of base_of text_of sign_at word_of step starts follows name_of text_value is_in is_group is_brace
-refusal25 = refl
+is_nil_goes_on = refl
 
-refusal26 : parse_of (codes "default()") ≡ Err (WrongCount 8)
+default_of_none : parse_of (codes "default()") ≡ Err (WrongCount 8)
 unfolding parse_of tree_of fault_of tokens_of tokens_behind front_of token_of number_of base_of text_of sign_at word_of step starts follows name_of text_value is_in is_group is_brace
-refusal26 = refl
+default_of_none = refl
 
-refusal27 : parse_of (codes "default(1)") ≡ Err (WrongCount 9)
+default_of_one : parse_of (codes "default(1)") ≡ Err (WrongCount 9)
 unfolding parse_of tree_of fault_of tokens_of tokens_behind front_of token_of number_of base_of text_of sign_at word_of step starts follows name_of text_value is_in is_group is_brace
-refusal27 = refl
+default_of_one = refl
 
-refusal28 : parse_of (codes "default(1, 2, 3)") ≡ Err (WrongCount 12)
+default_of_three : parse_of (codes "default(1, 2, 3)") ≡ Err (WrongCount 12)
 unfolding parse_of tree_of fault_of tokens_of tokens_behind front_of token_of number_of base_of text_of sign_at word_of step starts follows name_of text_value is_in is_group is_brace
-refusal28 = refl
+default_of_three = refl
 
-refusal29 : parse_of (codes "all()") ≡ Err (WrongCount 4)
+all_of_none : parse_of (codes "all()") ≡ Err (WrongCount 4)
 unfolding parse_of tree_of fault_of tokens_of tokens_behind front_of token_of number_of base_of text_of sign_at word_of step starts follows name_of text_value is_in is_group is_brace
-refusal29 = refl
+all_of_none = refl
 
-refusal30 : parse_of (codes "all(result)") ≡ Err (WrongCount 10)
+all_of_one : parse_of (codes "all(result)") ≡ Err (WrongCount 10)
 unfolding parse_of tree_of fault_of tokens_of tokens_behind front_of token_of number_of base_of text_of sign_at word_of step starts follows name_of text_value is_in is_group is_brace
-refusal30 = refl
+all_of_one = refl
 
-refusal31 : parse_of (codes "all(result, #, 1)") ≡ Err (WrongCount 13)
+all_of_three : parse_of (codes "all(result, #, 1)") ≡ Err (WrongCount 13)
 unfolding parse_of tree_of fault_of tokens_of tokens_behind front_of token_of number_of base_of text_of sign_at word_of step starts follows name_of text_value is_in is_group is_brace
-refusal31 = refl
+all_of_three = refl
 
-refusal32 : parse_of (codes "all(result, {#}, 1)") ≡ Err (WrongCount 15)
+all_of_three_behind_braces : parse_of (codes "all(result, {#}, 1)") ≡ Err (WrongCount 15)
 unfolding parse_of tree_of fault_of tokens_of tokens_behind front_of token_of number_of base_of text_of sign_at word_of step starts follows name_of text_value is_in is_group is_brace
-refusal32 = refl
+all_of_three_behind_braces = refl
 
-refusal33 : parse_of (codes "any([1] )") ≡ Err (WrongCount 8)
+any_of_one : parse_of (codes "any([1] )") ≡ Err (WrongCount 8)
 unfolding parse_of tree_of fault_of tokens_of tokens_behind front_of token_of number_of base_of text_of sign_at word_of step starts follows name_of text_value is_in is_group is_brace
-refusal33 = refl
+any_of_one = refl
 
-refusal34 : parse_of (codes "count(1 + 2)") ≡ Err (WrongCount 11)
+count_of_one_sum : parse_of (codes "count(1 + 2)") ≡ Err (WrongCount 11)
 unfolding parse_of tree_of fault_of tokens_of tokens_behind front_of token_of number_of base_of text_of sign_at word_of step starts follows name_of text_value is_in is_group is_brace
-refusal34 = refl
+count_of_one_sum = refl
 
-refusal35 : parse_of (codes "len(-1, 2)") ≡ Err (WrongCount 6)
+len_of_two_behind_sign : parse_of (codes "len(-1, 2)") ≡ Err (WrongCount 6)
 unfolding parse_of tree_of fault_of tokens_of tokens_behind front_of token_of number_of base_of text_of sign_at word_of step starts follows name_of text_value is_in is_group is_brace
-refusal35 = refl
+len_of_two_behind_sign = refl
 
-refusal36 : parse_of (codes "len(true ? 1 : 2, 2)") ≡ Err (WrongCount 16)
+len_of_two_behind_choice : parse_of (codes "len(true ? 1 : 2, 2)") ≡ Err (WrongCount 16)
 unfolding parse_of tree_of fault_of tokens_of tokens_behind front_of token_of number_of base_of text_of sign_at word_of step starts follows name_of text_value is_in is_group is_brace
-refusal36 = refl
+len_of_two_behind_choice = refl
 
-refusal37 : parse_of (codes "len(,") ≡ Err (Unexpected 4)
+comma_as_argument : parse_of (codes "len(,") ≡ Err (Unexpected 4)
 unfolding parse_of tree_of fault_of tokens_of tokens_behind front_of token_of number_of base_of text_of sign_at word_of step starts follows name_of text_value is_in is_group is_brace
-refusal37 = refl
+comma_as_argument = refl
 
-refusal38 : parse_of (codes "default(,") ≡ Err (Unexpected 8)
+comma_as_first_of_two : parse_of (codes "default(,") ≡ Err (Unexpected 8)
 unfolding parse_of tree_of fault_of tokens_of tokens_behind front_of token_of number_of base_of text_of sign_at word_of step starts follows name_of text_value is_in is_group is_brace
-refusal38 = refl
+comma_as_first_of_two = refl
 
-refusal39 : parse_of (codes "default(1,)") ≡ Err (Unexpected 10)
+default_ends_behind_comma : parse_of (codes "default(1,)") ≡ Err (Unexpected 10)
 unfolding parse_of tree_of fault_of tokens_of tokens_behind front_of token_of number_of base_of text_of sign_at word_of step starts follows name_of text_value is_in is_group is_brace
-refusal39 = refl
+default_ends_behind_comma = refl
 
-refusal40 : parse_of (codes "all(result,)") ≡ Err (Unexpected 11)
+all_ends_behind_comma : parse_of (codes "all(result,)") ≡ Err (Unexpected 11)
 unfolding parse_of tree_of fault_of tokens_of tokens_behind front_of token_of number_of base_of text_of sign_at word_of step starts follows name_of text_value is_in is_group is_brace
-refusal40 = refl
+all_ends_behind_comma = refl
 
-refusal41 : parse_of (codes "len(1 +)") ≡ Err (Unexpected 7)
+call_ends_behind_operator : parse_of (codes "len(1 +)") ≡ Err (Unexpected 7)
 unfolding parse_of tree_of fault_of tokens_of tokens_behind front_of token_of number_of base_of text_of sign_at word_of step starts follows name_of text_value is_in is_group is_brace
-refusal41 = refl
+call_ends_behind_operator = refl
 
-refusal42 : parse_of (codes "len(1 + , 2)") ≡ Err (Unexpected 8)
+comma_behind_operator : parse_of (codes "len(1 + , 2)") ≡ Err (Unexpected 8)
 unfolding parse_of tree_of fault_of tokens_of tokens_behind front_of token_of number_of base_of text_of sign_at word_of step starts follows name_of text_value is_in is_group is_brace
-refusal42 = refl
+comma_behind_operator = refl
 
-refusal43 : parse_of (codes "(1, 2)") ≡ Err (Unexpected 2)
+comma_in_parentheses : parse_of (codes "(1, 2)") ≡ Err (Unexpected 2)
 unfolding parse_of tree_of fault_of tokens_of tokens_behind front_of token_of number_of base_of text_of sign_at word_of step starts follows name_of text_value is_in is_group is_brace
-refusal43 = refl
+comma_in_parentheses = refl
 
-refusal44 : parse_of (codes "len(1]") ≡ Err (Unexpected 5)
+bracket_ends_call : parse_of (codes "len(1]") ≡ Err (Unexpected 5)
 unfolding parse_of tree_of fault_of tokens_of tokens_behind front_of token_of number_of base_of text_of sign_at word_of step starts follows name_of text_value is_in is_group is_brace
-refusal44 = refl
+bracket_ends_call = refl
 
-refusal45 : parse_of (codes "len((1, 2))") ≡ Err (Unexpected 6)
+comma_in_inner_parentheses : parse_of (codes "len((1, 2))") ≡ Err (Unexpected 6)
 unfolding parse_of tree_of fault_of tokens_of tokens_behind front_of token_of number_of base_of text_of sign_at word_of step starts follows name_of text_value is_in is_group is_brace
-refusal45 = refl
+comma_in_inner_parentheses = refl
 
-refusal46 : parse_of (codes "# > 1") ≡ Err (ItemOutside 0)
+item_first : parse_of (codes "# > 1") ≡ Err (ItemOutside 0)
 unfolding parse_of tree_of fault_of tokens_of tokens_behind front_of token_of number_of base_of text_of sign_at word_of step starts follows name_of text_value is_in is_group is_brace
-refusal46 = refl
+item_first = refl
 
-refusal47 : parse_of (codes "result #") ≡ Err (ItemOutside 7)
+item_behind_operand : parse_of (codes "result #") ≡ Err (ItemOutside 7)
 unfolding parse_of tree_of fault_of tokens_of tokens_behind front_of token_of number_of base_of text_of sign_at word_of step starts follows name_of text_value is_in is_group is_brace
-refusal47 = refl
+item_behind_operand = refl
 
-refusal48 : parse_of (codes ".a") ≡ Err (ItemOutside 0)
+point_first : parse_of (codes ".a") ≡ Err (ItemOutside 0)
 unfolding parse_of tree_of fault_of tokens_of tokens_behind front_of token_of number_of base_of text_of sign_at word_of step starts follows name_of text_value is_in is_group is_brace
-refusal48 = refl
+point_first = refl
 
-refusal49 : parse_of (codes "1 + .a") ≡ Err (ItemOutside 4)
+point_behind_operator : parse_of (codes "1 + .a") ≡ Err (ItemOutside 4)
 unfolding parse_of tree_of fault_of tokens_of tokens_behind front_of token_of number_of base_of text_of sign_at word_of step starts follows name_of text_value is_in is_group is_brace
-refusal49 = refl
+point_behind_operator = refl
 
-refusal50 : parse_of (codes "all(#, true)") ≡ Err (ItemOutside 4)
+item_in_list_of_predicate : parse_of (codes "all(#, true)") ≡ Err (ItemOutside 4)
 unfolding parse_of tree_of fault_of tokens_of tokens_behind front_of token_of number_of base_of text_of sign_at word_of step starts follows name_of text_value is_in is_group is_brace
-refusal50 = refl
+item_in_list_of_predicate = refl
 
-refusal51 : parse_of (codes "all(result, {#} #)") ≡ Err (ItemOutside 16)
+item_behind_braces : parse_of (codes "all(result, {#} #)") ≡ Err (ItemOutside 16)
 unfolding parse_of tree_of fault_of tokens_of tokens_behind front_of token_of number_of base_of text_of sign_at word_of step starts follows name_of text_value is_in is_group is_brace
-refusal51 = refl
+item_behind_braces = refl
 
-refusal52 : parse_of (codes "all(result, #) and #") ≡ Err (ItemOutside 19)
+item_behind_predicate : parse_of (codes "all(result, #) and #") ≡ Err (ItemOutside 19)
 unfolding parse_of tree_of fault_of tokens_of tokens_behind front_of token_of number_of base_of text_of sign_at word_of step starts follows name_of text_value is_in is_group is_brace
-refusal52 = refl
+item_behind_predicate = refl
 
-refusal53 : parse_of (codes "result.#") ≡ Err (ItemOutside 7)
+item_behind_point : parse_of (codes "result.#") ≡ Err (ItemOutside 7)
 unfolding parse_of tree_of fault_of tokens_of tokens_behind front_of token_of number_of base_of text_of sign_at word_of step starts follows name_of text_value is_in is_group is_brace
-refusal53 = refl
+item_behind_point = refl
 
-refusal54 : parse_of (codes "result[#]") ≡ Err (ItemOutside 7)
+item_in_index : parse_of (codes "result[#]") ≡ Err (ItemOutside 7)
 unfolding parse_of tree_of fault_of tokens_of tokens_behind front_of token_of number_of base_of text_of sign_at word_of step starts follows name_of text_value is_in is_group is_brace
-refusal54 = refl
+item_in_index = refl
 
-refusal55 : parse_of (codes "len #") ≡ Err (ItemOutside 4)
+item_behind_call_name : parse_of (codes "len #") ≡ Err (ItemOutside 4)
 unfolding parse_of tree_of fault_of tokens_of tokens_behind front_of token_of number_of base_of text_of sign_at word_of step starts follows name_of text_value is_in is_group is_brace
-refusal55 = refl
+item_behind_call_name = refl
 
-refusal56 : parse_of (codes "[1, .a]") ≡ Err (ItemOutside 4)
+point_in_list : parse_of (codes "[1, .a]") ≡ Err (ItemOutside 4)
 unfolding parse_of tree_of fault_of tokens_of tokens_behind front_of token_of number_of base_of text_of sign_at word_of step starts follows name_of text_value is_in is_group is_brace
-refusal56 = refl
+point_in_list = refl
 
-refusal57 : parse_of (codes "all(result, # #)") ≡ Err (Unexpected 14)
+two_items : parse_of (codes "all(result, # #)") ≡ Err (Unexpected 14)
 unfolding parse_of tree_of fault_of tokens_of tokens_behind front_of token_of number_of base_of text_of sign_at word_of step starts follows name_of text_value is_in is_group is_brace
-refusal57 = refl
+two_items = refl
 
-refusal58 : parse_of (codes "all(result, #.#)") ≡ Err (Unexpected 14)
+item_as_field : parse_of (codes "all(result, #.#)") ≡ Err (Unexpected 14)
 unfolding parse_of tree_of fault_of tokens_of tokens_behind front_of token_of number_of base_of text_of sign_at word_of step starts follows name_of text_value is_in is_group is_brace
-refusal58 = refl
+item_as_field = refl
 
-refusal59 : parse_of (codes "result . . a") ≡ Err (Unexpected 9)
+two_points : parse_of (codes "result . . a") ≡ Err (Unexpected 9)
 unfolding parse_of tree_of fault_of tokens_of tokens_behind front_of token_of number_of base_of text_of sign_at word_of step starts follows name_of text_value is_in is_group is_brace
-refusal59 = refl
+two_points = refl
 
-refusal60 : parse_of (codes "1 not #") ≡ Err (ItemOutside 6)
+item_behind_not_of_not_in : parse_of (codes "1 not #") ≡ Err (ItemOutside 6)
 unfolding parse_of tree_of fault_of tokens_of tokens_behind front_of token_of number_of base_of text_of sign_at word_of step starts follows name_of text_value is_in is_group is_brace
-refusal60 = refl
+item_behind_not_of_not_in = refl
 
-refusal61 : parse_of (codes "[1,1,1,1,1,1,1,1,1,1,1,1,1,1,1,1,1]") ≡ Err (TooManyItems 32)
+seventeenth_item : parse_of (codes "[1,1,1,1,1,1,1,1,1,1,1,1,1,1,1,1,1]") ≡ Err (TooManyItems 32)
 unfolding parse_of tree_of fault_of tokens_of tokens_behind front_of token_of number_of base_of text_of sign_at word_of step starts follows name_of text_value is_in is_group is_brace
-refusal61 = refl
+seventeenth_item = refl
 
-refusal62 : parse_of (codes "[]") ≡ Err (Unexpected 1)
+empty_list : parse_of (codes "[]") ≡ Err (Unexpected 1)
 unfolding parse_of tree_of fault_of tokens_of tokens_behind front_of token_of number_of base_of text_of sign_at word_of step starts follows name_of text_value is_in is_group is_brace
-refusal62 = refl
+empty_list = refl
 
-refusal63 : parse_of (codes "[1,]") ≡ Err (Unexpected 3)
+list_ends_behind_comma : parse_of (codes "[1,]") ≡ Err (Unexpected 3)
 unfolding parse_of tree_of fault_of tokens_of tokens_behind front_of token_of number_of base_of text_of sign_at word_of step starts follows name_of text_value is_in is_group is_brace
-refusal63 = refl
+list_ends_behind_comma = refl
 
-refusal64 : parse_of (codes "[1") ≡ Err (Unexpected 2)
+list_without_end : parse_of (codes "[1") ≡ Err (Unexpected 2)
 unfolding parse_of tree_of fault_of tokens_of tokens_behind front_of token_of number_of base_of text_of sign_at word_of step starts follows name_of text_value is_in is_group is_brace
-refusal64 = refl
+list_without_end = refl
 
-refusal65 : parse_of (codes "[1}") ≡ Err (Unexpected 2)
+brace_ends_list : parse_of (codes "[1}") ≡ Err (Unexpected 2)
 unfolding parse_of tree_of fault_of tokens_of tokens_behind front_of token_of number_of base_of text_of sign_at word_of step starts follows name_of text_value is_in is_group is_brace
-refusal65 = refl
+brace_ends_list = refl
 
-refusal66 : parse_of (codes "[1 : 2]") ≡ Err (Unexpected 3)
+colon_in_list : parse_of (codes "[1 : 2]") ≡ Err (Unexpected 3)
 unfolding parse_of tree_of fault_of tokens_of tokens_behind front_of token_of number_of base_of text_of sign_at word_of step starts follows name_of text_value is_in is_group is_brace
-refusal66 = refl
+colon_in_list = refl
 
-refusal67 : parse_of (codes "1 in [1,1,1,1,1,1,1,1,1,1,1,1,1,1,1,1,") ≡ Err (TooManyItems 37)
+seventeenth_item_behind_in : parse_of (codes "1 in [1,1,1,1,1,1,1,1,1,1,1,1,1,1,1,1,") ≡ Err (TooManyItems 37)
 unfolding parse_of tree_of fault_of tokens_of tokens_behind front_of token_of number_of base_of text_of sign_at word_of step starts follows name_of text_value is_in is_group is_brace
-refusal67 = refl
+seventeenth_item_behind_in = refl
 
-refusal68 : parse_of (codes "result[[1,1,1,1,1,1,1,1,1,1,1,1,1,1,1,1,") ≡ Err (TooManyItems 39)
+seventeenth_item_in_index : parse_of (codes "result[[1,1,1,1,1,1,1,1,1,1,1,1,1,1,1,1,") ≡ Err (TooManyItems 39)
 unfolding parse_of tree_of fault_of tokens_of tokens_behind front_of token_of number_of base_of text_of sign_at word_of step starts follows name_of text_value is_in is_group is_brace
-refusal68 = refl
+seventeenth_item_in_index = refl
 
-refusal69 : parse_of (codes "!!!!!!!!!!!!!!!!!!!!!!!!!!!!!!!!!!!!!!!!!!!!!!!!!!!!!!!!!!!!!!!!!result") ≡ Err (TooDeep 64)
+sixty_fifth_sign : parse_of (codes "!!!!!!!!!!!!!!!!!!!!!!!!!!!!!!!!!!!!!!!!!!!!!!!!!!!!!!!!!!!!!!!!!result") ≡ Err (TooDeep 64)
 unfolding parse_of tree_of fault_of tokens_of tokens_behind front_of token_of number_of base_of text_of sign_at word_of step starts follows name_of text_value is_in is_group is_brace
-refusal69 = refl
+sixty_fifth_sign = refl
 
-refusal70 : parse_of (codes "!!!!!!!!!!!!!!!!!!!!!!!!!!!!!!!!!!!!!!!!!!!!!!!!!!!!!!!!!!!!!!!!result") ≡ Err (TooDeep 0)
+tree_of_sixty_five_levels : parse_of (codes "!!!!!!!!!!!!!!!!!!!!!!!!!!!!!!!!!!!!!!!!!!!!!!!!!!!!!!!!!!!!!!!!result") ≡ Err (TooDeep 0)
 unfolding parse_of tree_of fault_of tokens_of tokens_behind front_of token_of number_of base_of text_of sign_at word_of step starts follows name_of text_value is_in is_group is_brace
-refusal70 = refl
+tree_of_sixty_five_levels = refl
 
-refusal71 : parse_of (codes "(((((((((((((((((((((((((((((((((((((((((((((((((((((((((((((((((1") ≡ Err (TooDeep 64)
+sixty_fifth_parenthesis : parse_of (codes "(((((((((((((((((((((((((((((((((((((((((((((((((((((((((((((((((1") ≡ Err (TooDeep 64)
 unfolding parse_of tree_of fault_of tokens_of tokens_behind front_of token_of number_of base_of text_of sign_at word_of step starts follows name_of text_value is_in is_group is_brace
-refusal71 = refl
+sixty_fifth_parenthesis = refl
 
-refusal72 : parse_of (codes "[[[[[[[[[[[[[[[[[[[[[[[[[[[[[[[[[[[[[[[[[[[[[[[[[[[[[[[[[[[[[[[[[") ≡ Err (TooDeep 64)
+sixty_fifth_bracket : parse_of (codes "[[[[[[[[[[[[[[[[[[[[[[[[[[[[[[[[[[[[[[[[[[[[[[[[[[[[[[[[[[[[[[[[[") ≡ Err (TooDeep 64)
 unfolding parse_of tree_of fault_of tokens_of tokens_behind front_of token_of number_of base_of text_of sign_at word_of step starts follows name_of text_value is_in is_group is_brace
-refusal72 = refl
+sixty_fifth_bracket = refl
 
-refusal73 : parse_of (codes "----------------------------------------------------------------(1)") ≡ Err (TooDeep 64)
+parenthesis_behind_sixty_four_signs : parse_of (codes "----------------------------------------------------------------(1)") ≡ Err (TooDeep 64)
 unfolding parse_of tree_of fault_of tokens_of tokens_behind front_of token_of number_of base_of text_of sign_at word_of step starts follows name_of text_value is_in is_group is_brace
-refusal73 = refl
+parenthesis_behind_sixty_four_signs = refl
 
-refusal74 : parse_of (codes "----------------------------------------------------------------len(1)") ≡ Err (TooDeep 64)
+call_behind_sixty_four_signs : parse_of (codes "----------------------------------------------------------------len(1)") ≡ Err (TooDeep 64)
 unfolding parse_of tree_of fault_of tokens_of tokens_behind front_of token_of number_of base_of text_of sign_at word_of step starts follows name_of text_value is_in is_group is_brace
-refusal74 = refl
+call_behind_sixty_four_signs = refl
 
-refusal75 : parse_of (codes "((((((((((((((((((((((((((((((((((((((((((((((((((((((((((((((((result[") ≡ Err (TooDeep 70)
+index_behind_sixty_four_parentheses : parse_of (codes "((((((((((((((((((((((((((((((((((((((((((((((((((((((((((((((((result[") ≡ Err (TooDeep 70)
 unfolding parse_of tree_of fault_of tokens_of tokens_behind front_of token_of number_of base_of text_of sign_at word_of step starts follows name_of text_value is_in is_group is_brace
-refusal75 = refl
+index_behind_sixty_four_parentheses = refl
 
-refusal76 : parse_of (codes "((((((((((((((((((((((((((((((((((((((((((((((((((((((((((((((((true ?") ≡ Err (TooDeep 69)
+choice_behind_sixty_four_parentheses : parse_of (codes "((((((((((((((((((((((((((((((((((((((((((((((((((((((((((((((((true ?") ≡ Err (TooDeep 69)
 unfolding parse_of tree_of fault_of tokens_of tokens_behind front_of token_of number_of base_of text_of sign_at word_of step starts follows name_of text_value is_in is_group is_brace
-refusal76 = refl
+choice_behind_sixty_four_parentheses = refl
 
-refusal77 : parse_of (codes "(((((((((((((((((((((((((((((((((((((((((((((((((((((((((((((((all(result, {") ≡ Err (TooDeep 75)
+braces_behind_sixty_two_parentheses : parse_of (codes "(((((((((((((((((((((((((((((((((((((((((((((((((((((((((((((((all(result, {") ≡ Err (TooDeep 75)
 unfolding parse_of tree_of fault_of tokens_of tokens_behind front_of token_of number_of base_of text_of sign_at word_of step starts follows name_of text_value is_in is_group is_brace
-refusal77 = refl
+braces_behind_sixty_two_parentheses = refl
 
-refusal78 : parse_of (codes "((((((((((((((((((((((((((((((((((((((((((((((((((((((((((((((((1") ≡ Err (Unexpected 65)
+sixty_four_parentheses_without_end : parse_of (codes "((((((((((((((((((((((((((((((((((((((((((((((((((((((((((((((((1") ≡ Err (Unexpected 65)
 unfolding parse_of tree_of fault_of tokens_of tokens_behind front_of token_of number_of base_of text_of sign_at word_of step starts follows name_of text_value is_in is_group is_brace
-refusal78 = refl
+sixty_four_parentheses_without_end = refl
 
-refusal79 : parse_of (codes "----------------------------------------------------------------foo") ≡ Err (UnknownName 64)
+name_behind_sixty_four_signs : parse_of (codes "----------------------------------------------------------------foo") ≡ Err (UnknownName 64)
 unfolding parse_of tree_of fault_of tokens_of tokens_behind front_of token_of number_of base_of text_of sign_at word_of step starts follows name_of text_value is_in is_group is_brace
-refusal79 = refl
+name_behind_sixty_four_signs = refl
 
-refusal80 : parse_of (codes "!!!!!!!!!!!!!!!!!!!!!!!!!!!!!!!!!!!!!!!!!!!!!!!!!!!!!!!!!!!!!!!!result ! 1") ≡ Err (Unexpected 71)
+not_behind_operand_and_signs : parse_of (codes "!!!!!!!!!!!!!!!!!!!!!!!!!!!!!!!!!!!!!!!!!!!!!!!!!!!!!!!!!!!!!!!!result ! 1") ≡ Err (Unexpected 71)
 unfolding parse_of tree_of fault_of tokens_of tokens_behind front_of token_of number_of base_of text_of sign_at word_of step starts follows name_of text_value is_in is_group is_brace
-refusal80 = refl
+not_behind_operand_and_signs = refl
 
-refusal81 : parse_of (codes "result >") ≡ Err (Unexpected 8)
+operand_missing : parse_of (codes "result >") ≡ Err (Unexpected 8)
 unfolding parse_of tree_of fault_of tokens_of tokens_behind front_of token_of number_of base_of text_of sign_at word_of step starts follows name_of text_value is_in is_group is_brace
-refusal81 = refl
+operand_missing = refl
 
-refusal82 : parse_of (codes "") ≡ Err (Unexpected 0)
+nothing : parse_of (codes "") ≡ Err (Unexpected 0)
 unfolding parse_of tree_of fault_of tokens_of tokens_behind front_of token_of number_of base_of text_of sign_at word_of step starts follows name_of text_value is_in is_group is_brace
-refusal82 = refl
+nothing = refl
 
-refusal83 : parse_of (codes "result") ≡ Ok (ResultAt 0)
+parenthesis_without_end : parse_of (codes "(1") ≡ Err (Unexpected 2)
 unfolding parse_of tree_of fault_of tokens_of tokens_behind front_of token_of number_of base_of text_of sign_at word_of step starts follows name_of text_value is_in is_group is_brace
-refusal83 = refl
+parenthesis_without_end = refl
 
-refusal84 : parse_of (codes "(1") ≡ Err (Unexpected 2)
+parenthesis_without_begin : parse_of (codes "1)") ≡ Err (Unexpected 1)
 unfolding parse_of tree_of fault_of tokens_of tokens_behind front_of token_of number_of base_of text_of sign_at word_of step starts follows name_of text_value is_in is_group is_brace
-refusal84 = refl
+parenthesis_without_begin = refl
 
-refusal85 : parse_of (codes "1)") ≡ Err (Unexpected 1)
+two_operands : parse_of (codes "1 2") ≡ Err (Unexpected 2)
 unfolding parse_of tree_of fault_of tokens_of tokens_behind front_of token_of number_of base_of text_of sign_at word_of step starts follows name_of text_value is_in is_group is_brace
-refusal85 = refl
+two_operands = refl
 
-refusal86 : parse_of (codes "1 2") ≡ Err (Unexpected 2)
+colon_without_choice : parse_of (codes "1 :") ≡ Err (Unexpected 2)
 unfolding parse_of tree_of fault_of tokens_of tokens_behind front_of token_of number_of base_of text_of sign_at word_of step starts follows name_of text_value is_in is_group is_brace
-refusal86 = refl
+colon_without_choice = refl
 
-refusal87 : parse_of (codes "1 :") ≡ Err (Unexpected 2)
+choice_without_colon : parse_of (codes "true ? 1") ≡ Err (Unexpected 8)
 unfolding parse_of tree_of fault_of tokens_of tokens_behind front_of token_of number_of base_of text_of sign_at word_of step starts follows name_of text_value is_in is_group is_brace
-refusal87 = refl
+choice_without_colon = refl
 
-refusal88 : parse_of (codes "true ? 1") ≡ Err (Unexpected 8)
+choice_without_second_branch : parse_of (codes "true ? 1 :") ≡ Err (Unexpected 10)
 unfolding parse_of tree_of fault_of tokens_of tokens_behind front_of token_of number_of base_of text_of sign_at word_of step starts follows name_of text_value is_in is_group is_brace
-refusal88 = refl
+choice_without_second_branch = refl
 
-refusal89 : parse_of (codes "true ? 1 :") ≡ Err (Unexpected 10)
+choice_without_first_branch : parse_of (codes "true ? : 1") ≡ Err (Unexpected 7)
 unfolding parse_of tree_of fault_of tokens_of tokens_behind front_of token_of number_of base_of text_of sign_at word_of step starts follows name_of text_value is_in is_group is_brace
-refusal89 = refl
+choice_without_first_branch = refl
 
-refusal90 : parse_of (codes "true ? : 1") ≡ Err (Unexpected 7)
+not_in_without_list : parse_of (codes "1 not in") ≡ Err (Unexpected 8)
 unfolding parse_of tree_of fault_of tokens_of tokens_behind front_of token_of number_of base_of text_of sign_at word_of step starts follows name_of text_value is_in is_group is_brace
-refusal90 = refl
+not_in_without_list = refl
 
-refusal91 : parse_of (codes "1 not in") ≡ Err (Unexpected 8)
+not_behind_not : parse_of (codes "1 not not") ≡ Err (Unexpected 6)
 unfolding parse_of tree_of fault_of tokens_of tokens_behind front_of token_of number_of base_of text_of sign_at word_of step starts follows name_of text_value is_in is_group is_brace
-refusal91 = refl
+not_behind_not = refl
 
-refusal92 : parse_of (codes "1 not not") ≡ Err (Unexpected 6)
+not_without_in : parse_of (codes "1 not 2") ≡ Err (Unexpected 6)
 unfolding parse_of tree_of fault_of tokens_of tokens_behind front_of token_of number_of base_of text_of sign_at word_of step starts follows name_of text_value is_in is_group is_brace
-refusal92 = refl
+not_without_in = refl
 
-refusal93 : parse_of (codes "1 not 2") ≡ Err (Unexpected 6)
+name_alone : parse_of (codes "a") ≡ Err (UnknownName 0)
 unfolding parse_of tree_of fault_of tokens_of tokens_behind front_of token_of number_of base_of text_of sign_at word_of step starts follows name_of text_value is_in is_group is_brace
-refusal93 = refl
+name_alone = refl
 
-refusal94 : parse_of (codes "a") ≡ Err (UnknownName 0)
+number_as_field : parse_of (codes "result.1") ≡ Err (Unexpected 7)
 unfolding parse_of tree_of fault_of tokens_of tokens_behind front_of token_of number_of base_of text_of sign_at word_of step starts follows name_of text_value is_in is_group is_brace
-refusal94 = refl
+number_as_field = refl
 
-refusal95 : parse_of (codes "result.1") ≡ Err (Unexpected 7)
+field_in_brackets_without_end : parse_of (codes "result['a'") ≡ Err (Unexpected 10)
 unfolding parse_of tree_of fault_of tokens_of tokens_behind front_of token_of number_of base_of text_of sign_at word_of step starts follows name_of text_value is_in is_group is_brace
-refusal95 = refl
+field_in_brackets_without_end = refl
 
-refusal96 : parse_of (codes "result['a'") ≡ Err (Unexpected 10)
+empty_index : parse_of (codes "result[]") ≡ Err (Unexpected 7)
 unfolding parse_of tree_of fault_of tokens_of tokens_behind front_of token_of number_of base_of text_of sign_at word_of step starts follows name_of text_value is_in is_group is_brace
-refusal96 = refl
+empty_index = refl
 
-refusal97 : parse_of (codes "result[]") ≡ Err (Unexpected 7)
+bracket_twice : parse_of (codes "result['a']]") ≡ Err (Unexpected 11)
 unfolding parse_of tree_of fault_of tokens_of tokens_behind front_of token_of number_of base_of text_of sign_at word_of step starts follows name_of text_value is_in is_group is_brace
-refusal97 = refl
+bracket_twice = refl
 
-refusal98 : parse_of (codes "result['a']]") ≡ Err (Unexpected 11)
+parenthesis_ends_braces : parse_of (codes "all(result, {1)") ≡ Err (Unexpected 14)
 unfolding parse_of tree_of fault_of tokens_of tokens_behind front_of token_of number_of base_of text_of sign_at word_of step starts follows name_of text_value is_in is_group is_brace
-refusal98 = refl
+parenthesis_ends_braces = refl
 
-refusal99 : parse_of (codes "all(result, {1)") ≡ Err (Unexpected 14)
+braces_without_list : parse_of (codes "all({1}, 1)") ≡ Err (Unexpected 4)
 unfolding parse_of tree_of fault_of tokens_of tokens_behind front_of token_of number_of base_of text_of sign_at word_of step starts follows name_of text_value is_in is_group is_brace
-refusal99 = refl
+braces_without_list = refl
 
-refusal100 : parse_of (codes "all({1}, 1)") ≡ Err (Unexpected 4)
+call_name_alone : parse_of (codes "len") ≡ Err (Unexpected 3)
 unfolding parse_of tree_of fault_of tokens_of tokens_behind front_of token_of number_of base_of text_of sign_at word_of step starts follows name_of text_value is_in is_group is_brace
-refusal100 = refl
+call_name_alone = refl
 
-refusal101 : parse_of (codes "len") ≡ Err (Unexpected 3)
+call_name_with_bracket : parse_of (codes "len[") ≡ Err (Unexpected 3)
 unfolding parse_of tree_of fault_of tokens_of tokens_behind front_of token_of number_of base_of text_of sign_at word_of step starts follows name_of text_value is_in is_group is_brace
-refusal101 = refl
+call_name_with_bracket = refl
 
-refusal102 : parse_of (codes "len[") ≡ Err (Unexpected 3)
+braces_first : parse_of (codes "{1}") ≡ Err (Unexpected 0)
 unfolding parse_of tree_of fault_of tokens_of tokens_behind front_of token_of number_of base_of text_of sign_at word_of step starts follows name_of text_value is_in is_group is_brace
-refusal102 = refl
+braces_first = refl
 
-refusal103 : parse_of (codes "{1}") ≡ Err (Unexpected 0)
+two_operators : parse_of (codes "1 && && 2") ≡ Err (Unexpected 5)
 unfolding parse_of tree_of fault_of tokens_of tokens_behind front_of token_of number_of base_of text_of sign_at word_of step starts follows name_of text_value is_in is_group is_brace
-refusal103 = refl
+two_operators = refl
 
-refusal104 : parse_of (codes "1 && && 2") ≡ Err (Unexpected 5)
+operator_first : parse_of (codes "* 1") ≡ Err (Unexpected 0)
 unfolding parse_of tree_of fault_of tokens_of tokens_behind front_of token_of number_of base_of text_of sign_at word_of step starts follows name_of text_value is_in is_group is_brace
-refusal104 = refl
+operator_first = refl
 
-refusal105 : parse_of (codes "* 1") ≡ Err (Unexpected 0)
+in_first : parse_of (codes "in [1]") ≡ Err (Unexpected 0)
 unfolding parse_of tree_of fault_of tokens_of tokens_behind front_of token_of number_of base_of text_of sign_at word_of step starts follows name_of text_value is_in is_group is_brace
-refusal105 = refl
+in_first = refl
 
-refusal106 : parse_of (codes "in [1]") ≡ Err (Unexpected 0)
+not_between_operands : parse_of (codes "1 ! 2") ≡ Err (Unexpected 2)
 unfolding parse_of tree_of fault_of tokens_of tokens_behind front_of token_of number_of base_of text_of sign_at word_of step starts follows name_of text_value is_in is_group is_brace
-refusal106 = refl
+not_between_operands = refl
 
-refusal107 : parse_of (codes "1 ! 2") ≡ Err (Unexpected 2)
+two_texts : parse_of (codes "'a' 'b'") ≡ Err (Unexpected 4)
 unfolding parse_of tree_of fault_of tokens_of tokens_behind front_of token_of number_of base_of text_of sign_at word_of step starts follows name_of text_value is_in is_group is_brace
-refusal107 = refl
+two_texts = refl
 
-refusal108 : parse_of (codes "'a' 'b'") ≡ Err (Unexpected 4)
+number_as_second_field : parse_of (codes "result.len.1") ≡ Err (Unexpected 11)
 unfolding parse_of tree_of fault_of tokens_of tokens_behind front_of token_of number_of base_of text_of sign_at word_of step starts follows name_of text_value is_in is_group is_brace
-refusal108 = refl
-
-refusal109 : parse_of (codes "result.len.1") ≡ Err (Unexpected 11)
-unfolding parse_of tree_of fault_of tokens_of tokens_behind front_of token_of number_of base_of text_of sign_at word_of step starts follows name_of text_value is_in is_group is_brace
-refusal109 = refl
+number_as_second_field = refl

@@ -36,7 +36,7 @@ abbrev pub is_body : Call → ℕ → Bool
 is_body (Over predicate) before = nat_eq before 1
 is_body call before = false
 
--- the tree of a call (with another number of arguments, as no rule allows it, this is nil)
+-- the tree of a call; with another number of arguments, which only rules without that limit allow, it is nil
 abbrev pub called : ℕ → Call → List Expression → Expression
 called at Len (list ∷ []) = LenAt at list
 called at IsNil (operand ∷ []) = IsNilAt at operand

@@ -1,86 +1,27 @@
--- What trees and frames in memory say.
-use Rattle.ar_syntax.specs.Expression.{Expression, ResultAt, ItemAt, LiteralAt, FieldAt, IndexAt, UnaryAt, BinaryAt, ChoiceAt, ListAt, LenAt, IsNilAt, DefaultAt, PredicateAt, expressions}
-use Rattle.std.specs.Prelude.{ℕ, Bool, true, false, nat_le, map, List, [], ◌∷◌, ◌++◌}
-use Rattle.ar_syntax.specs.Machine.{Frame, RightOf, Prefixed, Yes, No, Grouped, Listed, Indexed, Argued, Body, Braced}
-use Rattle.ar_syntax.specs.Roles.{looseness}
-use Rattle.ar_syntax.specs.declared.machine.Frame as rust
-use Rattle.ar_syntax.specs.declared.machine.Frame.TheVariants as frames
+-- What trees in memory say.
+use Rattle.ar_syntax.specs.Expression.{Expression, Expressions, ResultAt, ItemAt, LiteralAt, FieldAt, IndexAt, UnaryAt, BinaryAt, ChoiceAt, ListAt, LenAt, IsNilAt, DefaultAt, PredicateAt, expressions}
 use Rattle.ar_syntax.specs.declared.tree.Tree.{Tree, fold-Tree}
-use Rattle.ar_syntax.specs.declared.tree.Tree.TheOpen.{Tree-F}
+use Rattle.ar_syntax.specs.declared.tree.Tree.TheOpen.{Tree-F, Trees-F}
 
 -- one node, with the children already seen
-abbrev pub node_view : Tree-F Expression → Expression
+abbrev pub node_view : Tree-F Expression Expressions → Expression
 node_view (Tree-F.Result at) = ResultAt at
 node_view (Tree-F.Item at) = ItemAt at
 node_view (Tree-F.Literal at literal) = LiteralAt at literal
-node_view (Tree-F.Field at whole name) = FieldAt at whole.value name
+node_view (Tree-F.Field at owner name) = FieldAt at owner.value name
 node_view (Tree-F.Index at list index) = IndexAt at list.value index.value
 node_view (Tree-F.Unary at operator operand) = UnaryAt at operator operand.value
 node_view (Tree-F.Binary at operator left right) = BinaryAt at operator left.value right.value
 node_view (Tree-F.Choice at condition met unmet) = ChoiceAt at condition.value met.value unmet.value
-node_view (Tree-F.List at items) = ListAt at (expressions items.items)
+node_view (Tree-F.List at items) = ListAt at items
 node_view (Tree-F.Len at list) = LenAt at list.value
 node_view (Tree-F.IsNil at operand) = IsNilAt at operand.value
 node_view (Tree-F.Default at operand otherwise) = DefaultAt at operand.value otherwise.value
 node_view (Tree-F.Predicate at predicate list body) = PredicateAt at predicate list.value body.value
 
+-- trees in order, already seen
+abbrev pub trees_view : Trees-F Expression Expressions → Expressions
+trees_view trees = expressions trees.items.items
+
 abbrev pub expression_of : Tree → Expression
-expression_of = fold-Tree Expression node_view
-
--- what a frame in memory waits for
-abbrev pub frame_of : rust.Frame → Frame
-frame_of (frames.RightOf at operator first) = RightOf at operator (expression_of first)
-frame_of (frames.Prefixed at operator) = Prefixed at operator
-frame_of (frames.Yes at condition) = Yes at (expression_of condition)
-frame_of (frames.No at condition met) = No at (expression_of condition) (expression_of met)
-frame_of frames.Grouped = Grouped
-frame_of (frames.Listed at so_far) = Listed at (map expression_of so_far.items)
-frame_of (frames.Indexed at whole) = Indexed at (expression_of whole)
-frame_of (frames.Argued at function so_far) = Argued at function (map expression_of so_far.items)
-frame_of (frames.Body at function so_far) = Body at function (map expression_of so_far.items)
-frame_of (frames.Braced at function so_far) = Braced at function (map expression_of so_far.items)
-
--- the stack with its newest frame first
-abbrev pub frames_of : List rust.Frame → List Frame
-frames_of [] = []
-frames_of (frame ∷ newer) = frames_of newer ++ frame_of frame ∷ []
-
--- whether a frame ends with an operand, up to a level
-abbrev pub ends_below : ℕ → Frame → Bool
-ends_below level (RightOf at operator first) = nat_le (looseness operator) level
-ends_below level (Prefixed at operator) = true
-ends_below level frame = false
-
-abbrev pub top_ends : ℕ → List Frame → Bool
-top_ends level [] = false
-top_ends level (frame ∷ stack) = ends_below level frame
-
--- the tree of a phrase that ends with an operand
-abbrev pub closed_by : Frame → Expression → Expression
-closed_by (RightOf at operator first) tree = BinaryAt at operator first tree
-closed_by (Prefixed at operator) tree = UnaryAt at operator tree
-closed_by (No at condition met) tree = ChoiceAt at condition met tree
-closed_by frame tree = tree
-
--- whether a frame ends before a closing sign, a comma or a colon
-abbrev pub unwinds : Frame → Bool
-unwinds (RightOf at operator first) = true
-unwinds (Prefixed at operator) = true
-unwinds (No at condition met) = true
-unwinds frame = false
-
-abbrev pub top_unwinds : List Frame → Bool
-top_unwinds [] = false
-top_unwinds (frame ∷ stack) = unwinds frame
-
--- whether what a frame waits for is a predicate
-abbrev pub is_predicate : Frame → Bool
-is_predicate (Body at function so_far) = true
-is_predicate (Braced at function so_far) = true
-is_predicate frame = false
-
--- how many openers a frame keeps unfinished
-abbrev pub openers : Frame → ℕ
-openers (RightOf at operator first) = 0
-openers (Braced at function so_far) = 2
-openers frame = 1
+expression_of = fold-Tree Expression Expressions node_view trees_view

@@ -4,16 +4,16 @@ ghost use Rattle.std.specs.Prelude.{◌≡◌, IfOk, map, ◌∷◌, []};
 ghost use Rattle.ar_syntax.specs.Expression.{FieldAt, IndexAt, UnaryAt, BinaryAt, ChoiceAt, ListAt, LenAt, IsNilAt, DefaultAt, PredicateAt, expressions};
 ghost use Rattle.ar_syntax.specs.Views.{expression_of};
 
-use crate::text::Text;
-use crate::tree::{Binary, Predicate, Tree, Unary};
+use crate::tree::{Binary, Predicate, Tree, Trees, Unary};
+use ar_value::text::Text;
 use std::alloc::{AllocError, Global};
 
-pub(crate) fn field(alloc: Global, at: usize, whole: Tree, name: Text) -> Result<Tree, AllocError>
-    ensures { IfOk result (λ tree. expression_of tree ≡ FieldAt at (expression_of whole) name) }
+pub(crate) fn field(alloc: Global, at: usize, owner: Tree, name: Text) -> Result<Tree, AllocError>
+    ensures { IfOk result (λ tree. expression_of tree ≡ FieldAt at (expression_of owner) name) }
 {
     Ok(Tree::Field {
         at,
-        whole: Box::new(alloc, whole)?,
+        owner: Box::new(alloc, owner)?,
         name,
     })
 }
@@ -80,7 +80,10 @@ pub(crate) fn choice(
 pub(crate) fn list(at: usize, items: Vec<Tree>) -> Tree
     ensures { expression_of result ≡ ListAt at (expressions (map expression_of items.items)) }
 {
-    Tree::List { at, items }
+    Tree::List {
+        at,
+        items: Trees { items },
+    }
 }
 
 pub(crate) fn len(alloc: Global, at: usize, list: Tree) -> Result<Tree, AllocError>

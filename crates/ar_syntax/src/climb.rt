@@ -2,7 +2,8 @@
 
 ghost use Rattle.std.specs.Prelude.{◌≡◌, ◌∷◌, true, false, IfOk, MatchOption};
 ghost use Rattle.ar_syntax.specs.Machine.{Have, climbed, unwound};
-ghost use Rattle.ar_syntax.specs.Views.{closed_by, ends_below, expression_of, frame_of, frames_of, top_ends, top_unwinds, unwinds};
+ghost use Rattle.ar_syntax.specs.Private.Frames.{closed_by, ends_below, frame_of, frames_of, top_ends, top_unwinds, unwinds};
+ghost use Rattle.ar_syntax.specs.Views.{expression_of};
 
 use crate::build::{binary, choice, unary};
 use crate::machine::Frame;
@@ -17,7 +18,8 @@ pub(crate) fn climb(
     level: usize,
     tree: Tree,
 ) -> Result<Tree, AllocError>
-    ensures { IfOk result (λ ended. Have (frames_of stack.new.items) (expression_of ended) ≡ climbed level (frames_of stack.old.items) (expression_of tree)) }
+    ensures { IfOk result (λ ended. Have (frames_of stack.new.items) (expression_of ended)
+        ≡ climbed level (frames_of stack.old.items) (expression_of tree)) }
 {
     let mut tree = tree;
     while let Some(frame) = pop_ended(stack, level) {
@@ -81,7 +83,8 @@ fn close(alloc: Global, frame: Frame, tree: Tree) -> Result<Tree, AllocError>
 /// Ends the phrases that a closing sign, a comma or a colon ends with an operand.
 #[tactic(auto, using(crate::proofs::Climbs::unwinds_all))]
 pub(crate) fn unwind(alloc: Global, stack: &mut Vec<Frame>, tree: Tree) -> Result<Tree, AllocError>
-    ensures { IfOk result (λ ended. Have (frames_of stack.new.items) (expression_of ended) ≡ unwound (frames_of stack.old.items) (expression_of tree)) }
+    ensures { IfOk result (λ ended. Have (frames_of stack.new.items) (expression_of ended)
+        ≡ unwound (frames_of stack.old.items) (expression_of tree)) }
 {
     let mut tree = tree;
     while let Some(frame) = pop_unwound(stack) {

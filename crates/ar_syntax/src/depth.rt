@@ -19,7 +19,7 @@ pub(crate) fn fits(tree: &Tree, levels: usize) -> bool
     let inner = levels - 1;
     match tree {
         Tree::Result { .. } | Tree::Item { .. } | Tree::Literal { .. } => true,
-        Tree::Field { whole, .. } => fits(whole, inner),
+        Tree::Field { owner, .. } => fits(owner, inner),
         Tree::Index { list, index, .. } => fits(list, inner) && fits(index, inner),
         Tree::Unary { operand, .. } => fits(operand, inner),
         Tree::Binary { left, right, .. } => fits(left, inner) && fits(right, inner),
@@ -29,7 +29,7 @@ pub(crate) fn fits(tree: &Tree, levels: usize) -> bool
             no,
             ..
         } => fits(condition, inner) && (fits(yes, inner) && fits(no, inner)),
-        Tree::List { items, .. } => all_fit(items, inner),
+        Tree::List { items, .. } => all_fit(&items.items, inner),
         Tree::Len { list, .. } => fits(list, inner),
         Tree::IsNil { operand, .. } => fits(operand, inner),
         Tree::Default {

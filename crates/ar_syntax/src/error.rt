@@ -32,7 +32,7 @@ pub enum SyntaxError {
     NumberTooLarge(usize),
     /// No condition has the token at this place behind those before it. The end of the text
     /// counts as a token.
-    #[error("byte {0}: Unexpected: no condition goes on so, as `result >= 0.95` does")]
+    #[error("byte {0}: Unexpected: no condition goes on so, as `result >= 0.95` does; a {{{{args.name}}}} gives way to its value before a condition is read")]
     Unexpected(usize),
     /// An operand is wanted here, and the language doesn't name this word.
     #[error("byte {0}: UnknownName: no word of the language, as `result` is, and no name behind a point")]

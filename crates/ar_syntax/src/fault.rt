@@ -2,8 +2,8 @@
 
 ghost use Rattle.std.specs.Prelude.{◌≡◌};
 ghost use Rattle.ar_syntax.specs.Fault.{is_inside, kind_fault, wants_operand};
-ghost use Rattle.ar_syntax.specs.Steps.{fault_by, state_of};
-ghost use Rattle.ar_syntax.specs.Views.{frames_of};
+ghost use Rattle.ar_syntax.specs.Private.Steps.{fault_by, state_of};
+ghost use Rattle.ar_syntax.specs.Private.Frames.{frames_of};
 
 use crate::error::SyntaxError;
 use crate::machine::Frame;
@@ -17,7 +17,7 @@ pub(crate) fn wants_operand(state: &State) -> bool
 {
     matches!(
         state,
-        State::Want | State::WantIndex(..) | State::WantArgument(..)
+        State::Want | State::WantIndex { .. } | State::WantArgument { .. }
     )
 }
 
@@ -27,15 +27,19 @@ pub(crate) fn is_inside(stack: &[Frame], state: &State) -> bool
     ensures { result ≡ is_inside (state_of (frames_of stack.now) state.now) }
 {
     match state {
-        State::WantArgument(_, function, so_far) => inside(stack) || function.is_body(so_far.len()),
+        State::WantArgument {
+            function,
+            so_far,
+            ..
+        } => inside(stack) || function.is_body(so_far.len()),
         State::Want
         | State::Have(_)
-        | State::WantName(..)
-        | State::WantIndex(..)
-        | State::HaveText(..)
-        | State::WantIn(..)
-        | State::WantGroup(..)
-        | State::HaveArgument(..) => inside(stack),
+        | State::WantName { .. }
+        | State::WantIndex { .. }
+        | State::HaveText { .. }
+        | State::WantIn { .. }
+        | State::WantGroup { .. }
+        | State::HaveArgument { .. } => inside(stack),
     }
 }
 

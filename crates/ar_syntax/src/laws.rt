@@ -23,7 +23,7 @@ pub fn one_refusal()
 {}
 
 /// What is parsed is what the text says, and what is refused is what the grammar refuses: each text
-/// whose tokens derive a tree is parsed, and to that tree.
+/// whose tokens derive a tree of at most 64 levels is parsed, and to that tree.
 pub fn parse_is_grammar()
     ensures tree { (text : List ℕ) (tree : Expression)
         → (parse_of text ≡ Ok tree) ↔ SaysTree text tree }

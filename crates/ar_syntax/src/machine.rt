@@ -4,7 +4,7 @@ use crate::role::Call;
 use crate::tree::{Binary, Tree, Unary};
 
 /// A phrase that waits for an operand.
-#[derive(Debug, Drop)]
+#[derive(Drop)]
 pub(crate) enum Frame {
     /// The right side of an operator.
     RightOf {
@@ -38,7 +38,7 @@ pub(crate) enum Frame {
     /// An index.
     Indexed {
         at: usize,
-        whole: Tree,
+        list: Tree,
     },
     /// An argument of a call: a plain one, a predicate, and a predicate in braces.
     Argued {

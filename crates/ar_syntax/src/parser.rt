@@ -1,12 +1,15 @@
 //! From a text's tokens to the tree of a condition.
 
-ghost use Rattle.std.specs.Prelude.{◌≡◌, IfOk, IfErr, option_map};
-ghost use Rattle.ar_syntax.specs.Answer.{Gives};
+ghost use Rattle.std.specs.Prelude.{◌≡◌, ◌<◌, length, Err, IfOk, IfErr, false, option_map};
+ghost use Rattle.ar_value.specs.Answer.{Gives};
 ghost use Rattle.ar_syntax.specs.Machine.{Have, finished, step, whole};
 ghost use Rattle.ar_syntax.specs.Parse.{IsNoCondition, SaysTree, ended, limited, parse_of, stepped, tree_of};
 ghost use Rattle.ar_syntax.specs.Refusal.{strict};
-ghost use Rattle.ar_syntax.specs.Steps.{state_of};
-ghost use Rattle.ar_syntax.specs.Views.{expression_of, frames_of};
+ghost use Rattle.ar_syntax.specs.declared.error.SyntaxError.TheVariants.{TooLong};
+ghost use Rattle.ar_syntax.specs.Private.Steps.{at_state};
+ghost use Rattle.ar_syntax.specs.Tokens.{is_memory, most_condition_bytes};
+ghost use Rattle.ar_syntax.specs.Private.Frames.{frames_of};
+ghost use Rattle.ar_syntax.specs.Views.{expression_of};
 
 use crate::climb::unwind;
 use crate::depth::fits;
@@ -21,7 +24,7 @@ use crate::tree::Tree;
 use std::alloc::{AllocError, Global};
 
 /// How many levels a tree may have.
-const MOST_LEVELS: usize = 64;
+const MOST_TREE_LEVELS: usize = 64;
 
 /// The tree of a condition, by the grammar in expr-lang's Language Definition, of which this is a
 /// part. A node has the place of its operator, or of its first token.
@@ -36,7 +39,10 @@ const MOST_LEVELS: usize = 64;
 /// `Unexpected`. Last, `TooDeep` at byte 0 for a tree of more than 64 levels.
 pub fn parse(alloc: Global, text: &str) -> Result<Tree, SyntaxError>
     // This tree, or this refusal.
-    ensures exact { Gives expression_of result (parse_of text.now) }
+    ensures exact { Gives is_memory expression_of result (parse_of text.now) }
+
+    // A text that is too long is refused for that alone.
+    ensures too_long { most_condition_bytes < length text.now → result ≡ Err TooLong }
 
     // The same in the grammar's words.
     ensures tree { IfOk result (λ tree. SaysTree text.now (expression_of tree)) }
@@ -48,7 +54,8 @@ pub fn parse(alloc: Global, text: &str) -> Result<Tree, SyntaxError>
 /// The tree of a text, or its first refusal: tokens come first, all of them.
 #[tactic(auto, unfolding(crate::specs::Parse::parse_of))]
 fn tree(alloc: Global, text: &str) -> Result<Tree, SyntaxError>
-    ensures { Gives expression_of result (parse_of text.now) }
+    ensures too_long { most_condition_bytes < length text.now → result ≡ Err TooLong }
+    ensures exact { Gives is_memory expression_of result (parse_of text.now) }
 {
     let tokens = tokens(alloc, text)?;
     tree_of_tokens(alloc, &tokens, text.len())
@@ -57,7 +64,7 @@ fn tree(alloc: Global, text: &str) -> Result<Tree, SyntaxError>
 /// The tree of tokens whose text ends at a place.
 #[tactic(auto, unfolding(crate::specs::Parse::tree_of))]
 fn tree_of_tokens(alloc: Global, tokens: &[Token], end: usize) -> Result<Tree, SyntaxError>
-    ensures { Gives expression_of result (tree_of end tokens.now) }
+    ensures { Gives is_memory expression_of result (tree_of end tokens.now) }
 {
     let mut stack = Vec::new(alloc);
     let mut state = State::Want;
@@ -75,7 +82,8 @@ fn stepped(
     state: State,
     token: &Token,
 ) -> Result<State, SyntaxError>
-    ensures { Gives (λ next. state_of (frames_of stack.new.items) next) result (stepped (state_of (frames_of stack.old.items) state) token.now (step strict (state_of (frames_of stack.old.items) state) token.now)) }
+    ensures { Gives is_memory (λ next. at_state stack.new.items next) result
+        (stepped (at_state stack.old.items state) token.now (step strict (at_state stack.old.items state) token.now)) }
 {
     let wants = wants_operand(&state);
     let inside = is_inside(stack, &state);
@@ -87,9 +95,17 @@ fn stepped(
 
 /// The tree where the tokens end.
 fn ended(alloc: Global, stack: Vec<Frame>, state: State, end: usize) -> Result<Tree, SyntaxError>
-    ensures { Gives expression_of result (ended end (finished (state_of (frames_of stack.items) state))) }
+    ensures { Gives is_memory expression_of result (ended end (finished (at_state stack.items state))) }
 {
-    match finished(alloc, stack, state)? {
+    let tree = finished(alloc, stack, state)?;
+    complete(tree, end)
+}
+
+/// The tree of tokens that end at a place, where they are a condition.
+fn complete(tree: Option<Tree>, end: usize) -> Result<Tree, SyntaxError>
+    ensures { Gives (λ _. false) expression_of result (ended end (option_map expression_of tree)) }
+{
+    match tree {
         Some(tree) => limited(tree),
         None => Err(SyntaxError::Unexpected(end)),
     }
@@ -97,9 +113,9 @@ fn ended(alloc: Global, stack: Vec<Frame>, state: State, end: usize) -> Result<T
 
 /// A tree that isn't too deep.
 fn limited(tree: Tree) -> Result<Tree, SyntaxError>
-    ensures { Gives expression_of result (limited (expression_of tree)) }
+    ensures { Gives (λ _. false) expression_of result (limited (expression_of tree)) }
 {
-    if fits(&tree, MOST_LEVELS) {
+    if fits(&tree, MOST_TREE_LEVELS) {
         Ok(tree)
     } else {
         Err(SyntaxError::TooDeep(0))
@@ -108,7 +124,7 @@ fn limited(tree: Tree) -> Result<Tree, SyntaxError>
 
 /// The tree that ends the tokens, where they may end.
 fn finished(alloc: Global, stack: Vec<Frame>, state: State) -> Result<Option<Tree>, AllocError>
-    ensures { IfOk result (λ tree. option_map expression_of tree ≡ finished (state_of (frames_of stack.items) state)) }
+    ensures { IfOk result (λ tree. option_map expression_of tree ≡ finished (at_state stack.items state)) }
 {
     let State::Have(tree) = state else {
         return Ok(None);

@@ -1,13 +1,13 @@
 //! Texts between quotes, at the front of bytes.
 
-ghost use Rattle.std.specs.Prelude.{◌≡◌, ◌+◌, ◌^◌, ◌<◌, ◌≤◌, length, false, IfSome, slice_index, drop};
-ghost use Rattle.ar_syntax.specs.Answer.{Gives};
+ghost use Rattle.std.specs.Prelude.{◌≡◌, ◌+◌, ◌^◌, ◌<◌, ◌≤◌, length, false, IfSome, slice_index, drop, true};
+ghost use Rattle.ar_value.specs.Answer.{Gives};
 ghost use Rattle.ar_syntax.specs.Token.{escape_of, is_quote, text_end, unescaped};
-ghost use Rattle.ar_syntax.specs.Tokens.{text_of};
+ghost use Rattle.ar_syntax.specs.Tokens.{is_memory, text_of};
 
 use crate::error::SyntaxError;
-use crate::text::Text;
 use crate::token::{Token, TokenKind, placed};
+use ar_value::text::Text;
 use std::alloc::Global;
 
 /// How many bytes the quotes of a text have.
@@ -21,15 +21,17 @@ pub(crate) fn is_quote(byte: u8) -> bool
 
 /// The text at the front, up to the quote that it begins with.
 #[tactic(auto, unfolding(crate::specs::Tokens::text_of))]
-pub(crate) fn text_token(alloc: Global, bytes: &[u8], at: usize) -> Result<Token, SyntaxError>
-    requires some_byte { 0 < length bytes.now }
-    requires in_range { at + length bytes.now < 2 ^ 64 }
-    ensures { Gives (λ token. token) result (text_of at bytes.now) }
+pub(crate) fn text_token(alloc: Global, text: &str, at: usize) -> Result<Token, SyntaxError>
+    requires some_byte { 0 < length text.now }
+    requires begins { is_quote (slice_index text.now 0) ≡ true }
+    requires in_range { at + length text.now < 2 ^ 64 }
+    ensures { Gives is_memory (λ token. token) result (text_of at text.now) }
 {
-    let inside = &bytes[1..];
-    let len = text_end(inside, bytes[0]).ok_or(SyntaxError::OpenText(at))?;
+    let bytes = text.as_bytes();
+    let inside = &text[1..];
+    let len = text_end(inside.as_bytes(), bytes[0]).ok_or(SyntaxError::OpenText(at))?;
     let value = unescaped(alloc, &inside[..len], at)?;
-    Ok(placed(TokenKind::Text(Text::new(value)), at, len + QUOTES_LEN))
+    Ok(placed(TokenKind::Text(value), at, len + QUOTES_LEN))
 }
 
 /// The place of the quote that ends a text.
@@ -37,6 +39,7 @@ pub(crate) fn text_token(alloc: Global, bytes: &[u8], at: usize) -> Result<Token
 fn text_end(bytes: &[u8], quote: u8) -> Option<usize>
     ensures end { result ≡ text_end quote 0 false bytes.now }
     ensures in_range { IfSome result (λ end. end < length bytes.now) }
+    ensures quote { IfSome result (λ end. slice_index bytes.now end ≡ quote) }
 {
     let mut escaped = false;
     for (at, byte) in bytes.iter().enumerate() {
@@ -51,11 +54,23 @@ fn text_end(bytes: &[u8], quote: u8) -> Option<usize>
     None
 }
 
+/// What a text directly behind a place stands for.
+fn unescaped(alloc: Global, text: &str, before: usize) -> Result<Text, SyntaxError>
+    requires in_range { before + length text.now < 2 ^ 64 }
+    ensures { Gives is_memory (λ value. value) result (unescaped before false text.now) }
+{
+    let bytes = unescaped_bytes(alloc, text.as_bytes(), before)?;
+    match String::from_utf8(bytes) {
+        Ok(value) => Ok(Text::from(value)),
+        Err(_) => unreachable!(),
+    }
+}
+
 /// What the bytes of a text directly behind a place stand for.
 #[tactic(auto, using(crate::proofs::Quotes::text_values))]
-fn unescaped(alloc: Global, bytes: &[u8], before: usize) -> Result<Vec<u8>, SyntaxError>
+fn unescaped_bytes(alloc: Global, bytes: &[u8], before: usize) -> Result<Vec<u8>, SyntaxError>
     requires in_range { before + length bytes.now < 2 ^ 64 }
-    ensures { Gives (λ value. value.items) result (unescaped before false bytes.now) }
+    ensures { Gives is_memory (λ value. value.items) result (unescaped before false bytes.now) }
 {
     let mut value = Vec::new(alloc);
     let mut escaped = false;

@@ -1,19 +1,20 @@
 //! Cutting a text into tokens.
 
-ghost use Rattle.std.specs.Prelude.{◌≡◌, ◌+◌, ◌^◌, ◌<◌, ◌≤◌, length, false, drop, All, IfOk, IfSome};
-ghost use Rattle.ar_syntax.specs.Answer.{Gives};
-ghost use Rattle.ar_syntax.specs.Tokens.{AreInOrder, IsGapBetween, IsSpelled, begins_block_comment, begins_line_comment, block_comment, comment_end, front_of, is_blank, line_comment, sign_at, sign_of, sign_token, is_coalescing, token_of, tokens_behind, tokens_of, word_at, word_token};
+ghost use Rattle.std.specs.Prelude.{◌≡◌, ◌+◌, ◌^◌, ◌<◌, ◌≤◌, length, false, drop, All, Err, IfOk, IfSome};
+ghost use Rattle.ar_value.specs.Answer.{Gives};
+ghost use Rattle.ar_syntax.specs.Tokens.{AreInOrder, IsGapBetween, IsSpelled, begins_block_comment, begins_line_comment, block_comment, comment_end, front_of, is_blank, line_comment, sign_at, sign_of, sign_token, is_coalescing, is_memory, most_condition_bytes, token_of, tokens_behind, tokens_of, word_at, word_token};
+ghost use Rattle.ar_syntax.specs.declared.error.SyntaxError.TheVariants.{TooLong};
 ghost use Rattle.ar_syntax.specs.Token.{named, word_of};
 
 use crate::error::SyntaxError;
 use crate::number::{begins_number, number_token};
 use crate::quoted::{is_quote, text_token};
-use crate::text::Text;
 use crate::token::{Comparison, Sign, Token, TokenKind, Word, begins_word, continues_word, placed};
+use ar_value::text::Text;
 use std::alloc::{AllocError, Global};
 
 /// How many bytes a condition may have.
-const MOST_BYTES: usize = 4096;
+const MOST_CONDITION_BYTES: usize = 4096;
 
 /// How many bytes begin a comment.
 const COMMENT_SIGN_LEN: usize = 2;
@@ -48,7 +49,7 @@ const SIGNS: [Sign; 25] = [
 ];
 
 /// What stands at the front of bytes: a blank or a comment of so many bytes, or a token.
-#[derive(Debug, Drop)]
+#[derive(Drop)]
 enum Piece {
     Gap(usize),
     Found(Token),
@@ -65,7 +66,10 @@ enum Piece {
 /// `OutOfMemory` where a growth was refused.
 pub fn tokens(alloc: Global, text: &str) -> Result<Vec<Token>, SyntaxError>
     // These tokens, or this fault.
-    ensures exact { Gives (λ tokens. tokens.items) result (tokens_of text.now) }
+    ensures exact { Gives is_memory (λ tokens. tokens.items) result (tokens_of text.now) }
+
+    // A text that is too long is refused for that alone.
+    ensures too_long { most_condition_bytes < length text.now → result ≡ Err TooLong }
 
     // They are the text's parts.
     ensures in_order { IfOk result (λ tokens. AreInOrder 0 (length text.now) tokens.items) }
@@ -78,17 +82,18 @@ pub fn tokens(alloc: Global, text: &str) -> Result<Vec<Token>, SyntaxError>
 /// The tokens of a text that is short enough.
 #[tactic(auto, unfolding(crate::specs::Tokens::tokens_of))]
 fn limited_tokens(alloc: Global, text: &str) -> Result<Vec<Token>, SyntaxError>
-    ensures { Gives (λ tokens. tokens.items) result (tokens_of text.now) }
+    ensures too_long { most_condition_bytes < length text.now → result ≡ Err TooLong }
+    ensures exact { Gives is_memory (λ tokens. tokens.items) result (tokens_of text.now) }
 {
-    if text.len() > MOST_BYTES {
+    if text.len() > MOST_CONDITION_BYTES {
         return Err(SyntaxError::TooLong);
     }
-    scan(alloc, text.as_bytes())
+    scan(alloc, text)
 }
 
-/// The tokens of bytes that are a whole text.
-fn scan(alloc: Global, text: &[u8]) -> Result<Vec<Token>, SyntaxError>
-    ensures { Gives (λ tokens. tokens.items) result (tokens_behind 0 0 false text.now) }
+/// The tokens of a whole text.
+fn scan(alloc: Global, text: &str) -> Result<Vec<Token>, SyntaxError>
+    ensures { Gives is_memory (λ tokens. tokens.items) result (tokens_behind 0 0 false text.now) }
 {
     let mut tokens = Vec::new(alloc);
     let mut field = false;
@@ -113,11 +118,12 @@ fn scan(alloc: Global, text: &[u8]) -> Result<Vec<Token>, SyntaxError>
 /// What stands at the front of bytes that begin at a place of the text. `field` says that a point
 /// here is a field's.
 #[tactic(auto, unfolding(crate::specs::Tokens::front_of))]
-fn front(alloc: Global, bytes: &[u8], at: usize, field: bool) -> Result<Piece, SyntaxError>
-    requires some_byte { 0 < length bytes.now }
-    requires in_range { at + length bytes.now < 2 ^ 64 }
-    ensures { Gives (λ front. front) result (front_of at field bytes.now) }
+fn front(alloc: Global, text: &str, at: usize, field: bool) -> Result<Piece, SyntaxError>
+    requires some_byte { 0 < length text.now }
+    requires in_range { at + length text.now < 2 ^ 64 }
+    ensures { Gives is_memory (λ front. front) result (front_of at field text.now) }
 {
+    let bytes = text.as_bytes();
     if is_blank(bytes[0]) {
         Ok(Piece::Gap(1))
     } else if begins_line_comment(bytes) {
@@ -125,7 +131,7 @@ fn front(alloc: Global, bytes: &[u8], at: usize, field: bool) -> Result<Piece, S
     } else if begins_block_comment(bytes) {
         block_comment(bytes, at)
     } else {
-        Ok(Piece::Found(front_token(alloc, bytes, at, field)?))
+        Ok(Piece::Found(front_token(alloc, text, at, field)?))
     }
 }
 
@@ -181,17 +187,18 @@ fn comment_len(bytes: &[u8]) -> Option<usize>
 
 /// The token at the front.
 #[tactic(auto, unfolding(crate::specs::Tokens::token_of))]
-fn front_token(alloc: Global, bytes: &[u8], at: usize, field: bool) -> Result<Token, SyntaxError>
-    requires some_byte { 0 < length bytes.now }
-    requires in_range { at + length bytes.now < 2 ^ 64 }
-    ensures { Gives (λ token. token) result (token_of at field bytes.now) }
+fn front_token(alloc: Global, text: &str, at: usize, field: bool) -> Result<Token, SyntaxError>
+    requires some_byte { 0 < length text.now }
+    requires in_range { at + length text.now < 2 ^ 64 }
+    ensures { Gives is_memory (λ token. token) result (token_of at field text.now) }
 {
+    let bytes = text.as_bytes();
     if begins_word(bytes[0]) {
-        Ok(word(alloc, bytes, at)?)
+        Ok(word(alloc, text, at)?)
     } else if begins_number(bytes, field) {
         number_token(bytes, at)
     } else if is_quote(bytes[0]) {
-        text_token(alloc, bytes, at)
+        text_token(alloc, text, at)
     } else {
         sign(bytes, at)
     }
@@ -199,12 +206,12 @@ fn front_token(alloc: Global, bytes: &[u8], at: usize, field: bool) -> Result<To
 
 /// The word at the front.
 #[tactic(auto, using(crate::proofs::Fronts::front_parts))]
-fn word(alloc: Global, bytes: &[u8], at: usize) -> Result<Token, AllocError>
-    requires in_range { at + length bytes.now < 2 ^ 64 }
-    ensures { IfOk result (λ token. token ≡ word_token at (word_at bytes.now)) }
+fn word(alloc: Global, text: &str, at: usize) -> Result<Token, AllocError>
+    requires in_range { at + length text.now < 2 ^ 64 }
+    ensures { IfOk result (λ token. token ≡ word_token at (word_at text.now)) }
 {
-    let len = word_len(bytes);
-    Ok(placed(word_kind(alloc, &bytes[..len])?, at, len))
+    let len = word_len(text.as_bytes());
+    Ok(placed(word_kind(alloc, &text[..len])?, at, len))
 }
 
 fn word_len(bytes: &[u8]) -> usize
@@ -218,12 +225,12 @@ fn word_len(bytes: &[u8]) -> usize
 }
 
 /// A word of the language, or a name.
-fn word_kind(alloc: Global, bytes: &[u8]) -> Result<TokenKind, AllocError>
-    ensures { IfOk result (λ kind. kind ≡ named bytes.now (word_of bytes.now)) }
+fn word_kind(alloc: Global, name: &str) -> Result<TokenKind, AllocError>
+    ensures { IfOk result (λ kind. kind ≡ named name.now (word_of name.now)) }
 {
-    match Word::of(bytes) {
+    match Word::of(name) {
         Some(word) => Ok(TokenKind::Word(word)),
-        None => Ok(TokenKind::Name(Text::copied(alloc, bytes)?)),
+        None => Ok(TokenKind::Name(Text::of(alloc, name)?)),
     }
 }
 
@@ -257,5 +264,5 @@ fn sign_at(bytes: &[u8]) -> Option<Sign>
     SIGNS
         .iter()
         .copied()
-        .find(|sign| bytes.starts_with(sign.spelling()))
+        .find(|sign| bytes.starts_with(sign.spelling().as_bytes()))
 }

@@ -2,7 +2,7 @@
 
 ghost use Rattle.std.specs.Prelude.{◌≡◌};
 ghost use Rattle.ar_syntax.specs.Machine.{inside, left};
-ghost use Rattle.ar_syntax.specs.Views.{frame_of, frames_of, is_predicate, openers};
+ghost use Rattle.ar_syntax.specs.Private.Frames.{frame_of, frames_of, is_predicate, openers};
 
 use crate::machine::Frame;
 

@@ -3,16 +3,16 @@
 ghost use Rattle.std.specs.Prelude.{◌≡◌, IfOk};
 ghost use Rattle.ar_syntax.specs.Expression.{LiteralAt};
 ghost use Rattle.ar_syntax.specs.Roles.{Leaf, sign_start, starts, word_start};
-ghost use Rattle.ar_syntax.specs.Steps.{start_of};
+ghost use Rattle.ar_syntax.specs.Private.Steps.{start_of};
 
 use crate::role::Call;
-use crate::text::Text;
 use crate::token::{Sign, Token, TokenKind, Word};
 use crate::tree::{Literal, Predicate, Tree, Unary};
+use ar_value::text::Text;
 use std::alloc::{AllocError, Global};
 
 /// What a token begins.
-#[derive(Debug, Drop)]
+#[derive(Drop)]
 pub(crate) enum Begin {
     Leaf(Tree),
     Prefix(Unary),
@@ -36,7 +36,7 @@ pub(crate) fn begin_of(alloc: Global, inside: bool, token: &Token) -> Result<Beg
         TokenKind::Whole(whole) => Ok(literal(at, Literal::Whole(*whole))),
         TokenKind::Decimal(decimal) => Ok(literal(at, Literal::Decimal(*decimal))),
         TokenKind::Text(text) => {
-            let text = Text::copied(alloc, text.as_bytes())?;
+            let text = Text::of(alloc, text.as_str())?;
             Ok(literal(at, Literal::Text(text)))
         }
         TokenKind::Sign(sign) => Ok(sign_begin(inside, at, *sign)),

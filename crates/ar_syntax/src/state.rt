@@ -4,32 +4,56 @@ ghost use Rattle.std.specs.Prelude.{◌≡◌};
 ghost use Rattle.ar_syntax.specs.declared.state.Refusal.TheVariants.{Memory};
 
 use crate::role::Call;
-use crate::text::Text;
 use crate::tree::Tree;
+use ar_value::text::Text;
 use std::alloc::{AllocError, AllocFailed};
 
 /// What is wanted next, or there.
-#[derive(Debug, Drop)]
+#[derive(Drop)]
 pub(crate) enum State {
     /// An operand is wanted.
     Want,
     /// An operand is there.
     Have(Tree),
     /// A word is wanted, behind the point of a field.
-    WantName(usize, Tree),
+    WantName {
+        at: usize,
+        owner: Tree,
+    },
     /// What stands behind the `[` of an index or field is wanted.
-    WantIndex(usize, Tree),
-    /// A text stands behind such a `[`: the place of the bracket, what stands before it, and the
-    /// text with its place.
-    HaveText(usize, Tree, usize, Text),
+    WantIndex {
+        at: usize,
+        owner: Tree,
+    },
+    /// A text stands behind such a `[`.
+    HaveText {
+        at: usize,
+        owner: Tree,
+        text_at: usize,
+        text: Text,
+    },
     /// `in` is wanted, behind `not`.
-    WantIn(usize, Tree),
+    WantIn {
+        at: usize,
+        first: Tree,
+    },
     /// `(` is wanted, behind the name of a call.
-    WantGroup(usize, Call),
+    WantGroup {
+        at: usize,
+        function: Call,
+    },
     /// An argument is wanted, behind so many.
-    WantArgument(usize, Call, Vec<Tree>),
+    WantArgument {
+        at: usize,
+        function: Call,
+        so_far: Vec<Tree>,
+    },
     /// An argument in braces is there.
-    HaveArgument(usize, Call, Vec<Tree>),
+    HaveArgument {
+        at: usize,
+        function: Call,
+        arguments: Vec<Tree>,
+    },
 }
 
 /// Why a token can't stand next: a limit alone forbids it, or something else does.

@@ -3,12 +3,13 @@
 ghost use Rattle.std.specs.Prelude.{◌≡◌, ◌∷◌, ◌++◌, [], List, length, map, pred, IfOk};
 ghost use Rattle.ar_syntax.specs.Expression.{Expression, FieldAt, LiteralAt};
 ghost use Rattle.ar_syntax.specs.Grammar.{ends_bracket, may_continue, may_open, takes_all, takes_more};
-ghost use Rattle.ar_syntax.specs.Machine.{Argued, Body, Braced, Frame, Have, Indexed, Listed, RightOf, Yes, Want, WantArgument, argue, begin, choose, climbed, close_braced, close_empty, close_text, end_with, follow, have, left, open_index, operate, negate, select, step, unwound, want, when};
+ghost use Rattle.ar_syntax.specs.Machine.{Argued, Body, Braced, Frame, Grouped, Have, Indexed, Listed, RightOf, Yes, Want, WantArgument, argue, begin, choose, climbed, close_braced, close_empty, close_text, end_with, follow, have, left, open_index, operate, negate, select, step, unwound, want, when};
 ghost use Rattle.ar_syntax.specs.Roles.{arity, called, follows, is_body, is_brace, is_group, is_in, looseness, name_of, text_value};
 ghost use Rattle.ar_syntax.specs.declared.tree.Binary.TheVariants.{NotIn};
 ghost use Rattle.ar_syntax.specs.declared.tree.Literal.TheVariants.{Text as TextLiteral};
-ghost use Rattle.ar_syntax.specs.Steps.{Steps, ends_group, start_of, state_of};
-ghost use Rattle.ar_syntax.specs.Views.{expression_of, frame_of, frames_of};
+ghost use Rattle.ar_syntax.specs.Private.Steps.{Steps, StepsFreely, ends_group, start_of, state_of};
+ghost use Rattle.ar_syntax.specs.Private.Frames.{frame_of, frames_of};
+ghost use Rattle.ar_syntax.specs.Views.{expression_of};
 
 use crate::build::{default, field, index, is_nil, len, list, predicate};
 use crate::climb::{climb, unwind};
@@ -17,9 +18,9 @@ use crate::role::{Call, Ender, Follow, follow_of, is_brace, is_group, is_in};
 use crate::stack::{inside, left};
 use crate::start::{Begin, begin_of};
 use crate::state::{Refusal, State};
-use crate::text::Text;
 use crate::token::{Token, TokenKind};
 use crate::tree::{Binary, Literal, Tree};
+use ar_value::text::Text;
 use std::alloc::{AllocError, AllocFailed, Global};
 
 /// How many items a list may have.
@@ -31,7 +32,9 @@ const CONDITION_LEVEL: usize = 5;
 /// One more opener, where one may begin.
 #[tactic(auto, using(crate::proofs::Openers::opener_left, crate::proofs::Openers::no_opener_left, crate::proofs::Climbs::pops))]
 fn open(stack: &mut Vec<Frame>, frame: Frame) -> Result<State, Refusal>
-    ensures { Steps (λ rules. when rules (may_open rules (left (frames_of stack.old.items))) (Want (frame_of frame ∷ frames_of stack.old.items))) (frames_of stack.new.items) result }
+    ensures { Steps
+        (λ rules. when rules (may_open rules (left (frames_of stack.old.items))) (Want (frame_of frame ∷ frames_of stack.old.items)))
+        (frames_of stack.new.items) result }
 {
     if left(stack) == 0 {
         return Err(Refusal::Depth);
@@ -70,10 +73,13 @@ fn begin_with(
             if left(stack) == 0 {
                 Err(Refusal::Depth)
             } else {
-                Ok(State::WantGroup(at, function))
+                Ok(State::WantGroup { at, function })
             }
         }
-        Begin::ItemPoint => Ok(State::WantName(at, Tree::Item { at })),
+        Begin::ItemPoint => {
+            let owner = Tree::Item { at };
+            Ok(State::WantName { at, owner })
+        }
         Begin::NoStart => Err(Refusal::Other),
     }
 }
@@ -97,12 +103,12 @@ fn have(alloc: Global, stack: &mut Vec<Frame>, tree: Tree, token: &Token) -> Res
         Follow::Operator(operator) => operate(alloc, stack, tree, at, operator),
         Follow::NotOf => negate(alloc, stack, tree, at),
         Follow::Choose => choose(alloc, stack, tree, at),
-        Follow::Select => Ok(State::WantName(at, tree)),
+        Follow::Select => Ok(State::WantName { at, owner: tree }),
         Follow::Open => {
             if left(stack) == 0 {
                 Err(Refusal::Depth)
             } else {
-                Ok(State::WantIndex(at, tree))
+                Ok(State::WantIndex { at, owner: tree })
             }
         }
         Follow::Ends(ender) => end_with(alloc, stack, tree, ender),
@@ -119,7 +125,9 @@ fn operate(
     at: usize,
     operator: Binary,
 ) -> Result<State, Refusal>
-    ensures { Steps (λ rules. operate rules at operator (climbed (looseness operator) (frames_of stack.old.items) (expression_of tree))) (frames_of stack.new.items) result }
+    ensures { Steps
+        (λ rules. operate rules at operator (climbed (looseness operator) (frames_of stack.old.items) (expression_of tree)))
+        (frames_of stack.new.items) result }
 {
     let first = climb(alloc, stack, operator.looseness(), tree)?;
     stack.push(Frame::RightOf {
@@ -132,32 +140,52 @@ fn operate(
 
 /// `not` behind the first operand of `not in`.
 fn negate(alloc: Global, stack: &mut Vec<Frame>, tree: Tree, at: usize) -> Result<State, Refusal>
-    ensures { Steps (λ rules. negate rules at (climbed (looseness NotIn) (frames_of stack.old.items) (expression_of tree))) (frames_of stack.new.items) result }
+    ensures { Steps
+        (λ rules. negate rules at (climbed (looseness NotIn) (frames_of stack.old.items) (expression_of tree)))
+        (frames_of stack.new.items) result }
 {
     let first = climb(alloc, stack, Binary::NotIn.looseness(), tree)?;
-    Ok(State::WantIn(at, first))
+    Ok(State::WantIn { at, first })
 }
 
 /// `?` behind its condition.
 #[tactic(auto, using(crate::proofs::Openers::opener_left, crate::proofs::Openers::no_opener_left))]
 fn choose(alloc: Global, stack: &mut Vec<Frame>, tree: Tree, at: usize) -> Result<State, Refusal>
-    ensures { Steps (λ rules. choose rules at (climbed 5 (frames_of stack.old.items) (expression_of tree))) (frames_of stack.new.items) result }
+    ensures { Steps
+        (λ rules. choose rules at (climbed 5 (frames_of stack.old.items) (expression_of tree)))
+        (frames_of stack.new.items) result }
 {
     let condition = climb(alloc, stack, CONDITION_LEVEL, tree)?;
     open(stack, Frame::Yes { at, condition })
 }
 
 /// A closing sign, a comma or a colon behind the operand that it ends.
-#[tactic(auto, using(crate::proofs::Climbs::pops))]
 fn end_with(
     alloc: Global,
     stack: &mut Vec<Frame>,
     tree: Tree,
     ender: Ender,
 ) -> Result<State, Refusal>
-    ensures { Steps (λ rules. end_with rules ender (unwound (frames_of stack.old.items) (expression_of tree))) (frames_of stack.new.items) result }
+    ensures { Steps
+        (λ rules. end_with rules ender (unwound (frames_of stack.old.items) (expression_of tree)))
+        (frames_of stack.new.items) result }
 {
     let tree = unwind(alloc, stack, tree)?;
+    end_newest(alloc, stack, tree, ender)
+}
+
+/// What a closing sign, a comma or a colon makes of the newest frame.
+#[tactic(auto, using(crate::proofs::Climbs::pops))]
+fn end_newest(
+    alloc: Global,
+    stack: &mut Vec<Frame>,
+    tree: Tree,
+    ender: Ender,
+) -> Result<State, Refusal>
+    ensures { Steps
+        (λ rules. end_with rules ender (Have (frames_of stack.old.items) (expression_of tree)))
+        (frames_of stack.new.items) result }
+{
     match stack.pop() {
         Some(frame) => end_frame(alloc, stack, frame, tree, ender),
         None => Err(Refusal::Other),
@@ -165,7 +193,6 @@ fn end_with(
 }
 
 /// What a closing sign, a comma or a colon makes of the frame that waited for the operand.
-#[tactic(auto, using(crate::proofs::Climbs::pops))]
 fn end_frame(
     alloc: Global,
     stack: &mut Vec<Frame>,
@@ -173,18 +200,14 @@ fn end_frame(
     tree: Tree,
     ender: Ender,
 ) -> Result<State, Refusal>
-    ensures { Steps (λ rules. end_with rules ender (Have (frame_of frame ∷ frames_of stack.old.items) (expression_of tree))) (frames_of stack.new.items) result }
+    ensures { Steps
+        (λ rules. end_with rules ender (Have (frame_of frame ∷ frames_of stack.old.items) (expression_of tree)))
+        (frames_of stack.new.items) result }
 {
     match frame {
         Frame::Yes { at, condition } => end_yes(stack, at, condition, tree, ender),
-        Frame::Grouped => match ender {
-            Ender::EndGroup => Ok(State::Have(tree)),
-            _ => Err(Refusal::Other),
-        },
-        Frame::Indexed { at, whole } => match ender {
-            Ender::EndBracket => Ok(State::Have(index(alloc, at, whole, tree)?)),
-            _ => Err(Refusal::Other),
-        },
+        Frame::Grouped => end_group(tree, ender),
+        Frame::Indexed { at, list } => end_index(alloc, at, list, tree, ender),
         Frame::Listed { at, so_far } => end_item(stack, at, with_item(so_far, tree)?, ender),
         Frame::Argued {
             at,
@@ -200,13 +223,58 @@ fn end_frame(
             at,
             function,
             so_far,
-        } => match ender {
-            Ender::EndBrace => Ok(State::HaveArgument(at, function, with_item(so_far, tree)?)),
-            _ => Err(Refusal::Other),
-        },
+        } => end_braces(at, function, with_item(so_far, tree)?, ender),
         Frame::RightOf { .. } => Err(Refusal::Other),
         Frame::Prefixed { .. } => Err(Refusal::Other),
         Frame::No { .. } => Err(Refusal::Other),
+    }
+}
+
+/// What stands in parentheses ends.
+fn end_group(tree: Tree, ender: Ender) -> Result<State, Refusal>
+    ensures { (stack : _) → StepsFreely (λ rules. end_with rules ender (Have (Grouped ∷ stack) (expression_of tree))) stack result }
+{
+    match ender {
+        Ender::EndGroup => Ok(State::Have(tree)),
+        _ => Err(Refusal::Other),
+    }
+}
+
+/// An index ends.
+fn end_index(
+    alloc: Global,
+    at: usize,
+    list: Tree,
+    tree: Tree,
+    ender: Ender,
+) -> Result<State, Refusal>
+    ensures { (stack : _) → Steps
+        (λ rules. end_with rules ender (Have (Indexed at (expression_of list) ∷ stack) (expression_of tree)))
+        stack result }
+{
+    match ender {
+        Ender::EndBracket => Ok(State::Have(index(alloc, at, list, tree)?)),
+        _ => Err(Refusal::Other),
+    }
+}
+
+/// An argument in braces ends, the last of these.
+fn end_braces(
+    at: usize,
+    function: Call,
+    arguments: Vec<Tree>,
+    ender: Ender,
+) -> Result<State, Refusal>
+    ensures { (stack : _) (before : List Expression) (last : Expression) → map expression_of arguments.items ≡ before ++ last ∷ []
+        → StepsFreely (λ rules. end_with rules ender (Have (Braced at function before ∷ stack) last)) stack result }
+{
+    match ender {
+        Ender::EndBrace => Ok(State::HaveArgument {
+            at,
+            function,
+            arguments,
+        }),
+        _ => Err(Refusal::Other),
     }
 }
 
@@ -219,7 +287,9 @@ fn end_yes(
     met: Tree,
     ender: Ender,
 ) -> Result<State, Refusal>
-    ensures { Steps (λ rules. end_with rules ender (Have (Yes at (expression_of condition) ∷ frames_of stack.old.items) (expression_of met))) (frames_of stack.new.items) result }
+    ensures { Steps
+        (λ rules. end_with rules ender (Have (Yes at (expression_of condition) ∷ frames_of stack.old.items) (expression_of met)))
+        (frames_of stack.new.items) result }
 {
     if ender != Ender::Colon {
         return Err(Refusal::Other);
@@ -236,7 +306,9 @@ fn end_item(
     ender: Ender,
 ) -> Result<State, Refusal>
     ensures { (before : List Expression) (last : Expression) → map expression_of items.items ≡ before ++ last ∷ []
-        → Steps (λ rules. end_with rules ender (Have (Listed at before ∷ frames_of stack.old.items) last)) (frames_of stack.new.items) result }
+        → Steps
+        (λ rules. end_with rules ender (Have (Listed at before ∷ frames_of stack.old.items) last))
+        (frames_of stack.new.items) result }
 {
     match ender {
         Ender::EndBracket => Ok(State::Have(list(at, items))),
@@ -268,7 +340,10 @@ fn end_argument(
 /// One more item of a list, where there may be one.
 #[tactic(auto, using(crate::proofs::Climbs::pops, crate::proofs::Openers::item_left, crate::proofs::Openers::no_item_left))]
 fn next_item(stack: &mut Vec<Frame>, at: usize, so_far: Vec<Tree>) -> Result<State, Refusal>
-    ensures { Steps (λ rules. when rules (may_continue rules (length (map expression_of so_far.items))) (Want (Listed at (map expression_of so_far.items) ∷ frames_of stack.old.items))) (frames_of stack.new.items) result }
+    ensures { Steps
+        (λ rules. when rules (may_continue rules (length (map expression_of so_far.items)))
+        (Want (Listed at (map expression_of so_far.items) ∷ frames_of stack.old.items)))
+        (frames_of stack.new.items) result }
 {
     if so_far.len() >= MOST_ITEMS {
         return Err(Refusal::Items);
@@ -280,10 +355,17 @@ fn next_item(stack: &mut Vec<Frame>, at: usize, so_far: Vec<Tree>) -> Result<Sta
 /// One more argument of a call, where there may be one.
 #[tactic(auto, using(crate::proofs::Openers::argument_left, crate::proofs::Openers::no_argument_left))]
 fn next_argument(at: usize, function: Call, so_far: Vec<Tree>) -> Result<State, Refusal>
-    ensures { (stack : _) → Steps (λ rules. when rules (takes_more rules function (length (map expression_of so_far.items))) (WantArgument stack at function (map expression_of so_far.items))) stack result }
+    ensures { (stack : _) → StepsFreely
+        (λ rules. when rules (takes_more rules function (length (map expression_of so_far.items)))
+        (WantArgument stack at function (map expression_of so_far.items)))
+        stack result }
 {
     if so_far.len() < function.arity() {
-        Ok(State::WantArgument(at, function, so_far))
+        Ok(State::WantArgument {
+            at,
+            function,
+            so_far,
+        })
     } else {
         Err(Refusal::Arguments)
     }
@@ -297,7 +379,10 @@ fn end_call(
     function: Call,
     arguments: Vec<Tree>,
 ) -> Result<State, Refusal>
-    ensures { (stack : _) → Steps (λ rules. when rules (takes_all rules function (length (map expression_of arguments.items))) (Have stack (called at function (map expression_of arguments.items)))) stack result }
+    ensures { (stack : _) → Steps
+        (λ rules. when rules (takes_all rules function (length (map expression_of arguments.items)))
+        (Have stack (called at function (map expression_of arguments.items))))
+        stack result }
 {
     if arguments.len() == function.arity() {
         Ok(State::Have(call(alloc, at, function, arguments)?))
@@ -335,15 +420,15 @@ fn call(alloc: Global, at: usize, function: Call, arguments: Vec<Tree>) -> Resul
 
 /// Behind the point of a field.
 #[tactic(auto, unfolding(crate::specs::Roles::name_of))]
-fn select(alloc: Global, at: usize, whole: Tree, token: &Token) -> Result<State, Refusal>
-    ensures { (stack : _) → Steps (λ rules. select rules stack at (expression_of whole) (name_of token.now)) stack result }
+fn select(alloc: Global, at: usize, owner: Tree, token: &Token) -> Result<State, Refusal>
+    ensures { (stack : _) → Steps (λ rules. select rules stack at (expression_of owner) (name_of token.now)) stack result }
 {
     let name = match &token.kind {
-        TokenKind::Word(word) => Text::copied(alloc, word.letters())?,
-        TokenKind::Name(name) => Text::copied(alloc, name.as_bytes())?,
+        TokenKind::Word(word) => Text::of(alloc, word.letters())?,
+        TokenKind::Name(name) => Text::of(alloc, name.as_str())?,
         _ => return Err(Refusal::Other),
     };
-    Ok(State::Have(field(alloc, at, whole, name)?))
+    Ok(State::Have(field(alloc, at, owner, name)?))
 }
 
 /// A text token's text.
@@ -352,7 +437,7 @@ fn text_of(alloc: Global, token: &Token) -> Result<Option<Text>, AllocError>
     ensures { IfOk result (λ text. text ≡ text_value token.now) }
 {
     match &token.kind {
-        TokenKind::Text(text) => Ok(Some(Text::copied(alloc, text.as_bytes())?)),
+        TokenKind::Text(text) => Ok(Some(Text::of(alloc, text.as_str())?)),
         _ => Ok(None),
     }
 }
@@ -363,15 +448,22 @@ fn open_index(
     alloc: Global,
     stack: &mut Vec<Frame>,
     at: usize,
-    whole: Tree,
+    owner: Tree,
     token: &Token,
 ) -> Result<State, Refusal>
-    ensures { Steps (λ rules. open_index rules (frames_of stack.old.items) at (expression_of whole) token.now (text_value token.now)) (frames_of stack.new.items) result }
+    ensures { Steps
+        (λ rules. open_index rules (frames_of stack.old.items) at (expression_of owner) token.now (text_value token.now))
+        (frames_of stack.new.items) result }
 {
     match text_of(alloc, token)? {
-        Some(text) => Ok(State::HaveText(at, whole, token.span.start, text)),
+        Some(text) => Ok(State::HaveText {
+            at,
+            owner,
+            text_at: token.span.start,
+            text,
+        }),
         None => {
-            stack.push(Frame::Indexed { at, whole })?;
+            stack.push(Frame::Indexed { at, list: owner })?;
             want(alloc, stack, token)
         }
     }
@@ -390,18 +482,20 @@ fn close_text(
     alloc: Global,
     stack: &mut Vec<Frame>,
     at: usize,
-    whole: Tree,
+    owner: Tree,
     literal: (usize, Text),
     token: &Token,
 ) -> Result<State, Refusal>
-    ensures { Steps (λ rules. close_text rules (frames_of stack.old.items) at (expression_of whole) literal.0 literal.1 token.now (follows token.now)) (frames_of stack.new.items) result }
+    ensures { Steps
+        (λ rules. close_text rules (frames_of stack.old.items) at (expression_of owner) literal.0 literal.1 token.now (follows token.now))
+        (frames_of stack.new.items) result }
 {
     let (text_at, text) = literal;
     if closes_bracket(token) {
-        return Ok(State::Have(field(alloc, at, whole, text)?));
+        return Ok(State::Have(field(alloc, at, owner, text)?));
     }
     let tree = text_operand(text_at, text);
-    have_indexed(alloc, stack, at, whole, tree, token)
+    have_indexed(alloc, stack, at, owner, tree, token)
 }
 
 fn text_operand(at: usize, text: Text) -> Tree
@@ -419,20 +513,24 @@ fn have_indexed(
     alloc: Global,
     stack: &mut Vec<Frame>,
     at: usize,
-    whole: Tree,
+    list: Tree,
     tree: Tree,
     token: &Token,
 ) -> Result<State, Refusal>
-    ensures { Steps (λ rules. have rules (Indexed at (expression_of whole) ∷ frames_of stack.old.items) (expression_of tree) token.now) (frames_of stack.new.items) result }
+    ensures { Steps
+        (λ rules. have rules (Indexed at (expression_of list) ∷ frames_of stack.old.items) (expression_of tree) token.now)
+        (frames_of stack.new.items) result }
 {
-    stack.push(Frame::Indexed { at, whole })?;
+    stack.push(Frame::Indexed { at, list })?;
     have(alloc, stack, tree, token)
 }
 
 /// Behind the `not` of `not in`.
 #[tactic(auto, using(crate::proofs::Climbs::pops))]
 fn want_in(stack: &mut Vec<Frame>, at: usize, first: Tree, token: &Token) -> Result<State, Refusal>
-    ensures { Steps (λ rules. when rules (is_in token.now) (Want (RightOf at NotIn (expression_of first) ∷ frames_of stack.old.items))) (frames_of stack.new.items) result }
+    ensures { Steps
+        (λ rules. when rules (is_in token.now) (Want (RightOf at NotIn (expression_of first) ∷ frames_of stack.old.items)))
+        (frames_of stack.new.items) result }
 {
     if !is_in(token) {
         return Err(Refusal::Other);
@@ -447,10 +545,15 @@ fn want_in(stack: &mut Vec<Frame>, at: usize, first: Tree, token: &Token) -> Res
 
 /// Behind the name of a call.
 fn want_group(alloc: Global, at: usize, function: Call, token: &Token) -> Result<State, Refusal>
-    ensures { (stack : _) → Steps (λ rules. when rules (is_group token.now) (WantArgument stack at function [])) stack result }
+    ensures { (stack : _) → StepsFreely (λ rules. when rules (is_group token.now) (WantArgument stack at function [])) stack result }
 {
     if is_group(token) {
-        Ok(State::WantArgument(at, function, Vec::new(alloc)))
+        let so_far = Vec::new(alloc);
+        Ok(State::WantArgument {
+            at,
+            function,
+            so_far,
+        })
     } else {
         Err(Refusal::Other)
     }
@@ -466,7 +569,9 @@ fn want_argument(
     so_far: Vec<Tree>,
     token: &Token,
 ) -> Result<State, Refusal>
-    ensures { Steps (λ rules. close_empty rules (frames_of stack.old.items) at function token.now (map expression_of so_far.items) (follows token.now)) (frames_of stack.new.items) result }
+    ensures { Steps
+        (λ rules. close_empty rules (frames_of stack.old.items) at function token.now (map expression_of so_far.items) (follows token.now))
+        (frames_of stack.new.items) result }
 {
     if so_far.is_empty() && closes_group(token) {
         return Err(Refusal::Arguments);
@@ -491,7 +596,10 @@ fn argue(
     so_far: Vec<Tree>,
     token: &Token,
 ) -> Result<State, Refusal>
-    ensures { Steps (λ rules. argue rules (frames_of stack.old.items) at function (map expression_of so_far.items) token.now (is_body function (length (map expression_of so_far.items))) (is_brace token.now)) (frames_of stack.new.items) result }
+    ensures { Steps
+        (λ rules. argue rules (frames_of stack.old.items) at function (map expression_of so_far.items) token.now
+        (is_body function (length (map expression_of so_far.items))) (is_brace token.now))
+        (frames_of stack.new.items) result }
 {
     if !function.is_body(so_far.len()) {
         stack.push(Frame::Argued {
@@ -520,7 +628,10 @@ fn open_braces(
     function: Call,
     so_far: Vec<Tree>,
 ) -> Result<State, Refusal>
-    ensures { Steps (λ rules. when rules (may_open rules (pred (left (frames_of stack.old.items)))) (Want (Braced at function (map expression_of so_far.items) ∷ frames_of stack.old.items))) (frames_of stack.new.items) result }
+    ensures { Steps
+        (λ rules. when rules (may_open rules (pred (left (frames_of stack.old.items))))
+        (Want (Braced at function (map expression_of so_far.items) ∷ frames_of stack.old.items)))
+        (frames_of stack.new.items) result }
 {
     if left(stack) < 2 {
         return Err(Refusal::Depth);
@@ -541,7 +652,9 @@ fn have_argument(
     arguments: Vec<Tree>,
     token: &Token,
 ) -> Result<State, Refusal>
-    ensures { (stack : _) → Steps (λ rules. close_braced rules stack at function (map expression_of arguments.items) (follows token.now)) stack result }
+    ensures { (stack : _) → Steps
+        (λ rules. close_braced rules stack at function (map expression_of arguments.items) (follows token.now))
+        stack result }
 {
     match follow_of(token) {
         Follow::Ends(Ender::EndGroup) => end_call(alloc, at, function, arguments),
@@ -563,18 +676,25 @@ pub(crate) fn step(
     match state {
         State::Want => want(alloc, stack, token),
         State::Have(tree) => have(alloc, stack, tree, token),
-        State::WantName(at, whole) => select(alloc, at, whole, token),
-        State::WantIndex(at, whole) => open_index(alloc, stack, at, whole, token),
-        State::HaveText(at, whole, text_at, text) => {
-            close_text(alloc, stack, at, whole, (text_at, text), token)
-        }
-        State::WantIn(at, first) => want_in(stack, at, first, token),
-        State::WantGroup(at, function) => want_group(alloc, at, function, token),
-        State::WantArgument(at, function, so_far) => {
-            want_argument(alloc, stack, at, function, so_far, token)
-        }
-        State::HaveArgument(at, function, so_far) => {
-            have_argument(alloc, at, function, so_far, token)
-        }
+        State::WantName { at, owner } => select(alloc, at, owner, token),
+        State::WantIndex { at, owner } => open_index(alloc, stack, at, owner, token),
+        State::HaveText {
+            at,
+            owner,
+            text_at,
+            text,
+        } => close_text(alloc, stack, at, owner, (text_at, text), token),
+        State::WantIn { at, first } => want_in(stack, at, first, token),
+        State::WantGroup { at, function } => want_group(alloc, at, function, token),
+        State::WantArgument {
+            at,
+            function,
+            so_far,
+        } => want_argument(alloc, stack, at, function, so_far, token),
+        State::HaveArgument {
+            at,
+            function,
+            arguments,
+        } => have_argument(alloc, at, function, arguments, token),
     }
 }

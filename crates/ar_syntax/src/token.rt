@@ -4,8 +4,8 @@ ghost use Rattle.std.specs.Prelude.{◌≡◌, ◌+◌, ◌^◌, ◌<◌};
 ghost use Rattle.ar_syntax.specs.Token.{begins_word, comparison_sign, continues_word, letters, radix, spelling, takes_field, word_of};
 ghost use Rattle.ar_syntax.specs.Tokens.{token};
 
-use crate::text::Text;
 use ar_value::decimal::Decimal;
+use ar_value::text::Text;
 
 /// Where a token stands in its text: byte offsets from 0, `end` being the first byte behind it.
 #[derive(Clone, Copy, Debug, PartialEq, Eq)]
@@ -134,46 +134,46 @@ impl Base {
 
 impl Sign {
     /// How the sign is written.
-    pub fn spelling(self) -> &'static [u8]
+    pub fn spelling(self) -> &'static str
         ensures { result.now ≡ spelling self }
     {
         match self {
             Sign::Comparison(comparison) => comparison.sign(),
-            Sign::And => b"&&",
-            Sign::Or => b"||",
-            Sign::Not => b"!",
-            Sign::Plus => b"+",
-            Sign::Minus => b"-",
-            Sign::Star => b"*",
-            Sign::Slash => b"/",
-            Sign::Percent => b"%",
-            Sign::Question => b"?",
-            Sign::Colon => b":",
-            Sign::Comma => b",",
-            Sign::Point => b".",
-            Sign::OpenParenthesis => b"(",
-            Sign::CloseParenthesis => b")",
-            Sign::OpenBracket => b"[",
-            Sign::CloseBracket => b"]",
-            Sign::OpenBrace => b"{",
-            Sign::CloseBrace => b"}",
-            Sign::Hash => b"#",
+            Sign::And => "&&",
+            Sign::Or => "||",
+            Sign::Not => "!",
+            Sign::Plus => "+",
+            Sign::Minus => "-",
+            Sign::Star => "*",
+            Sign::Slash => "/",
+            Sign::Percent => "%",
+            Sign::Question => "?",
+            Sign::Colon => ":",
+            Sign::Comma => ",",
+            Sign::Point => ".",
+            Sign::OpenParenthesis => "(",
+            Sign::CloseParenthesis => ")",
+            Sign::OpenBracket => "[",
+            Sign::CloseBracket => "]",
+            Sign::OpenBrace => "{",
+            Sign::CloseBrace => "}",
+            Sign::Hash => "#",
         }
     }
 }
 
 impl Comparison {
     /// The sign of the comparison.
-    pub fn sign(self) -> &'static [u8]
+    pub fn sign(self) -> &'static str
         ensures { result.now ≡ comparison_sign self }
     {
         match self {
-            Comparison::Equal => b"==",
-            Comparison::NotEqual => b"!=",
-            Comparison::Less => b"<",
-            Comparison::LessOrEqual => b"<=",
-            Comparison::Greater => b">",
-            Comparison::GreaterOrEqual => b">=",
+            Comparison::Equal => "==",
+            Comparison::NotEqual => "!=",
+            Comparison::Less => "<",
+            Comparison::LessOrEqual => "<=",
+            Comparison::Greater => ">",
+            Comparison::GreaterOrEqual => ">=",
         }
     }
 }
@@ -199,37 +199,37 @@ const NAMED_WORDS: [Word; 15] = [
 
 impl Word {
     /// How the language spells the word.
-    pub fn letters(self) -> &'static [u8]
+    pub fn letters(self) -> &'static str
         ensures { result.now ≡ letters self }
     {
         match self {
-            Word::Result => b"result",
-            Word::True => b"true",
-            Word::False => b"false",
-            Word::Nil => b"nil",
-            Word::And => b"and",
-            Word::Or => b"or",
-            Word::Not => b"not",
-            Word::In => b"in",
-            Word::Len => b"len",
-            Word::IsNil => b"isNil",
-            Word::Default => b"default",
-            Word::All => b"all",
-            Word::Any => b"any",
-            Word::Count => b"count",
-            Word::Filter => b"filter",
+            Word::Result => "result",
+            Word::True => "true",
+            Word::False => "false",
+            Word::Nil => "nil",
+            Word::And => "and",
+            Word::Or => "or",
+            Word::Not => "not",
+            Word::In => "in",
+            Word::Len => "len",
+            Word::IsNil => "isNil",
+            Word::Default => "default",
+            Word::All => "all",
+            Word::Any => "any",
+            Word::Count => "count",
+            Word::Filter => "filter",
         }
     }
 
     /// The word that the language spells so.
     #[tactic(auto, unfolding(crate::specs::Token::word_of))]
-    pub fn of(bytes: &[u8]) -> Option<Word>
-        ensures { result ≡ word_of bytes.now }
+    pub fn of(name: &str) -> Option<Word>
+        ensures { result ≡ word_of name.now }
     {
         NAMED_WORDS
             .iter()
             .copied()
-            .find(|word| word.letters() == bytes)
+            .find(|word| word.letters() == name)
     }
 }
 

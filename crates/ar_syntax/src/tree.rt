@@ -4,9 +4,9 @@ ghost use Rattle.std.specs.Prelude.{◌≡◌};
 ghost use Rattle.ar_syntax.specs.Expression.{place_of};
 ghost use Rattle.ar_syntax.specs.Views.{expression_of};
 
-use crate::text::Text;
 use crate::token::Comparison;
 use ar_value::decimal::Decimal;
+use ar_value::text::Text;
 
 /// The value of a literal.
 #[derive(Debug, Drop)]
@@ -54,6 +54,7 @@ pub enum Predicate {
 /// `not in`), the `?` of a choice, the name of a call, the `[` of an index or list, the `.` or `[`
 /// of a field; else the node's own token. Parentheses make no node.
 #[derive(Debug, Drop)]
+#[cycle(tree)]
 pub enum Tree {
     /// The measured value.
     Result {
@@ -67,10 +68,10 @@ pub enum Tree {
         at: usize,
         literal: Literal,
     },
-    /// `whole.name` or `whole["name"]`
+    /// `owner.name` or `owner["name"]`
     Field {
         at: usize,
-        whole: Box<Tree>,
+        owner: Box<Tree>,
         name: Text,
     },
     /// `list[index]`
@@ -100,7 +101,7 @@ pub enum Tree {
     /// `[item, item]`
     List {
         at: usize,
-        items: Vec<Tree>,
+        items: Trees,
     },
     /// `len(list)`
     Len {
@@ -125,6 +126,13 @@ pub enum Tree {
         list: Box<Tree>,
         body: Box<Tree>,
     },
+}
+
+/// Trees in order, as the items of a list.
+#[derive(Debug, Drop)]
+#[cycle(tree)]
+pub struct Trees {
+    pub items: Vec<Tree>,
 }
 
 impl Tree {

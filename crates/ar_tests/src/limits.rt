@@ -1,6 +1,6 @@
 //! Runs whose effects, phases and counts are worked out by hand from the definition.
 
-use ar_limits::{Counts, Effect, Event, Limits, MAX_EVENTS, Mark, Phase, RunState, laws};
+use ar_limits::{Counts, Effect, Event, Limits, MOST_EVENTS, Mark, Phase, RunState, laws};
 use std::process::Abort;
 use std::test::Fail;
 
@@ -558,7 +558,7 @@ const CASES: &[Case] = &[
 
 /// Applies an event of a metric that is there, to a run that isn't at its end.
 fn apply(rt: &impl Abort, state: &mut RunState, event: Event) -> Effect {
-    assert!(rt; state.handed() < MAX_EVENTS);
+    assert!(rt; state.handed() < MOST_EVENTS);
     match event {
         Event::Mark(metric, mark) => {
             assert!(rt; metric < state.metrics());
@@ -568,32 +568,47 @@ fn apply(rt: &impl Abort, state: &mut RunState, event: Event) -> Effect {
     }
 }
 
+/// Applies the events of a case, each of which has its effect.
+fn apply_all(rt: &impl Abort, state: &mut RunState, case: &Case) {
+    assert_eq!(rt; case.events.len(), case.effects.len(), "{}", case.name);
+    for (event, effect) in case.events.iter().zip(case.effects) {
+        assert_eq!(rt; apply(rt, state, *event), *effect, "{}", case.name);
+    }
+}
+
+/// Asserts the phase of each metric.
+fn assert_phases(rt: &impl Abort, state: &RunState, case: &Case) {
+    assert_eq!(rt; state.metrics(), case.metrics.len(), "{}", case.name);
+    for (metric, phase) in case.metrics.iter().enumerate() {
+        assert!(rt; metric < state.metrics(), "{}", case.name);
+        assert_eq!(rt; state.metric_phase(metric), *phase, "{}", case.name);
+    }
+}
+
+/// Asserts the counts of the first metric, where there is one.
+fn assert_counts(rt: &impl Abort, state: &RunState, case: &Case) {
+    if state.metrics() > 0 {
+        let (successful, failed, inconclusive, error, succession) = case.counts;
+        let counts = Counts {
+            successful,
+            failed,
+            inconclusive,
+            error,
+            succession,
+        };
+        assert_eq!(rt; state.counts(0), counts, "{}", case.name);
+    }
+}
+
 #[test]
 fn runs_by_hand(rt: HostRuntime) -> Result<(), Fail> {
     for case in CASES {
         assert!(rt; Limits::have_positive_counts(case.limits), "{}", case.name);
         let mut state = RunState::new(rt.alloc(), case.limits)?;
-        assert_eq!(rt; case.events.len(), case.effects.len(), "{}", case.name);
-        for (event, effect) in case.events.iter().zip(case.effects) {
-            assert_eq!(rt; apply(&rt, &mut state, *event), *effect, "{}", case.name);
-        }
+        apply_all(&rt, &mut state, case);
         assert_eq!(rt; state.phase(), case.phase, "{}", case.name);
-        assert_eq!(rt; state.metrics(), case.metrics.len(), "{}", case.name);
-        for (metric, phase) in case.metrics.iter().enumerate() {
-            assert!(rt; metric < state.metrics(), "{}", case.name);
-            assert_eq!(rt; state.metric_phase(metric), *phase, "{}", case.name);
-        }
-        if state.metrics() > 0 {
-            let (successful, failed, inconclusive, error, succession) = case.counts;
-            let counts = Counts {
-                successful,
-                failed,
-                inconclusive,
-                error,
-                succession,
-            };
-            assert_eq!(rt; state.counts(0), counts, "{}", case.name);
-        }
+        assert_phases(&rt, &state, case);
+        assert_counts(&rt, &state, case);
     }
     Ok(())
 }
@@ -619,7 +634,7 @@ fn most_events(rt: HostRuntime) -> Result<(), Fail> {
     let limits = [ENDLESS];
     assert!(rt; Limits::have_positive_counts(&limits));
     let mut state = RunState::new(rt.alloc(), &limits)?;
-    for _ in 0..MAX_EVENTS {
+    for _ in 0..MOST_EVENTS {
         assert_eq!(rt; apply(&rt, &mut state, S), APPLIED);
     }
     assert_eq!(rt; state.phase(), Phase::Running);

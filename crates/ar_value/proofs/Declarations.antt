@@ -1,15 +1,18 @@
 -- Shapes declared level by level, and a record's field by field.
-use Rattle.std.proofs.Common.{◌≡◌, ℕ, zero, suc, ◌-◌, List, [], ◌∷◌, ◌++◌, map, String, Global, string_bytes, Result, Ok, Err, refl, ◌∙◌, ap, rules}
+use Rattle.std.proofs.Common.{◌≡◌, ℕ, zero, suc, ◌-◌, true, List, [], ◌∷◌, ◌++◌, map, String, Global, string_bytes, Result, Ok, Err, refl, ◌∙◌, ap, rules}
 use native.Mathlib.Numerals.{unary_clauses}
-use Rattle.serde_json.specs.Data.{Data, Members, string, object}
+use Rattle.serde_json.specs.Data.{Data, Members, null, boolean, number, string, array, object}
 use Rattle.serde_json.specs.View.{view, members_view}
 use Rattle.serde_json.specs.declared.value.Value.{Value as Json, String as JsonString, the_lemmas}
-use Rattle.ar_value.specs.Answer.{◌>>=◌, Unless}
-use Rattle.ar_value.specs.Declaration.{fields_declared, is_memory, named_declared, object_declared, scalar_named, shape_within}
+use Rattle.ar_value.specs.Answer.{◌>>=◌, Gives, Unless}
+use Rattle.ar_value.specs.Declaration.{fields_declared, is_memory, is_memory_for, object_declared, scalar_named, shape_within}
+use Rattle.ar_value.specs.Private.OneField.{named_declared}
 use Rattle.ar_value.specs.Shape.{Shape, FieldShapes, field_shapes_of, no_fields, field}
-use Rattle.ar_value.specs.View.{field_shape_view}
+use Rattle.ar_value.specs.View.{field_shape_view, shape_view}
+use Rattle.ar_value.specs.declared.shape.Shape.{Shape as ShapeCode}
 use Rattle.ar_value.specs.declared.shape.FieldShape.{FieldShape as FieldShapeCode}
 use Rattle.ar_value.specs.declared.shape_reading.ShapeError.{ShapeError}
+use Rattle.ar_value.proofs.Answers.{gives_more}
 use Rattle.ar_value.proofs.ReadLemmas.{leads}
 
 pub view-string : (name : String Global) → view (JsonString name) ≡ string (string_bytes name)
@@ -22,6 +25,18 @@ scalar_level (suc levels) name h = refl
 pub object_level : (levels : ℕ) (given : Members) → (levels ≡ 0 → ⊥) → shape_within levels (object given) ≡ object_declared (shape_within (levels - 1)) given
 object_level zero given h = absurd (h refl)
 object_level (suc levels) given h = simp unary_clauses refl
+
+-- what may be want of memory for some JSON is want of memory
+pub for_is_memory : (d : Data) (e : ShapeError) → is_memory_for d e ≡ true → is_memory e ≡ true
+for_is_memory null e h = absurd (cc)
+for_is_memory (boolean b) e h = absurd (cc)
+for_is_memory (number n) e h = absurd (cc)
+for_is_memory (string bytes) e h = absurd (cc)
+for_is_memory (array items) e h = absurd (cc)
+for_is_memory (object given) e h = h
+
+pub gives_any : (d : Data) (r : Result ShapeCode ShapeError) (answer : Result Shape ShapeError) → Gives (is_memory_for d) shape_view r answer → Gives is_memory shape_view r answer
+gives_any d r answer h = gives_more (is_memory_for d) is_memory shape_view r answer (for_is_memory d) h
 
 abbrev pub Entry : Type 0
 Entry = String Global × Json

@@ -14,7 +14,8 @@ use Rattle.std.specs.Char.{is_ascii_digit, digit_value}
 use Rattle.std.proofs.lemmas.Bool.Decides.{nat_tests}
 use Rattle.std.proofs.lemmas.List.Sums.{AllPass-from_list_all}
 use Rattle.std.specs.Str.Parse.{digits_value, digits_value_after, AllDigits}
-use Rattle.ar_value.specs.Digits.{magnitude_of, scaled_magnitude}
+use Rattle.ar_value.specs.Digits.{magnitude_of}
+use Rattle.ar_value.specs.Private.Scaled.{scaled_magnitude}
 
 -- further digits don't make the number smaller
 pub before-le-digits_value_after : (n : ℕ) (ds : List ℕ) → n ≤ digits_value_after 10 n ds

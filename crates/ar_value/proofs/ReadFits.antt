@@ -10,7 +10,7 @@ use Rattle.ar_value.specs.Answer.{◌>>=◌, Gives}
 use Rattle.ar_value.specs.Decimal.{is_i64}
 use Rattle.ar_value.specs.DecimalText.{decimal_of}
 use Rattle.ar_value.specs.Fits.{all_items, fields_fit, fits}
-use Rattle.ar_value.specs.Reading.{read, whole_of, decimal_of_whole, decimal_of_text, item_count, items_read, absent_read, field_read, fields_read, is_memory}
+use Rattle.ar_value.specs.Reading.{read, whole_of, decimal_of_whole, decimal_of_text, item_count, items_read, absent_read, field_read, fields_read, is_memory_under}
 use Rattle.ar_value.specs.Shape.{Shape, FieldShapes}
 use Rattle.ar_value.specs.Shape as shapes
 use Rattle.ar_value.specs.Value.{Value, Items, Fields, count}
@@ -25,7 +25,7 @@ use Rattle.ar_value.specs.declared.value_reading.ShapeFault.TheVariants as fault
 abbrev Ok_fits : Shape → Result Value ShapeFault → Type 0
 Ok_fits shape r = IfOk r (λ value. fits value shape ≡ true)
 
-binds : {A B : Type 0} (P : A → Type 0) (Q : B → Type 0) (r : Result A ShapeFault) (f : A → Result B ShapeFault) → IfOk r P → ((x : A) → P x → IfOk (f x) Q) → IfOk (r >>= f) Q
+pub binds : {A B : Type 0} (P : A → Type 0) (Q : B → Type 0) (r : Result A ShapeFault) (f : A → Result B ShapeFault) → IfOk r P → ((x : A) → P x → IfOk (f x) Q) → IfOk (r >>= f) Q
 binds P Q (Ok x) f p step = step x p
 binds P Q (Err e) f p step = p
 
@@ -112,7 +112,7 @@ mutual
       (λ fields rest. both (bytes_eq name name && fits v shape) (fields_fit fields others) (both (bytes_eq name name) (fits v shape) (same_name name) fit) rest))
 
 -- what a function gave fits, where it gives what is read
-pub gives_fits : (r : Result ValueCode ShapeFault) (shape : Shape) (d : Data) → Gives is_memory value_view r (read shape d) → IfOk r (λ v. fits (value_view v) shape ≡ true)
+pub gives_fits : (r : Result ValueCode ShapeFault) (shape : Shape) (d : Data) → Gives (is_memory_under shape) value_view r (read shape d) → IfOk r (λ v. fits (value_view v) shape ≡ true)
 gives_fits (Ok v) shape d h = let fit : Ok_fits shape (read shape d) = read_fits shape d in rw h at fit
 gives_fits (Err e) shape d h = tt
 

@@ -1,5 +1,5 @@
 -- Reading, item by item and field by field.
-use Rattle.std.proofs.Common.{◌≡◌, ℕ, suc, ◌+◌, ◌<◌, ◌≤◌, Bool, true, false, List, [], ◌∷◌, ◌++◌, length, map, drop, Result, Ok, Err, refl, sym, ◌∙◌, ap, arith, drop-cons, add-one}
+use Rattle.std.proofs.Common.{◌≡◌, ℕ, suc, ◌+◌, ◌<◌, ◌≤◌, Bool, true, false, List, [], ◌∷◌, ◌++◌, length, map, drop, Option, Some, Result, Ok, Err, refl, sym, ◌∙◌, ap, arith, drop-cons, add-one}
 use Rattle.std.specs.Prelude.{slice_index_or}
 use Rattle.std.proofs.lemmas.Bool.Decides.{nat_tests}
 use Rattle.std.proofs.Math.ListN.{drop_of_length-le}
@@ -8,9 +8,11 @@ use Rattle.serde_json.specs.Data.{Data}
 use Rattle.serde_json.specs.Find.{get_member}
 use Rattle.serde_json.specs.View.{view, items_view}
 use Rattle.serde_json.specs.declared.value.Value.{Value as Json}
-use Rattle.ar_value.specs.Answer.{◌>>=◌, Unless}
-use Rattle.ar_value.specs.Reading.{named_read, read, items_read, list_read, fields_read, field_read, item_count, is_memory}
-use Rattle.ar_value.specs.Shape.{field_shapes_of}
+use Rattle.ar_value.specs.Answer.{◌>>=◌, Gives, Unless}
+use Rattle.ar_value.specs.Reading.{read, items_read, list_read, fields_read, field_read, item_count, is_memory, is_memory_under}
+use Rattle.ar_value.specs.Private.OneField.{named_read}
+use Rattle.ar_value.specs.Shape.{Shape, field_shapes_of}
+use Rattle.ar_value.specs.Shape as shapes
 use Rattle.ar_value.specs.Value.{Value, Items, Fields, items_of, fields_of, no_items, item, no_fields, field, list}
 use Rattle.ar_value.specs.View.{value_view, field_view, field_shape_view}
 use Rattle.ar_value.specs.declared.value.Value.{Value as ValueCode}
@@ -18,11 +20,27 @@ use Rattle.ar_value.specs.declared.value.Field.{Field as FieldCode}
 use Rattle.ar_value.specs.declared.shape.FieldShape.{FieldShape as FieldShapeCode}
 use Rattle.ar_value.specs.declared.value_reading.ShapeFault.{ShapeFault}
 use Rattle.ar_value.specs.declared.value_reading.ShapeFault.TheVariants.{ListTooLong}
+use Rattle.ar_value.proofs.Answers.{gives_more, unless_more}
 
 -- a refusal, where what was defined is refused with it
 pub leads : {P Q : Type 0} (m : Bool) → (P → Q) → Unless m P → Unless m Q
 leads true f h = tt
 leads false f h = f h
+
+-- what may be want of memory under a shape is want of memory
+pub under_is_memory : (shape : Shape) (e : ShapeFault) → is_memory_under shape e ≡ true → is_memory e ≡ true
+under_is_memory shapes.bool e h = absurd (cc)
+under_is_memory shapes.whole e h = absurd (cc)
+under_is_memory shapes.decimal e h = absurd (cc)
+under_is_memory shapes.text e h = h
+under_is_memory (shapes.list shape max) e h = h
+under_is_memory (shapes.object of) e h = h
+under_is_memory (shapes.optional shape) e h = under_is_memory shape e h
+
+-- a field that is there is read under its shape
+pub field_there : (shape : Shape) (found : Option Data) (d : Data) (r : Result ValueCode ShapeFault) → Some d ≡ found
+    → Gives (is_memory_under shape) value_view r (read shape d) → Gives is_memory value_view r (field_read (λ d. read shape d) shape found)
+field_there shape found d r there h = rw (← there) (gives_more (is_memory_under shape) is_memory value_view r (read shape d) (under_is_memory shape) h)
 
 -- Items that were read, before what is read of the rest.
 
@@ -58,12 +76,13 @@ pub next_item : (R : Data → Result Value ShapeFault) (json : List Json) (i : �
 next_item R json i x done v all inside is_x before is_v =
     before ∙ ap (Items_before (map value_view done)) (at R json i x inside is_x ∙ rw is_v refl) ∙ before_one done v (items_read R (items_view (drop (i + 1) json)))
 
-pub item_fails : (R : Data → Result Value ShapeFault) (json : List Json) (i : ℕ) (x : Json) (done : List ValueCode) (e : ShapeFault) (all : Result Items ShapeFault) → i < length json → x ≡ slice_index_or json i x
-    → all ≡ Items_before (map value_view done) (items_read R (items_view (drop i json)))
-    → Unless (is_memory e) (R (view x) ≡ Err e)
+pub item_fails : (shape : Shape) (json : List Json) (i : ℕ) (x : Json) (done : List ValueCode) (e : ShapeFault) (all : Result Items ShapeFault) → i < length json → x ≡ slice_index_or json i x
+    → all ≡ Items_before (map value_view done) (items_read (λ d. read shape d) (items_view (drop i json)))
+    → Unless (is_memory_under shape e) (read shape (view x) ≡ Err e)
     → Unless (is_memory e) (all ≡ Err e)
-item_fails R json i x done e all inside is_x before is_e =
-    leads (is_memory e) (λ fails. before ∙ ap (Items_before (map value_view done)) (at R json i x inside is_x ∙ rw fails refl) ∙ before_err (map value_view done) e) is_e
+item_fails shape json i x done e all inside is_x before is_e =
+    leads (is_memory e) (λ (fails : read shape (view x) ≡ Err e). before ∙ ap (Items_before (map value_view done)) (at (λ d. read shape d) json i x inside is_x ∙ rw fails refl) ∙ before_err (map value_view done) e)
+    (unless_more (read shape (view x) ≡ Err e) (is_memory_under shape e) (is_memory e) (under_is_memory shape e) is_e)
 
 pub no_item_left : (R : Data → Result Value ShapeFault) (json : List Json) (i : ℕ) (done : List ValueCode) (all : Result Items ShapeFault) → length json ≤ i
     → all ≡ Items_before (map value_view done) (items_read R (items_view (drop i json)))

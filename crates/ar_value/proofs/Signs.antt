@@ -5,7 +5,7 @@ use Rattle.std.specs.Str.Parse.{digits_value}
 use Rattle.std.proofs.Math.Nat.{zero-div}
 use Rattle.std.proofs.lemmas.Bool.Decides.{nat_tests}
 use Rattle.ar_value.specs.Decimal.{cut, is_i64}
-use Rattle.ar_value.specs.Digits.{scaled_magnitude}
+use Rattle.ar_value.specs.Private.Scaled.{scaled_magnitude}
 use Rattle.std.specs.Int.{w64}
 use Rattle.std.specs.Prelude.{FitsSigned, ◌*ℤ◌, Some}
 use Rattle.ar_value.specs.Reading.{decimal_of_whole}

@@ -9,6 +9,7 @@ use Rattle.ar_value.specs.declared.value.Value.{Value, List as ListValue, Object
 use Rattle.ar_value.specs.declared.value.Values.{Values}
 use Rattle.ar_value.specs.declared.value.Fields.{Fields, out-Fields}
 use Rattle.ar_value.specs.declared.shape.Shape.{Shape, List as ListShape, Object as ObjectShape, the_lemmas as shape_lemmas}
+use Rattle.ar_value.specs.declared.shape.FieldShape.{FieldShape, out-FieldShape}
 use Rattle.ar_value.specs.declared.shape.FieldShapes.{FieldShapes, out-FieldShapes}
 
 pub value_view-list : (list : Values) → value_view (ListValue list) ≡ values.list (items_of (map value_view list.items.items))
@@ -26,3 +27,9 @@ shape_view-object fields = search (rules, shape_lemmas)
 pub count-items_of : (vs : List Value) → count (items_of (map value_view vs)) ≡ length vs
 count-items_of [] = refl
 count-items_of (v ∷ vs) = ap suc (count-items_of vs)
+
+pub field_shape_view-name : (of : FieldShape) → (field_shape_view of).0 ≡ (out-FieldShape of).name
+field_shape_view-name of = search (rules, shape_lemmas)
+
+pub field_shape_view-shape : (of : FieldShape) → (field_shape_view of).1 ≡ shape_view (out-FieldShape of).shape
+field_shape_view-shape of = search (rules, shape_lemmas)

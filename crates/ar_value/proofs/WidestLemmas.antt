@@ -3,7 +3,8 @@ use Rattle.std.proofs.Common.{◌≡◌, Box, Global, max, ℕ, suc, ◌+◌, �
 use Rattle.std.specs.Prelude.{slice_index_or}
 use Rattle.std.specs.Str.{bytes_eq}
 use Rattle.std.proofs.Math.ListN.{drop_of_length-le}
-use Rattle.ar_value.specs.Kind.{joined_field, named_widest, widest, widest_fields}
+use Rattle.ar_value.specs.Kind.{joined_field, widest, widest_fields}
+use Rattle.ar_value.specs.Private.OneField.{named_widest}
 use Rattle.ar_value.specs.Shape.{Shape, FieldShapes, field_shapes_of, no_fields, field, list}
 use Rattle.ar_value.specs.View.{field_shape_view, shape_view}
 use Rattle.ar_value.specs.declared.shape.FieldShape.{FieldShape}

@@ -1,13 +1,9 @@
 -- Arithmetic of wholes, and of decimals as counts of millionths: the exact result, or the one cut toward zero, where it
 -- fits a signed 64-bit number.
 use Rattle.std.specs.Prelude.{zero, ℤ, pos, ◌+ℤ◌, ◌-ℤ◌, ◌*ℤ◌, neg_ℤ, int_rem, if◌then◌else◌, Result, Ok, Err}
-use Rattle.ar_value.specs.Decimal.{cut, is_i64}
+use Rattle.ar_value.specs.Decimal.{cut, is_i64, million}
 use Rattle.ar_value.specs.declared.fault.Fault.{Fault}
 use Rattle.ar_value.specs.declared.fault.Fault.TheVariants.{Overflow, DivisionByZero}
-
--- how many millionths one is
-abbrev pub million : ℤ
-million = pos 1000000
 
 abbrev pub within : ℤ → Result ℤ Fault
 within z = if is_i64 z then Ok z else Err Overflow

@@ -1,4 +1,4 @@
--- Arithmetic of whole numbers and of decimals, which are counts of millionths.
+-- Decimals as counts of millionths, the cut toward zero, the range of 64 bits, and the order of numbers.
 use Rattle.std.specs.Prelude.{◌^◌, ℤ, pos, negsuc, ◌*ℤ◌, int_div, Bool, nat_lt}
 use Rattle.std.specs.declared.cmp.Ordering.{Ordering}
 use Rattle.std.specs.Ordering.{int_cmp}
@@ -14,9 +14,13 @@ abbrev pub is_i64 : ℤ → Bool
 is_i64 (pos n) = nat_lt n (2 ^ 63)
 is_i64 (negsuc n) = nat_lt n (2 ^ 63)
 
+-- how many millionths one is
+abbrev pub million : ℤ
+million = pos 1000000
+
 -- the exact value of a number, in millionths
 abbrev pub in_millionths : Number → ℤ
-in_millionths (Whole whole) = whole *ℤ pos 1000000
+in_millionths (Whole whole) = whole *ℤ million
 in_millionths (Decimal millionths) = millionths
 
 -- numbers compare as their exact values do, whichever way they are written

@@ -13,7 +13,7 @@ use Rattle.ar_value.specs.declared.decimal_text.Scale.{Scale}
 abbrev pub is_not_finite : List ℕ → Bool
 is_not_finite text = list_any (bytes_eq text) (codes "NaN" ∷ codes "Inf" ∷ codes "+Inf" ∷ codes "-Inf" ∷ [])
 
--- a mantissa has nothing but digits, 1 to 64 of them, and one point at most
+-- the digits of a mantissa, those before its point and behind it together: 1 to 64, and nothing but digits
 abbrev pub is_mantissa : List ℕ → Bool
 is_mantissa digits = nat_le 1 (length digits) && nat_le (length digits) 64 && list_all is_ascii_digit digits
 

@@ -77,11 +77,11 @@ shape_within (suc levels) json = Err UnknownShape
 unfoldable pub shape_of : Data → Result Shape ShapeError
 shape_of json = shape_within 16 json
 
--- a field's shape, with its name
-abbrev pub named_declared : List ℕ → Result Shape ShapeError → Result (List ℕ × Shape) ShapeError
-named_declared name (Ok shape) = Ok (name, shape)
-named_declared name (Err error) = Err error
-
 abbrev pub is_memory : ShapeError → Bool
 is_memory OutOfMemory = true
 is_memory error = false
+
+-- want of memory may stand for the answer only where an object declares the shape: a name takes none
+abbrev pub is_memory_for : Data → ShapeError → Bool
+is_memory_for (object given) error = is_memory error
+is_memory_for json error = false

@@ -1,4 +1,5 @@
--- Which values fit a shape.
+-- Which values fit a shape. Fields go by place, not by name: those of a shape and of a value that are read have their
+-- names in byte order, each once (`Names`), so the fields of one name stand at one place.
 use Rattle.std.specs.Prelude.{Bool, true, false, ◌&&◌, nat_le}
 use Rattle.std.specs.Str.{bytes_eq}
 use Rattle.ar_value.specs.Shape.{Shape, FieldShapes}

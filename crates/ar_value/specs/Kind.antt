@@ -1,4 +1,5 @@
--- Kinds of expressions: a shape, or that of the literal `nil`; and the kind that two of them have in common.
+-- Kinds of expressions: a shape, or that of the literal `nil`; and the kind that two of them have in common. The fields
+-- of two records go by place, since both have their names in byte order, each once (`Names`).
 use Rattle.std.specs.Prelude.{ℕ, max, Bool, true, false, ◌||◌, if◌then◌else◌, List, Option, Some, None, option_map}
 use Rattle.std.specs.Str.{bytes_eq}
 use Rattle.ar_value.specs.Fits.{fits}
@@ -37,10 +38,6 @@ abbrev mutual
   widest_fields no_fields no_fields = Some no_fields
   widest_fields (field name left lefts) (field of right rights) = joined_field (bytes_eq name of) name (widest left right) (widest_fields lefts rights)
   widest_fields left right = None
-
--- a field and another
-abbrev pub named_widest : (List ℕ × Shape) → (List ℕ × Shape) → Option (List ℕ × Shape)
-named_widest left right = if bytes_eq left.0 right.0 then option_map (λ shape. (left.0, shape)) (widest left.1 right.1) else None
 
 abbrev pub is_optional : Shape → Bool
 is_optional (optional shape) = true

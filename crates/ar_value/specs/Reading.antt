@@ -1,11 +1,10 @@
 -- Reading a JSON value (RFC 8259) under a shape: the value, or the first thing that is wrong with it.
-use Rattle.std.specs.Prelude.{ℕ, suc, ℤ, ◌*ℤ◌, Bool, true, false, nat_le, if◌then◌else◌, List, Option, Some, None, Result, Ok, Err}
+use Rattle.std.specs.Prelude.{ℕ, suc, ℤ, ◌*ℤ◌, Bool, true, false, nat_le, if◌then◌else◌, Option, Some, None, Result, Ok, Err}
 use Rattle.serde_json.specs.Data as json
 use Rattle.serde_json.specs.Data.{Data}
 use Rattle.serde_json.specs.Find.{as_integer, get_member}
 use Rattle.ar_value.specs.Answer.{◌>>=◌}
-use Rattle.ar_value.specs.Arithmetic.{million}
-use Rattle.ar_value.specs.Decimal.{is_i64}
+use Rattle.ar_value.specs.Decimal.{is_i64, million}
 use Rattle.ar_value.specs.DecimalText.{decimal_of}
 use Rattle.ar_value.specs.Shape.{Shape, FieldShapes}
 use Rattle.ar_value.specs.Shape as shapes
@@ -75,7 +74,7 @@ abbrev mutual
   read (shapes.optional shape) d = read shape d
   read shape d = Err WrongKind
 
-  -- the shape's fields, one after another; other members are read over
+  -- the shape's fields, one after another; other members are ignored
   pub fields_read : FieldShapes → json.Members → Result Fields ShapeFault
   fields_read shapes.no_fields given = Ok no_fields
   fields_read (shapes.field name shape others) given = do
@@ -83,12 +82,14 @@ abbrev mutual
     fields ← fields_read others given
     Ok (field name value fields)
 
--- a field of the name and shape of one that is wanted, with its name
-abbrev pub named_read : (List ℕ × Shape) → json.Members → Result (List ℕ × Value) ShapeFault
-named_read of members = do
-  value ← field_read (λ d. read of.1 d) of.1 (get_member of.0 members)
-  Ok (of.0, value)
-
 abbrev pub is_memory : ShapeFault → Bool
 is_memory OutOfMemory = true
 is_memory fault = false
+
+-- want of memory may stand for the answer only where values of the shape take memory: truth values and numbers take none
+abbrev pub is_memory_under : Shape → ShapeFault → Bool
+is_memory_under shapes.bool fault = false
+is_memory_under shapes.whole fault = false
+is_memory_under shapes.decimal fault = false
+is_memory_under (shapes.optional shape) fault = is_memory_under shape fault
+is_memory_under shape fault = is_memory fault

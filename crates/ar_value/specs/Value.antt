@@ -1,5 +1,6 @@
 -- Values of measurements.
-use Rattle.std.specs.Prelude.{ℕ, suc, ℤ, Bool, List, [], ◌∷◌}
+use Rattle.std.specs.Prelude.{ℕ, suc, ℤ, Bool, if◌then◌else◌, List, [], ◌∷◌, Option, Some, None}
+use Rattle.std.specs.Str.{bytes_eq}
 
 mutual
   pub data Value : Type 0 where
@@ -33,3 +34,8 @@ items_of (value ∷ values) = item value (items_of values)
 abbrev pub fields_of : List (List ℕ × Value) → Fields
 fields_of [] = no_fields
 fields_of (named ∷ others) = field named.0 named.1 (fields_of others)
+
+-- the value of the first field of a name
+abbrev pub value_named : List ℕ → Fields → Option Value
+value_named name no_fields = None
+value_named name (field of value others) = if bytes_eq of name then Some value else value_named name others

@@ -4,11 +4,8 @@
 ghost use Rattle.std.specs.Prelude.{◌≡◌, ◌*ℤ◌};
 ghost use Rattle.ar_value.specs.Arithmetic.{decimal_of_whole, decimal_product, difference, negation, quotient, sum, within};
 
-use crate::decimal::Decimal;
+use crate::decimal::{Decimal, MILLION};
 use crate::fault::Fault;
-
-/// How many millionths one is.
-const MILLION: i128 = 1_000_000;
 
 /// A result where it fits a signed 64-bit number.
 pub(crate) fn within(exact: i128) -> Result<i64, Fault>

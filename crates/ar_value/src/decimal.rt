@@ -7,6 +7,9 @@ use std::cmp::Ordering;
 use std::marker::Model;
 use thiserror::Error;
 
+/// How many millionths one is.
+pub(crate) const MILLION: i128 = 1_000_000;
+
 /// A decimal number with six digits after the point, from -9223372036854.775808 to
 /// 9223372036854.775807. Contracts see it as its whole number of millionths.
 #[derive(Clone, Copy, Debug, PartialEq, Eq, PartialOrd, Ord, Hash)]
@@ -28,11 +31,11 @@ impl Model for Decimal {
 /// Why a text is no decimal.
 #[derive(Clone, Copy, Debug, PartialEq, Eq, Error)]
 pub enum NumberFault {
-    #[error("BadDecimal: expected digits with at most one point, as 0.95")]
+    #[error("BadDecimal: expected digits with at most one point and an exponent or none, as 0.95 or 9.5e-1")]
     BadDecimal,
     #[error("NotFinite: expected a finite number")]
     NotFinite,
-    #[error("OutOfRange: expected a number from -9223372036854.775808 to 9223372036854.775807")]
+    #[error("OutOfRange: expected a number from -9223372036854.775808 to 9223372036854.775807, once it is cut to six digits after the point")]
     OutOfRange,
 }
 
@@ -64,7 +67,7 @@ impl Number {
         ensures { result ≡ in_millionths self }
     {
         match self {
-            Number::Whole(whole) => i128::from(whole) * 1_000_000,
+            Number::Whole(whole) => i128::from(whole) * MILLION,
             Number::Decimal(decimal) => i128::from(decimal.millionths()),
         }
     }

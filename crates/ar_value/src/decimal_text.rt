@@ -13,7 +13,7 @@ use crate::decimal::{Decimal, NumberFault};
 use crate::digits::{number, scaled_millionths};
 
 /// How many digits a decimal text may have.
-const MOST_DIGITS: usize = 64;
+const MOST_MANTISSA_DIGITS: usize = 64;
 
 /// How many digits an exponent may have.
 const MOST_EXPONENT_DIGITS: usize = 3;
@@ -189,7 +189,7 @@ fn is_mantissa(whole: &[u8], fraction: &[u8]) -> bool
     ensures fraction { OnTrue result (list_all is_ascii_digit fraction.now ≡ true) }
 {
     let digits = whole.len() + fraction.len();
-    1 <= digits && digits <= MOST_DIGITS && are_digits(whole) && are_digits(fraction)
+    1 <= digits && digits <= MOST_MANTISSA_DIGITS && are_digits(whole) && are_digits(fraction)
 }
 
 fn are_digits(text: &[u8]) -> bool

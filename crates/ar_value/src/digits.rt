@@ -5,7 +5,8 @@ ghost use Rattle.std.specs.Option.{SomeIff};
 ghost use Rattle.std.specs.Char.{is_ascii_digit};
 ghost use Rattle.std.specs.List.{list_all};
 ghost use Rattle.std.specs.Str.Parse.{digits_value, digits_value_after};
-ghost use Rattle.ar_value.specs.Digits.{magnitude_of, scaled_magnitude};
+ghost use Rattle.ar_value.specs.Digits.{magnitude_of};
+ghost use Rattle.ar_value.specs.Private.Scaled.{scaled_magnitude};
 
 /// How many digits a decimal keeps behind its point.
 const KEPT_DIGITS: usize = 6;

@@ -72,7 +72,9 @@ fn are_fields_fit(shapes: &[FieldShape], fields: &[Field]) -> bool
 
 #[cycle(is_fit)]
 fn is_field_fit(of: &FieldShape, field: &Field) -> bool
-    ensures { result ≡ bytes_eq (field_view field.now).0 (field_shape_view of.now).0 && fits (field_view field.now).1 (field_shape_view of.now).1 }
+    ensures { result
+        ≡ bytes_eq (field_view field.now).0 (field_shape_view of.now).0
+        && fits (field_view field.now).1 (field_shape_view of.now).1 }
 {
     field.name == of.name && is_fit(&of.shape, &field.value)
 }

@@ -60,7 +60,8 @@ fn turned_or<'kind>(turned: &'kind Option<Kind>, kind: &'kind Kind) -> &'kind Ki
 /// What a kind is turned into beside another, where it is turned: a whole, also an optional one,
 /// into decimal beside a decimal.
 fn turned_beside(alloc: Global, other: &Kind, kind: &Kind) -> Result<Option<Kind>, AllocError>
-    ensures { IfOk result (λ turned. unwrap_or (option_map kind_view turned) (kind_view kind.now) ≡ turned_beside (kind_view other.now) (kind_view kind.now)) }
+    ensures { IfOk result (λ turned. unwrap_or (option_map kind_view turned) (kind_view kind.now)
+        ≡ turned_beside (kind_view other.now) (kind_view kind.now)) }
 {
     let (Kind::Shape(other), Kind::Shape(shape)) = (other, kind) else {
         return Ok(None);
@@ -76,7 +77,8 @@ fn turned_beside(alloc: Global, other: &Kind, kind: &Kind) -> Result<Option<Kind
 
 /// The decimal shape of a whole one, also an optional one.
 fn whole_as_decimal(alloc: Global, shape: &Shape) -> Result<Option<Shape>, AllocError>
-    ensures { IfOk result (λ decimal. unwrap_or (option_map shape_view decimal) (shape_view shape.now) ≡ whole_as_decimal (shape_view shape.now)) }
+    ensures { IfOk result (λ decimal. unwrap_or (option_map shape_view decimal) (shape_view shape.now)
+        ≡ whole_as_decimal (shape_view shape.now)) }
 {
     if !matches!(plain(shape), Shape::Whole) {
         return Ok(None);

@@ -11,13 +11,14 @@
 //! it is read under a shape as `specs/Reading` defines, and what is read fits its shape by
 //! `specs/Fits`; arithmetic is that of `specs/Arithmetic`, and numbers compare by their exact
 //! values; the kind that two kinds have in common is that of `specs/Kind`. Only want of memory can
-//! keep a call from its answer, and reading, copies of shapes and common kinds alone take memory.
+//! keep a call from its answer: copies of texts and shapes and common kinds take memory, and so do
+//! the texts, lists and records that are read, and the shapes that objects declare.
 //!
 //! - [`decimal`]: decimals, and the order of numbers; `decimal_text` reads their texts, and
 //!   [`digits`] the numbers that digits spell
 //! - [`arithmetic`]: arithmetic of decimals; [`whole`]: of wholes
 //! - [`fault`]: faults of arithmetic and of operands
-//! - [`text`], [`value`], [`shape`]: texts, values and shapes, which `specs/View` tells contracts
+//! - [`text`], [`value`], [`shape`]: texts, values and shapes, which contracts see by `specs/View`
 //! - [`shape_reading`], [`value_reading`]: reading them from JSON; [`fitting`]: which values fit
 //! - [`kind`]: kinds of expressions; `widening` joins shapes
 //! - [`laws`]: what holds of kinds and of reading as a whole
@@ -33,10 +34,18 @@ pub mod kind;
 pub mod laws;
 pub mod shape;
 pub mod shape_reading;
-#[cfg(test)]
-mod tests;
 pub mod text;
 pub mod value;
 pub mod value_reading;
 pub mod whole;
 mod widening;
+
+pub use decimal::{Decimal, Number, NumberFault, compare};
+pub use fault::Fault;
+pub use fitting::fits;
+pub use kind::{Kind, common, merge};
+pub use shape::{FieldShape, FieldShapes, Shape};
+pub use shape_reading::{ShapeError, read_shape};
+pub use text::Text;
+pub use value::{Field, Fields, Value, Values};
+pub use value_reading::{ShapeFault, read_value};

@@ -1,7 +1,8 @@
 //! Shapes: what values a metric's measurements may have.
 
-ghost use Rattle.std.specs.Prelude.{◌≡◌, IfOk, map};
-ghost use Rattle.ar_value.specs.View.{field_shape_view, shape_view};
+ghost use Rattle.std.specs.Prelude.{◌≡◌, IfOk, map, option_map};
+ghost use Rattle.ar_value.specs.Shape.{field_shapes_of, shape_named};
+ghost use Rattle.ar_value.specs.View.{field_shape_view, field_shapes_view, shape_view};
 
 use crate::text::Text;
 use std::alloc::{AllocError, Global};
@@ -47,6 +48,27 @@ impl Shape {
     }
 }
 
+impl FieldShapes {
+    /// The shape of the field of a name.
+    pub fn get(&self, name: &str) -> Option<&Shape>
+        ensures { option_map (λ shape. shape_view shape.now) result ≡ shape_named name.now (field_shapes_view self.now) }
+    {
+        shape_named(&self.items, name)
+    }
+}
+
+fn shape_named<'fields>(fields: &'fields [FieldShape], name: &str) -> Option<&'fields Shape>
+    ensures { option_map (λ shape. shape_view shape.now) result
+        ≡ shape_named name.now (field_shapes_of (map field_shape_view fields.now)) }
+{
+    for field in fields {
+        if field.name.as_str() == name {
+            return Some(&field.shape);
+        }
+    }
+    None
+}
+
 #[cycle(copy_of)]
 fn copy_of(alloc: Global, shape: &Shape) -> Result<Shape, AllocError>
     ensures { IfOk result (λ copy. shape_view copy ≡ shape_view shape.now) }
@@ -69,7 +91,8 @@ fn copy_of(alloc: Global, shape: &Shape) -> Result<Shape, AllocError>
 
 #[cycle(copy_of)]
 fn copies_of(alloc: Global, fields: &[FieldShape]) -> Result<Vec<FieldShape>, AllocError>
-    ensures { IfOk result (λ copies. map field_shape_view copies.items ≡ map field_shape_view fields.now) }
+    ensures { IfOk result (λ copies.
+        map field_shape_view copies.items ≡ map field_shape_view fields.now) }
 {
     let mut copies = Vec::with_capacity(alloc, fields.len())?;
     for field in fields {

@@ -1,11 +1,13 @@
 //! Shapes, read from JSON.
 
-ghost use Rattle.std.specs.Prelude.{◌≡◌, map, option_and_then};
+ghost use Rattle.std.specs.Prelude.{◌≡◌, IfOk, false, map, option_and_then};
 ghost use Rattle.serde_json.specs.Data.{member, no_members};
 ghost use Rattle.serde_json.specs.Find.{as_number, as_u64};
 ghost use Rattle.serde_json.specs.View.{members_view, view};
 ghost use Rattle.ar_value.specs.Answer.{Gives};
-ghost use Rattle.ar_value.specs.Declaration.{declares_optional, fields_declared, is_memory, list_declared, max_of, named_declared, object_declared, optional_declared, record_declared, scalar_named, shape_of, shape_within};
+ghost use Rattle.ar_value.specs.Declaration.{declares_optional, fields_declared, is_memory, is_memory_for, list_declared, max_of, object_declared, optional_declared, record_declared, scalar_named, shape_of, shape_within};
+ghost use Rattle.ar_value.specs.Private.OneField.{named_declared};
+ghost use Rattle.ar_value.specs.Names.{FieldShapeNamesRise, Rise, ShapeNamesRise, shape_names};
 ghost use Rattle.ar_value.specs.Shape.{field_shapes_of};
 ghost use Rattle.ar_value.specs.View.{field_shape_view, shape_view};
 ghost use Rattle.ar_value.specs.declared.shape_reading.ShapeError.TheVariants.{OutOfMemory};
@@ -17,10 +19,10 @@ use std::alloc::{AllocError, AllocFailed, Global};
 use thiserror::Error;
 
 /// How many levels a shape may have; a scalar is one.
-const MOST_LEVELS: usize = 16;
+const MOST_SHAPE_LEVELS: usize = 16;
 
 /// The greatest `max` of a list.
-const MOST_ITEMS: u64 = 10_000;
+const MOST_LIST_ITEMS: u64 = 10_000;
 
 /// Why a JSON value declares no shape.
 #[derive(Clone, Copy, Debug, PartialEq, Eq, Error)]
@@ -68,16 +70,21 @@ impl<T: Drop> From<AllocFailed<T>> for ShapeError {
 /// `OutOfMemory` where a growth was refused.
 #[tactic(auto, unfolding(crate::specs::Declaration::shape_of))]
 pub fn read_shape(alloc: Global, json: &Json) -> Result<Shape, ShapeError>
-    ensures { Gives is_memory shape_view result (shape_of (view json.now)) }
+    // This shape, or this refusal.
+    ensures exact { Gives (is_memory_for (view json.now)) shape_view result (shape_of (view json.now)) }
+
+    // Its records have their fields by rising names.
+    ensures names_rise { IfOk result (λ shape. ShapeNamesRise (shape_view shape)) }
 {
-    shape_within(alloc, json, MOST_LEVELS)
+    shape_within(alloc, json, MOST_SHAPE_LEVELS)
 }
 
 /// The shape of at most so many levels.
 #[cycle(shape_within)]
 #[tactic(auto, using(crate::proofs::Declarations::scalar_level, crate::proofs::Declarations::object_level))]
 fn shape_within(alloc: Global, json: &Json, levels: usize) -> Result<Shape, ShapeError>
-    ensures { Gives is_memory shape_view result (shape_within levels (view json.now)) }
+    ensures exact { Gives (is_memory_for (view json.now)) shape_view result (shape_within levels (view json.now)) }
+    ensures names_rise { IfOk result (λ shape. ShapeNamesRise (shape_view shape)) }
 {
     if levels == 0 {
         return Err(ShapeError::TooDeep);
@@ -90,7 +97,8 @@ fn shape_within(alloc: Global, json: &Json, levels: usize) -> Result<Shape, Shap
 }
 
 fn scalar(name: &str) -> Result<Shape, ShapeError>
-    ensures { Gives is_memory shape_view result (scalar_named name.now) }
+    ensures exact { Gives (λ _. false) shape_view result (scalar_named name.now) }
+    ensures names_rise { IfOk result (λ shape. ShapeNamesRise (shape_view shape)) }
 {
     match name {
         "bool" => Ok(Shape::Bool),
@@ -109,7 +117,9 @@ fn object_shape(
     members: &Map<String, Json>,
     levels: usize,
 ) -> Result<Shape, ShapeError>
-    ensures { Gives is_memory shape_view result (object_declared (shape_within levels) (members_view members.now.entries)) }
+    ensures exact { Gives is_memory shape_view result
+        (object_declared (shape_within levels) (members_view members.now.entries)) }
+    ensures names_rise { IfOk result (λ shape. ShapeNamesRise (shape_view shape)) }
 {
     let mut members = members.iter();
     let Some((name, inner)) = members.next() else {
@@ -131,7 +141,9 @@ fn object_shape(
 /// The shape that an object of one name declares.
 #[cycle(shape_within)]
 fn named_shape(alloc: Global, name: &str, inner: &Json, levels: usize) -> Result<Shape, ShapeError>
-    ensures { Gives is_memory shape_view result (object_declared (shape_within levels) (member name.now (view inner.now) no_members)) }
+    ensures exact { Gives is_memory shape_view result
+        (object_declared (shape_within levels) (member name.now (view inner.now) no_members)) }
+    ensures names_rise { IfOk result (λ shape. ShapeNamesRise (shape_view shape)) }
 {
     match name {
         "list" => Err(ShapeError::MaxMissing),
@@ -142,8 +154,11 @@ fn named_shape(alloc: Global, name: &str, inner: &Json, levels: usize) -> Result
 }
 
 #[cycle(shape_within)]
+#[tactic(auto, using(crate::proofs::Declarations::gives_any))]
 fn list_shape(alloc: Global, item: &Json, max: &Json, levels: usize) -> Result<Shape, ShapeError>
-    ensures { Gives is_memory shape_view result (list_declared (shape_within levels) (view item.now) (view max.now)) }
+    ensures exact { Gives is_memory shape_view result
+        (list_declared (shape_within levels) (view item.now) (view max.now)) }
+    ensures names_rise { IfOk result (λ shape. ShapeNamesRise (shape_view shape)) }
 {
     let max = greatest_length(max)?;
     let item = Box::new(alloc, shape_within(alloc, item, levels)?)?;
@@ -151,18 +166,21 @@ fn list_shape(alloc: Global, item: &Json, max: &Json, levels: usize) -> Result<S
 }
 
 fn greatest_length(json: &Json) -> Result<usize, ShapeError>
-    ensures { Gives is_memory (λ max. max) result (max_of (option_and_then as_u64 (as_number (view json.now)))) }
+    ensures { Gives (λ _. false) (λ max. max) result (max_of (option_and_then as_u64 (as_number (view json.now)))) }
 {
     let max = json.as_u64().ok_or(ShapeError::MaxMissing)?;
-    if max > MOST_ITEMS {
+    if max > MOST_LIST_ITEMS {
         return Err(ShapeError::MaxTooLarge);
     }
     Ok(max as usize)
 }
 
 #[cycle(shape_within)]
+#[tactic(auto, using(crate::proofs::Declarations::gives_any))]
 fn optional_shape(alloc: Global, inner: &Json, levels: usize) -> Result<Shape, ShapeError>
-    ensures { Gives is_memory shape_view result (optional_declared (shape_within levels) (view inner.now)) }
+    ensures exact { Gives is_memory shape_view result
+        (optional_declared (shape_within levels) (view inner.now)) }
+    ensures names_rise { IfOk result (λ shape. ShapeNamesRise (shape_view shape)) }
 {
     if declares_optional(inner) {
         return Err(ShapeError::NestedOptional);
@@ -187,7 +205,9 @@ fn declares_optional(json: &Json) -> bool
 
 #[cycle(shape_within)]
 fn record_shape(alloc: Global, json: &Json, levels: usize) -> Result<Shape, ShapeError>
-    ensures { Gives is_memory shape_view result (record_declared (shape_within levels) (view json.now)) }
+    ensures exact { Gives is_memory shape_view result
+        (record_declared (shape_within levels) (view json.now)) }
+    ensures names_rise { IfOk result (λ shape. ShapeNamesRise (shape_view shape)) }
 {
     let Json::Object(members) = json else {
         return Err(ShapeError::UnknownShape);
@@ -197,13 +217,16 @@ fn record_shape(alloc: Global, json: &Json, levels: usize) -> Result<Shape, Shap
 }
 
 #[cycle(shape_within)]
-#[tactic(auto, using(crate::proofs::Declarations::no_shape_left))]
+#[tactic(auto, using(crate::proofs::Declarations::no_shape_left, crate::proofs::ShapeNames::names_rise, crate::proofs::ShapeNames::one_more))]
 fn field_shapes(
     alloc: Global,
     members: &Map<String, Json>,
     levels: usize,
 ) -> Result<Vec<FieldShape>, ShapeError>
-    ensures { Gives is_memory (λ vec. field_shapes_of (map field_shape_view vec.items)) result (fields_declared (shape_within levels) (members_view members.now.entries)) }
+    ensures exact { Gives is_memory (λ vec. field_shapes_of (map field_shape_view vec.items)) result
+        (fields_declared (shape_within levels) (members_view members.now.entries)) }
+    ensures names_rise { IfOk result (λ vec. Rise (shape_names (field_shapes_of (map field_shape_view vec.items)))) }
+    ensures inner_names_rise { IfOk result (λ vec. FieldShapeNamesRise (field_shapes_of (map field_shape_view vec.items))) }
 {
     let mut fields = Vec::with_capacity(alloc, members.len())?;
     for (name, json) in members.iter() {
@@ -213,13 +236,15 @@ fn field_shapes(
 }
 
 #[cycle(shape_within)]
+#[tactic(auto, using(crate::proofs::Declarations::gives_any))]
 fn field_shape(
     alloc: Global,
     name: &str,
     json: &Json,
     levels: usize,
 ) -> Result<FieldShape, ShapeError>
-    ensures { Gives is_memory field_shape_view result (named_declared name.now (shape_within levels (view json.now))) }
+    ensures exact { Gives is_memory field_shape_view result (named_declared name.now (shape_within levels (view json.now))) }
+    ensures names_rise { IfOk result (λ field. ShapeNamesRise (field_shape_view field).1) }
 {
     let shape = shape_within(alloc, json, levels)?;
     let name = Text::of(alloc, name)?;

@@ -1,12 +1,14 @@
 //! Values of measurements, read from JSON under a shape.
 
-ghost use Rattle.std.specs.Prelude.{◌≡◌, IfOk, map, option_map, true};
+ghost use Rattle.std.specs.Prelude.{◌≡◌, IfOk, false, map, option_map, true};
 ghost use Rattle.serde_json.specs.View.{items_view, members_view, number_view, view};
 ghost use Rattle.serde_json.specs.Find.{as_integer, get_member};
 ghost use Rattle.ar_value.specs.Answer.{Gives};
 ghost use Rattle.ar_value.specs.DecimalText.{decimal_of};
 ghost use Rattle.ar_value.specs.Fits.{fits};
-ghost use Rattle.ar_value.specs.Reading.{absent_read, decimal_of_text, decimal_of_whole, field_read, fields_read, is_memory, items_read, list_read, named_read, read, whole_of};
+ghost use Rattle.ar_value.specs.Names.{ShapeNamesRise, ValueNamesRise};
+ghost use Rattle.ar_value.specs.Reading.{absent_read, decimal_of_text, decimal_of_whole, field_read, fields_read, is_memory, is_memory_under, items_read, list_read, read, whole_of};
+ghost use Rattle.ar_value.specs.Private.OneField.{named_read};
 ghost use Rattle.ar_value.specs.Shape.{field_shapes_of};
 ghost use Rattle.ar_value.specs.Value.{fields_of, items_of};
 ghost use Rattle.ar_value.specs.View.{field_shape_view, field_view, shape_view, value_view, values_view, fields_view};
@@ -70,10 +72,14 @@ impl<T: Drop> From<AllocFailed<T>> for ShapeFault {
 /// 64-bit number; `NotFinite` and `BadDecimal` for texts that are no decimal; `ListTooLong`, found
 /// before the list's items; `MissingField` for an absent field that isn't optional. `OutOfMemory`
 /// where a growth was refused.
-#[tactic(auto, using(crate::proofs::ReadFits::gives_fits))]
+#[tactic(auto, using(crate::proofs::ReadFits::gives_fits, crate::proofs::ReadNames::gives_names))]
 pub fn read_value(alloc: Global, json: &Json, shape: &Shape) -> Result<Value, ShapeFault>
-    ensures exact { Gives is_memory value_view result (read (shape_view shape.now) (view json.now)) }
+    // This value, or this fault.
+    ensures exact { Gives (is_memory_under (shape_view shape.now)) value_view result (read (shape_view shape.now) (view json.now)) }
+
+    // The value fits its shape, and has its records' fields by rising names where the shape has.
     ensures fits { IfOk result (λ value. fits (value_view value) (shape_view shape.now) ≡ true) }
+    ensures names_rise { ShapeNamesRise (shape_view shape.now) → IfOk result (λ value. ValueNamesRise (value_view value)) }
 {
     value_under(alloc, shape, json)
 }
@@ -81,7 +87,7 @@ pub fn read_value(alloc: Global, json: &Json, shape: &Shape) -> Result<Value, Sh
 /// The recursion goes down the shape.
 #[cycle(value_under)]
 fn value_under(alloc: Global, shape: &Shape, json: &Json) -> Result<Value, ShapeFault>
-    ensures { Gives is_memory value_view result (read (shape_view shape.now) (view json.now)) }
+    ensures { Gives (is_memory_under (shape_view shape.now)) value_view result (read (shape_view shape.now) (view json.now)) }
 {
     match (shape, json) {
         (Shape::Bool, Json::Bool(truth)) => Ok(Value::Bool(*truth)),
@@ -115,7 +121,8 @@ fn list_under(alloc: Global, item: &Shape, max: usize, json: &[Json]) -> Result<
 #[cycle(value_under)]
 #[tactic(auto, using(crate::proofs::ReadLemmas::next_item, crate::proofs::ReadLemmas::item_fails, crate::proofs::ReadLemmas::no_item_left))]
 fn items_under(alloc: Global, item: &Shape, json: &[Json]) -> Result<Vec<Value>, ShapeFault>
-    ensures { Gives is_memory (λ vec. items_of (map value_view vec.items)) result (items_read (λ d. read (shape_view item.now) d) (items_view json.now)) }
+    ensures { Gives is_memory (λ vec. items_of (map value_view vec.items)) result
+        (items_read (λ d. read (shape_view item.now) d) (items_view json.now)) }
 {
     let mut items = Vec::with_capacity(alloc, json.len())?;
     for json in json {
@@ -131,7 +138,8 @@ fn fields_under(
     shapes: &[FieldShape],
     members: &Map<String, Json>,
 ) -> Result<Vec<Field>, ShapeFault>
-    ensures { Gives is_memory (λ vec. fields_of (map field_view vec.items)) result (fields_read (field_shapes_of (map field_shape_view shapes.now)) (members_view members.now.entries)) }
+    ensures { Gives is_memory (λ vec. fields_of (map field_view vec.items)) result
+        (fields_read (field_shapes_of (map field_shape_view shapes.now)) (members_view members.now.entries)) }
 {
     let mut fields = Vec::with_capacity(alloc, shapes.len())?;
     for of in shapes {
@@ -161,7 +169,9 @@ fn field_value(
     of: &FieldShape,
     members: &Map<String, Json>,
 ) -> Result<Value, ShapeFault>
-    ensures { Gives is_memory value_view result (field_read (λ d. read (field_shape_view of.now).1 d) (field_shape_view of.now).1 (get_member (field_shape_view of.now).0 (members_view members.now.entries))) }
+    ensures { Gives is_memory value_view result
+        (field_read (λ d. read (field_shape_view of.now).1 d) (field_shape_view of.now).1
+        (get_member (field_shape_view of.now).0 (members_view members.now.entries))) }
 {
     match member(members, of.name.as_str()) {
         Some(json) => value_under(alloc, &of.shape, json),
@@ -177,7 +187,7 @@ fn member<'json>(members: &'json Map<String, Json>, name: &str) -> Option<&'json
 
 /// What an absent field is: nil where it is optional.
 fn absent(shape: &Shape) -> Result<Value, ShapeFault>
-    ensures { Gives is_memory value_view result (absent_read (shape_view shape.now)) }
+    ensures { Gives (λ _. false) value_view result (absent_read (shape_view shape.now)) }
 {
     match shape {
         Shape::Optional(_) => Ok(Value::Nil),
@@ -191,7 +201,7 @@ fn absent(shape: &Shape) -> Result<Value, ShapeFault>
 }
 
 fn whole(number: &Number) -> Result<Value, ShapeFault>
-    ensures { Gives is_memory value_view result (whole_of (as_integer (number_view number.now))) }
+    ensures { Gives (λ _. false) value_view result (whole_of (as_integer (number_view number.now))) }
 {
     let whole = number.as_i128().ok_or(ShapeFault::FloatNumber)?;
     match i64::try_from(whole) {
@@ -202,20 +212,20 @@ fn whole(number: &Number) -> Result<Value, ShapeFault>
 
 #[tactic(auto, using(crate::proofs::Signs::whole_outside, crate::proofs::Signs::millionths_outside, crate::proofs::Signs::millionths_inside))]
 fn decimal_of_whole(number: &Number) -> Result<Value, ShapeFault>
-    ensures { Gives is_memory value_view result (decimal_of_whole (as_integer (number_view number.now))) }
+    ensures { Gives (λ _. false) value_view result (decimal_of_whole (as_integer (number_view number.now))) }
 {
     let whole = number.as_i128().ok_or(ShapeFault::FloatNumber)?;
     let Ok(whole) = i64::try_from(whole) else {
         return Err(ShapeFault::OutOfRange);
     };
-    match whole.checked_mul(1_000_000) {
-        Some(millionths) => Ok(Value::Decimal(Decimal::from_millionths(millionths))),
-        None => Err(ShapeFault::OutOfRange),
+    match Decimal::of_whole(whole) {
+        Ok(decimal) => Ok(Value::Decimal(decimal)),
+        Err(_) => Err(ShapeFault::OutOfRange),
     }
 }
 
 fn decimal_of_text(text: &str) -> Result<Value, ShapeFault>
-    ensures { Gives is_memory value_view result (decimal_of_text (decimal_of text.now)) }
+    ensures { Gives (λ _. false) value_view result (decimal_of_text (decimal_of text.now)) }
 {
     match Decimal::of_text(text) {
         Ok(decimal) => Ok(Value::Decimal(decimal)),

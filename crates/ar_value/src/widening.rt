@@ -1,7 +1,8 @@
 //! The shape that two shapes have in common where they differ in greatest lengths only.
 
 ghost use Rattle.std.specs.Prelude.{◌≡◌, IfOk, map, option_map};
-ghost use Rattle.ar_value.specs.Kind.{named_widest, widest, widest_fields};
+ghost use Rattle.ar_value.specs.Kind.{widest, widest_fields};
+ghost use Rattle.ar_value.specs.Private.OneField.{named_widest};
 ghost use Rattle.ar_value.specs.Shape.{field_shapes_of, list, object, optional};
 ghost use Rattle.ar_value.specs.View.{field_shape_view, shape_view};
 
@@ -64,7 +65,8 @@ fn widest_list(
     right: &Shape,
     max: usize,
 ) -> Result<Option<Shape>, AllocError>
-    ensures { IfOk result (λ wider. option_map shape_view wider ≡ option_map (λ shape. list shape max) (widest (shape_view left.now) (shape_view right.now))) }
+    ensures { IfOk result (λ wider. option_map shape_view wider
+        ≡ option_map (λ shape. list shape max) (widest (shape_view left.now) (shape_view right.now))) }
 {
     match widest(alloc, left, right)? {
         Some(shape) => Ok(Some(Shape::List {
@@ -77,7 +79,8 @@ fn widest_list(
 
 #[cycle(widest)]
 fn widest_optional(alloc: Global, left: &Shape, right: &Shape) -> Result<Option<Shape>, AllocError>
-    ensures { IfOk result (λ shape. option_map shape_view shape ≡ option_map optional (widest (shape_view left.now) (shape_view right.now))) }
+    ensures { IfOk result (λ shape. option_map shape_view shape
+        ≡ option_map optional (widest (shape_view left.now) (shape_view right.now))) }
 {
     match widest(alloc, left, right)? {
         Some(shape) => Ok(Some(Shape::Optional(Box::new(alloc, shape)?))),
@@ -91,7 +94,8 @@ fn widest_object(
     left: &[FieldShape],
     right: &[FieldShape],
 ) -> Result<Option<Shape>, AllocError>
-    ensures { IfOk result (λ shape. option_map shape_view shape ≡ option_map object (widest_fields (field_shapes_of (map field_shape_view left.now)) (field_shapes_of (map field_shape_view right.now)))) }
+    ensures { IfOk result (λ shape. option_map shape_view shape
+        ≡ option_map object (widest_fields (field_shapes_of (map field_shape_view left.now)) (field_shapes_of (map field_shape_view right.now)))) }
 {
     match widest_fields(alloc, left, right)? {
         Some(items) => Ok(Some(Shape::Object(FieldShapes { items }))),
@@ -128,7 +132,8 @@ fn widest_field(
     left: &FieldShape,
     right: &FieldShape,
 ) -> Result<Option<FieldShape>, AllocError>
-    ensures { IfOk result (λ field. option_map field_shape_view field ≡ named_widest (field_shape_view left.now) (field_shape_view right.now)) }
+    ensures { IfOk result (λ field. option_map field_shape_view field
+        ≡ named_widest (field_shape_view left.now) (field_shape_view right.now)) }
 {
     if left.name != right.name {
         return Ok(None);

@@ -10,7 +10,7 @@ use Rattle.ar_check.specs.declared.typed.Order.{Order}
 use Rattle.ar_check.specs.declared.typed.Typed.{Typed, the_lemmas}
 use Rattle.ar_check.specs.declared.typed.Typed as code
 use Rattle.ar_value.specs.Value.{Value}
-use Rattle.argo_judge.specs.Operand.{of_both}
+use Rattle.argo_judge.specs.Private.Operand.{of_both}
 use Rattle.argo_judge.specs.declared.operation.Operation.TheVariants as operations
 
 module _ (result : Value) (here : Option Value) (tree l r : Typed) where

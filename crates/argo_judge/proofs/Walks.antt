@@ -8,7 +8,7 @@ use Rattle.ar_check.specs.Views.{typed_view}
 use Rattle.ar_check.specs.declared.typed.Typed.{Typed as TypedCode}
 use Rattle.ar_value.specs.Answer.{◌>>=◌}
 use Rattle.ar_value.specs.Value.{Value, Items, no_items, item, items_of, count, nil, bool}
-use Rattle.argo_judge.specs.Operand.{first_holds, how_many}
+use Rattle.argo_judge.specs.Private.Operand.{first_holds, how_many}
 use Rattle.argo_judge.proofs.Items.{none_left}
 
 -- values, and items behind them

@@ -32,9 +32,9 @@ refused_as name (Ok x) = Ok x
 refused_as name (Err e) = Err (name e)
 
 -- a member that has to be there
-abbrev pub there : {A : Type 0} → Option A → Result A EvalError
-there (Some x) = Ok x
-there None = Err BadDocument
+abbrev pub wanted : {A : Type 0} → Option A → Result A EvalError
+wanted (Some x) = Ok x
+wanted None = Err BadDocument
 
 -- What a checked condition says: true or false, or the fault that it meets. It means nothing else, which is a law of `ar_check`.
 abbrev pub answer_of : Meaning → Result Bool Fault
@@ -46,9 +46,9 @@ answer_of meaning = Ok false
 -- under the shape, and the value under the shape.
 unfoldable pub judged : Data → Result (Result Bool Fault) EvalError
 judged document = do
-  text ← there (option_and_then as_str (get (codes "condition") document))
-  declared ← there (get (codes "shape") document)
-  measured ← there (get (codes "value") document)
+  text ← wanted (option_and_then as_str (get (codes "condition") document))
+  declared ← wanted (get (codes "shape") document)
+  measured ← wanted (get (codes "value") document)
   shape ← refused_as BadShape (shape_of declared)
   tree ← refused_as Grammar (parse_of text)
   condition ← refused_as Kinds (checked shape tree)

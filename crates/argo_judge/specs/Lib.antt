@@ -1,5 +1,5 @@
 pub mod Device
 pub mod Input
-pub mod Operand
 pub mod Evaluation
 pub mod Serving
+pub mod Private

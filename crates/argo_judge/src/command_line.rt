@@ -80,7 +80,7 @@ fn application<'a>(alloc: Global) -> Result<clap::Command<'a>, AllocError> {
         .after_help(EVAL_HELP);
     clap::Command::new(alloc, "argo_judge")
         .version("0.1.0")
-        .about("Judges canary measurements as Argo Rollouts' analysis does")
+        .about("Judges canary measurements by the conditions of Argo Rollouts' analysis")
         .after_help(HELP)
         .disable_help_subcommand(true)
         .subcommand_required(true)

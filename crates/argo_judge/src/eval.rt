@@ -7,7 +7,7 @@ ghost use Rattle.ar_check.specs.Views.{typed_view};
 ghost use Rattle.ar_value.specs.View.{value_view};
 ghost use Rattle.argo_judge.specs.Evaluation.{Gives, answer_of, evaluation_of, judged};
 
-use crate::input::MOST_BYTES;
+use crate::input::MOST_INPUT_BYTES;
 use crate::meaning::{Scope, meaning};
 use crate::operand::{Failure, Operand, ValueRef, value_ref};
 use ar_check::check;
@@ -113,7 +113,7 @@ impl From<ShapeFault> for EvalError {
 pub fn evaluate(alloc: Global, input: &[u8]) -> Result<Answer, EvalError>
     ensures { Gives result (evaluation_of input.now) }
 {
-    if input.len() > MOST_BYTES {
+    if input.len() > MOST_INPUT_BYTES {
         return Err(EvalError::TooLarge);
     }
     match Json::from_slice(alloc, input) {

@@ -1,4 +1,5 @@
-//! `argo_judge`: judges canary measurements as Argo Rollouts' analysis does.
+//! `argo_judge`: judges canary measurements by the conditions of Argo Rollouts' analysis;
+//! docs/LANGUAGE.md lists where it differs from Argo Rollouts' controller.
 //!
 //! The program reads one JSON document from standard input, carries a command out on it, and
 //! writes the answer to standard output. `serve::serve_plain` is all of that over any reader and
@@ -11,7 +12,8 @@
 //! - `eval`: a document with a condition, a shape and a value: what the condition says of the value
 //! - `meaning`: what a condition comes to, by a walk through its typed tree
 //! - `operand`, `list`: what the parts of a condition come to, lent by the value where it has them
-//! - `operators`, `operation`: what is made of one operand, and of two
+//! - `operators`: signs, arithmetic, orders and equality of operands; `operation`: which of them two
+//!   operands are given to
 //! - `input`: reading a whole document
 //! - `device`: readers and writers that remember whether they failed
 //! - `status`: exit statuses
@@ -50,7 +52,10 @@ fn run<R: Env + AllocGlobal + Input + Print + Eprint>(rt: &R) -> u8 {
         Ok(Request::Run(command)) => carry_out(rt, command),
         Ok(Request::Show(text)) => match rt.print(text) {
             Ok(()) => status::GOOD,
-            Err(_) => status::DEVICE,
+            Err(error) => {
+                tell(rt, ServeError::Write, Some(&error));
+                status::DEVICE
+            }
         },
         Err(error) => {
             let _ = eprintln!(rt; "argo_judge: {error}");

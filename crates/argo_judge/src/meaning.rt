@@ -1,19 +1,20 @@
 //! What a condition comes to: a walk through its typed tree, operands from left to right.
 
-ghost use Rattle.std.specs.Prelude.{◌≡◌, ◌<◌, ◌^◌, IfOk, Ok, drop, false, if◌then◌else◌, length, map, option_map, true};
-ghost use Rattle.ar_check.specs.Meaning.{all_hold, any_holds, ill_kinded, items_mean, mean, there, those};
+ghost use Rattle.std.specs.Prelude.{◌≡◌, ◌<◌, ◌^◌, IfOk, Ok, drop, false, if◌then◌else◌, length, map, true};
+ghost use Rattle.ar_check.specs.Meaning.{all_hold, any_holds, ill_kinded, there, those};
 ghost use Rattle.ar_check.specs.Typed as typed;
 ghost use Rattle.ar_check.specs.Typed.{typeds};
 ghost use Rattle.ar_check.specs.Views.{typed_view};
 ghost use Rattle.ar_value.specs.Value.{bool, items_of};
-ghost use Rattle.argo_judge.specs.Operand.{Meets, first_holds, holds_of, how_many, of_both, operand_view, value_of, values_in};
+ghost use Rattle.argo_judge.specs.Private.Operand.{Meets, first_holds, how_many, of_both, operand_view, value_of, values_in, values_of};
+ghost use Rattle.argo_judge.specs.Private.Scope.{here, holds_in, meant, meant_items};
 
 use crate::list::{List, add, len_of, list_of};
 use crate::operand::{
     Failure, Operand, ValueRef, field_of, is_nil, literal_ref, not_nil, scalar_ref, truth_of,
 };
 use crate::operation::{Operation, apply};
-use crate::operators::{in_millionths, negative, opposite};
+use crate::operators::{as_decimal, negative, opposite};
 use ar_check::typed::Typed;
 use ar_syntax::tree::Predicate;
 use std::alloc::Global;
@@ -32,15 +33,15 @@ pub(crate) fn meaning<'v>(
     scope: &Scope<'v>,
     tree: &'v Typed,
 ) -> Result<Operand<'v>, Failure>
-    ensures { Meets operand_view result (mean (value_of scope.now.result) (option_map value_of scope.now.item) (typed_view tree.now)) }
+    ensures { Meets operand_view result (meant scope.now (typed_view tree.now)) }
 {
     match tree {
         Typed::Result => Ok(Operand::Value(scope.result)),
         Typed::Item => innermost(scope),
         Typed::Literal(literal) => Ok(Operand::Value(literal_ref(literal))),
-        Typed::Field { whole, name } => field_of(meaning(alloc, scope, whole)?, name.as_bytes()),
+        Typed::Field { owner, name } => field_of(meaning(alloc, scope, owner)?, name.as_str()),
         Typed::Plain(operand) => not_nil(meaning(alloc, scope, operand)?),
-        Typed::AsDecimal(operand) => in_millionths(meaning(alloc, scope, operand)?),
+        Typed::AsDecimal(operand) => as_decimal(meaning(alloc, scope, operand)?),
         Typed::Negative { operand, .. } => negative(meaning(alloc, scope, operand)?),
         Typed::Not(operand) => opposite(meaning(alloc, scope, operand)?),
         Typed::Len(list) => len_of(meaning(alloc, scope, list)?),
@@ -84,7 +85,8 @@ fn of_two<'v>(
     left: &'v Typed,
     right: &'v Typed,
 ) -> Result<Operand<'v>, Failure>
-    ensures { Meets operand_view result (of_both operation (mean (value_of scope.now.result) (option_map value_of scope.now.item) (typed_view left.now)) (mean (value_of scope.now.result) (option_map value_of scope.now.item) (typed_view right.now))) }
+    ensures { Meets operand_view result
+        (of_both operation (meant scope.now (typed_view left.now)) (meant scope.now (typed_view right.now))) }
 {
     let left = meaning(alloc, scope, left)?;
     let right = meaning(alloc, scope, right)?;
@@ -99,7 +101,7 @@ fn both<'v>(
     left: &'v Typed,
     right: &'v Typed,
 ) -> Result<Operand<'v>, Failure>
-    ensures { Meets operand_view result (mean (value_of scope.now.result) (option_map value_of scope.now.item) (typed.both (typed_view left.now) (typed_view right.now))) }
+    ensures { Meets operand_view result (meant scope.now (typed.both (typed_view left.now) (typed_view right.now))) }
 {
     if truth_of(&meaning(alloc, scope, left)?)? {
         meaning(alloc, scope, right)
@@ -116,7 +118,7 @@ fn either<'v>(
     left: &'v Typed,
     right: &'v Typed,
 ) -> Result<Operand<'v>, Failure>
-    ensures { Meets operand_view result (mean (value_of scope.now.result) (option_map value_of scope.now.item) (typed.either (typed_view left.now) (typed_view right.now))) }
+    ensures { Meets operand_view result (meant scope.now (typed.either (typed_view left.now) (typed_view right.now))) }
 {
     if truth_of(&meaning(alloc, scope, left)?)? {
         Ok(Operand::truth(true))
@@ -134,7 +136,8 @@ fn choice<'v>(
     met: &'v Typed,
     unmet: &'v Typed,
 ) -> Result<Operand<'v>, Failure>
-    ensures { Meets operand_view result (mean (value_of scope.now.result) (option_map value_of scope.now.item) (typed.choice (typed_view condition.now) (typed_view met.now) (typed_view unmet.now))) }
+    ensures { Meets operand_view result
+        (meant scope.now (typed.choice (typed_view condition.now) (typed_view met.now) (typed_view unmet.now))) }
 {
     if truth_of(&meaning(alloc, scope, condition)?)? {
         meaning(alloc, scope, met)
@@ -151,7 +154,7 @@ fn listed<'v>(
     scope: &Scope<'v>,
     trees: &'v [Typed],
 ) -> Result<Vec<ValueRef<'v>>, Failure>
-    ensures { Meets (λ items. items_of (map value_of items.items)) result (items_mean (value_of scope.now.result) (option_map value_of scope.now.item) (typeds (map typed_view trees.now))) }
+    ensures { Meets values_of result (meant_items scope.now (typeds (map typed_view trees.now))) }
 {
     let mut items = Vec::with_capacity(alloc, trees.len())?;
     for tree in trees {
@@ -170,7 +173,7 @@ fn over<'v>(
     list: &'v Typed,
     body: &'v Typed,
 ) -> Result<Operand<'v>, Failure>
-    ensures { Meets operand_view result (mean (value_of scope.now.result) (option_map value_of scope.now.item) (typed.predicate predicate (typed_view list.now) (typed_view body.now))) }
+    ensures { Meets operand_view result (meant scope.now (typed.predicate predicate (typed_view list.now) (typed_view body.now))) }
 {
     let list = list_of(meaning(alloc, scope, list)?)?;
     Ok(match predicate {
@@ -190,7 +193,7 @@ fn all_hold<'v>(
     list: &List<'v>,
     body: &'v Typed,
 ) -> Result<bool, Failure>
-    ensures { Meets bool result (all_hold (holds_of (value_of scope.now.result) (typed_view body.now)) (items_of (values_in list.now))) }
+    ensures { Meets bool result (all_hold (holds_in scope.now body.now) (items_of (values_in list.now))) }
 {
     for index in 0..list.len() {
         if !holds(alloc, scope, list, index, body)? {
@@ -209,7 +212,7 @@ fn any_holds<'v>(
     list: &List<'v>,
     body: &'v Typed,
 ) -> Result<bool, Failure>
-    ensures { Meets bool result (any_holds (holds_of (value_of scope.now.result) (typed_view body.now)) (items_of (values_in list.now))) }
+    ensures { Meets bool result (any_holds (holds_in scope.now body.now) (items_of (values_in list.now))) }
 {
     for index in 0..list.len() {
         if holds(alloc, scope, list, index, body)? {
@@ -228,7 +231,7 @@ fn those<'v>(
     list: &List<'v>,
     body: &'v Typed,
 ) -> Result<Vec<ValueRef<'v>>, Failure>
-    ensures { Meets (λ items. items_of (map value_of items.items)) result (those (holds_of (value_of scope.now.result) (typed_view body.now)) (items_of (values_in list.now))) }
+    ensures { Meets values_of result (those (holds_in scope.now body.now) (items_of (values_in list.now))) }
 {
     let mut found = Vec::new(alloc);
     for index in 0..list.len() {
@@ -248,7 +251,7 @@ fn how_many<'v>(
     list: &List<'v>,
     body: &'v Typed,
 ) -> Result<usize, Failure>
-    ensures counted { Meets (λ n. n) result (how_many (those (holds_of (value_of scope.now.result) (typed_view body.now)) (items_of (values_in list.now)))) }
+    ensures counted { Meets (λ n. n) result (how_many (those (holds_in scope.now body.now) (items_of (values_in list.now)))) }
     ensures few { IfOk result (λ n. n < 2 ^ 63) }
 {
     let mut count = 0;
@@ -270,7 +273,7 @@ fn holds<'v>(
     body: &'v Typed,
 ) -> Result<bool, Failure>
     requires { index < length (values_in list.now) }
-    ensures { Meets (λ holds. holds) result (first_holds (holds_of (value_of scope.now.result) (typed_view body.now)) (drop index (values_in list.now))) }
+    ensures { Meets (λ holds. holds) result (first_holds (holds_in scope.now body.now) (drop index (values_in list.now))) }
 {
     let inner = Scope {
         result: scope.result,
@@ -280,7 +283,7 @@ fn holds<'v>(
 }
 
 fn innermost<'v>(scope: &Scope<'v>) -> Result<Operand<'v>, Failure>
-    ensures { Meets operand_view result (there ill_kinded (option_map value_of scope.now.item)) }
+    ensures { Meets operand_view result (there ill_kinded (here scope.now)) }
 {
     match scope.item {
         Some(item) => Ok(Operand::Value(item)),

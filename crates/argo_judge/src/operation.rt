@@ -1,7 +1,7 @@
 //! Operations on two operands.
 
 ghost use Rattle.std.specs.Prelude.{◌≡◌};
-ghost use Rattle.argo_judge.specs.Operand.{Meets, applied, operand_view};
+ghost use Rattle.argo_judge.specs.Private.Operand.{Meets, applied, operand_view};
 
 use crate::list::{has_item, item_at, list_of};
 use crate::operand::{Failure, Operand, is_nil, number_of};

@@ -256,7 +256,7 @@ fn whole_language(rt: HostRuntime) -> Result<(), Fail> {
     Ok(())
 }
 
-/// A member that is read over may nest to 127 levels, the document's own among them.
+/// A member that is ignored may nest to 127 levels, the document's own among them.
 #[test]
 fn nesting(rt: HostRuntime) -> Result<(), Fail> {
     for (lists, expected) in [

@@ -1,6 +1,6 @@
 use Rattle.std.proofs.Common.{◌≡◌, drop, map}
 use Rattle.ar_check.specs.Check.{joined}
-use Rattle.ar_check.specs.Views.{item_view}
+use Rattle.ar_check.specs.Private.Inside.{item_view}
 use Rattle.ar_check.proofs.list.joined.Given as goal
 
 -- what is in common so far goes on with the items that are left

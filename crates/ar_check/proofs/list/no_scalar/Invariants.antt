@@ -1,6 +1,6 @@
 use Rattle.std.proofs.Common.{◌≡◌, drop, map}
 use Rattle.ar_check.specs.Check.{no_scalar}
-use Rattle.ar_check.specs.Views.{item_view}
+use Rattle.ar_check.specs.Private.Inside.{item_view}
 use Rattle.ar_check.proofs.list.no_scalar.Given as goal
 
 -- all items so far are scalars

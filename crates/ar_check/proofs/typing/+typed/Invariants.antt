@@ -5,7 +5,7 @@ use Rattle.ar_syntax.specs.Expression.{expressions}
 use Rattle.ar_syntax.specs.Views.{expression_of}
 use Rattle.ar_syntax.specs.declared.tree.Tree.{size-Tree}
 use Rattle.ar_check.specs.Check.{items_typed}
-use Rattle.ar_check.specs.Views.{item_view}
+use Rattle.ar_check.specs.Private.Inside.{item_view}
 use Rattle.ar_check.proofs.Items.{behind}
 use Rattle.ar_check.proofs.typing.+typed.Given as goal
 

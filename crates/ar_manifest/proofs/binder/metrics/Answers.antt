@@ -1,17 +1,37 @@
-use Rattle.std.proofs.Common.{arith, ◌≡◌, length}
+use Rattle.std.proofs.Common.{arith, ◌≡◌, Err, length, refl}
 use Rattle.std.proofs.lemmas.Result.{err_from_is_err_and}
-use Rattle.ar_manifest.specs.Answer.{Refuses}
-use Rattle.ar_manifest.specs.Bound.{next_bound}
+use Rattle.ar_manifest.specs.Answer.{Unless, is_memory}
+use Rattle.ar_manifest.specs.Bound.{IsPlain, next_bound}
+use Rattle.ar_manifest.proofs.First.{at_first, refused_item}
 use Rattle.ar_manifest.proofs.Steps.{step_end, step_fault}
 use Rattle.ar_manifest.proofs.binder.metrics.Goals as goal
 
-pub returns-in_err-bound : goal.returns-in_err-bound
-returns-in_err-bound c =
+pub returns-in_err-bound-clause-exact : goal.returns-in_err-bound-clause-exact
+returns-in_err-bound-clause-exact c =
     let error = err_from_is_err_and c.from_residual.result c.from_residual.ensures.1 in
     let number : c.len.result ≡ length c.loop-metric.metrics.items = omega arith in
-    let refused : Refuses c.in_err-bound.field-0.0 (next_bound c.args.arguments.now c.args.own.now c.loop-metric.metrics.items c.metric-item.result) = rw (← number) c.in_err-bound.ensures in
+    let refused : Unless (is_memory c.in_err-bound.field-0.0) (next_bound c.args.arguments.now c.args.own.now c.loop-metric.metrics.items c.metric-item.result ≡ Err c.in_err-bound.field-0.0) =
+    rw (← number) c.in_err-bound.ensures.exact
+    in
     rw (error.1, error.2)
-    (step_fault (λ metric. metric) (next_bound c.args.arguments.now c.args.own.now) c.args.list.now c.loop-metric.metric-index c.loop-metric.metrics.items _ c.metric-item.result c.in_err-bound.field-0.0 c.loop-metric-test.true c.metric-item.is refused c.loop-metric.invariant)
+    (step_fault (λ metric. metric) (next_bound c.args.arguments.now c.args.own.now) c.args.list.now c.loop-metric.metric-index c.loop-metric.metrics.items _ c.metric-item.result c.in_err-bound.field-0.0 c.loop-metric-test.true c.metric-item.is refused c.loop-metric.invariant.so_far)
 
-pub returns : goal.returns
-returns c = step_end (λ metric. metric) (next_bound c.args.arguments.now c.args.own.now) c.args.list.now c.loop-metric.metric-index c.loop-metric.metrics.items _ c.from.result (omega arith) c.from.ensures c.loop-metric.invariant
+pub returns-in_err-bound-clause-first : goal.returns-in_err-bound-clause-first
+returns-in_err-bound-clause-first c = λ first rest is_list plain refusal refused.
+    let error = err_from_is_err_and c.from_residual.result c.from_residual.ensures.1 in
+    let number : c.len.result ≡ c.loop-metric.metric-index = omega (arith, c.loop-metric.invariant.count) in
+    let is_first : c.metric-item.result ≡ first =
+    at_first c.args.arguments.now c.args.own.now c.args.list.now c.loop-metric.metric-index c.loop-metric.invariant.stays c.metric-item.result c.len.result number c.metric-item.is first rest is_list refusal refused
+    in
+    let at_zero = c.loop-metric.invariant.stays first rest is_list refusal refused in
+    let zeroth : c.len.result ≡ 0 = omega (arith, number, at_zero) in
+    let plain_item : IsPlain c.args.arguments.now c.args.own.now c.len.result c.metric-item.result = rw (is_first, zeroth) plain in
+    let refused_here =
+    refused_item c.args.arguments.now c.args.own.now c.args.list.now c.loop-metric.metric-index c.loop-metric.invariant.stays c.metric-item.result c.len.result number c.metric-item.is first rest is_list refusal refused
+    in
+    let answered = c.in_err-bound.ensures.plain plain_item refusal refused_here in
+    let same : c.in_err-bound.field-0.0 ≡ refusal = cc in
+    rw (error.1, error.2, same) refl
+
+pub returns-clause-exact : goal.returns-clause-exact
+returns-clause-exact c = step_end (λ metric. metric) (next_bound c.args.arguments.now c.args.own.now) c.args.list.now c.loop-metric.metric-index c.loop-metric.metrics.items _ c.from.result (omega arith) c.from.ensures c.loop-metric.invariant.so_far

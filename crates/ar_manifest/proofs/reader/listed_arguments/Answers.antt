@@ -1,3 +1,4 @@
+use Rattle.std.proofs.Common.{arith}
 use Rattle.std.proofs.lemmas.Result.{err_from_is_err_and}
 use Rattle.serde_json.specs.View.{view}
 use Rattle.ar_manifest.specs.Template.{argument_of}
@@ -8,4 +9,7 @@ pub returns-in_err-name : goal.returns-in_err-name
 returns-in_err-name c =
     let error = err_from_is_err_and c.from_residual.result c.from_residual.ensures.1 in
     rw (error.1, error.2)
-    (step_fault (λ json. view json) argument_of c.args.list.now c.loop-json.json-index c.loop-json.arguments _ c.json-item.result c.in_err-name.field-0.0 c.loop-json-test.true c.json-item.is c.in_err-name.ensures.exact c.loop-json.invariant)
+    (record {
+      exact = step_fault (λ json. view json) argument_of c.args.list.now c.loop-json.json-index c.loop-json.arguments _ c.json-item.result c.in_err-name.field-0.0 c.loop-json-test.true c.json-item.is c.in_err-name.ensures.exact c.loop-json.invariant;
+      none = λ empty. absurd (omega (arith, empty));
+    })

@@ -1,5 +1,5 @@
 use Rattle.ar_syntax.specs.Refusal.{strict}
-use Rattle.ar_syntax.proofs.Trees.{one_tree_by}
+use Rattle.ar_syntax.proofs.OneTree.{one_tree_by}
 use Rattle.ar_syntax.proofs.laws.one_tree.Goals as goal
 
 pub returns : goal.returns

@@ -1,5 +1,5 @@
-use Rattle.ar_syntax.specs.Steps.{state_of}
-use Rattle.ar_syntax.specs.Views.{frames_of}
+use Rattle.ar_syntax.specs.Private.Steps.{state_of}
+use Rattle.ar_syntax.specs.Private.Frames.{frames_of}
 use Rattle.ar_syntax.proofs.Openers.{stepped_refused}
 use Rattle.ar_syntax.proofs.parser.stepped.Goals as goal
 

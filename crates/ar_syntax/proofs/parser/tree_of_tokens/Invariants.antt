@@ -1,7 +1,7 @@
 use Rattle.std.proofs.Common.{◌≡◌, drop}
 use Rattle.ar_syntax.specs.Parse.{tree_of, walk}
-use Rattle.ar_syntax.specs.Steps.{state_of}
-use Rattle.ar_syntax.specs.Views.{frames_of}
+use Rattle.ar_syntax.specs.Private.Steps.{state_of}
+use Rattle.ar_syntax.specs.Private.Frames.{frames_of}
 use Rattle.ar_syntax.proofs.parser.tree_of_tokens.Given as goal
 
 -- what is left leads from the state to the tree of all tokens

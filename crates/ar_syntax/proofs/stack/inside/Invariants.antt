@@ -1,6 +1,6 @@
 use Rattle.std.proofs.Common.{◌≡◌, take}
 use Rattle.ar_syntax.specs.Machine.{inside}
-use Rattle.ar_syntax.specs.Views.{frames_of}
+use Rattle.ar_syntax.specs.Private.Frames.{frames_of}
 use Rattle.ar_syntax.proofs.stack.inside.Given as goal
 
 -- what the frames so far say

@@ -1,5 +1,5 @@
 use Rattle.ar_syntax.specs.Machine.{step}
-use Rattle.ar_syntax.specs.Views.{frames_of}
+use Rattle.ar_syntax.specs.Private.Frames.{frames_of}
 use Rattle.ar_syntax.proofs.step.step.Goals as goal
 
 pub returns-in-WantName : goal.returns-in-WantName
@@ -8,7 +8,7 @@ returns-in-WantName c = rw c.in-WantName.is (c.select.ensures (frames_of c.args.
 
 pub returns-in-WantGroup : goal.returns-in-WantGroup
 unfolding step
-returns-in-WantGroup c = rw c.in-WantGroup.is (c.want_group.ensures (frames_of c.args.stack.now.items))
+returns-in-WantGroup c = rw c.in-WantGroup.is (c.want_group.ensures (frames_of c.args.stack.now.items)).0
 
 pub returns-in-HaveArgument : goal.returns-in-HaveArgument
 unfolding step

@@ -1,5 +1,5 @@
 use Rattle.std.proofs.Common.{option_map}
-use Rattle.argo_judge.specs.Operand.{value_of}
+use Rattle.argo_judge.specs.Private.Operand.{value_of}
 use Rattle.argo_judge.proofs.Pairs.{index_is, arithmetic_is, ordered_is, equal_is, within_is, otherwise_is}
 use Rattle.argo_judge.proofs.meaning.+meaning.Goals as goal
 

@@ -4,7 +4,7 @@ use Rattle.ar_check.specs.Typed.{typeds}
 use Rattle.ar_check.specs.Views.{typed_view}
 use Rattle.ar_check.specs.declared.typed.Typed.{size-Typed}
 use Rattle.ar_value.specs.Value.{items_of}
-use Rattle.argo_judge.specs.Operand.{holds_of, how_many, value_of, values_in}
+use Rattle.argo_judge.specs.Private.Operand.{holds_of, how_many, value_of, values_in}
 use Rattle.argo_judge.proofs.Walks.{counted_before, found_before}
 use Rattle.argo_judge.proofs.meaning.+meaning.Given as goal
 

@@ -1,0 +1,17 @@
+-- What the table of kinds and the search for faults both begin with: the kinds of literals, and how far predicates go.
+use Rattle.std.specs.Prelude.{ℕ}
+use Rattle.ar_value.specs.Kind.{Kind, nil, shaped}
+use Rattle.ar_value.specs.Shape as shapes
+use Rattle.ar_syntax.specs.declared.tree.Literal.{Literal}
+use Rattle.ar_syntax.specs.declared.tree.Literal.TheVariants as literals
+
+abbrev pub literal_kind : Literal → Kind
+literal_kind literals.Nil = nil
+literal_kind (literals.Bool holds) = shaped shapes.bool
+literal_kind (literals.Whole value) = shaped shapes.whole
+literal_kind (literals.Decimal millionths) = shaped shapes.decimal
+literal_kind (literals.Text text) = shaped shapes.text
+
+-- how many predicates may stand in one another
+abbrev pub most_predicates : ℕ
+most_predicates = 4

@@ -1,0 +1,58 @@
+-- What operands, items and scopes in memory stand for, of which no public contract speaks.
+use Rattle.std.specs.Prelude.{ℕ, suc, Bool, List, Option, Some, option_map, Result, Ok, Err}
+use Rattle.ar_value.specs.Kind.{Kind, common}
+use Rattle.ar_value.specs.Kind as kind
+use Rattle.ar_value.specs.Shape.{Shape}
+use Rattle.ar_value.specs.View.{shape_view}
+use Rattle.ar_syntax.specs.Expression.{Expression, Expressions}
+use Rattle.ar_check.specs.Check.{Answer, Item, choice_in, choice_tree, item_typed, items_typed, typed_of}
+use Rattle.ar_check.specs.Operand.{Operand, operand}
+use Rattle.ar_check.specs.Typed.{Typed}
+use Rattle.ar_check.specs.Views.{typed_view}
+use Rattle.ar_check.specs.declared.error.TypeError.{TypeError}
+use Rattle.ar_check.specs.declared.list.Item as items
+use Rattle.ar_check.specs.declared.operand.Kind as code
+use Rattle.ar_check.specs.declared.operand.Kind.TheVariants as kinds
+use Rattle.ar_check.specs.declared.operand.Operand as operands
+use Rattle.ar_check.specs.declared.typing.Scope.{Scope}
+
+-- the kind of an operand, wherever its shape lies
+abbrev pub kind_view : code.Kind → Kind
+kind_view kinds.Nil = kind.nil
+kind_view (kinds.Declared shape) = kind.shaped (shape_view shape.now)
+kind_view (kinds.Made shape) = kind.shaped (shape_view shape)
+
+abbrev pub operand_view : operands.Operand → Operand
+operand_view o = operand (typed_view o.tree) (kind_view o.kind)
+
+-- a shape's answer as a kind's
+abbrev pub shaped_answer : Result Shape TypeError → Result Kind TypeError
+shaped_answer (Ok shape) = Ok (kind.shaped shape)
+shaped_answer (Err error) = Err error
+
+-- an item of a list literal
+abbrev pub item_view : items.Item → Item
+item_view i = record { at = i.at; scalar = i.scalar; tree = typed_view i.tree }
+
+-- the shape of a scope's innermost item
+abbrev pub innermost_of : Scope → Option Shape
+innermost_of scope = option_map (λ shape. shape_view shape.now) scope.item
+
+-- a tree typed in a scope
+abbrev pub typed_in : Scope → Expression → Answer
+typed_in scope tree = typed_of (shape_view scope.measured.now) (innermost_of scope) scope.around tree
+
+-- items of a list literal, likewise
+abbrev pub items_in : Scope → Expressions → Result (List Item) TypeError
+items_in scope trees = items_typed (shape_view scope.measured.now) (innermost_of scope) scope.around trees
+
+abbrev pub item_in : Scope → Expression → Result Item TypeError
+item_in scope tree = item_typed (shape_view scope.measured.now) (innermost_of scope) scope.around tree
+
+-- a predicate's body, where items have a shape
+abbrev pub inside : Scope → Shape → Expression → Answer
+inside scope shape body = typed_of (shape_view scope.measured.now) (Some shape) (suc scope.around) body
+
+-- a choice whose condition is made plain already
+abbrev pub choice_between : ℕ → Bool → Typed → Operand → Operand → Answer
+choice_between at is_truth condition met unmet = choice_in at (common met.kind unmet.kind) is_truth (choice_tree condition met unmet)

@@ -1,0 +1,2 @@
+-- What only the proofs of the code use.
+pub mod Early

@@ -1,0 +1,11 @@
+-- What is looked at before memory is taken.
+use Rattle.std.specs.Prelude.{List, Result, codes}
+use Rattle.serde_json.specs.Data.{Data}
+use Rattle.ar_manifest.specs.Answer.{◌>>=◌}
+use Rattle.ar_manifest.specs.Json.{member_of_member}
+use Rattle.ar_manifest.specs.Template.{counted_metrics, head_of}
+use Rattle.ar_manifest.specs.declared.error.ManifestError.{ManifestError}
+
+-- a template's version, kind and name, and the number of its metrics, where it has no arguments
+abbrev pub first_counted : Data → Result (List Data) ManifestError
+first_counted d = head_of d >>= λ name. counted_metrics (member_of_member (codes "spec") (codes "metrics") d)

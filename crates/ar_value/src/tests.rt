@@ -1,7 +1,0 @@
-//! Worked rows, whose expected values were worked out by hand.
-
-mod decimals;
-mod kinds;
-mod numbers;
-mod shapes;
-mod values;
