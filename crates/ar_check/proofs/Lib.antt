@@ -1,4 +1,5 @@
 pub mod Items
+pub mod Freely
 pub mod Means
 pub mod Operands
 pub mod Parts

@@ -1,6 +1,6 @@
 //! Operators whose operands have kinds.
 
-ghost use Rattle.std.specs.Prelude.{◌≡◌, ◌&&◌, IfOk, Some};
+ghost use Rattle.std.specs.Prelude.{◌≡◌, ◌&&◌, false, IfOk, Some};
 ghost use Rattle.ar_value.specs.Answer.{Gives};
 ghost use Rattle.ar_value.specs.Kind.{shaped};
 ghost use Rattle.ar_value.specs.View.{shape_view};
@@ -32,7 +32,7 @@ pub(crate) fn where_wanted<'s>(
     tree: Typed,
     kind: Kind<'s>,
 ) -> Result<Operand<'s>, TypeError>
-    ensures { Gives is_memory operand_view result (where_wanted at wanted (typed_view tree) (kind_view kind.entry)) }
+    ensures { Gives (λ _. false) operand_view result (where_wanted at wanted (typed_view tree) (kind_view kind.entry)) }
 {
     if wanted {
         Ok(Operand { tree, kind })
@@ -58,6 +58,7 @@ fn number_kind<'s>(numbers: Numbers) -> Kind<'s>
 }
 
 /// A sign or `not` before its operand.
+#[tactic(auto, using(crate::proofs::Freely::gives_freely))]
 pub(crate) fn unary<'s>(
     alloc: Global,
     at: usize,
@@ -120,6 +121,7 @@ pub(crate) fn binary<'s>(
     }
 }
 
+#[tactic(auto, using(crate::proofs::Freely::gives_freely))]
 fn either_of<'s>(
     alloc: Global,
     at: usize,
@@ -133,6 +135,7 @@ fn either_of<'s>(
     where_wanted(at, wanted, either(alloc, left, right)?, truth())
 }
 
+#[tactic(auto, using(crate::proofs::Freely::gives_freely))]
 fn both_of<'s>(
     alloc: Global,
     at: usize,
@@ -179,6 +182,7 @@ fn compare<'s>(
     }
 }
 
+#[tactic(auto, using(crate::proofs::Freely::gives_freely))]
 fn equate<'s>(
     alloc: Global,
     at: usize,
@@ -240,6 +244,7 @@ fn order<'s>(
 }
 
 /// Whether a list has an operand among its items.
+#[tactic(auto, using(crate::proofs::Freely::gives_freely))]
 fn contains<'s>(
     alloc: Global,
     at: usize,
@@ -274,6 +279,7 @@ fn calculate<'s>(
 }
 
 /// Arithmetic on plain operands of these numbers.
+#[tactic(auto, using(crate::proofs::Freely::gives_freely))]
 fn calculate_on<'s>(
     alloc: Global,
     at: usize,

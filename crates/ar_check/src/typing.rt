@@ -345,6 +345,7 @@ fn field_of<'s>(
     Ok(Operand { tree, kind })
 }
 
+#[tactic(auto, using(crate::proofs::Freely::gives_freely))]
 fn index_of<'s>(
     alloc: Global,
     at: usize,
@@ -378,6 +379,7 @@ fn len_of<'s>(alloc: Global, at: usize, list: Operand<'_>) -> Result<Operand<'s>
 }
 
 /// One of two branches, which have their common kind.
+#[tactic(auto, using(crate::proofs::Freely::gives_freely))]
 fn choice_of<'s>(
     alloc: Global,
     at: usize,
@@ -462,6 +464,7 @@ fn default_kind<'s>(
     }
 }
 
+#[tactic(auto, using(crate::proofs::Freely::gives_freely))]
 fn predicate_of<'s>(
     alloc: Global,
     at: usize,

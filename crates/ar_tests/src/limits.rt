@@ -1,6 +1,7 @@
 //! Runs whose effects, phases and counts are worked out by hand from the definition.
 
 use ar_limits::{Counts, Effect, Event, Limits, MOST_EVENTS, Mark, Phase, RunState, laws};
+use std::alloc::{AllocError, Global};
 use std::process::Abort;
 use std::test::Fail;
 
@@ -600,15 +601,21 @@ fn assert_counts(rt: &impl Abort, state: &RunState, case: &Case) {
     }
 }
 
+/// Asserts what a case says of its run.
+fn assert_case(rt: &impl Abort, alloc: Global, case: &Case) -> Result<(), AllocError> {
+    assert!(rt; Limits::have_positive_counts(case.limits), "{}", case.name);
+    let mut state = RunState::new(alloc, case.limits)?;
+    apply_all(rt, &mut state, case);
+    assert_eq!(rt; state.phase(), case.phase, "{}", case.name);
+    assert_phases(rt, &state, case);
+    assert_counts(rt, &state, case);
+    Ok(())
+}
+
 #[test]
 fn runs_by_hand(rt: HostRuntime) -> Result<(), Fail> {
     for case in CASES {
-        assert!(rt; Limits::have_positive_counts(case.limits), "{}", case.name);
-        let mut state = RunState::new(rt.alloc(), case.limits)?;
-        apply_all(&rt, &mut state, case);
-        assert_eq!(rt; state.phase(), case.phase, "{}", case.name);
-        assert_phases(&rt, &state, case);
-        assert_counts(&rt, &state, case);
+        assert_case(&rt, rt.alloc(), case)?;
     }
     Ok(())
 }

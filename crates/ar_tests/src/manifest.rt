@@ -298,18 +298,29 @@ fn shown_value<'args>(args: &'args Args, name: &str) -> &'args str {
     }
 }
 
-/// Lists and texts are handed on as they are.
+fn apdex(alloc: Global) -> Result<Template, Fail> {
+    let json = Json::from_str(alloc, templates::APDEX)?;
+    Ok(Template::read(alloc, &json)?)
+}
+
+/// Bound metrics are handed on as they are.
 #[test]
-fn lists(rt: HostRuntime) -> Result<(), Fail> {
+fn bound_metrics(rt: HostRuntime) -> Result<(), Fail> {
     let alloc = rt.alloc();
     let args = two_arguments(alloc)?;
-    let json = Json::from_str(alloc, templates::APDEX)?;
-    let template = Template::read(alloc, &json)?;
-    let metrics = template.bind(alloc, &args)?.into_metrics();
+    let metrics = apdex(alloc)?.bind(alloc, &args)?.into_metrics();
+    let lines = lines(alloc, &Bound::from(metrics))?;
     assert_eq!(rt;
-        lines(alloc, &Bound::from(metrics))?.as_str(),
+        lines.as_str(),
         "apdex: success result.apdex >= 0.9, failure -, limits 3 0 4, count no end\nerrors: success -, failure result.errors > 100, limits 0 0 4, count 10\n"
     );
+    Ok(())
+}
+
+/// So are a template's name and metrics.
+#[test]
+fn parts_of_a_template(rt: HostRuntime) -> Result<(), Fail> {
+    let template = apdex(rt.alloc())?;
     assert_eq!(rt; template.name.into_string().as_str(), "apdex");
     let metrics = Metrics::from(template.metrics.into_vec());
     assert_eq!(rt; metrics.as_slice().len(), 2);

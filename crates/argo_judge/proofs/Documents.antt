@@ -1,11 +1,17 @@
 -- Inputs and the documents that they are.
-use Rattle.std.proofs.Common.{◌≡◌, ℕ, ◌≤◌, Bool, true, false, List, [], ◌++◌, length, Option, Some, None, refl, ◌∙◌, ap, arith, length-append, append-nil}
+use Rattle.std.proofs.Common.{◌≡◌, ℕ, ◌≤◌, Bool, true, false, List, [], ◌++◌, length, Option, Some, None, Err, refl, ◌∙◌, ap, arith, length-append, append-nil}
 use Rattle.std.specs.Prelude.{IfSome, nat_lt}
 use Rattle.std.specs.Str.{IsUtf8, is_utf8}
 use Rattle.std.proofs.lemmas.Str.{is_utf8-from_IsUtf8, IsUtf8-from_is_utf8}
 use Rattle.std.proofs.lemmas.Bool.Decides.{nat_tests}
 use Rattle.serde_json.specs.Data.{Data}
 use Rattle.serde_json.specs.Read.{read as read_text}
+use Rattle.ar_value.specs.Answer.{Unless}
+use Rattle.ar_value.specs.Reading.{is_memory, is_memory_under, read}
+use Rattle.ar_value.specs.Shape.{Shape}
+use Rattle.ar_value.specs.declared.value_reading.ShapeFault.{ShapeFault}
+use Rattle.ar_value.proofs.Answers.{unless_more}
+use Rattle.ar_value.proofs.ReadLemmas.{under_is_memory}
 use Rattle.argo_judge.specs.Input.{most_bytes, ReadsInput}
 use Rattle.argo_judge.specs.Evaluation.{document_of, evaluation_of}
 
@@ -37,3 +43,7 @@ pub read_whole : (known after : Option (List ℕ)) (bytes : List ℕ) → ReadsI
 read_whole None after bytes reads = tt
 read_whole (Some input) None bytes reads = absurd reads.front
 read_whole (Some input) (Some rest) bytes reads = by_size input rest bytes (nat_lt most_bytes (length bytes)) refl reads.front reads.whole
+
+-- what may be want of memory under a shape is want of memory
+pub misfits : (shape : Shape) (json : Data) (fault : ShapeFault) → Unless (is_memory_under shape fault) (read shape json ≡ Err fault) → Unless (is_memory fault) (read shape json ≡ Err fault)
+misfits shape json fault h = unless_more (read shape json ≡ Err fault) (is_memory_under shape fault) (is_memory fault) (under_is_memory shape fault) h

@@ -87,26 +87,30 @@ fn two_kinds(rt: HostRuntime) -> Result<(), Fail> {
     Ok(())
 }
 
-/// Shapes, with the shape of what isn't nil; a shape is optional where the two differ.
+/// Shapes, with the shape of what isn't nil, and whether nil fits.
 #[test]
 fn plain_shapes(rt: HostRuntime) -> Result<(), Fail> {
-    let alloc = rt.alloc();
-    let list = r#"{"list":{"optional":"whole"},"max":3}"#;
     let rows = [
-        ("\"bool\"", "\"bool\""),
-        ("\"text\"", "\"text\""),
-        (r#"{"optional":"whole"}"#, "\"whole\""),
+        ("\"bool\"", "\"bool\"", false),
+        ("\"text\"", "\"text\"", false),
+        (r#"{"optional":"whole"}"#, "\"whole\"", true),
         (
             r#"{"optional":{"list":{"optional":"whole"},"max":3}}"#,
-            list,
+            r#"{"list":{"optional":"whole"},"max":3}"#,
+            true,
         ),
-        (list, list),
-        (r#"{"record":{}}"#, r#"{"record":{}}"#),
+        (
+            r#"{"list":{"optional":"whole"},"max":3}"#,
+            r#"{"list":{"optional":"whole"},"max":3}"#,
+            false,
+        ),
+        (r#"{"record":{}}"#, r#"{"record":{}}"#, false),
     ];
-    for (text, expected) in rows {
-        let shape = shape_of(alloc, text)?;
-        assert!(rt; *plain(&shape) == shape_of(alloc, expected)?, "{text}");
-        assert_eq!(rt; is_optional(&shape), text != expected, "{text}");
+    for (text, expected, optional) in rows {
+        let shape = shape_of(rt.alloc(), text)?;
+        let expected = shape_of(rt.alloc(), expected)?;
+        assert!(rt; *plain(&shape) == expected, "{text}");
+        assert_eq!(rt; is_optional(&shape), optional, "{text}");
     }
     Ok(())
 }

@@ -99,7 +99,7 @@ fn told(decimal: Result<Decimal, Fault>) -> Result<i64, Fault> {
     decimal.map(|decimal| decimal.millionths())
 }
 
-/// Sums, differences, products, remainders and negations of wholes.
+/// Sums, differences, products and negations of wholes.
 #[test]
 fn wholes(rt: HostRuntime) {
     let rows = [
@@ -108,14 +108,24 @@ fn wholes(rt: HostRuntime) {
         (whole::sub(2, 5), Ok(-3)),
         (whole::sub(i64::MIN, 1), Err(Overflow)),
         (whole::mul(-4, 5), Ok(-20)),
-        (whole::mul(1 << 32, 1 << 31), Err(Overflow)),
+        (whole::mul(4_294_967_296, 2_147_483_648), Err(Overflow)),
+        (whole::neg(5), Ok(-5)),
+        (whole::neg(i64::MIN), Err(Overflow)),
+    ];
+    for (row, (result, expected)) in rows.iter().enumerate() {
+        assert_eq!(rt; result, expected, "row {row}");
+    }
+}
+
+/// What is left of a division has the sign of the dividend.
+#[test]
+fn remainders(rt: HostRuntime) {
+    let rows = [
         (whole::rem(7, 3), Ok(1)),
         (whole::rem(-7, 3), Ok(-1)),
         (whole::rem(7, -3), Ok(1)),
         (whole::rem(i64::MIN, -1), Ok(0)),
         (whole::rem(1, 0), Err(DivisionByZero)),
-        (whole::neg(5), Ok(-5)),
-        (whole::neg(i64::MIN), Err(Overflow)),
     ];
     for (row, (result, expected)) in rows.iter().enumerate() {
         assert_eq!(rt; result, expected, "row {row}");
