@@ -34,7 +34,7 @@ const PRINTED: [(SyntaxError, &str); 14] = [
     ),
     (
         SyntaxError::Unexpected(8),
-        "byte 8: Unexpected: no condition goes on so, as `result >= 0.95` does",
+        "byte 8: Unexpected: no condition goes on so, as `result >= 0.95` does; a {{args.name}} gives way to its value before a condition is read",
     ),
     (
         SyntaxError::UnknownName(0),
