@@ -12,11 +12,12 @@ use Rattle.ar_value.specs.Value as values
 use Rattle.ar_value.specs.declared.fault.Fault.{Fault}
 use Rattle.ar_value.proofs.Merges.{merge_has_both}
 use Rattle.ar_check.specs.Check.{choice_in, choice_of, default_kind, default_of, in_common, plain_kind, truth_kind}
-use Rattle.ar_check.specs.Meaning.{Meaning, Failure, mean}
-use Rattle.ar_check.specs.Meaning as meaning
+use Rattle.ar_value.specs.Operators.{Failure, Meaning}
+use Rattle.ar_condition.specs.Meaning.{mean}
+use Rattle.ar_value.specs.Operators as operators
 use Rattle.ar_check.specs.Operand.{Operand, is_truth, is_whole, made_plain, turned}
-use Rattle.ar_check.specs.Typed.{Typed}
-use Rattle.ar_check.specs.Typed as typed
+use Rattle.ar_condition.specs.Typed.{Typed}
+use Rattle.ar_condition.specs.Typed as typed
 use Rattle.ar_check.proofs.Means.{Means, MeansKind, Sound, either_means, means_then, wanted}
 use Rattle.ar_check.proofs.Operands.{is_true}
 use Rattle.ar_check.proofs.OperatorKinds.{truth_then}
@@ -45,56 +46,56 @@ right_fits left right merged is v fit = merge_has_both left right merged v is (r
 -- what is meant has each property that follows from its own
 means_some : (P Q : Value → Type 0) (m : Meaning) → ((v : Value) → P v → Q v) → Means P m → Means Q m
 means_some P Q (Ok v) more h = more v h
-means_some P Q (Err (meaning.faulted fault)) more h = tt
-means_some P Q (Err meaning.ill_kinded) more h = absurd h
+means_some P Q (Err (operators.faulted fault)) more h = tt
+means_some P Q (Err operators.ill_kinded) more h = absurd h
 
 -- what means a kind means a wider one
 means_more : (kind wider : Kind) → ((v : Value) → fits_kind v kind ≡ true → fits_kind v wider ≡ true) → (m : Meaning) → MeansKind kind m → MeansKind wider m
 means_more kind wider more (Ok v) h = more v h
-means_more kind wider more (Err (meaning.faulted fault)) h = tt
-means_more kind wider more (Err meaning.ill_kinded) h = absurd h
+means_more kind wider more (Err (operators.faulted fault)) h = tt
+means_more kind wider more (Err operators.ill_kinded) h = absurd h
 
 -- ---- wholes turned beside decimals
 
 -- what arithmetic gives is an optional decimal, or a fault
-optional_or_fault : (r : Result ℤ Fault) → MeansKind (shaped (shapes.optional shapes.decimal)) (meaning.decimal_of r)
+optional_or_fault : (r : Result ℤ Fault) → MeansKind (shaped (shapes.optional shapes.decimal)) (operators.decimal_of r)
 optional_or_fault (Ok z) = refl
 optional_or_fault (Err fault) = tt
 
 -- an optional whole in millionths is an optional decimal, or a fault
-optional_turns : (v : Value) → fits v (shapes.optional shapes.whole) ≡ true → MeansKind (shaped (shapes.optional shapes.decimal)) (meaning.in_millionths v)
+optional_turns : (v : Value) → fits v (shapes.optional shapes.whole) ≡ true → MeansKind (shaped (shapes.optional shapes.decimal)) (operators.to_decimal v)
 optional_turns values.nil h = refl
 optional_turns (values.whole w) h = optional_or_fault (decimal_of_whole w)
 optional_turns v h = absurd (cc)
 
 -- what isn't nil has the plain kind
-not_nil_fits : (v : Value) (shape : Shape) → fits v shape ≡ true → meaning.is_nil v ≡ false → fits v (plain shape) ≡ true
+not_nil_fits : (v : Value) (shape : Shape) → fits v shape ≡ true → operators.is_nil v ≡ false → fits v (plain shape) ≡ true
 not_nil_fits values.nil shape h is = absurd (cc)
 not_nil_fits v (shapes.optional shape) h is = h
 not_nil_fits v shape h is = h
 
 -- a value has a kind where it isn't nil
 abbrev UnlessNil : Kind → Value → Type 0
-UnlessNil kind v = meaning.is_nil v ≡ false → fits_kind v kind ≡ true
+UnlessNil kind v = operators.is_nil v ≡ false → fits_kind v kind ≡ true
 
 -- what arithmetic gives is a decimal, or a fault
-decimal_unless_nil : (r : Result ℤ Fault) → Means (UnlessNil (shaped shapes.decimal)) (meaning.decimal_of r)
+decimal_unless_nil : (r : Result ℤ Fault) → Means (UnlessNil (shaped shapes.decimal)) (operators.decimal_of r)
 decimal_unless_nil (Ok z) = λ some. refl
 decimal_unless_nil (Err fault) = tt
 
 -- a whole, unless nil, in millionths is a decimal, unless nil, or a fault
-whole_turns : (v : Value) → UnlessNil (shaped shapes.whole) v → Means (UnlessNil (shaped shapes.decimal)) (meaning.in_millionths v)
+whole_turns : (v : Value) → UnlessNil (shaped shapes.whole) v → Means (UnlessNil (shaped shapes.decimal)) (operators.to_decimal v)
 whole_turns values.nil h = λ some. absurd (cc)
 whole_turns (values.whole w) h = decimal_unless_nil (decimal_of_whole w)
 whole_turns v h = let fit = h refl in absurd (cc)
 
 -- likewise an optional decimal
-optional_unless_nil : (r : Result ℤ Fault) → Means (UnlessNil (shaped (shapes.optional shapes.decimal))) (meaning.decimal_of r)
+optional_unless_nil : (r : Result ℤ Fault) → Means (UnlessNil (shaped (shapes.optional shapes.decimal))) (operators.decimal_of r)
 optional_unless_nil (Ok z) = λ some. refl
 optional_unless_nil (Err fault) = tt
 
 -- likewise an optional whole
-optional_whole_turns : (v : Value) → UnlessNil (shaped (shapes.optional shapes.whole)) v → Means (UnlessNil (shaped (shapes.optional shapes.decimal))) (meaning.in_millionths v)
+optional_whole_turns : (v : Value) → UnlessNil (shaped (shapes.optional shapes.whole)) v → Means (UnlessNil (shaped (shapes.optional shapes.decimal))) (operators.to_decimal v)
 optional_whole_turns values.nil h = λ some. absurd (cc)
 optional_whole_turns (values.whole w) h = optional_unless_nil (decimal_of_whole w)
 optional_whole_turns v h = let fit = h refl in absurd (cc)
@@ -105,7 +106,7 @@ nil_kind shape values.nil h some = absurd (cc)
 nil_kind shape v h some = let fit = h refl in absurd (cc)
 
 -- a value, or what stands in for nil
-by_nil : (kind : Kind) (v w : Value) (is_nil : Bool) → meaning.is_nil v ≡ is_nil → (meaning.is_nil v ≡ false → fits_kind v kind ≡ true) → fits_kind w kind ≡ true → fits_kind (if is_nil then w else v) kind ≡ true
+by_nil : (kind : Kind) (v w : Value) (is_nil : Bool) → operators.is_nil v ≡ is_nil → (operators.is_nil v ≡ false → fits_kind v kind ≡ true) → fits_kind w kind ≡ true → fits_kind (if is_nil then w else v) kind ≡ true
 by_nil kind v w true is h k = k
 by_nil kind v w false is h k = h is
 
@@ -115,7 +116,7 @@ module _ (result : Value) (here : Option Value) where
       → MeansKind (if turns then shaped (whole_as_decimal shape) else shaped shape) (mean result here (if turns && is_whole (plain shape) then typed.as_decimal tree else tree))
   turned_shape false shape tree h = h
   turned_shape true shapes.whole tree h = turned_means result here tree h
-  turned_shape true (shapes.optional shapes.whole) tree h = means_then _ _ (mean result here tree) meaning.in_millionths h optional_turns
+  turned_shape true (shapes.optional shapes.whole) tree h = means_then _ _ (mean result here tree) operators.to_decimal h optional_turns
   turned_shape true shape tree h = h
 
   -- a tree beside another means what its kind turns into
@@ -133,9 +134,9 @@ module _ (result : Value) (here : Option Value) where
   turned_plain : (turns : Bool) (shape : Shape) (tree : Typed) → Means (UnlessNil (shaped shape)) (mean result here tree)
       → Means (UnlessNil (if turns then shaped (whole_as_decimal shape) else shaped shape)) (mean result here (if turns && is_whole (plain shape) then typed.as_decimal tree else tree))
   turned_plain false shape tree h = h
-  turned_plain true shapes.whole tree h = means_then (UnlessNil (shaped shapes.whole)) (UnlessNil (shaped shapes.decimal)) (mean result here tree) meaning.in_millionths h whole_turns
+  turned_plain true shapes.whole tree h = means_then (UnlessNil (shaped shapes.whole)) (UnlessNil (shaped shapes.decimal)) (mean result here tree) operators.to_decimal h whole_turns
   turned_plain true (shapes.optional shapes.whole) tree h =
-      means_then (UnlessNil (shaped (shapes.optional shapes.whole))) (UnlessNil (shaped (shapes.optional shapes.decimal))) (mean result here tree) meaning.in_millionths h optional_whole_turns
+      means_then (UnlessNil (shaped (shapes.optional shapes.whole))) (UnlessNil (shaped (shapes.optional shapes.decimal))) (mean result here tree) operators.to_decimal h optional_whole_turns
   turned_plain true shape tree h = h
 
   -- likewise beside the kind of what stands in for nil
@@ -175,9 +176,9 @@ module _ (result : Value) (here : Option Value) where
       → ((v : Value) → fits_kind v plain ≡ true → fits_kind v kind ≡ true) → ((v : Value) → fits_kind v right ≡ true → fits_kind v kind ≡ true)
       → MeansKind kind (mean result here (typed.otherwise first other))
   otherwise_means plain right kind first other h k more less =
-      means_then (UnlessNil plain) _ (mean result here first) (λ v. mean result here other >>= λ w. Ok (if meaning.is_nil v then w else v)) h
-      (λ v fit. means_then _ _ (mean result here other) (λ w. Ok (if meaning.is_nil v then w else v)) k
-      (λ w also. by_nil kind v w (meaning.is_nil v) refl (λ some. more v (fit some)) (less w also)))
+      means_then (UnlessNil plain) _ (mean result here first) (λ v. mean result here other >>= λ w. Ok (if operators.is_nil v then w else v)) h
+      (λ v fit. means_then _ _ (mean result here other) (λ w. Ok (if operators.is_nil v then w else v)) k
+      (λ w also. by_nil kind v w (operators.is_nil v) refl (λ some. more v (fit some)) (less w also)))
 
   -- a default, where both sides have a kind in common
   default_found : (at : ℕ) (found : Option Kind) (plain right : Kind) (first other : Typed) → merge plain right ≡ found → Means (UnlessNil plain) (mean result here first) → MeansKind right (mean result here other)

@@ -1,14 +1,13 @@
 -- What is checked is a condition by the table of kinds, and what is refused is none.
-use Rattle.std.proofs.Common.{◌≡◌, ℕ, Bool, true, false, List, None, Result, Ok, Err, refl, sym, ◌∙◌, ap, subst}
+use Rattle.std.proofs.Common.{◌≡◌, ℕ, Bool, true, false, None, Ok, Err, refl, subst}
 use Rattle.std.specs.Prelude.{if◌then◌else◌}
-use Rattle.ar_value.specs.Answer.{◌>>=◌, Gives, Unless}
-use Rattle.ar_value.specs.Kind.{Kind, shaped, plain}
+use Rattle.ar_value.specs.Answer.{◌>>=◌, Unless}
+use Rattle.ar_value.specs.Kind.{shaped, plain}
 use Rattle.ar_value.specs.Shape.{Shape}
-use Rattle.ar_value.specs.Shape as shapes
-use Rattle.ar_syntax.specs.Expression.{Expression, place_of}
+use Rattle.ar_condition.specs.Expression.{Expression, place_of}
 use Rattle.ar_check.specs.Check.{checked, condition_of, typed_of}
-use Rattle.ar_check.specs.Operand.{Operand, operand, is_bool, is_truth, made_plain, scalar_of}
-use Rattle.ar_check.specs.Typed.{Typed}
+use Rattle.ar_check.specs.Operand.{Operand, operand, is_truth, made_plain}
+use Rattle.ar_condition.specs.Typed.{Typed}
 use Rattle.ar_check.specs.Typing.{HasKind, IsCondition}
 use Rattle.ar_check.specs.declared.error.TypeError.{TypeError}
 use Rattle.ar_check.specs.declared.error.TypeError.TheVariants.{NotTruth}

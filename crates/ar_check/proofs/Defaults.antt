@@ -4,9 +4,10 @@ use Rattle.std.specs.Prelude.{if◌then◌else◌}
 use Rattle.ar_value.specs.Answer.{◌>>=◌}
 use Rattle.ar_value.specs.Value.{Value}
 use Rattle.ar_value.specs.Value as values
-use Rattle.ar_check.specs.Meaning.{Meaning, is_nil, mean}
-use Rattle.ar_check.specs.Typed.{Typed}
-use Rattle.ar_check.specs.Typed as typed
+use Rattle.ar_value.specs.Operators.{Meaning, is_nil}
+use Rattle.ar_condition.specs.Meaning.{mean}
+use Rattle.ar_condition.specs.Typed.{Typed}
+use Rattle.ar_condition.specs.Typed as typed
 
 -- a value that isn't nil stands
 kept : (value other : Value) → value ≢ values.nil → (if is_nil value then other else value) ≡ value

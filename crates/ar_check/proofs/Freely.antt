@@ -1,7 +1,7 @@
 -- Answers that no growth can keep.
 use Rattle.std.proofs.Common.{◌≡◌, Bool, true, false, Result, Ok, Err}
 use Rattle.ar_value.specs.Answer.{Gives, Unless}
-use Rattle.ar_check.specs.Views.{is_memory}
+use Rattle.ar_check.specs.Memory.{is_memory}
 use Rattle.ar_check.specs.declared.error.TypeError.{TypeError}
 
 unless_any : (P : Type 0) (m : Bool) → P → Unless m P

@@ -7,8 +7,8 @@ use Rattle.ar_check.specs.Check.{Item, common_of, common_scalar, joined, list_in
 use Rattle.ar_check.specs.Operand.{Operand}
 use Rattle.ar_check.specs.Typing.{InCommon, IsNumber, IsScalar, SumOf}
 use Rattle.ar_check.specs.Typing as typing
-use Rattle.ar_check.specs.declared.typed.Scalar.{Scalar}
-use Rattle.ar_check.specs.declared.typed.Scalar.TheVariants as scalars
+use Rattle.ar_value.specs.declared.operator.Scalar.{Scalar}
+use Rattle.ar_value.specs.declared.operator.Scalar.TheVariants as scalars
 use Rattle.ar_check.proofs.Tables.{IsTyped, given_kind}
 
 -- ---- scalars in common

@@ -10,12 +10,13 @@ use Rattle.ar_value.specs.Shape as shapes
 use Rattle.ar_value.specs.Value.{Value, Items, count}
 use Rattle.ar_value.specs.Value as values
 use Rattle.ar_check.specs.Check.{Item, common_of, common_scalar, joined, list_in_common, list_of, scalar_shape, turned_item}
-use Rattle.ar_check.specs.Meaning.{Meaning, Failure, items_mean, mean}
-use Rattle.ar_check.specs.Meaning as meaning
-use Rattle.ar_check.specs.Typed.{Typed, Typeds, typeds}
-use Rattle.ar_check.specs.Typed as typed
-use Rattle.ar_check.specs.declared.typed.Scalar.{Scalar}
-use Rattle.ar_check.specs.declared.typed.Scalar.TheVariants as scalars
+use Rattle.ar_value.specs.Operators.{Failure, Meaning}
+use Rattle.ar_condition.specs.Meaning.{items_mean, mean}
+use Rattle.ar_value.specs.Operators as operators
+use Rattle.ar_condition.specs.Typed.{Typed, Typeds, typeds}
+use Rattle.ar_condition.specs.Typed as typed
+use Rattle.ar_value.specs.declared.operator.Scalar.{Scalar}
+use Rattle.ar_value.specs.declared.operator.Scalar.TheVariants as scalars
 use Rattle.ar_check.proofs.Means.{Means, MeansKind, Sound, both, both_hold, means_then}
 use Rattle.ar_check.proofs.Operands.{MeansScalar, on_bool, on_decimal, on_whole}
 use Rattle.ar_check.proofs.Sums.{turned_means}
@@ -80,10 +81,10 @@ common_suits scalar (item ∷ items) is =
     let each = joined_suit scalar item.scalar items is in both (suits scalar item.scalar) (all_suit scalar items) each.0 each.1
 
 -- a scalar stands as an item
-scalar_stays : (scalar : Scalar) (v : Value) → fits v (scalar_shape scalar) ≡ true → MeansKind (shaped (scalar_shape scalar)) (meaning.scalar_item v)
-scalar_stays scalars.Bool v fit = on_bool (λ v. MeansKind (shaped shapes.bool) (meaning.scalar_item v)) (λ b. refl) v fit
-scalar_stays scalars.Whole v fit = on_whole (λ v. MeansKind (shaped shapes.whole) (meaning.scalar_item v)) (λ w. refl) v fit
-scalar_stays scalars.Decimal v fit = on_decimal (λ v. MeansKind (shaped shapes.decimal) (meaning.scalar_item v)) (λ d. refl) v fit
+scalar_stays : (scalar : Scalar) (v : Value) → fits v (scalar_shape scalar) ≡ true → MeansKind (shaped (scalar_shape scalar)) (operators.scalar_item v)
+scalar_stays scalars.Bool v fit = on_bool (λ v. MeansKind (shaped shapes.bool) (operators.scalar_item v)) (λ b. refl) v fit
+scalar_stays scalars.Whole v fit = on_whole (λ v. MeansKind (shaped shapes.whole) (operators.scalar_item v)) (λ w. refl) v fit
+scalar_stays scalars.Decimal v fit = on_decimal (λ v. MeansKind (shaped shapes.decimal) (operators.scalar_item v)) (λ d. refl) v fit
 scalar_stays scalars.Text (values.text t) fit = refl
 scalar_stays scalars.Text v fit = absurd (cc)
 
@@ -111,8 +112,8 @@ module _ (result : Value) (here : Option Value) where
   more_mean : (scalar : Scalar) (many : ℕ) (first : Typed) (others : Typeds) → MeansKind (shaped (scalar_shape scalar)) (mean result here first)
       → Means (Fill (scalar_shape scalar) many) (items_mean result here others) → Means (Fill (scalar_shape scalar) (suc many)) (items_mean result here (typed.more first others))
   more_mean scalar many first others h k =
-      means_then _ (Fill (scalar_shape scalar) (suc many)) (mean result here first) (λ v. meaning.scalar_item v >>= λ v. items_mean result here others >>= λ vs. Ok (values.item v vs)) h
-      (λ v fit. means_then _ (Fill (scalar_shape scalar) (suc many)) (meaning.scalar_item v) (λ v. items_mean result here others >>= λ vs. Ok (values.item v vs)) (scalar_stays scalar v fit)
+      means_then _ (Fill (scalar_shape scalar) (suc many)) (mean result here first) (λ v. operators.scalar_item v >>= λ v. items_mean result here others >>= λ vs. Ok (values.item v vs)) h
+      (λ v fit. means_then _ (Fill (scalar_shape scalar) (suc many)) (operators.scalar_item v) (λ v. items_mean result here others >>= λ vs. Ok (values.item v vs)) (scalar_stays scalar v fit)
       (λ v fit. means_then (Fill (scalar_shape scalar) many) (Fill (scalar_shape scalar) (suc many)) (items_mean result here others) (λ vs. Ok (values.item v vs)) k
       (λ vs rest. (ap suc rest.0, both (fits v (scalar_shape scalar)) (all_items (λ v. fits v (scalar_shape scalar)) vs) fit rest.1))))
 

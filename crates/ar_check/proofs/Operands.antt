@@ -9,19 +9,20 @@ use Rattle.ar_value.specs.Shape.{Shape, FieldShapes}
 use Rattle.ar_value.specs.Shape as shapes
 use Rattle.ar_value.specs.Value.{Value, Items, Fields, count, value_named}
 use Rattle.ar_value.specs.Value as values
-use Rattle.ar_syntax.specs.declared.tree.Literal.{Literal}
-use Rattle.ar_syntax.specs.declared.tree.Literal.TheVariants as literals
+use Rattle.ar_condition.specs.declared.tree.Literal.{Literal}
+use Rattle.ar_condition.specs.declared.tree.Literal.TheVariants as literals
 use Rattle.ar_check.specs.Check.{given, is_whole_number, innermost, number_kind, plain_kind, scalar_shape, truth_kind}
 use Rattle.ar_check.specs.Basics.{literal_kind}
 use Rattle.ar_value.specs.Shape.{shape_named}
-use Rattle.ar_check.specs.Meaning.{Meaning, Failure, mean}
-use Rattle.ar_check.specs.Meaning as meaning
+use Rattle.ar_value.specs.Operators.{Failure, Meaning}
+use Rattle.ar_condition.specs.Meaning.{mean}
+use Rattle.ar_value.specs.Operators as operators
 use Rattle.ar_check.specs.Operand.{Operand, made_plain, numbers, numbers_in, plain_of, plain_tree, scalar, scalar_of, is_bool, is_truth}
-use Rattle.ar_check.specs.Typed.{Typed}
-use Rattle.ar_check.specs.Typed as typed
-use Rattle.ar_check.specs.declared.typed.Numbers.{Numbers}
-use Rattle.ar_check.specs.declared.typed.Scalar.{Scalar}
-use Rattle.ar_check.specs.declared.typed.Scalar.TheVariants as scalars
+use Rattle.ar_condition.specs.Typed.{Typed}
+use Rattle.ar_condition.specs.Typed as typed
+use Rattle.ar_value.specs.declared.operator.Numbers.{Numbers}
+use Rattle.ar_value.specs.declared.operator.Scalar.{Scalar}
+use Rattle.ar_value.specs.declared.operator.Scalar.TheVariants as scalars
 use Rattle.ar_check.proofs.Means.{MeansKind, Sound, IsThere, means_then, both_hold, wanted}
 
 -- ---- values of a shape
@@ -108,7 +109,7 @@ named_fits name (values.field n v given) (shapes.field of shape others) h =
     rw same (field_fits (bytes_eq of name) (shape_named name others) (value_named name given) shape v front.1 (named_fits name given others parts.1))
 
 -- what is there, else a failure
-pub there_fits : (shape : Shape) (failure : Failure) (v : Option Value) → IsThere (Some shape) v → MeansKind (shaped shape) (meaning.there failure v)
+pub there_fits : (shape : Shape) (failure : Failure) (v : Option Value) → IsThere (Some shape) v → MeansKind (shaped shape) (operators.there failure v)
 there_fits shape failure (Some v) h = h
 there_fits shape failure None h = absurd h
 
@@ -116,14 +117,14 @@ module _ (result : Value) (here : Option Value) where
   -- ---- plain operands
 
   -- what isn't nil fits the shape inside an optional one
-  not_nil_fits : (shape : Shape) (v : Value) → fits v (shapes.optional shape) ≡ true → MeansKind (shaped shape) (meaning.not_nil v)
+  not_nil_fits : (shape : Shape) (v : Value) → fits v (shapes.optional shape) ≡ true → MeansKind (shaped shape) (operators.not_nil v)
   not_nil_fits shape values.nil h = tt
   not_nil_fits shape v h = h
 
   -- a tree made plain means the plain kind
   tree_is_plain : (kind : Kind) (tree : Typed) → MeansKind kind (mean result here tree) → MeansKind (plain_kind kind) (mean result here (plain_tree kind tree))
   tree_is_plain nil tree h = h
-  tree_is_plain (shaped (shapes.optional shape)) tree h = means_then _ _ (mean result here tree) meaning.not_nil h (not_nil_fits shape)
+  tree_is_plain (shaped (shapes.optional shape)) tree h = means_then _ _ (mean result here tree) operators.not_nil h (not_nil_fits shape)
   tree_is_plain (shaped shape) tree h = h
 
   -- an operand made plain means its plain kind
@@ -163,5 +164,5 @@ module _ (result : Value) (here : Option Value) where
 
   -- the innermost item has its shape
   pub item_sound : (at : ℕ) (item : Option Shape) → IsThere item here → IfOk (innermost at item) (Sound result here)
-  item_sound at (Some shape) h = there_fits shape meaning.ill_kinded here h
+  item_sound at (Some shape) h = there_fits shape operators.ill_kinded here h
   item_sound at None h = tt

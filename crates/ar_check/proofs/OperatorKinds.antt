@@ -5,31 +5,32 @@ use Rattle.ar_value.specs.Answer.{◌>>=◌}
 use Rattle.ar_value.specs.Kind.{Kind}
 use Rattle.ar_value.specs.Value.{Value}
 use Rattle.ar_value.specs.Value as values
-use Rattle.ar_syntax.specs.declared.token.Comparison.{Comparison}
-use Rattle.ar_syntax.specs.declared.token.Comparison.TheVariants as comparisons
-use Rattle.ar_syntax.specs.declared.tree.Binary.{Binary}
-use Rattle.ar_syntax.specs.declared.tree.Binary.TheVariants as binaries
-use Rattle.ar_syntax.specs.declared.tree.Unary.{Unary}
-use Rattle.ar_syntax.specs.declared.tree.Unary.TheVariants as unaries
+use Rattle.ar_condition.specs.declared.tree.Comparison.{Comparison}
+use Rattle.ar_condition.specs.declared.tree.Comparison.TheVariants as comparisons
+use Rattle.ar_condition.specs.declared.tree.Binary.{Binary}
+use Rattle.ar_condition.specs.declared.tree.Binary.TheVariants as binaries
+use Rattle.ar_condition.specs.declared.tree.Unary.{Unary}
+use Rattle.ar_condition.specs.declared.tree.Unary.TheVariants as unaries
 use Rattle.ar_check.specs.Check.{Answer, binary_of, comparison_of, equal_of, equality_of, in_of, negated, same_family, truth_kind, unary_of}
-use Rattle.ar_check.specs.Meaning.{Meaning, Failure, mean}
-use Rattle.ar_check.specs.Meaning as meaning
+use Rattle.ar_value.specs.Operators.{Failure, Meaning}
+use Rattle.ar_condition.specs.Meaning.{mean}
+use Rattle.ar_value.specs.Operators as operators
 use Rattle.ar_check.specs.Operand.{Operand, family_in, is_truth, made_plain, numbers, scalar}
-use Rattle.ar_check.specs.Typed.{Typed}
-use Rattle.ar_check.specs.Typed as typed
-use Rattle.ar_check.specs.declared.typed.Arithmetic.TheVariants.{Add, Subtract, Multiply, Divide, Remainder}
-use Rattle.ar_check.specs.declared.typed.Family.{Family}
-use Rattle.ar_check.specs.declared.typed.Order.TheVariants.{Less, LessOrEqual, Greater, GreaterOrEqual}
-use Rattle.ar_check.specs.declared.typed.Scalar.{Scalar}
+use Rattle.ar_condition.specs.Typed.{Typed}
+use Rattle.ar_condition.specs.Typed as typed
+use Rattle.ar_value.specs.declared.operator.Arithmetic.TheVariants.{Add, Subtract, Multiply, Divide, Remainder}
+use Rattle.ar_value.specs.declared.operator.Family.{Family}
+use Rattle.ar_value.specs.declared.operator.Order.TheVariants.{Less, LessOrEqual, Greater, GreaterOrEqual}
+use Rattle.ar_value.specs.declared.operator.Scalar.{Scalar}
 use Rattle.ar_check.proofs.Means.{MeansKind, Sound, IsTruth, both_hold, either_means, is_sound, means_then, truth_wanted, wanted}
 use Rattle.ar_check.proofs.Operands.{are_numbers, is_true, on_bool}
 use Rattle.ar_check.proofs.Parts.{in_sound}
 use Rattle.ar_check.proofs.Sums.{negative_sound, order_sound, positive_sound, sum_sound}
 
 -- what a truth value leads to
-pub truth_then : (kind : Kind) (m : Meaning) (f : Bool → Meaning) → MeansKind truth_kind m → ((b : Bool) → MeansKind kind (f b)) → MeansKind kind (m >>= λ v. meaning.truth v >>= f)
+pub truth_then : (kind : Kind) (m : Meaning) (f : Bool → Meaning) → MeansKind truth_kind m → ((b : Bool) → MeansKind kind (f b)) → MeansKind kind (m >>= λ v. operators.truth v >>= f)
 truth_then kind m f h step =
-    means_then _ _ m (λ v. meaning.truth v >>= f) h (λ v fit. on_bool (λ v. MeansKind kind (meaning.truth v >>= f)) step v fit)
+    means_then _ _ m (λ v. operators.truth v >>= f) h (λ v fit. on_bool (λ v. MeansKind kind (operators.truth v >>= f)) step v fit)
 
 module _ (result : Value) (here : Option Value) where
   -- `not` gives a truth value of one
@@ -50,14 +51,14 @@ module _ (result : Value) (here : Option Value) where
 
   -- whether something is nil is a truth value
   pub is_nil_means : (kind : Kind) (tree : Typed) → MeansKind kind (mean result here tree) → MeansKind truth_kind (mean result here (typed.is_nil tree))
-  is_nil_means kind tree h = means_then _ _ (mean result here tree) (λ v. Ok (values.bool (meaning.is_nil v))) h (λ v fit. refl)
+  is_nil_means kind tree h = means_then _ _ (mean result here tree) (λ v. Ok (values.bool (operators.is_nil v))) h (λ v fit. refl)
 
   -- whether two are equal is a truth value
   equal_means : (l r : Kind) (family : Family) (left right : Typed) → MeansKind l (mean result here left) → MeansKind r (mean result here right)
       → MeansKind truth_kind (mean result here (typed.equal family left right))
   equal_means l r family left right h k =
-      means_then _ _ (mean result here left) (λ v. mean result here right >>= λ w. Ok (values.bool (meaning.same v w))) h
-      (λ v fit. means_then _ _ (mean result here right) (λ w. Ok (values.bool (meaning.same v w))) k (λ w also. refl))
+      means_then _ _ (mean result here left) (λ v. mean result here right >>= λ w. Ok (values.bool (operators.same v w))) h
+      (λ v fit. means_then _ _ (mean result here right) (λ w. Ok (values.bool (operators.same v w))) k (λ w also. refl))
 
   -- ---- equality
 

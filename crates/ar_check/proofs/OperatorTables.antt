@@ -5,23 +5,23 @@ use Rattle.ar_value.specs.Answer.{◌>>=◌}
 use Rattle.ar_value.specs.Kind.{Kind, shaped, plain}
 use Rattle.ar_value.specs.Shape.{Shape}
 use Rattle.ar_value.specs.Shape as shapes
-use Rattle.ar_syntax.specs.declared.token.Comparison.TheVariants as comparisons
-use Rattle.ar_syntax.specs.declared.tree.Binary.{Binary}
-use Rattle.ar_syntax.specs.declared.tree.Binary.TheVariants as binaries
+use Rattle.ar_condition.specs.declared.tree.Comparison.TheVariants as comparisons
+use Rattle.ar_condition.specs.declared.tree.Binary.{Binary}
+use Rattle.ar_condition.specs.declared.tree.Binary.TheVariants as binaries
 use Rattle.ar_check.specs.Check.{Answer, arithmetic_kind, arithmetic_on, binary_of, equal_of, equality_of, in_of, item_shape, member_of, negated, ordering_of, ordered_of, same_family, scalar_shape, calculation_of, takes, truth_kind, where_wanted, widened}
 use Rattle.ar_check.specs.Operand.{Operand, operand, family_in, is_truth, made_plain, numbers, plain_of, scalar, scalar_of}
-use Rattle.ar_check.specs.Typed.{Typed}
-use Rattle.ar_check.specs.Typed as typed
+use Rattle.ar_condition.specs.Typed.{Typed}
+use Rattle.ar_condition.specs.Typed as typed
 use Rattle.ar_check.specs.Typing.{InCommon, IsEquality, IsNumber, IsScalar, Operates, OperatesOnOne, SameFamily, SumOf}
 use Rattle.ar_check.specs.Typing as typing
-use Rattle.ar_check.specs.declared.typed.Arithmetic.{Arithmetic}
-use Rattle.ar_check.specs.declared.typed.Arithmetic.TheVariants.{Add, Subtract, Multiply, Divide, Remainder}
-use Rattle.ar_check.specs.declared.typed.Numbers.{Numbers}
-use Rattle.ar_check.specs.declared.typed.Numbers.TheVariants.{Wholes, Decimals}
-use Rattle.ar_check.specs.declared.typed.Order.{Order}
-use Rattle.ar_check.specs.declared.typed.Order.TheVariants.{Less, LessOrEqual, Greater, GreaterOrEqual}
-use Rattle.ar_check.specs.declared.typed.Scalar.{Scalar}
-use Rattle.ar_check.specs.declared.typed.Scalar.TheVariants as scalars
+use Rattle.ar_value.specs.declared.operator.Arithmetic.{Arithmetic}
+use Rattle.ar_value.specs.declared.operator.Arithmetic.TheVariants.{Add, Subtract, Multiply, Divide, Remainder}
+use Rattle.ar_value.specs.declared.operator.Numbers.{Numbers}
+use Rattle.ar_value.specs.declared.operator.Numbers.TheVariants.{Wholes, Decimals}
+use Rattle.ar_value.specs.declared.operator.Order.{Order}
+use Rattle.ar_value.specs.declared.operator.Order.TheVariants.{Less, LessOrEqual, Greater, GreaterOrEqual}
+use Rattle.ar_value.specs.declared.operator.Scalar.{Scalar}
+use Rattle.ar_value.specs.declared.operator.Scalar.TheVariants as scalars
 use Rattle.ar_check.proofs.Means.{both_hold}
 use Rattle.ar_check.proofs.Means as means
 use Rattle.ar_check.proofs.Tables.{IsTyped, are_numbers, bind_typed, from_bind, given_kind, is_scalar, items_are, kind_of_numbers, list_within, number_scalar, number_shape, numbers_within, same_kind, scalar_within, shape_of_scalar, then_typed, truth_is, truth_within, wanted_kind, wanted_typed}

@@ -11,12 +11,13 @@ use Rattle.ar_value.specs.Value as values
 use Rattle.ar_value.specs.declared.fault.Fault.TheVariants.{IndexOutOfRange}
 use Rattle.ar_check.specs.Check.{field_of, field_shape, found_field, given, in_of, index_of, is_whole_number, item_shape, len_of, member_of, plain_kind, same_family, truth_kind}
 use Rattle.ar_value.specs.Shape.{shape_named}
-use Rattle.ar_check.specs.Meaning.{Meaning, Failure, mean}
-use Rattle.ar_check.specs.Meaning as meaning
+use Rattle.ar_value.specs.Operators.{Failure, Meaning}
+use Rattle.ar_condition.specs.Meaning.{mean}
+use Rattle.ar_value.specs.Operators as operators
 use Rattle.ar_check.specs.Operand.{Operand, family_in, made_plain, plain_of, scalar, scalar_of}
-use Rattle.ar_check.specs.Typed.{Typed}
-use Rattle.ar_check.specs.Typed as typed
-use Rattle.ar_check.specs.declared.typed.Scalar.{Scalar}
+use Rattle.ar_condition.specs.Typed.{Typed}
+use Rattle.ar_condition.specs.Typed as typed
+use Rattle.ar_value.specs.declared.operator.Scalar.{Scalar}
 use Rattle.ar_check.proofs.Means.{MeansKind, Sound, IsThere, IsTruth, truth_wanted, answers, means_then, both_hold, wanted}
 use Rattle.ar_check.proofs.Operands.{is_index, is_plain, named_fits, on_list, on_object, on_whole, there_fits}
 
@@ -42,20 +43,20 @@ is_list at nil = tt
 is_list at (shaped shape) = items_of_shape at (plain shape)
 
 -- an item by its number fits, where there is one
-nth_fits : (shape : Shape) (items : Items) (n : ℕ) → all_items (λ v. fits v shape) items ≡ true → MeansKind (shaped shape) (meaning.there (meaning.faulted IndexOutOfRange) (meaning.nth items n))
+nth_fits : (shape : Shape) (items : Items) (n : ℕ) → all_items (λ v. fits v shape) items ≡ true → MeansKind (shaped shape) (operators.there (operators.faulted IndexOutOfRange) (operators.nth items n))
 nth_fits shape values.no_items n h = tt
 nth_fits shape (values.item v items) zero h = (both_hold (fits v shape) (all_items (λ v. fits v shape) items) h).0
 nth_fits shape (values.item v items) (suc n) h = nth_fits shape items n (both_hold (fits v shape) (all_items (λ v. fits v shape) items) h).1
 
 -- likewise counted from the end
 from_end : (shape : Shape) (items : Items) (n : ℕ) (within : Bool) → all_items (λ v. fits v shape) items ≡ true
-    → MeansKind (shaped shape) (meaning.there (meaning.faulted IndexOutOfRange) (if within then meaning.nth items (count items - suc n) else None))
+    → MeansKind (shaped shape) (operators.there (operators.faulted IndexOutOfRange) (if within then operators.nth items (count items - suc n) else None))
 from_end shape items n true h = nth_fits shape items (count items - suc n) h
 from_end shape items n false h = tt
 
 -- an item at an index fits, where there is one
 item_fits : (shape : Shape) (items : Items) (index : ℤ) → all_items (λ v. fits v shape) items ≡ true
-    → MeansKind (shaped shape) (meaning.there (meaning.faulted IndexOutOfRange) (meaning.item_at items index))
+    → MeansKind (shaped shape) (operators.there (operators.faulted IndexOutOfRange) (operators.item_at items index))
 item_fits shape items (pos n) h = nth_fits shape items n h
 item_fits shape items (negsuc n) h = from_end shape items n (nat_lt n (count items)) h
 
@@ -64,10 +65,10 @@ module _ (result : Value) (here : Option Value) where
   index_means : (shape : Shape) (max : ℕ) (list position : Typed) → MeansKind (shaped (shapes.list shape max)) (mean result here list) → MeansKind (shaped shapes.whole) (mean result here position)
       → MeansKind (shaped shape) (mean result here (typed.index list position))
   index_means shape max list position h k =
-      means_then _ _ (mean result here list) (λ v. mean result here position >>= λ i. meaning.index_in v i) h
-      (λ v fit. means_then _ _ (mean result here position) (λ i. meaning.index_in v i) k
-      (λ i whole. on_list (λ v. MeansKind (shaped shape) (meaning.index_in v i)) shape max
-      (λ items short all. on_whole (λ i. MeansKind (shaped shape) (meaning.index_in (values.list items) i)) (λ w. item_fits shape items w all) i whole) v fit))
+      means_then _ _ (mean result here list) (λ v. mean result here position >>= λ i. operators.index_in v i) h
+      (λ v fit. means_then _ _ (mean result here position) (λ i. operators.index_in v i) k
+      (λ i whole. on_list (λ v. MeansKind (shaped shape) (operators.index_in v i)) shape max
+      (λ items short all. on_whole (λ i. MeansKind (shaped shape) (operators.index_in (values.list items) i)) (λ w. item_fits shape items w all) i whole) v fit))
 
   -- a list, made plain
   pub plain_list : (list : Operand) (shape : Shape) → (of : ListOf list.kind shape) → Sound result here list → MeansKind (shaped (shapes.list shape of.0)) (mean result here (made_plain list))
@@ -85,8 +86,8 @@ module _ (result : Value) (here : Option Value) where
   -- a length is a whole
   len_means : (shape : Shape) (max : ℕ) (list : Typed) → MeansKind (shaped (shapes.list shape max)) (mean result here list) → MeansKind (shaped shapes.whole) (mean result here (typed.len list))
   len_means shape max list h =
-      means_then _ _ (mean result here list) (λ v. meaning.items_in v >>= λ items. Ok (values.whole (pos (count items)))) h
-      (λ v fit. on_list (λ v. MeansKind (shaped shapes.whole) (meaning.items_in v >>= λ items. Ok (values.whole (pos (count items))))) shape max (λ items short all. refl) v fit)
+      means_then _ _ (mean result here list) (λ v. operators.items_in v >>= λ items. Ok (values.whole (pos (count items)))) h
+      (λ v fit. on_list (λ v. MeansKind (shaped shapes.whole) (operators.items_in v >>= λ items. Ok (values.whole (pos (count items))))) shape max (λ items short all. refl) v fit)
 
   -- a length means its kind
   pub len_sound : (at : ℕ) (list : Operand) → Sound result here list → IfOk (len_of at list) (Sound result here)
@@ -99,9 +100,9 @@ module _ (result : Value) (here : Option Value) where
   member_means : (kind : Kind) (shape : Shape) (max : ℕ) (operand list : Typed) → MeansKind kind (mean result here operand) → MeansKind (shaped (shapes.list shape max)) (mean result here list)
       → MeansKind truth_kind (mean result here (typed.within operand list))
   member_means kind shape max operand list h k =
-      means_then _ _ (mean result here operand) (λ value. mean result here list >>= λ v. meaning.items_in v >>= λ items. Ok (values.bool (meaning.has_item value items))) h
-      (λ value fit. means_then _ _ (mean result here list) (λ v. meaning.items_in v >>= λ items. Ok (values.bool (meaning.has_item value items))) k
-      (λ v is. on_list (λ v. MeansKind truth_kind (meaning.items_in v >>= λ items. Ok (values.bool (meaning.has_item value items)))) shape max (λ items short all. refl) v is))
+      means_then _ _ (mean result here operand) (λ value. mean result here list >>= λ v. operators.items_in v >>= λ items. Ok (values.bool (operators.has_item value items))) h
+      (λ value fit. means_then _ _ (mean result here list) (λ v. operators.items_in v >>= λ items. Ok (values.bool (operators.has_item value items))) k
+      (λ v is. on_list (λ v. MeansKind truth_kind (operators.items_in v >>= λ items. Ok (values.bool (operators.has_item value items)))) shape max (λ items short all. refl) v is))
 
   -- membership of scalars of one family is a truth value
   member_sound : (at : ℕ) (left right : Option Scalar) (operand list : Typed) → MeansKind truth_kind (mean result here (typed.within operand list)) → IfOk (member_of at left right operand list) (IsTruth result here)
@@ -122,10 +123,10 @@ module _ (result : Value) (here : Option Value) where
   field_means : (fields : FieldShapes) (shape : Shape) (whole : Typed) (name : List ℕ) → shape_named name fields ≡ Some shape → MeansKind (shaped (shapes.object fields)) (mean result here whole)
       → MeansKind (shaped shape) (mean result here (typed.field whole name))
   field_means wanted shape whole name is h =
-      means_then _ _ (mean result here whole) (meaning.field_in name) h
-      (λ v fit. on_object (λ v. MeansKind (shaped shape) (meaning.field_in name v)) wanted
+      means_then _ _ (mean result here whole) (operators.field_in name) h
+      (λ v fit. on_object (λ v. MeansKind (shaped shape) (operators.field_in name v)) wanted
       (λ given fit. let found : IsThere (shape_named name wanted) (value_named name given) = named_fits name given wanted fit in
-      there_fits shape meaning.ill_kinded (value_named name given) (rw is at found)) v fit)
+      there_fits shape operators.ill_kinded (value_named name given) (rw is at found)) v fit)
 
   -- a field, where the record's shape has one of the name
   found_sound : (at : ℕ) (fields : FieldShapes) (found : Option Shape) (whole : Typed) (name : List ℕ) → shape_named name fields ≡ found → MeansKind (shaped (shapes.object fields)) (mean result here whole)

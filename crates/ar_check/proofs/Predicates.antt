@@ -9,14 +9,15 @@ use Rattle.ar_value.specs.Shape.{Shape}
 use Rattle.ar_value.specs.Shape as shapes
 use Rattle.ar_value.specs.Value.{Value, Items, count}
 use Rattle.ar_value.specs.Value as values
-use Rattle.ar_syntax.specs.declared.tree.Predicate.{Predicate}
-use Rattle.ar_syntax.specs.declared.tree.Predicate.TheVariants as predicates
+use Rattle.ar_value.specs.declared.operator.Predicate.{Predicate}
+use Rattle.ar_value.specs.declared.operator.Predicate.TheVariants as predicates
 use Rattle.ar_check.specs.Check.{plain_kind, predicate_kind, predicate_of, truth_kind}
-use Rattle.ar_check.specs.Meaning.{Meaning, Failure, all_hold, any_holds, mean, over, those}
-use Rattle.ar_check.specs.Meaning as meaning
+use Rattle.ar_value.specs.Operators.{Failure, Meaning}
+use Rattle.ar_condition.specs.Meaning.{all_hold, any_holds, mean, over, those}
+use Rattle.ar_value.specs.Operators as operators
 use Rattle.ar_check.specs.Operand.{Operand, made_plain}
-use Rattle.ar_check.specs.Typed.{Typed}
-use Rattle.ar_check.specs.Typed as typed
+use Rattle.ar_condition.specs.Typed.{Typed}
+use Rattle.ar_condition.specs.Typed as typed
 use Rattle.ar_check.proofs.Means.{Means, MeansKind, Sound, both, both_hold, either_means, means_then, wanted}
 use Rattle.ar_check.proofs.Operands.{on_bool, on_list}
 use Rattle.ar_check.proofs.Parts.{ListOf, plain_list}
@@ -95,18 +96,18 @@ Body result list body = (shape : Shape) × (of : ListOf list shape) × (body.0 �
 
 module _ (result : Value) (here : Option Value) where
   -- a body that is a truth value of each item says of each whether it holds
-  body_says : (shape : Shape) (body : Typed) → ((v : Value) → fits v shape ≡ true → MeansKind truth_kind (mean result (Some v) body)) → Says (λ v. mean result (Some v) body >>= meaning.truth) shape
+  body_says : (shape : Shape) (body : Typed) → ((v : Value) → fits v shape ≡ true → MeansKind truth_kind (mean result (Some v) body)) → Says (λ v. mean result (Some v) body >>= operators.truth) shape
   body_says shape body each v fit =
-      means_then _ _ (mean result (Some v) body) meaning.truth (each v fit) (λ w is. on_bool (λ w. Means (λ it. Unit {0}) (meaning.truth w)) (λ b. tt) w is)
+      means_then _ _ (mean result (Some v) body) operators.truth (each v fit) (λ w is. on_bool (λ w. Means (λ it. Unit {0}) (operators.truth w)) (λ b. tt) w is)
 
   -- a predicate over a list means its kind, where its body is a truth value
   predicate_means : (predicate : Predicate) (shape : Shape) (max : ℕ) (list body : Typed) → MeansKind (shaped (shapes.list shape max)) (mean result here list)
       → ((v : Value) → fits v shape ≡ true → MeansKind truth_kind (mean result (Some v) body))
       → MeansKind (predicate_kind predicate (shaped (shapes.list shape max))) (mean result here (typed.predicate predicate list body))
   predicate_means predicate shape max list body h each =
-      means_then _ _ (mean result here list) (λ v. meaning.items_in v >>= over predicate (λ v. mean result (Some v) body >>= meaning.truth)) h
-      (λ v fit. on_list (λ v. MeansKind (predicate_kind predicate (shaped (shapes.list shape max))) (meaning.items_in v >>= over predicate (λ v. mean result (Some v) body >>= meaning.truth))) shape max
-      (λ items short all. over_means (λ v. mean result (Some v) body >>= meaning.truth) shape (body_says shape body each) predicate max items short all) v fit)
+      means_then _ _ (mean result here list) (λ v. operators.items_in v >>= over predicate (λ v. mean result (Some v) body >>= operators.truth)) h
+      (λ v fit. on_list (λ v. MeansKind (predicate_kind predicate (shaped (shapes.list shape max))) (operators.items_in v >>= over predicate (λ v. mean result (Some v) body >>= operators.truth))) shape max
+      (λ items short all. over_means (λ v. mean result (Some v) body >>= operators.truth) shape (body_says shape body each) predicate max items short all) v fit)
 
   -- a predicate means its kind
   pub predicate_sound : (at : ℕ) (predicate : Predicate) (list : Operand) (body : Bool × Typed) → Sound result here list → Body result list.kind body

@@ -8,16 +8,17 @@ use Rattle.ar_value.specs.Value.{Value}
 use Rattle.ar_value.specs.Value as values
 use Rattle.ar_value.specs.declared.fault.Fault.{Fault}
 use Rattle.ar_check.specs.Check.{arithmetic_kind, arithmetic_on, negation_of, number_kind, ordering_of, ordered_of, plus_of, calculation_of, takes, truth_kind, widened}
-use Rattle.ar_check.specs.Meaning.{Meaning, Failure, mean}
-use Rattle.ar_check.specs.Meaning as meaning
+use Rattle.ar_value.specs.Operators.{Failure, Meaning}
+use Rattle.ar_condition.specs.Meaning.{mean}
+use Rattle.ar_value.specs.Operators as operators
 use Rattle.ar_check.specs.Operand.{Operand, among, made_plain, numbers}
-use Rattle.ar_check.specs.Typed.{Typed}
-use Rattle.ar_check.specs.Typed as typed
-use Rattle.ar_check.specs.declared.typed.Arithmetic.{Arithmetic}
-use Rattle.ar_check.specs.declared.typed.Arithmetic.TheVariants.{Add, Subtract, Multiply, Divide, Remainder}
-use Rattle.ar_check.specs.declared.typed.Numbers.{Numbers}
-use Rattle.ar_check.specs.declared.typed.Numbers.TheVariants.{Wholes, Decimals}
-use Rattle.ar_check.specs.declared.typed.Order.{Order}
+use Rattle.ar_condition.specs.Typed.{Typed}
+use Rattle.ar_condition.specs.Typed as typed
+use Rattle.ar_value.specs.declared.operator.Arithmetic.{Arithmetic}
+use Rattle.ar_value.specs.declared.operator.Arithmetic.TheVariants.{Add, Subtract, Multiply, Divide, Remainder}
+use Rattle.ar_value.specs.declared.operator.Numbers.{Numbers}
+use Rattle.ar_value.specs.declared.operator.Numbers.TheVariants.{Wholes, Decimals}
+use Rattle.ar_value.specs.declared.operator.Order.{Order}
 use Rattle.ar_check.proofs.Means.{MeansKind, Sound, means_then, wanted}
 use Rattle.ar_check.proofs.Operands.{MeansNumbers, are_numbers, on_decimal, on_whole}
 
@@ -28,12 +29,12 @@ abbrev Decimal : Kind
 Decimal = shaped shapes.decimal
 
 -- what arithmetic gives is a whole, or a fault
-whole_or_fault : (r : Result ℤ Fault) → MeansKind Whole (meaning.whole_of r)
+whole_or_fault : (r : Result ℤ Fault) → MeansKind Whole (operators.whole_of r)
 whole_or_fault (Ok z) = refl
 whole_or_fault (Err fault) = tt
 
 -- likewise a decimal
-decimal_or_fault : (r : Result ℤ Fault) → MeansKind Decimal (meaning.decimal_of r)
+decimal_or_fault : (r : Result ℤ Fault) → MeansKind Decimal (operators.decimal_of r)
 decimal_or_fault (Ok z) = refl
 decimal_or_fault (Err fault) = tt
 
@@ -43,16 +44,16 @@ on_number P Wholes of_whole of_decimal v fit = on_whole P of_whole v fit
 on_number P Decimals of_whole of_decimal v fit = on_decimal P of_decimal v fit
 
 -- a whole in millionths is a decimal, or a fault
-pub turns : (v : Value) → fits_kind v Whole ≡ true → MeansKind Decimal (meaning.in_millionths v)
-turns v fit = on_whole (λ v. MeansKind Decimal (meaning.in_millionths v)) (λ w. decimal_or_fault (decimal_of_whole w)) v fit
+pub turns : (v : Value) → fits_kind v Whole ≡ true → MeansKind Decimal (operators.to_decimal v)
+turns v fit = on_whole (λ v. MeansKind Decimal (operators.to_decimal v)) (λ w. decimal_or_fault (decimal_of_whole w)) v fit
 
 -- the negative of a number is one of its kind
-negates : (numbers : Numbers) (v : Value) → fits_kind v (number_kind numbers) ≡ true → MeansKind (number_kind numbers) (meaning.negative_of v)
-negates Wholes v fit = on_whole (λ v. MeansKind Whole (meaning.negative_of v)) (λ w. whole_or_fault (negation w)) v fit
-negates Decimals v fit = on_decimal (λ v. MeansKind Decimal (meaning.negative_of v)) (λ d. decimal_or_fault (negation d)) v fit
+negates : (numbers : Numbers) (v : Value) → fits_kind v (number_kind numbers) ≡ true → MeansKind (number_kind numbers) (operators.negative_of v)
+negates Wholes v fit = on_whole (λ v. MeansKind Whole (operators.negative_of v)) (λ w. whole_or_fault (negation w)) v fit
+negates Decimals v fit = on_decimal (λ v. MeansKind Decimal (operators.negative_of v)) (λ d. decimal_or_fault (negation d)) v fit
 
 -- arithmetic of two wholes
-of_wholes : (operator : Arithmetic) (left right : ℤ) → MeansKind (arithmetic_kind operator Wholes) (meaning.whole_arithmetic operator left right)
+of_wholes : (operator : Arithmetic) (left right : ℤ) → MeansKind (arithmetic_kind operator Wholes) (operators.whole_arithmetic operator left right)
 of_wholes Add left right = whole_or_fault (sum left right)
 of_wholes Subtract left right = whole_or_fault (difference left right)
 of_wholes Multiply left right = whole_or_fault (product left right)
@@ -60,7 +61,7 @@ of_wholes Divide left right = decimal_or_fault (quotient left right)
 of_wholes Remainder left right = whole_or_fault (remainder left right)
 
 -- arithmetic of two decimals, which have no remainder
-of_decimals : (operator : Arithmetic) (left right : ℤ) → takes operator Decimals ≡ true → MeansKind (arithmetic_kind operator Decimals) (meaning.decimal_arithmetic operator left right)
+of_decimals : (operator : Arithmetic) (left right : ℤ) → takes operator Decimals ≡ true → MeansKind (arithmetic_kind operator Decimals) (operators.decimal_arithmetic operator left right)
 of_decimals Add left right h = decimal_or_fault (sum left right)
 of_decimals Subtract left right h = decimal_or_fault (difference left right)
 of_decimals Multiply left right h = decimal_or_fault (decimal_product left right)
@@ -69,25 +70,25 @@ of_decimals Remainder left right h = absurd (cc)
 
 -- arithmetic of two numbers of one kind
 calculates : (operator : Arithmetic) (numbers : Numbers) → takes operator numbers ≡ true → (v w : Value) → fits_kind v (number_kind numbers) ≡ true → fits_kind w (number_kind numbers) ≡ true
-    → MeansKind (arithmetic_kind operator numbers) (meaning.arithmetic_of operator v w)
+    → MeansKind (arithmetic_kind operator numbers) (operators.arithmetic_of operator v w)
 calculates operator Wholes h v w fit also =
-    on_whole (λ v. MeansKind (arithmetic_kind operator Wholes) (meaning.arithmetic_of operator v w))
-    (λ x. on_whole (λ w. MeansKind (arithmetic_kind operator Wholes) (meaning.arithmetic_of operator (values.whole x) w)) (λ y. of_wholes operator x y) w also) v fit
+    on_whole (λ v. MeansKind (arithmetic_kind operator Wholes) (operators.arithmetic_of operator v w))
+    (λ x. on_whole (λ w. MeansKind (arithmetic_kind operator Wholes) (operators.arithmetic_of operator (values.whole x) w)) (λ y. of_wholes operator x y) w also) v fit
 calculates operator Decimals h v w fit also =
-    on_decimal (λ v. MeansKind (arithmetic_kind operator Decimals) (meaning.arithmetic_of operator v w))
-    (λ x. on_decimal (λ w. MeansKind (arithmetic_kind operator Decimals) (meaning.arithmetic_of operator (values.decimal x) w)) (λ y. of_decimals operator x y h) w also) v fit
+    on_decimal (λ v. MeansKind (arithmetic_kind operator Decimals) (operators.arithmetic_of operator v w))
+    (λ x. on_decimal (λ w. MeansKind (arithmetic_kind operator Decimals) (operators.arithmetic_of operator (values.decimal x) w)) (λ y. of_decimals operator x y h) w also) v fit
 
 -- the order of any two numbers is a truth value
-orders : (way : Order) (m n : Numbers) (v w : Value) → fits_kind v (number_kind m) ≡ true → fits_kind w (number_kind n) ≡ true → MeansKind truth_kind (meaning.order_of way v w)
+orders : (way : Order) (m n : Numbers) (v w : Value) → fits_kind v (number_kind m) ≡ true → fits_kind w (number_kind n) ≡ true → MeansKind truth_kind (operators.order_of way v w)
 orders way m n v w fit also =
-    on_number (λ v. MeansKind truth_kind (meaning.order_of way v w)) m
-    (λ x. on_number (λ w. MeansKind truth_kind (meaning.order_of way (values.whole x) w)) n (λ y. refl) (λ y. refl) w also)
-    (λ x. on_number (λ w. MeansKind truth_kind (meaning.order_of way (values.decimal x) w)) n (λ y. refl) (λ y. refl) w also) v fit
+    on_number (λ v. MeansKind truth_kind (operators.order_of way v w)) m
+    (λ x. on_number (λ w. MeansKind truth_kind (operators.order_of way (values.whole x) w)) n (λ y. refl) (λ y. refl) w also)
+    (λ x. on_number (λ w. MeansKind truth_kind (operators.order_of way (values.decimal x) w)) n (λ y. refl) (λ y. refl) w also) v fit
 
 module _ (result : Value) (here : Option Value) where
   -- a whole turned into decimal is one
   pub turned_means : (tree : Typed) → MeansKind Whole (mean result here tree) → MeansKind Decimal (mean result here (typed.as_decimal tree))
-  turned_means tree h = means_then _ _ (mean result here tree) meaning.in_millionths h turns
+  turned_means tree h = means_then _ _ (mean result here tree) operators.to_decimal h turns
 
   -- the left number beside the right one, in their common kind
   left_among : (m n : Numbers) (tree : Typed) → MeansKind (number_kind m) (mean result here tree) → MeansKind (number_kind (widened m n)) (mean result here (among n m tree))
@@ -107,8 +108,8 @@ module _ (result : Value) (here : Option Value) where
   arithmetic_means : (operator : Arithmetic) (numbers : Numbers) (left right : Typed) → takes operator numbers ≡ true → MeansKind (number_kind numbers) (mean result here left)
       → MeansKind (number_kind numbers) (mean result here right) → MeansKind (arithmetic_kind operator numbers) (mean result here (typed.arithmetic numbers operator left right))
   arithmetic_means operator numbers left right is h k =
-      means_then _ _ (mean result here left) (λ v. mean result here right >>= λ w. meaning.arithmetic_of operator v w) h
-      (λ v fit. means_then _ _ (mean result here right) (λ w. meaning.arithmetic_of operator v w) k (λ w also. calculates operator numbers is v w fit also))
+      means_then _ _ (mean result here left) (λ v. mean result here right >>= λ w. operators.arithmetic_of operator v w) h
+      (λ v fit. means_then _ _ (mean result here right) (λ w. operators.arithmetic_of operator v w) k (λ w also. calculates operator numbers is v w fit also))
 
   -- arithmetic where both are numbers
   arithmetic_sound : (at : ℕ) (operator : Arithmetic) (m n : Option Numbers) (left right : Typed) → MeansNumbers m (mean result here left) → MeansNumbers n (mean result here right)
@@ -128,8 +129,8 @@ module _ (result : Value) (here : Option Value) where
   ordered_sound : (at : ℕ) (way : Order) (m n : Option Numbers) (left right : Typed) → MeansNumbers m (mean result here left) → MeansNumbers n (mean result here right)
       → IfOk (ordered_of at way m n left right) (Sound result here)
   ordered_sound at way (Some m) (Some n) left right h k =
-      means_then _ _ (mean result here left) (λ v. mean result here right >>= λ w. meaning.order_of way v w) h
-      (λ v fit. means_then _ _ (mean result here right) (λ w. meaning.order_of way v w) k (λ w also. orders way m n v w fit also))
+      means_then _ _ (mean result here left) (λ v. mean result here right >>= λ w. operators.order_of way v w) h
+      (λ v fit. means_then _ _ (mean result here right) (λ w. operators.order_of way v w) k (λ w also. orders way m n v w fit also))
   ordered_sound at way (Some m) None left right h k = tt
   ordered_sound at way None n left right h k = tt
 
@@ -140,7 +141,7 @@ module _ (result : Value) (here : Option Value) where
 
   -- a negative means its kind
   pub negative_sound : (at : ℕ) (numbers : Option Numbers) (tree : Typed) → MeansNumbers numbers (mean result here tree) → IfOk (negation_of at numbers tree) (Sound result here)
-  negative_sound at (Some numbers) tree h = means_then _ _ (mean result here tree) meaning.negative_of h (negates numbers)
+  negative_sound at (Some numbers) tree h = means_then _ _ (mean result here tree) operators.negative_of h (negates numbers)
   negative_sound at None tree h = tt
 
   -- a number behind `+` means its kind

@@ -4,33 +4,33 @@ use Rattle.ar_value.specs.Answer.{◌>>=◌}
 use Rattle.ar_value.specs.Kind.{Kind, nil, shaped, common, plain}
 use Rattle.ar_value.specs.Shape.{Shape, shape_named}
 use Rattle.ar_value.specs.Shape as shapes
-use Rattle.ar_syntax.specs.Expression.{Expression, Expressions, place_of}
-use Rattle.ar_syntax.specs.Expression as trees
-use Rattle.ar_syntax.specs.declared.token.Comparison.{Comparison}
-use Rattle.ar_syntax.specs.declared.token.Comparison.TheVariants as comparisons
-use Rattle.ar_syntax.specs.declared.tree.Binary.{Binary}
-use Rattle.ar_syntax.specs.declared.tree.Binary.TheVariants as binaries
-use Rattle.ar_syntax.specs.declared.tree.Literal.TheVariants as literals
-use Rattle.ar_syntax.specs.declared.tree.Predicate.{Predicate}
-use Rattle.ar_syntax.specs.declared.tree.Predicate.TheVariants as predicates
-use Rattle.ar_syntax.specs.declared.tree.Unary.{Unary}
-use Rattle.ar_syntax.specs.declared.tree.Unary.TheVariants as unaries
+use Rattle.ar_condition.specs.Expression.{Expression, Expressions, place_of}
+use Rattle.ar_condition.specs.Expression as trees
+use Rattle.ar_condition.specs.declared.tree.Comparison.{Comparison}
+use Rattle.ar_condition.specs.declared.tree.Comparison.TheVariants as comparisons
+use Rattle.ar_condition.specs.declared.tree.Binary.{Binary}
+use Rattle.ar_condition.specs.declared.tree.Binary.TheVariants as binaries
+use Rattle.ar_condition.specs.declared.tree.Literal.TheVariants as literals
+use Rattle.ar_value.specs.declared.operator.Predicate.{Predicate}
+use Rattle.ar_value.specs.declared.operator.Predicate.TheVariants as predicates
+use Rattle.ar_condition.specs.declared.tree.Unary.{Unary}
+use Rattle.ar_condition.specs.declared.tree.Unary.TheVariants as unaries
 use Rattle.ar_check.specs.Basics.{literal_kind, most_predicates}
 use Rattle.ar_check.specs.Operand.{Operand, operand, among, family_in, is_truth, made_plain, numbers, plain_of, scalar, scalar_of, turned}
-use Rattle.ar_check.specs.Typed.{Typed, typeds}
-use Rattle.ar_check.specs.Typed as typed
+use Rattle.ar_condition.specs.Typed.{Typed, typeds}
+use Rattle.ar_condition.specs.Typed as typed
 use Rattle.ar_check.specs.declared.error.TypeError.{TypeError}
 use Rattle.ar_check.specs.declared.error.TypeError.TheVariants.{WrongOperand, NoSuchField, NotAList, NoCommonKind, NotScalar, NotTruth, PredicatesTooDeep}
-use Rattle.ar_check.specs.declared.typed.Arithmetic.{Arithmetic}
-use Rattle.ar_check.specs.declared.typed.Arithmetic.TheVariants.{Add, Subtract, Multiply, Divide, Remainder}
-use Rattle.ar_check.specs.declared.typed.Family.{Family}
-use Rattle.ar_check.specs.declared.typed.Family.TheVariants as families
-use Rattle.ar_check.specs.declared.typed.Numbers.{Numbers}
-use Rattle.ar_check.specs.declared.typed.Numbers.TheVariants.{Wholes, Decimals}
-use Rattle.ar_check.specs.declared.typed.Order.{Order}
-use Rattle.ar_check.specs.declared.typed.Order.TheVariants.{Less, LessOrEqual, Greater, GreaterOrEqual}
-use Rattle.ar_check.specs.declared.typed.Scalar.{Scalar}
-use Rattle.ar_check.specs.declared.typed.Scalar.TheVariants as scalars
+use Rattle.ar_value.specs.declared.operator.Arithmetic.{Arithmetic}
+use Rattle.ar_value.specs.declared.operator.Arithmetic.TheVariants.{Add, Subtract, Multiply, Divide, Remainder}
+use Rattle.ar_value.specs.declared.operator.Family.{Family}
+use Rattle.ar_value.specs.declared.operator.Family.TheVariants as families
+use Rattle.ar_value.specs.declared.operator.Numbers.{Numbers}
+use Rattle.ar_value.specs.declared.operator.Numbers.TheVariants.{Wholes, Decimals}
+use Rattle.ar_value.specs.declared.operator.Order.{Order}
+use Rattle.ar_value.specs.declared.operator.Order.TheVariants.{Less, LessOrEqual, Greater, GreaterOrEqual}
+use Rattle.ar_value.specs.declared.operator.Scalar.{Scalar}
+use Rattle.ar_value.specs.declared.operator.Scalar.TheVariants as scalars
 
 abbrev pub Answer : Type 0
 Answer = Result Operand TypeError

@@ -1,10 +1,9 @@
 pub use Rattle.ar_value.specs.Kind
-pub use Rattle.ar_syntax.specs.Expression
-pub mod Typed
+pub use Rattle.ar_condition.specs.Expression
+pub use Rattle.ar_condition.specs.Typed
+pub mod Memory
 pub mod Basics
 pub mod Operand
 pub mod Check
-pub mod Meaning
-pub mod Views
 pub mod Typing
 pub mod Private

@@ -3,14 +3,14 @@ use Rattle.std.specs.Prelude.{Bool, true, false, ◌&&◌, if◌then◌else◌, 
 use Rattle.ar_value.specs.Kind.{Kind, nil, shaped, is_decimal, is_optional, plain}
 use Rattle.ar_value.specs.Shape.{Shape}
 use Rattle.ar_value.specs.Shape as shapes
-use Rattle.ar_check.specs.Typed.{Typed}
-use Rattle.ar_check.specs.Typed as typed
-use Rattle.ar_check.specs.declared.typed.Family.{Family}
-use Rattle.ar_check.specs.declared.typed.Family.TheVariants as families
-use Rattle.ar_check.specs.declared.typed.Numbers.{Numbers}
-use Rattle.ar_check.specs.declared.typed.Numbers.TheVariants.{Wholes, Decimals}
-use Rattle.ar_check.specs.declared.typed.Scalar.{Scalar}
-use Rattle.ar_check.specs.declared.typed.Scalar.TheVariants as scalars
+use Rattle.ar_condition.specs.Typed.{Typed}
+use Rattle.ar_condition.specs.Typed as typed
+use Rattle.ar_value.specs.declared.operator.Family.{Family}
+use Rattle.ar_value.specs.declared.operator.Family.TheVariants as families
+use Rattle.ar_value.specs.declared.operator.Numbers.{Numbers}
+use Rattle.ar_value.specs.declared.operator.Numbers.TheVariants.{Wholes, Decimals}
+use Rattle.ar_value.specs.declared.operator.Scalar.{Scalar}
+use Rattle.ar_value.specs.declared.operator.Scalar.TheVariants as scalars
 
 -- a tree with its kind
 pub record Operand : Type 0 where

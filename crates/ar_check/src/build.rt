@@ -1,151 +1,158 @@
 //! Typed trees of parts that are there.
 
 ghost use Rattle.std.specs.Prelude.{◌≡◌, IfOk, map};
-ghost use Rattle.ar_check.specs.Typed as typed;
-ghost use Rattle.ar_check.specs.Typed.{typeds};
-ghost use Rattle.ar_check.specs.Views.{typed_view};
+ghost use Rattle.ar_condition.specs.Typed as typed;
+ghost use Rattle.ar_condition.specs.Typed.{typeds};
+ghost use Rattle.ar_condition.specs.Views.{typed_view};
 
-use crate::typed::{Arithmetic, Family, Numbers, Order, Scalar, Typed, TypedItems};
-use ar_syntax::tree::Predicate;
+use ar_condition::typed::{Typed, TypedItems};
+use ar_value::operator::{Arithmetic, Family, Numbers, Order, Predicate, Scalar};
 use ar_value::text::Text;
 use std::alloc::{AllocError, Global};
 
-pub(crate) fn plain(alloc: Global, operand: Typed) -> Result<Typed, AllocError>
-    ensures { IfOk result (λ tree. typed_view tree ≡ typed.plain (typed_view operand)) }
+pub(crate) fn plain(alloc: Global, operand: Box<Typed>) -> Result<Box<Typed>, AllocError>
+    ensures { IfOk result (λ tree. typed_view tree.value ≡ typed.plain (typed_view operand.value)) }
 {
-    Ok(Typed::Plain(Box::new(alloc, operand)?))
+    Ok(Box::new(alloc, Typed::Plain(operand))?)
 }
 
-pub(crate) fn as_decimal(alloc: Global, operand: Typed) -> Result<Typed, AllocError>
-    ensures { IfOk result (λ tree. typed_view tree ≡ typed.as_decimal (typed_view operand)) }
+pub(crate) fn as_decimal(alloc: Global, operand: Box<Typed>) -> Result<Box<Typed>, AllocError>
+    ensures { IfOk result (λ tree. typed_view tree.value ≡ typed.as_decimal (typed_view operand.value)) }
 {
-    Ok(Typed::AsDecimal(Box::new(alloc, operand)?))
+    Ok(Box::new(alloc, Typed::AsDecimal(operand))?)
 }
 
-pub(crate) fn field(alloc: Global, owner: Typed, name: Text) -> Result<Typed, AllocError>
-    ensures { IfOk result (λ tree. typed_view tree ≡ typed.field (typed_view owner) name) }
+pub(crate) fn field(alloc: Global, owner: Box<Typed>, name: Text) -> Result<Box<Typed>, AllocError>
+    ensures { IfOk result (λ tree. typed_view tree.value ≡ typed.field (typed_view owner.value) name) }
 {
-    Ok(Typed::Field {
-        owner: Box::new(alloc, owner)?,
-        name,
-    })
+    Ok(Box::new(alloc, Typed::Field { owner, name })?)
 }
 
-pub(crate) fn index(alloc: Global, list: Typed, index: Typed) -> Result<Typed, AllocError>
-    ensures { IfOk result (λ tree. typed_view tree ≡ typed.index (typed_view list) (typed_view index)) }
+pub(crate) fn index(
+    alloc: Global,
+    list: Box<Typed>,
+    index: Box<Typed>,
+) -> Result<Box<Typed>, AllocError>
+    ensures { IfOk result (λ tree. typed_view tree.value ≡ typed.index (typed_view list.value) (typed_view index.value)) }
 {
-    Ok(Typed::Index {
-        list: Box::new(alloc, list)?,
-        index: Box::new(alloc, index)?,
-    })
+    Ok(Box::new(alloc, Typed::Index { list, index })?)
 }
 
-pub(crate) fn negative(alloc: Global, numbers: Numbers, operand: Typed) -> Result<Typed, AllocError>
-    ensures { IfOk result (λ tree. typed_view tree ≡ typed.negative numbers (typed_view operand)) }
+pub(crate) fn negative(
+    alloc: Global,
+    numbers: Numbers,
+    operand: Box<Typed>,
+) -> Result<Box<Typed>, AllocError>
+    ensures { IfOk result (λ tree. typed_view tree.value ≡ typed.negative numbers (typed_view operand.value)) }
 {
-    Ok(Typed::Negative {
-        numbers,
-        operand: Box::new(alloc, operand)?,
-    })
+    Ok(Box::new(alloc, Typed::Negative { numbers, operand })?)
 }
 
 pub(crate) fn arithmetic(
     alloc: Global,
     numbers: Numbers,
     operator: Arithmetic,
-    left: Typed,
-    right: Typed,
-) -> Result<Typed, AllocError>
-    ensures { IfOk result (λ tree. typed_view tree ≡ typed.arithmetic numbers operator (typed_view left) (typed_view right)) }
+    left: Box<Typed>,
+    right: Box<Typed>,
+) -> Result<Box<Typed>, AllocError>
+    ensures { IfOk result (λ tree. typed_view tree.value ≡ typed.arithmetic numbers operator (typed_view left.value) (typed_view right.value)) }
 {
-    Ok(Typed::Arithmetic {
-        numbers,
-        operator,
-        left: Box::new(alloc, left)?,
-        right: Box::new(alloc, right)?,
-    })
+    Ok(Box::new(
+        alloc,
+        Typed::Arithmetic {
+            numbers,
+            operator,
+            left,
+            right,
+        },
+    )?)
 }
 
 pub(crate) fn ordered(
     alloc: Global,
     sides: (Numbers, Numbers),
     order: Order,
-    left: Typed,
-    right: Typed,
-) -> Result<Typed, AllocError>
-    ensures { IfOk result (λ tree. typed_view tree ≡ typed.ordered sides.0 sides.1 order (typed_view left) (typed_view right)) }
+    left: Box<Typed>,
+    right: Box<Typed>,
+) -> Result<Box<Typed>, AllocError>
+    ensures { IfOk result (λ tree. typed_view tree.value ≡ typed.ordered sides.0 sides.1 order (typed_view left.value) (typed_view right.value)) }
 {
     let (of, beside) = sides;
-    Ok(Typed::Ordered {
-        of,
-        beside,
-        order,
-        left: Box::new(alloc, left)?,
-        right: Box::new(alloc, right)?,
-    })
+    Ok(Box::new(
+        alloc,
+        Typed::Ordered {
+            of,
+            beside,
+            order,
+            left,
+            right,
+        },
+    )?)
 }
 
 pub(crate) fn equal(
     alloc: Global,
     family: Family,
-    left: Typed,
-    right: Typed,
-) -> Result<Typed, AllocError>
-    ensures { IfOk result (λ tree. typed_view tree ≡ typed.equal family (typed_view left) (typed_view right)) }
+    left: Box<Typed>,
+    right: Box<Typed>,
+) -> Result<Box<Typed>, AllocError>
+    ensures { IfOk result (λ tree. typed_view tree.value ≡ typed.equal family (typed_view left.value) (typed_view right.value)) }
 {
-    Ok(Typed::Equal {
-        family,
-        left: Box::new(alloc, left)?,
-        right: Box::new(alloc, right)?,
-    })
+    Ok(Box::new(
+        alloc,
+        Typed::Equal {
+            family,
+            left,
+            right,
+        },
+    )?)
 }
 
-pub(crate) fn within(alloc: Global, operand: Typed, list: Typed) -> Result<Typed, AllocError>
-    ensures { IfOk result (λ tree. typed_view tree ≡ typed.within (typed_view operand) (typed_view list)) }
+pub(crate) fn within(
+    alloc: Global,
+    operand: Box<Typed>,
+    list: Box<Typed>,
+) -> Result<Box<Typed>, AllocError>
+    ensures { IfOk result (λ tree. typed_view tree.value ≡ typed.within (typed_view operand.value) (typed_view list.value)) }
 {
-    Ok(Typed::Within {
-        operand: Box::new(alloc, operand)?,
-        list: Box::new(alloc, list)?,
-    })
+    Ok(Box::new(alloc, Typed::Within { operand, list })?)
 }
 
-pub(crate) fn opposite(alloc: Global, operand: Typed) -> Result<Typed, AllocError>
-    ensures { IfOk result (λ tree. typed_view tree ≡ typed.opposite (typed_view operand)) }
+pub(crate) fn opposite(alloc: Global, operand: Box<Typed>) -> Result<Box<Typed>, AllocError>
+    ensures { IfOk result (λ tree. typed_view tree.value ≡ typed.opposite (typed_view operand.value)) }
 {
-    Ok(Typed::Not(Box::new(alloc, operand)?))
+    Ok(Box::new(alloc, Typed::Not(operand))?)
 }
 
-pub(crate) fn both(alloc: Global, left: Typed, right: Typed) -> Result<Typed, AllocError>
-    ensures { IfOk result (λ tree. typed_view tree ≡ typed.both (typed_view left) (typed_view right)) }
+pub(crate) fn both(
+    alloc: Global,
+    left: Box<Typed>,
+    right: Box<Typed>,
+) -> Result<Box<Typed>, AllocError>
+    ensures { IfOk result (λ tree. typed_view tree.value ≡ typed.both (typed_view left.value) (typed_view right.value)) }
 {
-    Ok(Typed::And {
-        left: Box::new(alloc, left)?,
-        right: Box::new(alloc, right)?,
-    })
+    Ok(Box::new(alloc, Typed::And { left, right })?)
 }
 
-pub(crate) fn either(alloc: Global, left: Typed, right: Typed) -> Result<Typed, AllocError>
-    ensures { IfOk result (λ tree. typed_view tree ≡ typed.either (typed_view left) (typed_view right)) }
+pub(crate) fn either(
+    alloc: Global,
+    left: Box<Typed>,
+    right: Box<Typed>,
+) -> Result<Box<Typed>, AllocError>
+    ensures { IfOk result (λ tree. typed_view tree.value ≡ typed.either (typed_view left.value) (typed_view right.value)) }
 {
-    Ok(Typed::Or {
-        left: Box::new(alloc, left)?,
-        right: Box::new(alloc, right)?,
-    })
+    Ok(Box::new(alloc, Typed::Or { left, right })?)
 }
 
 pub(crate) fn choice(
     alloc: Global,
-    condition: Typed,
-    yes: Typed,
-    no: Typed,
-) -> Result<Typed, AllocError>
-    ensures { IfOk result (λ tree. typed_view tree ≡ typed.choice (typed_view condition) (typed_view yes) (typed_view no)) }
+    condition: Box<Typed>,
+    yes: Box<Typed>,
+    no: Box<Typed>,
+) -> Result<Box<Typed>, AllocError>
+    ensures { IfOk result (λ tree. typed_view tree.value ≡ typed.choice (typed_view condition.value) (typed_view yes.value) (typed_view no.value)) }
 {
-    Ok(Typed::Choice {
-        condition: Box::new(alloc, condition)?,
-        yes: Box::new(alloc, yes)?,
-        no: Box::new(alloc, no)?,
-    })
+    Ok(Box::new(alloc, Typed::Choice { condition, yes, no })?)
 }
 
 pub(crate) fn listed(scalar: Scalar, items: Vec<Typed>) -> Typed
@@ -157,42 +164,42 @@ pub(crate) fn listed(scalar: Scalar, items: Vec<Typed>) -> Typed
     }
 }
 
-pub(crate) fn len(alloc: Global, list: Typed) -> Result<Typed, AllocError>
-    ensures { IfOk result (λ tree. typed_view tree ≡ typed.len (typed_view list)) }
+pub(crate) fn len(alloc: Global, list: Box<Typed>) -> Result<Box<Typed>, AllocError>
+    ensures { IfOk result (λ tree. typed_view tree.value ≡ typed.len (typed_view list.value)) }
 {
-    Ok(Typed::Len(Box::new(alloc, list)?))
+    Ok(Box::new(alloc, Typed::Len(list))?)
 }
 
-pub(crate) fn is_nil(alloc: Global, operand: Typed) -> Result<Typed, AllocError>
-    ensures { IfOk result (λ tree. typed_view tree ≡ typed.is_nil (typed_view operand)) }
+pub(crate) fn is_nil(alloc: Global, operand: Box<Typed>) -> Result<Box<Typed>, AllocError>
+    ensures { IfOk result (λ tree. typed_view tree.value ≡ typed.is_nil (typed_view operand.value)) }
 {
-    Ok(Typed::IsNil(Box::new(alloc, operand)?))
+    Ok(Box::new(alloc, Typed::IsNil(operand))?)
 }
 
 pub(crate) fn otherwise(
     alloc: Global,
-    operand: Typed,
-    otherwise: Typed,
-) -> Result<Typed, AllocError>
-    ensures { IfOk result (λ tree. typed_view tree ≡ typed.otherwise (typed_view operand) (typed_view otherwise)) }
+    operand: Box<Typed>,
+    otherwise: Box<Typed>,
+) -> Result<Box<Typed>, AllocError>
+    ensures { IfOk result (λ tree. typed_view tree.value ≡ typed.otherwise (typed_view operand.value) (typed_view otherwise.value)) }
 {
-    Ok(Typed::Default {
-        operand: Box::new(alloc, operand)?,
-        otherwise: Box::new(alloc, otherwise)?,
-    })
+    Ok(Box::new(alloc, Typed::Default { operand, otherwise })?)
 }
 
 pub(crate) fn predicate(
     alloc: Global,
     predicate: Predicate,
-    list: Typed,
-    body: Typed,
-) -> Result<Typed, AllocError>
-    ensures { IfOk result (λ tree. typed_view tree ≡ typed.predicate predicate (typed_view list) (typed_view body)) }
+    list: Box<Typed>,
+    body: Box<Typed>,
+) -> Result<Box<Typed>, AllocError>
+    ensures { IfOk result (λ tree. typed_view tree.value ≡ typed.predicate predicate (typed_view list.value) (typed_view body.value)) }
 {
-    Ok(Typed::Predicate {
-        predicate,
-        list: Box::new(alloc, list)?,
-        body: Box::new(alloc, body)?,
-    })
+    Ok(Box::new(
+        alloc,
+        Typed::Predicate {
+            predicate,
+            list,
+            body,
+        },
+    )?)
 }

@@ -5,18 +5,18 @@
 //! is marked, or the first fault of kinds with its place. Only want of memory can keep it from that.
 //! A checked condition, on a value of its shape, is true or false or meets one of four faults.
 //!
-//! - [`typed`]: what a condition says once its kinds are known; `build` makes its nodes
-//! - `typing`: from a tree to its typed tree, by recursion no deeper than the tree
+//! - `typing`: from a tree to its typed tree, by recursion no deeper than the tree; `build` makes
+//!   the nodes
 //! - `operand`: a tree with its kind, whose shape is lent where it is a part of a declared one
 //! - `operators`, `list`: operators, and list literals, whose operands have kinds
 //! - [`error`]: why a condition has no kinds
 //! - [`laws`]: what holds of all checked conditions
 //!
-//! In `specs`, `Typed` has typed trees, `Operand` says what is made of operands where a plain kind
-//! or a decimal is wanted, and `Check` goes through the constructs one by one: what each wants and
-//! gives, and its faults. `Typing` is the table of kinds as a relation, which laws say is the same;
-//! `Basics` has what both begin with. `Meaning` defines what a typed condition means on a value.
-//! `Private` has what only private contracts speak of.
+//! In `specs`, `Operand` says what is made of operands where a plain kind or a decimal is wanted, and
+//! `Check` goes through the constructs one by one: what each wants and gives, and its faults.
+//! `Typing` is the table of kinds as a relation, which laws say is the same; `Basics` has what both
+//! begin with. `Private` has what only private contracts speak of. Trees, and what a typed one means
+//! on a value, are `ar_condition`'s.
 #![tactic(auto)]
 
 mod build;
@@ -25,9 +25,7 @@ pub mod laws;
 mod list;
 mod operand;
 mod operators;
-pub mod typed;
 mod typing;
 
 pub use error::TypeError;
-pub use typed::Typed;
 pub use typing::check;

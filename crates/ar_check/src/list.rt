@@ -6,13 +6,15 @@ ghost use Rattle.ar_value.specs.Kind.{shaped};
 ghost use Rattle.ar_value.specs.Shape.{list};
 ghost use Rattle.ar_value.specs.View.{shape_view};
 ghost use Rattle.ar_check.specs.Check.{common_of, common_scalar, joined, list_of, no_scalar, scalar_shape, turned_item};
-ghost use Rattle.ar_check.specs.Views.{is_memory, typed_view};
+ghost use Rattle.ar_condition.specs.Views.{typed_view};
+ghost use Rattle.ar_check.specs.Memory.{is_memory};
 ghost use Rattle.ar_check.specs.Private.Inside.{item_view, kind_view, operand_view};
 
 use crate::build::{as_decimal, listed};
 use crate::error::TypeError;
 use crate::operand::{Kind, Operand};
-use crate::typed::{Scalar, Typed};
+use ar_condition::typed::Typed;
+use ar_value::operator::Scalar;
 use ar_value::shape::Shape;
 use std::alloc::{AllocError, Global};
 
@@ -22,7 +24,7 @@ pub(crate) struct Item {
     pub at: usize,
     /// None where it is no scalar.
     pub scalar: Option<Scalar>,
-    pub tree: Typed,
+    pub tree: Box<Typed>,
 }
 
 /// A list of items.
@@ -36,7 +38,7 @@ pub(crate) fn list<'s>(alloc: Global, at: usize, items: Vec<Item>) -> Result<Ope
         return Err(TypeError::NoCommonKind(at));
     };
     let kind = list_kind(alloc, scalar, items.len())?;
-    let tree = listed(scalar, turned(alloc, scalar, items)?);
+    let tree = Box::new(alloc, listed(scalar, turned(alloc, scalar, items)?))?;
     Ok(Operand { tree, kind })
 }
 
@@ -100,8 +102,10 @@ fn turned_item(alloc: Global, scalar: Scalar, item: Item) -> Result<Typed, Alloc
     ensures { IfOk result (λ tree. typed_view tree ≡ turned_item scalar (item_view item).scalar (item_view item).tree) }
 {
     match (scalar, item.scalar) {
-        (Scalar::Decimal, Some(Scalar::Whole)) => as_decimal(alloc, item.tree),
-        _ => Ok(item.tree),
+        (Scalar::Decimal, Some(Scalar::Whole)) => {
+            Ok(Box::into_inner(as_decimal(alloc, item.tree)?))
+        }
+        _ => Ok(Box::into_inner(item.tree)),
     }
 }
 

@@ -1,21 +1,22 @@
 //! Operands whose kinds are known.
 
-ghost use Rattle.std.specs.Prelude.{◌≡◌, IfOk, option_and_then, option_map};
+ghost use Rattle.std.specs.Prelude.{◌≡◌, false, IfOk, option_map};
 ghost use Rattle.ar_value.specs.Answer.{Gives};
 ghost use Rattle.ar_value.specs.Kind.{common, shaped};
 ghost use Rattle.ar_value.specs.Kind as shapes;
 ghost use Rattle.ar_value.specs.View as values;
 ghost use Rattle.ar_value.specs.View.{shape_view};
 ghost use Rattle.ar_check.specs.Check.{field_shape, item_shape, plain_kind};
-ghost use Rattle.ar_value.specs.Shape.{shape_named};
-ghost use Rattle.ar_check.specs.Operand.{is_bool, is_truth, is_whole, made_plain, numbers, numbers_in, plain_of, plain_tree, scalar, scalar_of, turned};
-ghost use Rattle.ar_check.specs.Views.{is_memory, typed_view};
+ghost use Rattle.ar_check.specs.Operand.{is_truth, made_plain, numbers, plain_of, plain_tree, scalar, scalar_of, turned};
+ghost use Rattle.ar_condition.specs.Views.{typed_view};
+ghost use Rattle.ar_check.specs.Memory.{is_memory};
 ghost use Rattle.ar_check.specs.Private.Inside.{kind_view, operand_view, shaped_answer};
 
 use crate::build::{as_decimal, plain};
 use crate::error::TypeError;
-use crate::typed::{Numbers, Scalar, Typed};
+use ar_condition::typed::Typed;
 use ar_value::kind;
+use ar_value::operator::{Numbers, Scalar};
 use ar_value::shape::Shape;
 use std::alloc::{AllocError, Global};
 
@@ -31,7 +32,7 @@ pub(crate) enum Kind<'s> {
 /// A tree with its kind.
 #[derive(Debug, Drop)]
 pub(crate) struct Operand<'s> {
-    pub tree: Typed,
+    pub tree: Box<Typed>,
     pub kind: Kind<'s>,
 }
 
@@ -47,8 +48,12 @@ pub(crate) fn plain_shape<'a>(kind: &'a Kind<'_>) -> Option<&'a Shape>
 }
 
 /// A tree made plain, where its kind says that it may be nil.
-pub(crate) fn plain_tree(alloc: Global, kind: &Kind<'_>, tree: Typed) -> Result<Typed, AllocError>
-    ensures { IfOk result (λ made. typed_view made ≡ plain_tree (kind_view kind.now) (typed_view tree)) }
+pub(crate) fn plain_tree(
+    alloc: Global,
+    kind: &Kind<'_>,
+    tree: Box<Typed>,
+) -> Result<Box<Typed>, AllocError>
+    ensures { IfOk result (λ made. typed_view made.value ≡ plain_tree (kind_view kind.now) (typed_view tree.value)) }
 {
     let is_optional = match kind {
         Kind::Nil => false,
@@ -63,24 +68,27 @@ pub(crate) fn plain_tree(alloc: Global, kind: &Kind<'_>, tree: Typed) -> Result<
 }
 
 /// An operand made plain.
-pub(crate) fn made_plain(alloc: Global, operand: Operand<'_>) -> Result<Typed, AllocError>
-    ensures { IfOk result (λ made. typed_view made ≡ made_plain (operand_view operand.entry)) }
+pub(crate) fn made_plain(alloc: Global, operand: Operand<'_>) -> Result<Box<Typed>, AllocError>
+    ensures { IfOk result (λ made. typed_view made.value ≡ made_plain (operand_view operand.entry)) }
 {
     let Operand { tree, kind } = operand;
     plain_tree(alloc, &kind, tree)
 }
 
 /// An operand's tree, where its kind is known.
-pub(crate) fn into_tree(operand: Operand<'_>) -> Typed
-    ensures { typed_view result ≡ (operand_view operand.entry).tree }
+pub(crate) fn into_tree(operand: Operand<'_>) -> Box<Typed>
+    ensures { typed_view result.value ≡ (operand_view operand.entry).tree }
 {
     operand.tree
 }
 
 /// Whether an operand is a truth value once it is plain, and its tree made plain.
-pub(crate) fn as_truth(alloc: Global, operand: Operand<'_>) -> Result<(bool, Typed), AllocError>
+pub(crate) fn as_truth(
+    alloc: Global,
+    operand: Operand<'_>,
+) -> Result<(bool, Box<Typed>), AllocError>
     ensures truth { IfOk result (λ made. made.0 ≡ is_truth (operand_view operand.entry)) }
-    ensures tree { IfOk result (λ made. typed_view made.1 ≡ made_plain (operand_view operand.entry)) }
+    ensures tree { IfOk result (λ made. typed_view made.1.value ≡ made_plain (operand_view operand.entry)) }
 {
     let is_truth = is_truth(&operand);
     Ok((is_truth, made_plain(alloc, operand)?))
@@ -124,7 +132,7 @@ pub(crate) fn is_truth(operand: &Operand<'_>) -> bool
 }
 
 fn field_in<'a>(at: usize, name: &str, shape: &'a Shape) -> Result<&'a Shape, TypeError>
-    ensures { Gives is_memory (λ found. shape_view found.now) result (field_shape at name.now (plain_of (shaped (shape_view shape.now)))) }
+    ensures { Gives (λ _. false) (λ found. shape_view found.now) result (field_shape at name.now (plain_of (shaped (shape_view shape.now)))) }
 {
     match kind::plain(shape) {
         Shape::Object(fields) => match fields.get(name) {
@@ -141,6 +149,7 @@ fn field_in<'a>(at: usize, name: &str, shape: &'a Shape) -> Result<&'a Shape, Ty
 }
 
 /// The kind of a record's field.
+#[tactic(auto, using(crate::proofs::Freely::gives_freely))]
 pub(crate) fn field_kind<'s>(
     alloc: Global,
     at: usize,
@@ -157,7 +166,7 @@ pub(crate) fn field_kind<'s>(
 }
 
 fn item_in(at: usize, shape: &Shape) -> Result<&Shape, TypeError>
-    ensures { Gives is_memory (λ found. shape_view found.now) result (item_shape at (plain_of (shaped (shape_view shape.now)))) }
+    ensures { Gives (λ _. false) (λ found. shape_view found.now) result (item_shape at (plain_of (shaped (shape_view shape.now)))) }
 {
     match kind::plain(shape) {
         Shape::List { item, .. } => Ok(item),
@@ -172,7 +181,7 @@ fn item_in(at: usize, shape: &Shape) -> Result<&Shape, TypeError>
 
 /// The shape of a list's items.
 pub(crate) fn item_shape<'a>(at: usize, kind: &'a Kind<'_>) -> Result<&'a Shape, TypeError>
-    ensures { Gives is_memory (λ found. shape_view found.now) result (item_shape at (plain_of (kind_view kind.now))) }
+    ensures { Gives (λ _. false) (λ found. shape_view found.now) result (item_shape at (plain_of (kind_view kind.now))) }
 {
     match kind {
         Kind::Nil => Err(TypeError::NotAList(at)),
@@ -182,6 +191,7 @@ pub(crate) fn item_shape<'a>(at: usize, kind: &'a Kind<'_>) -> Result<&'a Shape,
 }
 
 /// The kind of a list's items.
+#[tactic(auto, using(crate::proofs::Freely::gives_freely))]
 pub(crate) fn item_kind<'s>(
     alloc: Global,
     at: usize,
@@ -240,9 +250,9 @@ pub(crate) fn turned(
     alloc: Global,
     other: &Kind<'_>,
     kind: &Kind<'_>,
-    tree: Typed,
-) -> Result<Typed, AllocError>
-    ensures { IfOk result (λ made. typed_view made ≡ turned (kind_view other.now) (kind_view kind.now) (typed_view tree)) }
+    tree: Box<Typed>,
+) -> Result<Box<Typed>, AllocError>
+    ensures { IfOk result (λ made. typed_view made.value ≡ turned (kind_view other.now) (kind_view kind.now) (typed_view tree.value)) }
 {
     let (Some(other), Some(shape)) = (plain_shape(other), plain_shape(kind)) else {
         return Ok(tree);
@@ -259,9 +269,9 @@ pub(crate) fn both_plain(
     alloc: Global,
     left: Operand<'_>,
     right: Operand<'_>,
-) -> Result<(Typed, Typed), AllocError>
-    ensures left { IfOk result (λ trees. typed_view trees.0 ≡ made_plain (operand_view left.entry)) }
-    ensures right { IfOk result (λ trees. typed_view trees.1 ≡ made_plain (operand_view right.entry)) }
+) -> Result<(Box<Typed>, Box<Typed>), AllocError>
+    ensures left { IfOk result (λ trees. typed_view trees.0.value ≡ made_plain (operand_view left.entry)) }
+    ensures right { IfOk result (λ trees. typed_view trees.1.value ≡ made_plain (operand_view right.entry)) }
 {
     let first = made_plain(alloc, left)?;
     let second = made_plain(alloc, right)?;
@@ -273,10 +283,10 @@ pub(crate) fn turned_both(
     alloc: Global,
     left: Operand<'_>,
     right: Operand<'_>,
-) -> Result<(Typed, Typed), AllocError>
-    ensures left { IfOk result (λ trees. typed_view trees.0
+) -> Result<(Box<Typed>, Box<Typed>), AllocError>
+    ensures left { IfOk result (λ trees. typed_view trees.0.value
         ≡ turned (operand_view right.entry).kind (operand_view left.entry).kind (operand_view left.entry).tree) }
-    ensures right { IfOk result (λ trees. typed_view trees.1
+    ensures right { IfOk result (λ trees. typed_view trees.1.value
         ≡ turned (operand_view left.entry).kind (operand_view right.entry).kind (operand_view right.entry).tree) }
 {
     let Operand {

@@ -2,12 +2,11 @@
 
 ghost use Rattle.std.specs.Prelude.{◌≡◌, ◌&&◌, false, IfOk, Some};
 ghost use Rattle.ar_value.specs.Answer.{Gives};
-ghost use Rattle.ar_value.specs.Kind.{shaped};
-ghost use Rattle.ar_value.specs.View.{shape_view};
 ghost use Rattle.ar_check.specs.Check.{arithmetic_kind, binary_of, comparison_of, equality_of, in_of, negated, number_kind, ordering_of, arithmetic_on, calculation_of, both_of, either_of, given, takes, truth_kind, unary_of, where_wanted, widened};
 ghost use Rattle.ar_check.specs.Operand.{among, family_in};
-ghost use Rattle.ar_check.specs.Typed as typed;
-ghost use Rattle.ar_check.specs.Views.{is_memory, typed_view};
+ghost use Rattle.ar_condition.specs.Typed as typed;
+ghost use Rattle.ar_condition.specs.Views.{typed_view};
+ghost use Rattle.ar_check.specs.Memory.{is_memory};
 ghost use Rattle.ar_check.specs.Private.Inside.{kind_view, operand_view};
 
 use crate::build::{
@@ -18,10 +17,10 @@ use crate::operand::{
     Kind, Operand, both_plain, into_tree, is_truth, item_shape, made_plain, numbers, scalar,
     scalar_of,
 };
-use crate::typed::{Arithmetic, Family, Numbers, Order, Scalar, Typed};
-use ar_syntax::token::Comparison;
-use ar_syntax::tree::{Binary, Unary};
+use ar_condition::tree::{Binary, Comparison, Unary};
+use ar_condition::typed::Typed;
 use ar_value::kind::plain;
+use ar_value::operator::{Arithmetic, Family, Numbers, Order, Scalar};
 use ar_value::shape::Shape;
 use std::alloc::{AllocError, Global};
 
@@ -29,10 +28,10 @@ use std::alloc::{AllocError, Global};
 pub(crate) fn where_wanted<'s>(
     at: usize,
     wanted: bool,
-    tree: Typed,
+    tree: Box<Typed>,
     kind: Kind<'s>,
 ) -> Result<Operand<'s>, TypeError>
-    ensures { Gives (λ _. false) operand_view result (where_wanted at wanted (typed_view tree) (kind_view kind.entry)) }
+    ensures { Gives (λ _. false) operand_view result (where_wanted at wanted (typed_view tree.value) (kind_view kind.entry)) }
 {
     if wanted {
         Ok(Operand { tree, kind })
@@ -285,11 +284,11 @@ fn calculate_on<'s>(
     at: usize,
     operator: Arithmetic,
     sides: (Numbers, Numbers),
-    left: Typed,
-    right: Typed,
+    left: Box<Typed>,
+    right: Box<Typed>,
 ) -> Result<Operand<'s>, TypeError>
     ensures { Gives is_memory operand_view result
-        (arithmetic_on at operator (Some sides.0) (Some sides.1) (typed_view left) (typed_view right)) }
+        (arithmetic_on at operator (Some sides.0) (Some sides.1) (typed_view left.value) (typed_view right.value)) }
 {
     let (of, beside) = sides;
     let numbers = widened(of, beside);
@@ -311,8 +310,13 @@ fn widened(left: Numbers, right: Numbers) -> Numbers
 }
 
 /// A whole as a decimal, beside decimals.
-fn among(alloc: Global, other: Numbers, numbers: Numbers, tree: Typed) -> Result<Typed, AllocError>
-    ensures { IfOk result (λ made. typed_view made ≡ among other numbers (typed_view tree)) }
+fn among(
+    alloc: Global,
+    other: Numbers,
+    numbers: Numbers,
+    tree: Box<Typed>,
+) -> Result<Box<Typed>, AllocError>
+    ensures { IfOk result (λ made. typed_view made.value ≡ among other numbers (typed_view tree.value)) }
 {
     match (other, numbers) {
         (Numbers::Decimals, Numbers::Wholes) => as_decimal(alloc, tree),

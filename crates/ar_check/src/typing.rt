@@ -1,21 +1,22 @@
 //! From the tree of a condition to its typed tree.
 
-ghost use Rattle.std.specs.Prelude.{◌≡◌, IfErr, IfOk, map, None, Some, option_map, true};
+ghost use Rattle.std.specs.Prelude.{◌≡◌, false, IfErr, IfOk, map, None, Some, option_map, true};
 ghost use Rattle.ar_value.specs.Answer.{Gives, Unless};
 ghost use Rattle.ar_value.specs.Fits.{fits};
 ghost use Rattle.ar_value.specs.Kind.{shaped};
 ghost use Rattle.ar_value.specs.Value.{Value};
 ghost use Rattle.ar_value.specs.View.{shape_view};
-ghost use Rattle.ar_syntax.specs.Expression.{expressions, BinaryAt, ChoiceAt, DefaultAt, IndexAt, PredicateAt};
-ghost use Rattle.ar_syntax.specs.Views.{expression_of};
+ghost use Rattle.ar_condition.specs.Expression.{expressions, BinaryAt, ChoiceAt, DefaultAt, IndexAt, PredicateAt};
+ghost use Rattle.ar_condition.specs.Views.{expression_of};
 ghost use Rattle.ar_check.specs.Basics.{literal_kind};
 ghost use Rattle.ar_check.specs.Check.{checked, choice_tree, default_kind, default_of, default_tree, field_of, index_of, innermost, is_nil_literal, len_of, over_items, plain_kind, predicate_kind, predicate_of};
-ghost use Rattle.ar_check.specs.Meaning.{IsTruthOrFault, mean};
+ghost use Rattle.ar_condition.specs.Meaning.{IsTruthOrFault, mean};
 ghost use Rattle.ar_check.specs.Operand.{made_plain, operand};
 ghost use Rattle.ar_check.specs.Private.Inside.{choice_between, inside, item_in, item_view, items_in, kind_view, operand_view, typed_in};
-ghost use Rattle.ar_check.specs.Typed as typed;
+ghost use Rattle.ar_condition.specs.Typed as typed;
 ghost use Rattle.ar_check.specs.Typing.{IsCondition};
-ghost use Rattle.ar_check.specs.Views.{is_memory, typed_view};
+ghost use Rattle.ar_condition.specs.Views.{typed_view};
+ghost use Rattle.ar_check.specs.Memory.{is_memory};
 
 use crate::build::{choice, field, index, len, otherwise, predicate};
 use crate::error::TypeError;
@@ -25,8 +26,9 @@ use crate::operand::{
     plain_kind, scalar, turned, turned_both, without_nil,
 };
 use crate::operators::{binary, is_nil_of, truth, unary, where_wanted};
-use crate::typed::{Scalar, Typed};
-use ar_syntax::tree::{Binary, Literal, Predicate, Tree};
+use ar_condition::tree::{Binary, Literal, Tree};
+use ar_condition::typed::Typed;
+use ar_value::operator::{Predicate, Scalar};
 use ar_value::shape::Shape;
 use ar_value::text::Text;
 use std::alloc::{AllocError, Global};
@@ -62,10 +64,17 @@ pub fn check(alloc: Global, tree: Tree, shape: &Shape) -> Result<Typed, TypeErro
     };
     let condition = typed(alloc, tree, scope)?;
     if is_truth(&condition) {
-        Ok(made_plain(alloc, condition)?)
+        Ok(plain_condition(alloc, condition)?)
     } else {
         Err(TypeError::NotTruth(at))
     }
+}
+
+/// The tree of a whole condition, made plain.
+fn plain_condition(alloc: Global, condition: Operand<'_>) -> Result<Typed, AllocError>
+    ensures { IfOk result (λ made. typed_view made ≡ made_plain (operand_view condition.entry)) }
+{
+    Ok(Box::into_inner(made_plain(alloc, condition)?))
 }
 
 /// What the names of a condition stand for at a place.
@@ -81,13 +90,14 @@ struct Scope<'s> {
 
 /// A tree where `result` has a shape, and so has the innermost item, inside so many predicates.
 #[cycle(typed)]
+#[tactic(auto, using(crate::proofs::Freely::gives_freely))]
 fn typed<'s>(alloc: Global, tree: Tree, scope: Scope<'s>) -> Result<Operand<'s>, TypeError>
     ensures { Gives is_memory operand_view result (typed_in scope.entry (expression_of tree)) }
 {
     match tree {
-        Tree::Result { .. } => Ok(measured_of(scope.measured)),
-        Tree::Item { at } => item_of(at, scope.item),
-        Tree::Literal { literal, .. } => Ok(literal_of(literal)),
+        Tree::Result { .. } => Ok(measured_of(alloc, scope.measured)?),
+        Tree::Item { at } => item_of(alloc, at, scope.item),
+        Tree::Literal { literal, .. } => Ok(literal_of(alloc, literal)?),
         Tree::Field { at, owner, name } => {
             field_of(alloc, at, name, child(alloc, owner, scope)?)
         }
@@ -253,15 +263,15 @@ fn typed_item(alloc: Global, tree: Tree, scope: Scope<'_>) -> Result<Item, TypeE
 
 /// What a predicate says of the items of a list: whether it is a truth value, and its tree.
 #[cycle(typed)]
-#[tactic(auto, unfolding(crate::specs::Check::over_items))]
+#[tactic(auto, using(crate::proofs::Freely::gives_freely), unfolding(crate::specs::Check::over_items))]
 fn typed_body(
     alloc: Global,
     at: usize,
     body: Box<Tree>,
     list: &Kind<'_>,
     scope: Scope<'_>,
-) -> Result<(bool, Typed), TypeError>
-    ensures { Gives is_memory (λ found. (found.0, typed_view found.1)) result
+) -> Result<(bool, Box<Typed>), TypeError>
+    ensures { Gives is_memory (λ found. (found.0, typed_view found.1.value)) result
         (over_items at scope.entry.around (kind_view list.now) (λ shape. inside scope.entry shape (expression_of body.value))) }
 {
     let shape = item_shape(at, list)?;
@@ -285,29 +295,36 @@ fn in_predicate<'s>(scope: Scope<'s>, item: &'s Shape, around: usize) -> Scope<'
     }
 }
 
-fn measured_of(shape: &Shape) -> Operand<'_>
-    ensures { operand_view result ≡ operand typed.result (shaped (shape_view shape.now)) }
+fn measured_of(alloc: Global, shape: &Shape) -> Result<Operand<'_>, AllocError>
+    ensures { IfOk result (λ made. operand_view made ≡ operand typed.result (shaped (shape_view shape.now))) }
 {
-    Operand {
-        tree: Typed::Result,
-        kind: Kind::Declared(shape),
-    }
+    let tree = Box::new(alloc, Typed::Result)?;
+    let kind = Kind::Declared(shape);
+    Ok(Operand { tree, kind })
 }
 
-fn item_of(at: usize, item: Option<&Shape>) -> Result<Operand<'_>, TypeError>
+#[tactic(auto, using(crate::proofs::Freely::gives_freely))]
+fn item_of<'s>(alloc: Global, at: usize, item: Option<&'s Shape>) -> Result<Operand<'s>, TypeError>
     ensures { Gives is_memory operand_view result (innermost at (option_map (λ shape. shape_view shape.now) item.entry)) }
 {
+    let kind = innermost_kind(at, item)?;
+    let tree = Box::new(alloc, Typed::Item)?;
+    Ok(Operand { tree, kind })
+}
+
+/// The kind of the innermost item.
+fn innermost_kind(at: usize, item: Option<&Shape>) -> Result<Kind<'_>, TypeError>
+    ensures { Gives (λ _. false) (λ kind. operand typed.item (kind_view kind)) result
+        (innermost at (option_map (λ shape. shape_view shape.now) item.entry)) }
+{
     match item {
-        Some(shape) => Ok(Operand {
-            tree: Typed::Item,
-            kind: Kind::Declared(shape),
-        }),
+        Some(shape) => Ok(Kind::Declared(shape)),
         None => Err(TypeError::WrongOperand(at)),
     }
 }
 
-fn literal_of<'s>(literal: Literal) -> Operand<'s>
-    ensures { operand_view result ≡ operand (typed.literal literal) (literal_kind literal) }
+fn literal_of<'s>(alloc: Global, literal: Literal) -> Result<Operand<'s>, AllocError>
+    ensures { IfOk result (λ made. operand_view made ≡ operand (typed.literal literal) (literal_kind literal)) }
 {
     let kind = match &literal {
         Literal::Nil => Kind::Nil,
@@ -316,10 +333,8 @@ fn literal_of<'s>(literal: Literal) -> Operand<'s>
         Literal::Decimal(_) => Kind::Made(Shape::Decimal),
         Literal::Text(_) => Kind::Made(Shape::Text),
     };
-    Operand {
-        tree: Typed::Literal(literal),
-        kind,
-    }
+    let tree = Box::new(alloc, Typed::Literal(literal))?;
+    Ok(Operand { tree, kind })
 }
 
 /// Whether a tree is the literal `nil`.
@@ -361,14 +376,19 @@ fn index_of<'s>(
 }
 
 /// The tree of an item, of a plain list at a plain index.
-fn index_tree(alloc: Global, list: Operand<'_>, position: Operand<'_>) -> Result<Typed, AllocError>
-    ensures { IfOk result (λ tree. typed_view tree
+fn index_tree(
+    alloc: Global,
+    list: Operand<'_>,
+    position: Operand<'_>,
+) -> Result<Box<Typed>, AllocError>
+    ensures { IfOk result (λ tree. typed_view tree.value
         ≡ typed.index (made_plain (operand_view list.entry)) (made_plain (operand_view position.entry))) }
 {
     let list = made_plain(alloc, list)?;
     index(alloc, list, made_plain(alloc, position)?)
 }
 
+#[tactic(auto, using(crate::proofs::Freely::gives_freely))]
 fn len_of<'s>(alloc: Global, at: usize, list: Operand<'_>) -> Result<Operand<'s>, TypeError>
     ensures { Gives is_memory operand_view result (len_of at (operand_view list.entry)) }
 {
@@ -383,12 +403,12 @@ fn len_of<'s>(alloc: Global, at: usize, list: Operand<'_>) -> Result<Operand<'s>
 fn choice_of<'s>(
     alloc: Global,
     at: usize,
-    condition: (bool, Typed),
+    condition: (bool, Box<Typed>),
     yes: Operand<'_>,
     no: Operand<'_>,
 ) -> Result<Operand<'s>, TypeError>
     ensures { Gives is_memory operand_view result
-        (choice_between at condition.0 (typed_view condition.1) (operand_view yes.entry) (operand_view no.entry)) }
+        (choice_between at condition.0 (typed_view condition.1.value) (operand_view yes.entry) (operand_view no.entry)) }
 {
     let Some(kind) = common(alloc, &yes.kind, &no.kind)? else {
         return Err(TypeError::NoCommonKind(at));
@@ -401,12 +421,12 @@ fn choice_of<'s>(
 /// The tree of a choice, whose branches are turned beside one another.
 fn choice_tree(
     alloc: Global,
-    condition: Typed,
+    condition: Box<Typed>,
     yes: Operand<'_>,
     no: Operand<'_>,
-) -> Result<Typed, AllocError>
-    ensures { IfOk result (λ tree. typed_view tree
-        ≡ choice_tree (typed_view condition) (operand_view yes.entry) (operand_view no.entry)) }
+) -> Result<Box<Typed>, AllocError>
+    ensures { IfOk result (λ tree. typed_view tree.value
+        ≡ choice_tree (typed_view condition.value) (operand_view yes.entry) (operand_view no.entry)) }
 {
     let (yes, no) = turned_both(alloc, yes, no)?;
     choice(alloc, condition, yes, no)
@@ -437,13 +457,13 @@ fn default_of<'s>(
 /// The tree of a default, whose sides are turned beside one another.
 fn default_tree(
     alloc: Global,
-    first: Typed,
+    first: Box<Typed>,
     plain: &Kind<'_>,
-    other: Typed,
+    other: Box<Typed>,
     of_other: &Kind<'_>,
-) -> Result<Typed, AllocError>
-    ensures { IfOk result (λ tree. typed_view tree
-        ≡ default_tree (typed_view first) (kind_view plain.now) (typed_view other) (kind_view of_other.now)) }
+) -> Result<Box<Typed>, AllocError>
+    ensures { IfOk result (λ tree. typed_view tree.value
+        ≡ default_tree (typed_view first.value) (kind_view plain.now) (typed_view other.value) (kind_view of_other.now)) }
 {
     let first = turned(alloc, of_other, plain, first)?;
     let other = turned(alloc, plain, of_other, other)?;
@@ -470,9 +490,9 @@ fn predicate_of<'s>(
     at: usize,
     over: Predicate,
     list: Operand<'s>,
-    body: (bool, Typed),
+    body: (bool, Box<Typed>),
 ) -> Result<Operand<'s>, TypeError>
-    ensures { Gives is_memory operand_view result (predicate_of at over (operand_view list.entry) body.0 (typed_view body.1)) }
+    ensures { Gives is_memory operand_view result (predicate_of at over (operand_view list.entry) body.0 (typed_view body.1.value)) }
 {
     let kind = predicate_kind(alloc, over, &list.kind)?;
     let (wanted, body) = body;

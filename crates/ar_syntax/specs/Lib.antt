@@ -1,10 +1,9 @@
 pub use Rattle.ar_value.specs.Decimal
 pub use Rattle.ar_value.specs.Digits
+pub use Rattle.ar_condition.specs.Expression
 pub mod Token
 pub mod Tokens
-pub mod Expression
 pub mod Roles
-pub mod Views
 pub mod Grammar
 pub mod Machine
 pub mod Refusal

@@ -1,10 +1,11 @@
 //! Trees of parts that are there.
 
-ghost use Rattle.std.specs.Prelude.{◌≡◌, IfOk, map, ◌∷◌, []};
-ghost use Rattle.ar_syntax.specs.Expression.{FieldAt, IndexAt, UnaryAt, BinaryAt, ChoiceAt, ListAt, LenAt, IsNilAt, DefaultAt, PredicateAt, expressions};
-ghost use Rattle.ar_syntax.specs.Views.{expression_of};
+ghost use Rattle.std.specs.Prelude.{◌≡◌, IfOk, map};
+ghost use Rattle.ar_condition.specs.Expression.{FieldAt, IndexAt, UnaryAt, BinaryAt, ChoiceAt, ListAt, LenAt, IsNilAt, DefaultAt, PredicateAt, expressions};
+ghost use Rattle.ar_condition.specs.Views.{expression_of};
 
-use crate::tree::{Binary, Predicate, Tree, Trees, Unary};
+use ar_condition::tree::{Binary, Tree, Trees, Unary};
+use ar_value::operator::Predicate;
 use ar_value::text::Text;
 use std::alloc::{AllocError, Global};
 

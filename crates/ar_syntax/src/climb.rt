@@ -3,11 +3,12 @@
 ghost use Rattle.std.specs.Prelude.{◌≡◌, ◌∷◌, true, false, IfOk, MatchOption};
 ghost use Rattle.ar_syntax.specs.Machine.{Have, climbed, unwound};
 ghost use Rattle.ar_syntax.specs.Private.Frames.{closed_by, ends_below, frame_of, frames_of, top_ends, top_unwinds, unwinds};
-ghost use Rattle.ar_syntax.specs.Views.{expression_of};
+ghost use Rattle.ar_condition.specs.Views.{expression_of};
 
 use crate::build::{binary, choice, unary};
 use crate::machine::Frame;
-use crate::tree::Tree;
+use crate::role::looseness;
+use ar_condition::tree::Tree;
 use std::alloc::{AllocError, Global};
 
 /// Ends the phrases of levels up to this one with an operand.
@@ -58,7 +59,7 @@ fn ends_below(frame: &Frame, level: usize) -> bool
     ensures { result ≡ ends_below level (frame_of frame.now) }
 {
     match frame {
-        Frame::RightOf { operator, .. } => operator.looseness() <= level,
+        Frame::RightOf { operator, .. } => looseness(*operator) <= level,
         Frame::Prefixed { .. } => true,
         _ => false,
     }

@@ -8,22 +8,20 @@
 //!
 //! - [`token`]: words, numbers, texts and signs, and how they are spelled; `scanner` cuts a text
 //!   into them, with `number` for numbers and `quoted` for texts
-//! - [`tree`]: what a condition says; `build` makes its nodes
 //! - [`role`]: what a token can be behind an operand, and what calls take
 //! - `parser`: from tokens to a tree, one `step` for each token; `start` says what a token begins,
-//!   `state` what may come next, `machine` what is begun and not ended, `climb` ends it, `stack`
-//!   counts it, `fault` names a refusal, `depth` limits the tree
+//!   `state` what may come next, `machine` what is begun and not ended, `climb` ends it, `build`
+//!   makes the nodes, `stack` counts what is begun, `fault` names a refusal, `depth` limits the tree
 //! - [`error`]: why a text is no condition
 //! - [`laws`]: what holds of the grammar as a whole
 //!
-//! Names and the values of text literals are `ar_value`'s `Text`.
+//! Trees are `ar_condition`'s, and names and the values of text literals `ar_value`'s `Text`.
 //!
-//! In `specs`, `Token` and `Tokens` define the tokens of a text, `Expression` what a tree says,
-//! `Grammar` the trees that tokens derive, with `Roles` for what each token can be, and `Refusal`
-//! the place and name of the fault of those that derive none. `Machine` reads the grammar token by
-//! token, `Fault` finds the name, and `Parse` is both as a function of the text. `Views` says which
-//! tree a tree in memory is. `Examples` and `RefusalExamples` have texts with their trees and
-//! refusals. What is in `Private` no public contract speaks of.
+//! In `specs`, `Token` and `Tokens` define the tokens of a text, `Grammar` the trees that tokens
+//! derive, with `Roles` for what each token can be, and `Refusal` the place and name of the fault of
+//! those that derive none. `Machine` reads the grammar token by token, `Fault` finds the name, and
+//! `Parse` is both as a function of the text. `Examples` and `RefusalExamples` have texts with their
+//! trees and refusals. What is in `Private` no public contract speaks of.
 #![tactic(auto)]
 
 mod build;
@@ -43,10 +41,8 @@ mod start;
 mod state;
 mod step;
 pub mod token;
-pub mod tree;
 
 pub use error::SyntaxError;
 pub use parser::parse;
 pub use scanner::tokens;
-pub use token::{Base, Comparison, Sign, Span, Token, TokenKind, Word};
-pub use tree::{Binary, Literal, Predicate, Tree, Trees, Unary};
+pub use token::{Base, Sign, Span, Token, TokenKind, Word};

@@ -9,7 +9,7 @@ ghost use Rattle.ar_syntax.specs.declared.error.SyntaxError.TheVariants.{TooLong
 ghost use Rattle.ar_syntax.specs.Private.Steps.{at_state};
 ghost use Rattle.ar_syntax.specs.Tokens.{is_memory, most_condition_bytes};
 ghost use Rattle.ar_syntax.specs.Private.Frames.{frames_of};
-ghost use Rattle.ar_syntax.specs.Views.{expression_of};
+ghost use Rattle.ar_condition.specs.Views.{expression_of};
 
 use crate::climb::unwind;
 use crate::depth::fits;
@@ -20,7 +20,7 @@ use crate::scanner::tokens;
 use crate::state::State;
 use crate::step::step;
 use crate::token::Token;
-use crate::tree::Tree;
+use ar_condition::tree::Tree;
 use std::alloc::{AllocError, Global};
 
 /// How many levels a tree may have.

@@ -1,6 +1,6 @@
 //! Texts between quotes, at the front of bytes.
 
-ghost use Rattle.std.specs.Prelude.{◌≡◌, ◌+◌, ◌^◌, ◌<◌, ◌≤◌, length, false, IfSome, slice_index, drop, true};
+ghost use Rattle.std.specs.Prelude.{◌≡◌, ◌+◌, ◌^◌, ◌<◌, length, false, IfSome, slice_index, true};
 ghost use Rattle.ar_value.specs.Answer.{Gives};
 ghost use Rattle.ar_syntax.specs.Token.{escape_of, is_quote, text_end, unescaped};
 ghost use Rattle.ar_syntax.specs.Tokens.{is_memory, text_of};

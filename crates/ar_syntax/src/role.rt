@@ -4,7 +4,8 @@ ghost use Rattle.std.specs.Prelude.{◌≡◌};
 ghost use Rattle.ar_syntax.specs.Roles.{arity, follows, is_body, is_brace, is_group, is_in, looseness, sign_follow, word_follow};
 
 use crate::token::{Sign, Token, TokenKind, Word};
-use crate::tree::{Binary, Predicate};
+use ar_condition::tree::Binary;
+use ar_value::operator::Predicate;
 
 /// The calls of the language.
 #[derive(Clone, Copy, Debug, PartialEq, Eq)]
@@ -60,18 +61,16 @@ impl Call {
     }
 }
 
-impl Binary {
-    /// How many levels of operators bind tighter.
-    pub(crate) fn looseness(self) -> usize
-        ensures { result ≡ looseness self }
-    {
-        match self {
-            Binary::Or => 4,
-            Binary::And => 3,
-            Binary::Comparison(_) | Binary::In | Binary::NotIn => 2,
-            Binary::Add | Binary::Subtract => 1,
-            Binary::Multiply | Binary::Divide | Binary::Remainder => 0,
-        }
+/// How many levels of operators bind tighter.
+pub(crate) fn looseness(operator: Binary) -> usize
+    ensures { result ≡ looseness operator }
+{
+    match operator {
+        Binary::Or => 4,
+        Binary::And => 3,
+        Binary::Comparison(_) | Binary::In | Binary::NotIn => 2,
+        Binary::Add | Binary::Subtract => 1,
+        Binary::Multiply | Binary::Divide | Binary::Remainder => 0,
     }
 }
 

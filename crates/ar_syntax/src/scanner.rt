@@ -1,15 +1,16 @@
 //! Cutting a text into tokens.
 
-ghost use Rattle.std.specs.Prelude.{◌≡◌, ◌+◌, ◌^◌, ◌<◌, ◌≤◌, length, false, drop, All, Err, IfOk, IfSome};
+ghost use Rattle.std.specs.Prelude.{◌≡◌, ◌+◌, ◌^◌, ◌<◌, ◌≤◌, length, false, drop, All, Err, IfOk};
 ghost use Rattle.ar_value.specs.Answer.{Gives};
-ghost use Rattle.ar_syntax.specs.Tokens.{AreInOrder, IsGapBetween, IsSpelled, begins_block_comment, begins_line_comment, block_comment, comment_end, front_of, is_blank, line_comment, sign_at, sign_of, sign_token, is_coalescing, is_memory, most_condition_bytes, token_of, tokens_behind, tokens_of, word_at, word_token};
+ghost use Rattle.ar_syntax.specs.Tokens.{AreInOrder, IsGapBetween, IsSpelled, begins_block_comment, begins_line_comment, block_comment, comment_end, front_of, is_blank, line_comment, sign_at, sign_of, is_coalescing, is_memory, most_condition_bytes, token_of, tokens_behind, tokens_of, word_at, word_token};
 ghost use Rattle.ar_syntax.specs.declared.error.SyntaxError.TheVariants.{TooLong};
 ghost use Rattle.ar_syntax.specs.Token.{named, word_of};
 
 use crate::error::SyntaxError;
 use crate::number::{begins_number, number_token};
 use crate::quoted::{is_quote, text_token};
-use crate::token::{Comparison, Sign, Token, TokenKind, Word, begins_word, continues_word, placed};
+use crate::token::{Sign, Token, TokenKind, Word, begins_word, continues_word, placed};
+use ar_condition::tree::Comparison;
 use ar_value::text::Text;
 use std::alloc::{AllocError, Global};
 

@@ -4,7 +4,7 @@ ghost use Rattle.std.specs.Prelude.{◌≡◌};
 ghost use Rattle.ar_syntax.specs.declared.state.Refusal.TheVariants.{Memory};
 
 use crate::role::Call;
-use crate::tree::Tree;
+use ar_condition::tree::Tree;
 use ar_value::text::Text;
 use std::alloc::{AllocError, AllocFailed};
 

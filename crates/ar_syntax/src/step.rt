@@ -1,25 +1,25 @@
 //! One token more.
 
 ghost use Rattle.std.specs.Prelude.{◌≡◌, ◌∷◌, ◌++◌, [], List, length, map, pred, IfOk};
-ghost use Rattle.ar_syntax.specs.Expression.{Expression, FieldAt, LiteralAt};
+ghost use Rattle.ar_condition.specs.Expression.{Expression, LiteralAt};
 ghost use Rattle.ar_syntax.specs.Grammar.{ends_bracket, may_continue, may_open, takes_all, takes_more};
-ghost use Rattle.ar_syntax.specs.Machine.{Argued, Body, Braced, Frame, Grouped, Have, Indexed, Listed, RightOf, Yes, Want, WantArgument, argue, begin, choose, climbed, close_braced, close_empty, close_text, end_with, follow, have, left, open_index, operate, negate, select, step, unwound, want, when};
+ghost use Rattle.ar_syntax.specs.Machine.{Argued, Body, Braced, Frame, Grouped, Have, Indexed, Listed, RightOf, Yes, Want, WantArgument, argue, begin, choose, climbed, close_braced, close_empty, close_text, end_with, have, left, open_index, operate, negate, select, step, unwound, want, when};
 ghost use Rattle.ar_syntax.specs.Roles.{arity, called, follows, is_body, is_brace, is_group, is_in, looseness, name_of, text_value};
-ghost use Rattle.ar_syntax.specs.declared.tree.Binary.TheVariants.{NotIn};
-ghost use Rattle.ar_syntax.specs.declared.tree.Literal.TheVariants.{Text as TextLiteral};
+ghost use Rattle.ar_condition.specs.declared.tree.Binary.TheVariants.{NotIn};
+ghost use Rattle.ar_condition.specs.declared.tree.Literal.TheVariants.{Text as TextLiteral};
 ghost use Rattle.ar_syntax.specs.Private.Steps.{Steps, StepsFreely, ends_group, start_of, state_of};
 ghost use Rattle.ar_syntax.specs.Private.Frames.{frame_of, frames_of};
-ghost use Rattle.ar_syntax.specs.Views.{expression_of};
+ghost use Rattle.ar_condition.specs.Views.{expression_of};
 
 use crate::build::{default, field, index, is_nil, len, list, predicate};
 use crate::climb::{climb, unwind};
 use crate::machine::Frame;
-use crate::role::{Call, Ender, Follow, follow_of, is_brace, is_group, is_in};
+use crate::role::{Call, Ender, Follow, follow_of, is_brace, is_group, is_in, looseness};
 use crate::stack::{inside, left};
 use crate::start::{Begin, begin_of};
 use crate::state::{Refusal, State};
 use crate::token::{Token, TokenKind};
-use crate::tree::{Binary, Literal, Tree};
+use ar_condition::tree::{Binary, Literal, Tree};
 use ar_value::text::Text;
 use std::alloc::{AllocError, AllocFailed, Global};
 
@@ -129,7 +129,7 @@ fn operate(
         (λ rules. operate rules at operator (climbed (looseness operator) (frames_of stack.old.items) (expression_of tree)))
         (frames_of stack.new.items) result }
 {
-    let first = climb(alloc, stack, operator.looseness(), tree)?;
+    let first = climb(alloc, stack, looseness(operator), tree)?;
     stack.push(Frame::RightOf {
         at,
         operator,
@@ -144,7 +144,7 @@ fn negate(alloc: Global, stack: &mut Vec<Frame>, tree: Tree, at: usize) -> Resul
         (λ rules. negate rules at (climbed (looseness NotIn) (frames_of stack.old.items) (expression_of tree)))
         (frames_of stack.new.items) result }
 {
-    let first = climb(alloc, stack, Binary::NotIn.looseness(), tree)?;
+    let first = climb(alloc, stack, looseness(Binary::NotIn), tree)?;
     Ok(State::WantIn { at, first })
 }
 

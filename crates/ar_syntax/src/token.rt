@@ -4,6 +4,7 @@ ghost use Rattle.std.specs.Prelude.{◌≡◌, ◌+◌, ◌^◌, ◌<◌};
 ghost use Rattle.ar_syntax.specs.Token.{begins_word, comparison_sign, continues_word, letters, radix, spelling, takes_field, word_of};
 ghost use Rattle.ar_syntax.specs.Tokens.{token};
 
+use ar_condition::tree::Comparison;
 use ar_value::decimal::Decimal;
 use ar_value::text::Text;
 
@@ -85,17 +86,6 @@ pub enum Sign {
     Hash,
 }
 
-/// The operators that compare two operands.
-#[derive(Clone, Copy, Debug, PartialEq, Eq)]
-pub enum Comparison {
-    Equal,
-    NotEqual,
-    Less,
-    LessOrEqual,
-    Greater,
-    GreaterOrEqual,
-}
-
 /// The bases that a prefix names.
 #[derive(Clone, Copy, Debug, PartialEq, Eq)]
 pub enum Base {
@@ -138,7 +128,7 @@ impl Sign {
         ensures { result.now ≡ spelling self }
     {
         match self {
-            Sign::Comparison(comparison) => comparison.sign(),
+            Sign::Comparison(comparison) => comparison_sign(comparison),
             Sign::And => "&&",
             Sign::Or => "||",
             Sign::Not => "!",
@@ -162,19 +152,17 @@ impl Sign {
     }
 }
 
-impl Comparison {
-    /// The sign of the comparison.
-    pub fn sign(self) -> &'static str
-        ensures { result.now ≡ comparison_sign self }
-    {
-        match self {
-            Comparison::Equal => "==",
-            Comparison::NotEqual => "!=",
-            Comparison::Less => "<",
-            Comparison::LessOrEqual => "<=",
-            Comparison::Greater => ">",
-            Comparison::GreaterOrEqual => ">=",
-        }
+/// The sign of a comparison.
+fn comparison_sign(comparison: Comparison) -> &'static str
+    ensures { result.now ≡ comparison_sign comparison }
+{
+    match comparison {
+        Comparison::Equal => "==",
+        Comparison::NotEqual => "!=",
+        Comparison::Less => "<",
+        Comparison::LessOrEqual => "<=",
+        Comparison::Greater => ">",
+        Comparison::GreaterOrEqual => ">=",
     }
 }
 

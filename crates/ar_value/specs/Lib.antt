@@ -4,6 +4,7 @@ pub mod Decimal
 pub mod Arithmetic
 pub mod DecimalText
 pub mod Value
+pub mod Operators
 pub mod Shape
 pub mod Names
 pub mod Fits

@@ -1,6 +1,6 @@
 //! Decimal numbers, counted exactly in millionths, and the order of numbers.
 
-ghost use Rattle.std.specs.Prelude.{◌≡◌, ◌*ℤ◌, pos};
+ghost use Rattle.std.specs.Prelude.{◌≡◌};
 ghost use Rattle.ar_value.specs.Decimal.{in_millionths, order};
 
 use std::cmp::Ordering;
@@ -18,8 +18,7 @@ pub struct Decimal {
 }
 
 impl Model for Decimal {
-    ghost use Rattle.std.specs.Prelude.{ℤ, FitsSigned};
-    ghost use Rattle.std.specs.Int.{w64};
+    ghost use Rattle.std.specs.Prelude.{ℤ};
 
     ghost Value = { ℤ };
 

@@ -17,7 +17,8 @@
 //! - [`decimal`]: decimals, and the order of numbers; `decimal_text` reads their texts, and
 //!   [`digits`] the numbers that digits spell
 //! - [`arithmetic`]: arithmetic of decimals; [`whole`]: of wholes
-//! - [`fault`]: faults of arithmetic and of operands
+//! - [`fault`]: faults of arithmetic and of operands; [`operator`]: operators of conditions, which
+//!   `specs/Operators` defines on values
 //! - [`text`], [`value`], [`shape`]: texts, values and shapes, which contracts see by `specs/View`
 //! - [`shape_reading`], [`value_reading`]: reading them from JSON; [`fitting`]: which values fit
 //! - [`kind`]: kinds of expressions; `widening` joins shapes
@@ -32,6 +33,7 @@ pub mod fault;
 pub mod fitting;
 pub mod kind;
 pub mod laws;
+pub mod operator;
 pub mod shape;
 pub mod shape_reading;
 pub mod text;

@@ -11,7 +11,7 @@ ghost use Rattle.ar_value.specs.Reading.{absent_read, decimal_of_text, decimal_o
 ghost use Rattle.ar_value.specs.Private.OneField.{named_read};
 ghost use Rattle.ar_value.specs.Shape.{field_shapes_of};
 ghost use Rattle.ar_value.specs.Value.{fields_of, items_of};
-ghost use Rattle.ar_value.specs.View.{field_shape_view, field_view, shape_view, value_view, values_view, fields_view};
+ghost use Rattle.ar_value.specs.View.{field_shape_view, field_view, shape_view, value_view};
 ghost use Rattle.ar_value.specs.declared.value_reading.ShapeFault.TheVariants.{OutOfMemory};
 
 use crate::decimal::{Decimal, NumberFault};

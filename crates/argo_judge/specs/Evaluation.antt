@@ -16,10 +16,9 @@ use Rattle.ar_syntax.specs.Parse.{parse_of}
 use Rattle.ar_syntax.specs.declared.error.SyntaxError.{SyntaxError}
 use Rattle.ar_syntax.specs.declared.error.SyntaxError.TheVariants as syntax
 use Rattle.ar_check.specs.Check.{checked}
-use Rattle.ar_check.specs.Meaning.{Meaning, faulted, mean}
+use Rattle.ar_condition.specs.Meaning.{answer_of, mean}
 use Rattle.ar_check.specs.declared.error.TypeError.{TypeError}
 use Rattle.ar_check.specs.declared.error.TypeError.TheVariants as types
-use Rattle.ar_value.specs.Value.{bool}
 use Rattle.ar_value.specs.declared.fault.Fault.{Fault}
 use Rattle.ar_value.specs.declared.fault.Fault.TheVariants.{IndexOutOfRange, NilOperand, Overflow, DivisionByZero}
 use Rattle.argo_judge.specs.Input.{most_bytes}
@@ -36,23 +35,22 @@ abbrev pub wanted : {A : Type 0} → Option A → Result A EvalError
 wanted (Some x) = Ok x
 wanted None = Err BadDocument
 
--- What a checked condition says: true or false, or the fault that it meets. It means nothing else, which is a law of `ar_check`.
-abbrev pub answer_of : Meaning → Result Bool Fault
-answer_of (Ok (bool holds)) = Ok holds
-answer_of (Err (faulted fault)) = Err fault
-answer_of meaning = Ok false
-
--- A document's condition, shape and value have to be there. Then the shape is read, the condition, its kinds
--- under the shape, and the value under the shape.
-unfoldable pub judged : Data → Result (Result Bool Fault) EvalError
-judged document = do
+-- a document's condition, shape and value, which all have to be there
+abbrev pub parts_of : Data → Result (List ℕ × Data × Data) EvalError
+parts_of document = do
   text ← wanted (option_and_then as_str (get (codes "condition") document))
   declared ← wanted (get (codes "shape") document)
   measured ← wanted (get (codes "value") document)
-  shape ← refused_as BadShape (shape_of declared)
-  tree ← refused_as Grammar (parse_of text)
+  Ok (text, declared, measured)
+
+-- The shape is read, the condition, its kinds under the shape, and the value under the shape.
+unfoldable pub judged : Data → Result (Result Bool Fault) EvalError
+judged document = do
+  parts ← parts_of document
+  shape ← refused_as BadShape (shape_of parts.1)
+  tree ← refused_as Grammar (parse_of parts.0)
   condition ← refused_as Kinds (checked shape tree)
-  value ← refused_as Misfit (read shape measured)
+  value ← refused_as Misfit (read shape parts.2)
   Ok (answer_of (mean value None condition))
 
 -- the JSON value (RFC 8259) whose text in UTF-8 an input is

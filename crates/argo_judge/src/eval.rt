@@ -1,30 +1,23 @@
 //! `eval`: one condition, judged on one value.
 
-ghost use Rattle.std.specs.Prelude.{◌≡◌, Ok, Err, IfOk, None, option_and_then};
+ghost use Rattle.std.specs.Prelude.{◌≡◌, ◌<◌, Err, false, length};
 ghost use Rattle.serde_json.specs.View.{view};
-ghost use Rattle.ar_check.specs.Meaning.{IsTruthOrFault, mean};
-ghost use Rattle.ar_check.specs.Views.{typed_view};
-ghost use Rattle.ar_value.specs.View.{value_view};
-ghost use Rattle.argo_judge.specs.Evaluation.{Gives, answer_of, evaluation_of, judged};
+ghost use Rattle.ar_value.specs.Answer as answer;
+ghost use Rattle.argo_judge.specs.Evaluation.{Gives, evaluation_of, judged, parts_of};
+ghost use Rattle.argo_judge.specs.Input.{most_bytes};
+ghost use Rattle.argo_judge.specs.declared.eval.EvalError.TheVariants.{TooLarge};
 
 use crate::input::MOST_INPUT_BYTES;
-use crate::meaning::{Scope, meaning};
-use crate::operand::{Failure, Operand, ValueRef, value_ref};
 use ar_check::check;
 use ar_check::error::TypeError;
-use ar_check::typed::Typed;
+use ar_meaning::{Answer, answer};
 use ar_syntax::error::SyntaxError;
 use ar_syntax::parse;
-use ar_value::fault::Fault;
 use ar_value::shape_reading::{ShapeError, read_shape};
-use ar_value::value::Value;
 use ar_value::value_reading::{ShapeFault, read_value};
 use serde_json::Value as Json;
-use std::alloc::Global;
+use std::alloc::{AllocError, Global};
 use thiserror::Error;
-
-/// What a condition says of a value: true or false, or the fault that it meets.
-pub type Answer = Result<bool, Fault>;
 
 /// Why an input can't be evaluated, in the order in which it is looked at.
 #[derive(Clone, Copy, Debug, PartialEq, Eq, Error)]
@@ -103,6 +96,17 @@ impl From<ShapeFault> for EvalError {
     }
 }
 
+impl From<AllocError> for EvalError {
+    ghost use Rattle.std.specs.Prelude.{◌≡◌};
+    ghost use Rattle.argo_judge.specs.declared.eval.EvalError.TheVariants.{OutOfMemory};
+
+    ghost from_gives = { λ _ e. e ≡ OutOfMemory };
+
+    fn from(_error: AllocError) -> EvalError {
+        EvalError::OutOfMemory
+    }
+}
+
 /// What the condition of a JSON document says of its value: the document is an object with a text
 /// `condition`, a `shape` and a `value`.
 ///
@@ -111,7 +115,10 @@ impl From<ShapeFault> for EvalError {
 /// The first fault that stands in the input, in the order of `EvalError`.
 #[tactic(auto, using(crate::proofs::Documents::json, crate::proofs::Documents::no_json), unfolding(crate::specs::Evaluation::evaluation_of))]
 pub fn evaluate(alloc: Global, input: &[u8]) -> Result<Answer, EvalError>
-    ensures { Gives result (evaluation_of input.now) }
+    ensures exact { Gives result (evaluation_of input.now) }
+
+    // An input that is too large is refused for that alone.
+    ensures too_large { most_bytes < length input.now → result ≡ Err TooLarge }
 {
     if input.len() > MOST_INPUT_BYTES {
         return Err(EvalError::TooLarge);
@@ -128,31 +135,22 @@ pub fn evaluate(alloc: Global, input: &[u8]) -> Result<Answer, EvalError>
 fn judge(alloc: Global, document: &Json) -> Result<Answer, EvalError>
     ensures { Gives result (judged (view document.now)) }
 {
+    let (condition, declared, measured) = parts_of(document)?;
+    let shape = read_shape(alloc, declared)?;
+    let condition = check(alloc, parse(alloc, condition)?, &shape)?;
+    let value = read_value(alloc, measured, &shape)?;
+    Ok(answer(alloc, &condition, &value)?)
+}
+
+/// A document's condition, shape and value.
+fn parts_of(document: &Json) -> Result<(&str, &Json, &Json), EvalError>
+    ensures { answer.Gives (λ _. false) (λ parts. (parts.0.now, view parts.1.now, view parts.2.now)) result (parts_of (view document.now)) }
+{
     let condition = document
         .get("condition")
         .and_then(Json::as_str)
         .ok_or(EvalError::BadDocument)?;
     let declared = document.get("shape").ok_or(EvalError::BadDocument)?;
     let measured = document.get("value").ok_or(EvalError::BadDocument)?;
-    let shape = read_shape(alloc, declared)?;
-    let condition = check(alloc, parse(alloc, condition)?, &shape)?;
-    let value = read_value(alloc, measured, &shape)?;
-    answer(alloc, &condition, &value)
-}
-
-/// What a condition says of a value, where it means true, false or a fault.
-fn answer(alloc: Global, condition: &Typed, value: &Value) -> Result<Answer, EvalError>
-    requires { IsTruthOrFault (mean (value_view value.now) None (typed_view condition.now)) }
-    ensures { Gives result (Ok (answer_of (mean (value_view value.now) None (typed_view condition.now)))) }
-{
-    let scope = Scope {
-        result: value_ref(value),
-        item: None,
-    };
-    match meaning(alloc, &scope, condition) {
-        Ok(Operand::Value(ValueRef::Bool(holds))) => Ok(Ok(holds)),
-        Err(Failure::Fault(fault)) => Ok(Err(fault)),
-        Err(Failure::OutOfMemory) => Err(EvalError::OutOfMemory),
-        _ => unreachable!(),
-    }
+    Ok((condition, declared, measured))
 }

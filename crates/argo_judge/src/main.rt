@@ -10,10 +10,6 @@
 //!
 //! - `serve`: a command, from the bytes read to the bytes written
 //! - `eval`: a document with a condition, a shape and a value: what the condition says of the value
-//! - `meaning`: what a condition comes to, by a walk through its typed tree
-//! - `operand`, `list`: what the parts of a condition come to, lent by the value where it has them
-//! - `operators`: signs, arithmetic, orders and equality of operands; `operation`: which of them two
-//!   operands are given to
 //! - `input`: reading a whole document
 //! - `device`: readers and writers that remember whether they failed
 //! - `status`: exit statuses
@@ -24,11 +20,6 @@ mod command_line;
 pub mod device;
 pub mod eval;
 pub mod input;
-mod list;
-mod meaning;
-mod operand;
-mod operation;
-mod operators;
 pub mod serve;
 pub mod status;
 #[cfg(test)]

@@ -1,12 +1,13 @@
 //! A command, carried out from the bytes read to the bytes written.
 
-ghost use Rattle.std.specs.Prelude.{◌≡◌, ◌≢◌, ℕ, List, Bool, false, true, Ok, Err, Result, IfOk, IfErr, IfSome, OnOk};
+ghost use Rattle.std.specs.Prelude.{◌≡◌, ◌≢◌, ℕ, List, false, true, Ok, Err, Result, IfOk, IfErr, IfSome, OnOk};
 ghost use Rattle.std.specs.Io.KnownBytes.{Appends};
 ghost use Rattle.argo_judge.specs.Evaluation.{line_of, output_of};
 
 use crate::device::{Sink, Source};
-use crate::eval::{Answer, EvalError, evaluate};
+use crate::eval::{EvalError, evaluate};
 use crate::input::{InputError, read_input};
+use ar_meaning::Answer;
 use ar_value::fault::Fault;
 use std::alloc::Global;
 use thiserror::Error;

@@ -4,11 +4,11 @@ use Rattle.ar_value.specs.Kind.{Kind, common}
 use Rattle.ar_value.specs.Kind as kind
 use Rattle.ar_value.specs.Shape.{Shape}
 use Rattle.ar_value.specs.View.{shape_view}
-use Rattle.ar_syntax.specs.Expression.{Expression, Expressions}
+use Rattle.ar_condition.specs.Expression.{Expression, Expressions}
 use Rattle.ar_check.specs.Check.{Answer, Item, choice_in, choice_tree, item_typed, items_typed, typed_of}
 use Rattle.ar_check.specs.Operand.{Operand, operand}
-use Rattle.ar_check.specs.Typed.{Typed}
-use Rattle.ar_check.specs.Views.{typed_view}
+use Rattle.ar_condition.specs.Typed.{Typed}
+use Rattle.ar_condition.specs.Views.{typed_view}
 use Rattle.ar_check.specs.declared.error.TypeError.{TypeError}
 use Rattle.ar_check.specs.declared.list.Item as items
 use Rattle.ar_check.specs.declared.operand.Kind as code
@@ -23,7 +23,7 @@ kind_view (kinds.Declared shape) = kind.shaped (shape_view shape.now)
 kind_view (kinds.Made shape) = kind.shaped (shape_view shape)
 
 abbrev pub operand_view : operands.Operand → Operand
-operand_view o = operand (typed_view o.tree) (kind_view o.kind)
+operand_view o = operand (typed_view o.tree.value) (kind_view o.kind)
 
 -- a shape's answer as a kind's
 abbrev pub shaped_answer : Result Shape TypeError → Result Kind TypeError
@@ -32,7 +32,7 @@ shaped_answer (Err error) = Err error
 
 -- an item of a list literal
 abbrev pub item_view : items.Item → Item
-item_view i = record { at = i.at; scalar = i.scalar; tree = typed_view i.tree }
+item_view i = record { at = i.at; scalar = i.scalar; tree = typed_view i.tree.value }
 
 -- the shape of a scope's innermost item
 abbrev pub innermost_of : Scope → Option Shape

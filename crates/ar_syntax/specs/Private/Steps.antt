@@ -5,7 +5,7 @@ use Rattle.ar_syntax.specs.Grammar.{Rules}
 use Rattle.ar_syntax.specs.Machine.{Frame, State, Want, Have, WantName, WantIndex, HaveText, WantIn, WantGroup, WantArgument, HaveArgument}
 use Rattle.ar_syntax.specs.Refusal.{at_any_depth, of_any_count, of_any_items, strict}
 use Rattle.ar_syntax.specs.Roles.{EndGroup, Ends, Follow, Start, Leaf, Prefix, Group, Bracket, Calls, ItemPoint, NoStart}
-use Rattle.ar_syntax.specs.Views.{expression_of}
+use Rattle.ar_condition.specs.Views.{expression_of}
 use Rattle.ar_syntax.specs.Private.Frames.{frames_of}
 use Rattle.ar_syntax.specs.declared.machine.Frame as rust_frames
 use Rattle.ar_syntax.specs.declared.error.SyntaxError.{SyntaxError}

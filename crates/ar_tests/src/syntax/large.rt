@@ -1,6 +1,7 @@
 //! Conditions as long, as wide and as deep as they may be.
 
-use ar_syntax::{Literal, Tree, parse, tokens};
+use ar_condition::tree::{Literal, Tree};
+use ar_syntax::{parse, tokens};
 use std::alloc::Global;
 use std::test::Fail;
 

@@ -1,6 +1,7 @@
 //! Texts that are refused, and limits at their value and one past it.
 
-use ar_syntax::{SyntaxError, Tree, parse};
+use ar_condition::Tree;
+use ar_syntax::{SyntaxError, parse};
 use std::alloc::Global;
 use std::test::Fail;
 

@@ -1,6 +1,7 @@
 //! Texts with their trees: each production of the grammar, and how tightly operators bind.
 
-use ar_syntax::{Literal, Tree, parse};
+use ar_condition::tree::{Literal, Tree};
+use ar_syntax::parse;
 use std::alloc::Global;
 use std::test::Fail;
 

@@ -1,7 +1,7 @@
 use Rattle.ar_value.specs.View.{shape_view}
 use Rattle.std.proofs.Common.{option_map}
 use Rattle.std.proofs.lemmas.Result.{err_from_is_err_and}
-use Rattle.ar_check.specs.Views.{is_memory}
+use Rattle.ar_check.specs.Memory.{is_memory}
 use Rattle.ar_check.proofs.Items.{ended, fails_unless, len_next, next_left}
 use Rattle.ar_check.proofs.typing.+typed.Goals as goal
 

@@ -1,23 +1,24 @@
 use Rattle.std.proofs.Common.{rules, ◌≡◌, Ok, Err}
 use Rattle.std.proofs.lemmas.Result.{err_from_is_err_and}
 use Rattle.ar_value.specs.View.{shape_view}
-use Rattle.ar_syntax.specs.Views.{expression_of}
+use Rattle.ar_condition.specs.Views.{expression_of}
 use Rattle.ar_check.specs.Check.{checked}
-use Rattle.ar_check.specs.Views.{is_memory, typed_view}
+use Rattle.ar_condition.specs.Views.{typed_view}
+use Rattle.ar_check.specs.Memory.{is_memory}
 use Rattle.ar_check.specs.declared.error.TypeError.TheVariants.{NotTruth}
 use Rattle.ar_check.proofs.Conditions.{is_condition, is_none, refuses_none}
 use Rattle.ar_check.proofs.Sound.{is_truth_or_fault}
 use Rattle.ar_check.proofs.typing.check.Goals as goal
 
-pub returns-in_ok-made_plain-clause-condition : goal.returns-in_ok-made_plain-clause-condition
-returns-in_ok-made_plain-clause-condition c =
-    let is : checked (shape_view c.args.shape.now) (expression_of c.args.tree) ≡ Ok (typed_view c.in_ok-made_plain.field-0) = search rules in
-    is_condition (shape_view c.args.shape.now) (expression_of c.args.tree) (typed_view c.in_ok-made_plain.field-0) is
+pub returns-in_ok-plain_condition-clause-condition : goal.returns-in_ok-plain_condition-clause-condition
+returns-in_ok-plain_condition-clause-condition c =
+    let is : checked (shape_view c.args.shape.now) (expression_of c.args.tree) ≡ Ok (typed_view c.in_ok-plain_condition.field-0) = search rules in
+    is_condition (shape_view c.args.shape.now) (expression_of c.args.tree) (typed_view c.in_ok-plain_condition.field-0) is
 
-pub returns-in_ok-made_plain-clause-answers : goal.returns-in_ok-made_plain-clause-answers
-returns-in_ok-made_plain-clause-answers c =
-    let is : checked (shape_view c.args.shape.now) (expression_of c.args.tree) ≡ Ok (typed_view c.in_ok-made_plain.field-0) = search rules in
-    λ value fit. is_truth_or_fault (shape_view c.args.shape.now) (expression_of c.args.tree) (typed_view c.in_ok-made_plain.field-0) value is fit
+pub returns-in_ok-plain_condition-clause-answers : goal.returns-in_ok-plain_condition-clause-answers
+returns-in_ok-plain_condition-clause-answers c =
+    let is : checked (shape_view c.args.shape.now) (expression_of c.args.tree) ≡ Ok (typed_view c.in_ok-plain_condition.field-0) = search rules in
+    λ value fit. is_truth_or_fault (shape_view c.args.shape.now) (expression_of c.args.tree) (typed_view c.in_ok-plain_condition.field-0) value is fit
 
 pub returns-else-is_truth-clause-refused : goal.returns-else-is_truth-clause-refused
 returns-else-is_truth-clause-refused c =

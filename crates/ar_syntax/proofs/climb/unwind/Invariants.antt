@@ -1,7 +1,7 @@
 use Rattle.std.proofs.Common.{◌≡◌, length}
 use Rattle.ar_syntax.specs.Machine.{unwound}
 use Rattle.ar_syntax.specs.Private.Frames.{frames_of}
-use Rattle.ar_syntax.specs.Views.{expression_of}
+use Rattle.ar_condition.specs.Views.{expression_of}
 use Rattle.ar_syntax.proofs.climb.unwind.Given as goal
 
 -- what is left to end

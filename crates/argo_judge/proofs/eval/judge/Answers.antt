@@ -1,6 +1,4 @@
 use Rattle.std.proofs.Common.{rules}
-use Rattle.std.proofs.lemmas.Result.{err_from_is_err_and}
-use Rattle.ar_value.specs.Reading.{read}
 use Rattle.ar_value.specs.View.{shape_view}
 use Rattle.serde_json.specs.View.{view}
 use Rattle.argo_judge.specs.Evaluation.{judged}
@@ -10,5 +8,5 @@ use Rattle.argo_judge.proofs.eval.judge.Goals as goal
 pub returns-in_err-value : goal.returns-in_err-value
 unfolding judged
 returns-in_err-value c =
-    let misfit = misfits (shape_view c.in_ok-shape.shape) (view c.in_ok-measured.measured.now) c.in_err-value.field-0.0 c.in_err-value.ensures.exact in
+    let misfit = misfits (shape_view c.in_ok-shape.shape) (view c.in_ok-condition.measured.now) c.in_err-value.field-0.0 c.in_err-value.ensures.exact in
     search (rules, misfit)

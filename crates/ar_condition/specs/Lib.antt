@@ -1,0 +1,5 @@
+pub use Rattle.ar_value.specs.Operators
+pub mod Expression
+pub mod Typed
+pub mod Views
+pub mod Meaning

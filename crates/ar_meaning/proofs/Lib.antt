@@ -1,0 +1,3 @@
+pub mod Items
+pub mod Pairs
+pub mod Walks

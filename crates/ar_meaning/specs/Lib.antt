@@ -1,0 +1,2 @@
+pub use Rattle.ar_condition.specs.Meaning
+pub mod Private
