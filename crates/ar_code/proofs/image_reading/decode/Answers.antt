@@ -1,0 +1,16 @@
+use Rattle.std.proofs.Common.{◌≡◌, Result, Ok, Err}
+use Rattle.std.specs.Prelude.{IfOk, List, ℕ}
+use Rattle.ar_value.specs.Answer.{Gives}
+use Rattle.ar_code.specs.Code.{Code}
+use Rattle.ar_code.specs.Decoding.{decoded, is_memory}
+use Rattle.ar_code.specs.Image.{image}
+use Rattle.ar_code.specs.declared.error.ImageError.{ImageError}
+use Rattle.ar_code.proofs.Takes.{is_image}
+use Rattle.ar_code.proofs.image_reading.decode.Goals as goal
+
+accepted : (bytes : List ℕ) (result : Result Code ImageError) → Gives is_memory (λ code. code) result (decoded bytes) → IfOk result (λ code. bytes ≡ image code)
+accepted bytes (Ok code) exact = is_image bytes code exact
+accepted bytes (Err error) exact = tt
+
+pub returns-clause-image : goal.returns-clause-image
+returns-clause-image c = accepted c.args.bytes.now c.whole_code.result c.whole_code.ensures

@@ -1,0 +1,8 @@
+use Rattle.std.proofs.Common.{◌≡◌, ◌++◌, take}
+use Rattle.std.specs.List.{flat_map}
+use Rattle.ar_code.specs.Image.{op_bytes}
+use Rattle.ar_code.proofs.image_writing.put_ops.Given as goal
+
+-- the operations so far are written
+abbrev pub invariant-loop-op : goal.invariant-loop-op
+invariant-loop-op l = l.out.items ≡ l.fn.out.items ++ flat_map op_bytes (take l.op-index l.ops)

@@ -1,0 +1,377 @@
+//! Reading an image.
+
+ghost use Rattle.std.specs.Prelude.{◌≡◌, ◌≤◌, false, length, map, option_map, string_bytes, IfOk};
+ghost use Rattle.ar_value.specs.Answer.{Gives};
+ghost use Rattle.ar_code.specs.Decoding.{bit_at, decoded, entry_at, expected, fields_at, is_memory, items_at, letters_at, name_number, op_at, one_bit, one_decimal, one_place, one_whole, parts_at, scalar_and_count, scalar_at, scalar_of, so_many_ops, so_many_texts, text_at, text_number, text_of, texts_at};
+ghost use Rattle.ar_code.specs.Image.{image};
+ghost use Rattle.ar_code.specs.Private.Forms.{form_view};
+
+use crate::code::Code;
+use crate::error::ImageError;
+use crate::form::{Form, form_of};
+use crate::image_writing::{MAGIC, VERSION};
+use crate::op::Op;
+use crate::reader::{byte_at, count_at, narrow_at, place, signed, wide_at};
+use ar_value::operator::Scalar;
+use std::alloc::Global;
+
+/// How many items a list literal may have.
+const MOST_ITEMS: u64 = 16;
+
+fn bit_at(end: usize, bytes: &[u8]) -> Result<(bool, &[u8]), ImageError>
+    requires { length bytes.now ≤ end }
+    ensures exact { Gives (λ _. false) (λ read. (read.0, read.1.now)) result (bit_at end bytes.now) }
+    ensures shorter { IfOk result (λ read. length read.1.now ≤ length bytes.now) }
+{
+    match bytes {
+        [] => Err(ImageError::Truncated(end)),
+        [0, rest @ ..] => Ok((false, rest)),
+        [1, rest @ ..] => Ok((true, rest)),
+        [_, ..] => Err(ImageError::BadNumber(place(end, bytes))),
+    }
+}
+
+fn scalar_of(number: u64) -> Option<Scalar>
+    ensures { result ≡ scalar_of number }
+{
+    match number {
+        0 => Some(Scalar::Bool),
+        1 => Some(Scalar::Whole),
+        2 => Some(Scalar::Decimal),
+        3 => Some(Scalar::Text),
+        _ => None,
+    }
+}
+
+#[tactic(auto, unfolding(crate::specs::Decoding::scalar_at))]
+fn scalar_at(end: usize, bytes: &[u8]) -> Result<(Scalar, &[u8]), ImageError>
+    requires { length bytes.now ≤ end }
+    ensures exact { Gives (λ _. false) (λ read. (read.0, read.1.now)) result (scalar_at end bytes.now) }
+    ensures shorter { IfOk result (λ read. length read.1.now ≤ length bytes.now) }
+{
+    let (number, rest) = wide_at(end, bytes)?;
+    match scalar_of(number) {
+        Some(scalar) => Ok((scalar, rest)),
+        None => Err(ImageError::BadNumber(place(end, bytes))),
+    }
+}
+
+/// How many items a list has.
+#[tactic(auto, unfolding(crate::specs::Decoding::items_at))]
+fn items_at(end: usize, bytes: &[u8]) -> Result<(u8, &[u8]), ImageError>
+    requires { length bytes.now ≤ end }
+    ensures exact { Gives (λ _. false) (λ read. (read.0, read.1.now)) result (items_at end bytes.now) }
+    ensures shorter { IfOk result (λ read. length read.1.now ≤ length bytes.now) }
+{
+    let (count, rest) = wide_at(end, bytes)?;
+    if count > MOST_ITEMS {
+        return Err(ImageError::BadNumber(place(end, bytes)));
+    }
+    Ok((count as u8, rest))
+}
+
+/// The number of something that there are so many of, in the operation at a place.
+#[tactic(auto, unfolding(crate::specs::Decoding::entry_at))]
+fn entry_at(end: usize, at: usize, count: usize, bytes: &[u8]) -> Result<(u32, &[u8]), ImageError>
+    requires { length bytes.now ≤ end }
+    ensures exact { Gives (λ _. false) (λ read. (read.0, read.1.now)) result (entry_at end at count bytes.now) }
+    ensures shorter { IfOk result (λ read. length read.1.now ≤ length bytes.now) }
+{
+    let (number, rest) = narrow_at(end, bytes)?;
+    if number as usize >= count {
+        return Err(ImageError::BadText(at));
+    }
+    Ok((number, rest))
+}
+
+/// How many texts and names there are.
+#[derive(Clone, Copy)]
+struct Tables {
+    texts: usize,
+    names: usize,
+}
+
+#[tactic(auto, unfolding(crate::specs::Decoding::fields_at))]
+fn push_bool(end: usize, at: usize, tables: Tables, bytes: &[u8]) -> Result<(Op, &[u8]), ImageError>
+    requires { length bytes.now ≤ end }
+    ensures exact { Gives (λ _. false) (λ read. (read.0, read.1.now)) result (fields_at end at tables.texts tables.names one_bit bytes.now) }
+    ensures shorter { IfOk result (λ read. length read.1.now ≤ length bytes.now) }
+{
+    let (holds, rest) = bit_at(end, bytes)?;
+    Ok((Op::PushBool(holds), rest))
+}
+
+#[tactic(auto, unfolding(crate::specs::Decoding::fields_at))]
+fn push_whole(
+    end: usize,
+    at: usize,
+    tables: Tables,
+    bytes: &[u8],
+) -> Result<(Op, &[u8]), ImageError>
+    requires { length bytes.now ≤ end }
+    ensures exact { Gives (λ _. false) (λ read. (read.0, read.1.now)) result (fields_at end at tables.texts tables.names one_whole bytes.now) }
+    ensures shorter { IfOk result (λ read. length read.1.now ≤ length bytes.now) }
+{
+    let (number, rest) = wide_at(end, bytes)?;
+    Ok((Op::PushWhole(signed(number)), rest))
+}
+
+#[tactic(auto, unfolding(crate::specs::Decoding::fields_at))]
+fn push_decimal(
+    end: usize,
+    at: usize,
+    tables: Tables,
+    bytes: &[u8],
+) -> Result<(Op, &[u8]), ImageError>
+    requires { length bytes.now ≤ end }
+    ensures exact { Gives (λ _. false) (λ read. (read.0, read.1.now)) result (fields_at end at tables.texts tables.names one_decimal bytes.now) }
+    ensures shorter { IfOk result (λ read. length read.1.now ≤ length bytes.now) }
+{
+    let (number, rest) = wide_at(end, bytes)?;
+    Ok((Op::PushDecimal(signed(number)), rest))
+}
+
+#[tactic(auto, unfolding(crate::specs::Decoding::fields_at))]
+fn push_text(end: usize, at: usize, tables: Tables, bytes: &[u8]) -> Result<(Op, &[u8]), ImageError>
+    requires { length bytes.now ≤ end }
+    ensures exact { Gives (λ _. false) (λ read. (read.0, read.1.now)) result (fields_at end at tables.texts tables.names text_number bytes.now) }
+    ensures shorter { IfOk result (λ read. length read.1.now ≤ length bytes.now) }
+{
+    let (number, rest) = entry_at(end, at, tables.texts, bytes)?;
+    Ok((Op::PushText(number), rest))
+}
+
+#[tactic(auto, unfolding(crate::specs::Decoding::fields_at))]
+fn field(end: usize, at: usize, tables: Tables, bytes: &[u8]) -> Result<(Op, &[u8]), ImageError>
+    requires { length bytes.now ≤ end }
+    ensures exact { Gives (λ _. false) (λ read. (read.0, read.1.now)) result (fields_at end at tables.texts tables.names name_number bytes.now) }
+    ensures shorter { IfOk result (λ read. length read.1.now ≤ length bytes.now) }
+{
+    let (number, rest) = entry_at(end, at, tables.names, bytes)?;
+    Ok((Op::Field(number), rest))
+}
+
+#[tactic(auto, unfolding(crate::specs::Decoding::fields_at))]
+fn make_list(end: usize, at: usize, tables: Tables, bytes: &[u8]) -> Result<(Op, &[u8]), ImageError>
+    requires { length bytes.now ≤ end }
+    ensures exact { Gives (λ _. false) (λ read. (read.0, read.1.now)) result (fields_at end at tables.texts tables.names scalar_and_count bytes.now) }
+    ensures shorter { IfOk result (λ read. length read.1.now ≤ length bytes.now) }
+{
+    let (scalar, rest) = scalar_at(end, bytes)?;
+    let (count, rest) = items_at(end, rest)?;
+    Ok((Op::MakeList { scalar, count }, rest))
+}
+
+/// An operation that names a place.
+macro_rules! placed {
+    ($end:ident, $bytes:ident, $place:ident => $op:expr) => {{
+        let ($place, rest) = narrow_at($end, $bytes)?;
+        Ok(($op, rest))
+    }};
+}
+
+#[tactic(auto, unfolding(crate::specs::Decoding::fields_at))]
+fn fields_at(
+    end: usize,
+    at: usize,
+    tables: Tables,
+    form: Form,
+    bytes: &[u8],
+) -> Result<(Op, &[u8]), ImageError>
+    requires { length bytes.now ≤ end }
+    ensures exact { Gives (λ _. false) (λ read. (read.0, read.1.now)) result (fields_at end at tables.texts tables.names (form_view form) bytes.now) }
+    ensures shorter { IfOk result (λ read. length read.1.now ≤ length bytes.now) }
+{
+    match form {
+        Form::Nothing(op) => Ok((op, bytes)),
+        Form::Bit => push_bool(end, at, tables, bytes),
+        Form::Whole => push_whole(end, at, tables, bytes),
+        Form::Decimal => push_decimal(end, at, tables, bytes),
+        Form::TextNumber => push_text(end, at, tables, bytes),
+        Form::NameNumber => field(end, at, tables, bytes),
+        Form::ScalarAndCount => make_list(end, at, tables, bytes),
+        Form::AndJump => placed!(end, bytes, place => Op::AndJump(place)),
+        Form::OrJump => placed!(end, bytes, place => Op::OrJump(place)),
+        Form::BranchFalse => placed!(end, bytes, place => Op::BranchFalse(place)),
+        Form::Jump => placed!(end, bytes, place => Op::Jump(place)),
+        Form::Enter(predicate) => placed!(end, bytes, step => Op::Enter(predicate, step)),
+        Form::Step(predicate) => placed!(end, bytes, enter => Op::Step(predicate, enter)),
+    }
+}
+
+/// An operation, its code and its fields.
+#[tactic(auto, unfolding(crate::specs::Decoding::op_at))]
+fn op_at(end: usize, tables: Tables, bytes: &[u8]) -> Result<(Op, &[u8]), ImageError>
+    requires { length bytes.now ≤ end }
+    ensures exact { Gives (λ _. false) (λ read. (read.0, read.1.now)) result (op_at end tables.texts tables.names bytes.now) }
+    ensures shorter { IfOk result (λ read. length read.1.now ≤ length bytes.now) }
+{
+    let at = place(end, bytes);
+    let (code, rest) = byte_at(end, bytes)?;
+    match form_of(code) {
+        Some(form) => fields_at(end, at, tables, form, rest),
+        None => Err(ImageError::UnknownOp(at)),
+    }
+}
+
+/// So many operations.
+fn ops_at(
+    alloc: Global,
+    end: usize,
+    tables: Tables,
+    count: usize,
+    bytes: &[u8],
+) -> Result<(Vec<Op>, &[u8]), ImageError>
+    requires { length bytes.now ≤ end }
+    ensures exact { Gives is_memory (λ read. (read.0.items, read.1.now)) result (so_many_ops end tables.texts tables.names count bytes.now) }
+    ensures shorter { IfOk result (λ read. length read.1.now ≤ length bytes.now) }
+{
+    let mut ops = Vec::new(alloc);
+    let mut rest = bytes;
+    for _ in 0..count {
+        let (op, after) = op_at(end, tables, rest)?;
+        ops.push(op)?;
+        rest = after;
+    }
+    Ok((ops, rest))
+}
+
+/// A text, its length and its bytes.
+#[tactic(auto, using(crate::proofs::Freely::gives_freely), unfolding(crate::specs::Decoding::text_at))]
+fn text_at(alloc: Global, end: usize, bytes: &[u8]) -> Result<(String, &[u8]), ImageError>
+    requires { length bytes.now ≤ end }
+    ensures exact { Gives is_memory (λ read. (string_bytes read.0, read.1.now)) result (text_at end bytes.now) }
+    ensures shorter { IfOk result (λ read. length read.1.now ≤ length bytes.now) }
+{
+    let (len, rest) = count_at(end, bytes)?;
+    let (letters, after) = letters_at(end, len, rest)?;
+    Ok((String::from_str(alloc, letters)?, after))
+}
+
+/// So many bytes, which have to be UTF-8.
+fn letters_at(end: usize, len: usize, bytes: &[u8]) -> Result<(&str, &[u8]), ImageError>
+    requires { length bytes.now ≤ end }
+    ensures exact { Gives (λ _. false) (λ read. (read.0.now, read.1.now)) result (letters_at end len bytes.now) }
+    ensures shorter { IfOk result (λ read. length read.1.now ≤ length bytes.now) }
+{
+    if bytes.len() < len {
+        return Err(ImageError::Truncated(end));
+    }
+    let (letters, rest) = bytes.split_at(len);
+    match as_text(letters) {
+        Some(letters) => Ok((letters, rest)),
+        None => Err(ImageError::BadText(place(end, bytes))),
+    }
+}
+
+/// The text that bytes are in UTF-8.
+#[tactic(auto, using(crate::proofs::Texts::utf8, crate::proofs::Texts::no_utf8))]
+fn as_text(bytes: &[u8]) -> Option<&str>
+    ensures { option_map (λ text. text.now) result ≡ text_of bytes.now }
+{
+    match std::str::from_utf8(bytes) {
+        Ok(text) => Some(text),
+        Err(_) => None,
+    }
+}
+
+/// So many texts.
+fn so_many_texts(
+    alloc: Global,
+    end: usize,
+    count: usize,
+    bytes: &[u8],
+) -> Result<(Vec<String>, &[u8]), ImageError>
+    requires { length bytes.now ≤ end }
+    ensures exact { Gives is_memory (λ read. (map string_bytes read.0.items, read.1.now)) result (so_many_texts end count bytes.now) }
+    ensures shorter { IfOk result (λ read. length read.1.now ≤ length bytes.now) }
+{
+    let mut texts = Vec::new(alloc);
+    let mut rest = bytes;
+    for _ in 0..count {
+        let (text, after) = text_at(alloc, end, rest)?;
+        texts.push(text)?;
+        rest = after;
+    }
+    Ok((texts, rest))
+}
+
+/// A table of texts: how many, and each.
+#[tactic(auto, using(crate::proofs::Freely::gives_freely), unfolding(crate::specs::Decoding::texts_at))]
+fn texts_at(alloc: Global, end: usize, bytes: &[u8]) -> Result<(Vec<String>, &[u8]), ImageError>
+    requires { length bytes.now ≤ end }
+    ensures exact { Gives is_memory (λ read. (map string_bytes read.0.items, read.1.now)) result (texts_at end bytes.now) }
+    ensures shorter { IfOk result (λ read. length read.1.now ≤ length bytes.now) }
+{
+    let (count, rest) = count_at(end, bytes)?;
+    so_many_texts(alloc, end, count, rest)
+}
+
+/// Bytes that have to stand there, one by one.
+fn expected<'b>(
+    end: usize,
+    wanted: &[u8],
+    error: ImageError,
+    bytes: &'b [u8],
+) -> Result<&'b [u8], ImageError>
+    ensures exact { Gives (λ _. false) (λ rest. rest.now) result (expected end error wanted.now bytes.now) }
+    ensures shorter { IfOk result (λ rest. length rest.now ≤ length bytes.now) }
+{
+    let [first, others @ ..] = wanted else {
+        return Ok(bytes);
+    };
+    let (byte, rest) = byte_at(end, bytes)?;
+    if byte == *first {
+        expected(end, others, error, rest)
+    } else {
+        Err(error)
+    }
+}
+
+/// Texts, names and operations.
+#[tactic(auto, using(crate::proofs::Freely::gives_freely, crate::proofs::Parts::parts_are_code), unfolding(crate::specs::Decoding::parts_at))]
+fn parts_at(alloc: Global, end: usize, bytes: &[u8]) -> Result<(Code, &[u8]), ImageError>
+    requires { length bytes.now ≤ end }
+    ensures exact { Gives is_memory (λ read. (read.0, read.1.now)) result (parts_at end bytes.now) }
+    ensures shorter { IfOk result (λ read. length read.1.now ≤ length bytes.now) }
+{
+    let (texts, rest) = texts_at(alloc, end, bytes)?;
+    let (names, rest) = texts_at(alloc, end, rest)?;
+    let (count, rest) = count_at(end, rest)?;
+    let tables = Tables {
+        texts: texts.len(),
+        names: names.len(),
+    };
+    let (ops, rest) = ops_at(alloc, end, tables, count, rest)?;
+    Ok((Code::of_parts(ops, texts, names), rest))
+}
+
+/// The code whose image bytes are.
+///
+/// # Errors
+///
+/// The first fault from left to right, with its place.
+pub fn decode(alloc: Global, bytes: &[u8]) -> Result<Code, ImageError>
+    // This code, or this fault.
+    ensures exact { Gives is_memory (λ code. code) result (decoded bytes.now) }
+
+    // What is accepted is the image of what was read.
+    ensures image { IfOk result (λ code. bytes.now ≡ image code) }
+{
+    whole_code(alloc, bytes)
+}
+
+#[tactic(auto, using(crate::proofs::Freely::gives_freely), unfolding(crate::specs::Decoding::decoded))]
+fn whole_code(alloc: Global, bytes: &[u8]) -> Result<Code, ImageError>
+    ensures { Gives is_memory (λ code. code) result (decoded bytes.now) }
+{
+    let end = bytes.len();
+    let rest = expected(end, &MAGIC, ImageError::BadMagic, bytes)?;
+    let rest = expected(end, &[VERSION], ImageError::BadVersion, rest)?;
+    let (code, rest) = parts_at(alloc, end, rest)?;
+    if rest.is_empty() {
+        Ok(code)
+    } else {
+        Err(ImageError::Trailing(place(end, rest)))
+    }
+}

@@ -1,0 +1,160 @@
+//! Writing an image.
+
+ghost use Rattle.std.specs.Prelude.{◌≡◌, ◌++◌, length, map, string_bytes, IfOk, OnOk};
+ghost use Rattle.std.specs.List.{flat_map};
+ghost use Rattle.ar_code.specs.Image.{fields_of, groups, image, number, op_bytes, scalar_number, string, strings, zigzag};
+
+use crate::code::Code;
+use crate::form::code_of;
+use crate::op::Op;
+use ar_value::operator::Scalar;
+use std::alloc::{AllocError, Global};
+
+/// What an image begins with.
+pub(crate) const MAGIC: [u8; 4] = *b"ARCV";
+
+/// The version of the format.
+pub(crate) const VERSION: u8 = 1;
+
+/// How many bytes stand behind the first of a number at most.
+const MORE_NUMBER_BYTES: usize = 9;
+
+/// Seven bits a byte, the lowest first, in at most so many bytes behind the first.
+#[tactic(auto, using(crate::proofs::Joins::one_more, crate::proofs::Joins::more_groups))]
+fn put_groups(out: &mut Vec<u8>, more: usize, n: u64) -> Result<(), AllocError>
+    ensures { OnOk result (out.new.items ≡ out.old.items ++ groups more n) }
+{
+    if more == 0 {
+        return Ok(out.push((n % 128) as u8)?);
+    }
+    if n < 128 {
+        return Ok(out.push(n as u8)?);
+    }
+    out.push((128 + n % 128) as u8)?;
+    put_groups(out, more - 1, n / 128)
+}
+
+fn put_number(out: &mut Vec<u8>, n: u64) -> Result<(), AllocError>
+    ensures { OnOk result (out.new.items ≡ out.old.items ++ number n) }
+{
+    put_groups(out, MORE_NUMBER_BYTES, n)
+}
+
+/// A signed number as an unsigned one.
+fn zigzag(value: i64) -> u64
+    ensures { result ≡ zigzag value }
+{
+    if value < 0 {
+        2 * (-(value + 1)) as u64 + 1
+    } else {
+        2 * value as u64
+    }
+}
+
+#[tactic(auto, using(crate::proofs::Joins::two_parts))]
+fn put_string(out: &mut Vec<u8>, text: &str) -> Result<(), AllocError>
+    ensures { OnOk result (out.new.items ≡ out.old.items ++ string text.now) }
+{
+    put_number(out, text.len() as u64)?;
+    out.extend_from_slice(text.as_bytes())?;
+    Ok(())
+}
+
+fn put_strings(out: &mut Vec<u8>, texts: &[String]) -> Result<(), AllocError>
+    ensures { OnOk result (out.new.items ≡ out.old.items ++ strings (map string_bytes texts.now)) }
+{
+    put_number(out, texts.len() as u64)?;
+    for text in texts {
+        put_string(out, text)?;
+    }
+    Ok(())
+}
+
+fn scalar_number(scalar: Scalar) -> u8
+    ensures { result ≡ scalar_number scalar }
+{
+    match scalar {
+        Scalar::Bool => 0,
+        Scalar::Whole => 1,
+        Scalar::Decimal => 2,
+        Scalar::Text => 3,
+    }
+}
+
+#[tactic(auto, using(crate::proofs::Joins::two_parts))]
+fn put_list(out: &mut Vec<u8>, scalar: Scalar, count: u8) -> Result<(), AllocError>
+    ensures { OnOk result (out.new.items ≡ out.old.items ++ (number (scalar_number scalar) ++ number count)) }
+{
+    put_number(out, u64::from(scalar_number(scalar)))?;
+    put_number(out, u64::from(count))
+}
+
+fn put_fields(out: &mut Vec<u8>, op: Op) -> Result<(), AllocError>
+    ensures { OnOk result (out.new.items ≡ out.old.items ++ fields_of op) }
+{
+    match op {
+        Op::PushBool(holds) => Ok(out.push(u8::from(holds))?),
+        Op::PushWhole(value) => put_number(out, zigzag(value)),
+        Op::PushDecimal(millionths) => put_number(out, zigzag(millionths)),
+        Op::MakeList { scalar, count } => put_list(out, scalar, count),
+        Op::PushText(number) | Op::Field(number) => put_number(out, u64::from(number)),
+        Op::AndJump(place) | Op::OrJump(place) | Op::BranchFalse(place) | Op::Jump(place) => {
+            put_number(out, u64::from(place))
+        }
+        Op::Enter(_, place) | Op::Step(_, place) => put_number(out, u64::from(place)),
+        Op::PushNil
+        | Op::LoadResult
+        | Op::Item
+        | Op::Index
+        | Op::Len
+        | Op::Need
+        | Op::IsNil
+        | Op::Default
+        | Op::ToDecimal
+        | Op::IsIn
+        | Op::Not
+        | Op::Wholes(_)
+        | Op::NegW
+        | Op::Decimals(_)
+        | Op::NegD
+        | Op::Compare(_, _)
+        | Op::Equal(_)
+        | Op::Return => Ok(()),
+    }
+}
+
+#[tactic(auto, using(crate::proofs::Joins::one_more))]
+fn put_op(out: &mut Vec<u8>, op: Op) -> Result<(), AllocError>
+    ensures { OnOk result (out.new.items ≡ out.old.items ++ op_bytes op) }
+{
+    out.push(code_of(op))?;
+    put_fields(out, op)
+}
+
+fn put_ops(out: &mut Vec<u8>, ops: &[Op]) -> Result<(), AllocError>
+    ensures { OnOk result (out.new.items ≡ out.old.items ++ flat_map op_bytes ops.now) }
+{
+    for op in ops {
+        put_op(out, *op)?;
+    }
+    Ok(())
+}
+
+/// The image of code.
+///
+/// # Errors
+///
+/// Want of memory, which the bytes take.
+#[tactic(auto, using(crate::proofs::Joins::whole_image), unfolding(crate::specs::Image::image))]
+pub fn encode(alloc: Global, code: &Code) -> Result<Vec<u8>, AllocError>
+    ensures { IfOk result (λ bytes. bytes.items ≡ image code.now) }
+{
+    let mut out = Vec::new(alloc);
+    out.extend_from_slice(&MAGIC)?;
+    out.push(VERSION)?;
+    put_strings(&mut out, code.texts())?;
+    put_strings(&mut out, code.names())?;
+    put_number(&mut out, code.ops().len() as u64)?;
+    put_ops(&mut out, code.ops())?;
+    Ok(out)
+}
