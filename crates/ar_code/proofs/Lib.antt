@@ -1,3 +1,4 @@
+pub mod Again
 pub mod Freely
 pub mod Joins
 pub mod Loops

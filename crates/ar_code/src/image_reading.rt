@@ -1,8 +1,9 @@
 //! Reading an image.
 
-ghost use Rattle.std.specs.Prelude.{◌≡◌, ◌≤◌, false, length, map, option_map, string_bytes, IfOk};
+ghost use Rattle.std.specs.Prelude.{◌≡◌, ◌≤◌, false, length, map, option_map, string_bytes, IfOk, Ok};
 ghost use Rattle.ar_value.specs.Answer.{Gives};
 ghost use Rattle.ar_code.specs.Decoding.{bit_at, decoded, entry_at, expected, fields_at, is_memory, items_at, letters_at, name_number, op_at, one_bit, one_decimal, one_place, one_whole, parts_at, scalar_and_count, scalar_at, scalar_of, so_many_ops, so_many_texts, text_at, text_number, text_of, texts_at};
+ghost use Rattle.ar_code.specs.Code.{Code as Parts, IsWritable};
 ghost use Rattle.ar_code.specs.Image.{image};
 ghost use Rattle.ar_code.specs.Private.Forms.{form_view};
 
@@ -357,6 +358,9 @@ pub fn decode(alloc: Global, bytes: &[u8]) -> Result<Code, ImageError>
 
     // What is accepted is the image of what was read.
     ensures image { IfOk result (λ code. bytes.now ≡ image code) }
+
+    // The image of code is read as that code.
+    ensures only { (code : Parts) → IsWritable code → bytes.now ≡ image code → Gives is_memory (λ read. read) result (Ok code) }
 {
     whole_code(alloc, bytes)
 }

@@ -5,12 +5,13 @@
 //! what stands after so many steps. An image is the one form of a code as bytes, which
 //! `specs/Image` defines: [`encode`] writes it, and [`decode`] reads it or answers the first fault
 //! from left to right, as `specs/Decoding` defines it. What is accepted is the image of what was
-//! read. Only want of memory can keep the two from their answers.
+//! read, and the image of each code is accepted. Only want of memory can keep the two from their answers.
 //!
 //! - [`op`]: operations; `form`: their codes, and what stands behind each in an image
 //! - [`code`]: code, which contracts see as the `Code` of `specs/Code`
 //! - `image_writing`, `image_reading`: images; `reader`: numbers in them
 //! - [`error`]: why bytes are no image
+//! - [`laws`]: what holds of all images
 #![tactic(auto)]
 
 pub mod code;
@@ -18,6 +19,7 @@ pub mod error;
 mod form;
 mod image_reading;
 mod image_writing;
+pub mod laws;
 pub mod op;
 mod reader;
 
