@@ -5,13 +5,13 @@ use Rattle.std.specs.List.{flat_map, AllByRecursion}
 use Rattle.std.specs.Str.{bytes_eq}
 use Rattle.std.proofs.lemmas.Bool.{le-ltb, lt-ltb, ltb-true}
 use Rattle.std.proofs.lemmas.List.{append-nil, drop_at, length-append, take_at}
-use Rattle.std.proofs.lemmas.List.Elements.{recursion_from_All}
+use Rattle.std.proofs.lemmas.List.Elements.{All-from_recursion, recursion_from_All}
 use Rattle.std.proofs.lemmas.Slice.Eq.{bytes_eq-Decides}
 use Rattle.ar_value.specs.Answer.{◌>>=◌}
 use Rattle.ar_value.specs.Decimal.{is_i64}
 use Rattle.ar_value.specs.declared.operator.Scalar.{Scalar}
 use Rattle.ar_value.specs.declared.operator.Scalar.TheVariants as scalars
-use Rattle.ar_code.specs.Code.{Code, InRange, Inside, IsEntry, IsText, IsWritable, most_entries, most_items}
+use Rattle.ar_code.specs.Code.{Code, InRange, Inside, IsCode, IsEntry, IsText, IsWritable, most_entries, most_items}
 use Rattle.ar_code.specs.Decoding.{Form, Reading, count_at, decoded, parts_at, whole, cut_number, so_many_ops, so_many_texts, text_at, texts_at, entry_at, op_at, place, name_number, nothing, one_bit, one_decimal, one_place, one_whole, text_number, fields_at, form_of, items_at, narrow, number_at, scalar_and_count, scalar_at, signed, spelled, sum_of, wide}
 use Rattle.ar_code.specs.Image.{body, code_of, image, magic, version, fields_of, groups, number, op_bytes, scalar_number, string, strings, zigzag}
 use Rattle.ar_code.specs.declared.op.Op.{Op}
@@ -251,6 +251,16 @@ begun code rest w = rw (parts_again (length (magic ++ version ∷ body code ++ r
 -- the image of code is read as that code
 pub image_again : (code : Code) → IsWritable code → decoded (image code) ≡ Ok code
 image_again code w = subst (λ (bytes : List ℕ). decoded bytes ≡ Ok code) (append-nil (image code)) (begun code [] w)
+
+-- likewise of what was written
+pub read_again : (code : Code) (bytes : List ℕ) → bytes ≡ image code → IsCode code → AllByRecursion IsText code.texts → AllByRecursion IsText code.names → AllByRecursion InRange code.ops
+    → decoded bytes ≡ Ok code
+read_again code bytes is is_code texts names ranges = rw is (image_again code (record {
+  is_code = is_code;
+  texts = All-from_recursion IsText code.texts texts;
+  names = All-from_recursion IsText code.names names;
+  ranges = All-from_recursion InRange code.ops ranges;
+}))
 
 trailing : (end : ℕ) (first second : Code) (rest : List ℕ) → whole end (first, rest) ≡ Ok second → (first ≡ second) × (rest ≡ [])
 trailing end first second [] e = (ok_is first second e, refl)

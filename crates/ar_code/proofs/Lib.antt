@@ -1,7 +1,10 @@
 pub mod Again
+pub mod Each
+pub mod Entries
 pub mod Freely
 pub mod Joins
 pub mod Loops
+pub mod Memory
 pub mod Numbers
 pub mod Ops
 pub mod Parts

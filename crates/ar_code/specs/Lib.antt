@@ -3,3 +3,5 @@ pub mod Machine
 pub mod Image
 pub mod Decoding
 pub mod Private
+pub mod Listing
+pub mod Examples

@@ -38,7 +38,9 @@ impl Code {
     }
 
     pub fn ops(&self) -> &[Op]
-        ensures { result.now ≡ self.now.ops }
+        ensures ops { result.now ≡ self.now.ops }
+        // Code keeps its limits, and each number lies inside its table.
+        ensures code { IsCode self.now }
     {
         &self.ops
     }

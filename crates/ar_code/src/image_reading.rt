@@ -5,7 +5,7 @@ ghost use Rattle.ar_value.specs.Answer.{Gives};
 ghost use Rattle.ar_code.specs.Decoding.{bit_at, decoded, entry_at, expected, fields_at, is_memory, items_at, letters_at, name_number, op_at, one_bit, one_decimal, one_place, one_whole, parts_at, scalar_and_count, scalar_at, scalar_of, so_many_ops, so_many_texts, text_at, text_number, text_of, texts_at};
 ghost use Rattle.ar_code.specs.Code.{Code as Parts, IsWritable};
 ghost use Rattle.ar_code.specs.Image.{image};
-ghost use Rattle.ar_code.specs.Private.Forms.{form_view};
+ghost use Rattle.ar_code.specs.Private.Forms.{fields_in, form_view, ops_in};
 
 use crate::code::Code;
 use crate::error::ImageError;
@@ -95,7 +95,7 @@ struct Tables {
 #[tactic(auto, unfolding(crate::specs::Decoding::fields_at))]
 fn push_bool(end: usize, at: usize, tables: Tables, bytes: &[u8]) -> Result<(Op, &[u8]), ImageError>
     requires { length bytes.now ≤ end }
-    ensures exact { Gives (λ _. false) (λ read. (read.0, read.1.now)) result (fields_at end at tables.texts tables.names one_bit bytes.now) }
+    ensures exact { Gives (λ _. false) (λ read. (read.0, read.1.now)) result (fields_in end at tables one_bit bytes.now) }
     ensures shorter { IfOk result (λ read. length read.1.now ≤ length bytes.now) }
 {
     let (holds, rest) = bit_at(end, bytes)?;
@@ -110,7 +110,7 @@ fn push_whole(
     bytes: &[u8],
 ) -> Result<(Op, &[u8]), ImageError>
     requires { length bytes.now ≤ end }
-    ensures exact { Gives (λ _. false) (λ read. (read.0, read.1.now)) result (fields_at end at tables.texts tables.names one_whole bytes.now) }
+    ensures exact { Gives (λ _. false) (λ read. (read.0, read.1.now)) result (fields_in end at tables one_whole bytes.now) }
     ensures shorter { IfOk result (λ read. length read.1.now ≤ length bytes.now) }
 {
     let (number, rest) = wide_at(end, bytes)?;
@@ -125,7 +125,7 @@ fn push_decimal(
     bytes: &[u8],
 ) -> Result<(Op, &[u8]), ImageError>
     requires { length bytes.now ≤ end }
-    ensures exact { Gives (λ _. false) (λ read. (read.0, read.1.now)) result (fields_at end at tables.texts tables.names one_decimal bytes.now) }
+    ensures exact { Gives (λ _. false) (λ read. (read.0, read.1.now)) result (fields_in end at tables one_decimal bytes.now) }
     ensures shorter { IfOk result (λ read. length read.1.now ≤ length bytes.now) }
 {
     let (number, rest) = wide_at(end, bytes)?;
@@ -135,7 +135,7 @@ fn push_decimal(
 #[tactic(auto, unfolding(crate::specs::Decoding::fields_at))]
 fn push_text(end: usize, at: usize, tables: Tables, bytes: &[u8]) -> Result<(Op, &[u8]), ImageError>
     requires { length bytes.now ≤ end }
-    ensures exact { Gives (λ _. false) (λ read. (read.0, read.1.now)) result (fields_at end at tables.texts tables.names text_number bytes.now) }
+    ensures exact { Gives (λ _. false) (λ read. (read.0, read.1.now)) result (fields_in end at tables text_number bytes.now) }
     ensures shorter { IfOk result (λ read. length read.1.now ≤ length bytes.now) }
 {
     let (number, rest) = entry_at(end, at, tables.texts, bytes)?;
@@ -145,7 +145,7 @@ fn push_text(end: usize, at: usize, tables: Tables, bytes: &[u8]) -> Result<(Op,
 #[tactic(auto, unfolding(crate::specs::Decoding::fields_at))]
 fn field(end: usize, at: usize, tables: Tables, bytes: &[u8]) -> Result<(Op, &[u8]), ImageError>
     requires { length bytes.now ≤ end }
-    ensures exact { Gives (λ _. false) (λ read. (read.0, read.1.now)) result (fields_at end at tables.texts tables.names name_number bytes.now) }
+    ensures exact { Gives (λ _. false) (λ read. (read.0, read.1.now)) result (fields_in end at tables name_number bytes.now) }
     ensures shorter { IfOk result (λ read. length read.1.now ≤ length bytes.now) }
 {
     let (number, rest) = entry_at(end, at, tables.names, bytes)?;
@@ -155,7 +155,7 @@ fn field(end: usize, at: usize, tables: Tables, bytes: &[u8]) -> Result<(Op, &[u
 #[tactic(auto, unfolding(crate::specs::Decoding::fields_at))]
 fn make_list(end: usize, at: usize, tables: Tables, bytes: &[u8]) -> Result<(Op, &[u8]), ImageError>
     requires { length bytes.now ≤ end }
-    ensures exact { Gives (λ _. false) (λ read. (read.0, read.1.now)) result (fields_at end at tables.texts tables.names scalar_and_count bytes.now) }
+    ensures exact { Gives (λ _. false) (λ read. (read.0, read.1.now)) result (fields_in end at tables scalar_and_count bytes.now) }
     ensures shorter { IfOk result (λ read. length read.1.now ≤ length bytes.now) }
 {
     let (scalar, rest) = scalar_at(end, bytes)?;
@@ -180,7 +180,7 @@ fn fields_at(
     bytes: &[u8],
 ) -> Result<(Op, &[u8]), ImageError>
     requires { length bytes.now ≤ end }
-    ensures exact { Gives (λ _. false) (λ read. (read.0, read.1.now)) result (fields_at end at tables.texts tables.names (form_view form) bytes.now) }
+    ensures exact { Gives (λ _. false) (λ read. (read.0, read.1.now)) result (fields_in end at tables (form_view form) bytes.now) }
     ensures shorter { IfOk result (λ read. length read.1.now ≤ length bytes.now) }
 {
     match form {
@@ -224,7 +224,7 @@ fn ops_at(
     bytes: &[u8],
 ) -> Result<(Vec<Op>, &[u8]), ImageError>
     requires { length bytes.now ≤ end }
-    ensures exact { Gives is_memory (λ read. (read.0.items, read.1.now)) result (so_many_ops end tables.texts tables.names count bytes.now) }
+    ensures exact { Gives is_memory (λ read. (read.0.items, read.1.now)) result (ops_in end tables count bytes.now) }
     ensures shorter { IfOk result (λ read. length read.1.now ≤ length bytes.now) }
 {
     let mut ops = Vec::new(alloc);

@@ -1,7 +1,9 @@
 //! Writing an image.
 
-ghost use Rattle.std.specs.Prelude.{◌≡◌, ◌++◌, length, map, string_bytes, IfOk, OnOk};
-ghost use Rattle.std.specs.List.{flat_map};
+ghost use Rattle.std.specs.Prelude.{◌≡◌, ◌++◌, length, map, string_bytes, IfOk, Ok, OnOk};
+ghost use Rattle.std.specs.List.{AllByRecursion, flat_map};
+ghost use Rattle.ar_code.specs.Code.{InRange, IsCode, IsText};
+ghost use Rattle.ar_code.specs.Decoding.{decoded};
 ghost use Rattle.ar_code.specs.Image.{fields_of, groups, image, number, op_bytes, scalar_number, string, strings, zigzag};
 
 use crate::code::Code;
@@ -51,17 +53,20 @@ fn zigzag(value: i64) -> u64
     }
 }
 
-#[tactic(auto, using(crate::proofs::Joins::two_parts))]
+#[tactic(auto, using(crate::proofs::Joins::two_parts, crate::proofs::Texts::utf8))]
 fn put_string(out: &mut Vec<u8>, text: &str) -> Result<(), AllocError>
-    ensures { OnOk result (out.new.items ≡ out.old.items ++ string text.now) }
+    ensures written { OnOk result (out.new.items ≡ out.old.items ++ string text.now) }
+    ensures utf8 { OnOk result (IsText text.now) }
 {
     put_number(out, text.len() as u64)?;
     out.extend_from_slice(text.as_bytes())?;
     Ok(())
 }
 
+#[tactic(auto, using(crate::proofs::Each::seen_none, crate::proofs::Each::seen_more, crate::proofs::Each::seen_all))]
 fn put_strings(out: &mut Vec<u8>, texts: &[String]) -> Result<(), AllocError>
-    ensures { OnOk result (out.new.items ≡ out.old.items ++ strings (map string_bytes texts.now)) }
+    ensures written { OnOk result (out.new.items ≡ out.old.items ++ strings (map string_bytes texts.now)) }
+    ensures utf8 { OnOk result (AllByRecursion IsText (map string_bytes texts.now)) }
 {
     put_number(out, texts.len() as u64)?;
     for text in texts {
@@ -90,7 +95,8 @@ fn put_list(out: &mut Vec<u8>, scalar: Scalar, count: u8) -> Result<(), AllocErr
 }
 
 fn put_fields(out: &mut Vec<u8>, op: Op) -> Result<(), AllocError>
-    ensures { OnOk result (out.new.items ≡ out.old.items ++ fields_of op) }
+    ensures written { OnOk result (out.new.items ≡ out.old.items ++ fields_of op) }
+    ensures range { InRange op }
 {
     match op {
         Op::PushBool(holds) => Ok(out.push(u8::from(holds))?),
@@ -125,14 +131,17 @@ fn put_fields(out: &mut Vec<u8>, op: Op) -> Result<(), AllocError>
 
 #[tactic(auto, using(crate::proofs::Joins::one_more))]
 fn put_op(out: &mut Vec<u8>, op: Op) -> Result<(), AllocError>
-    ensures { OnOk result (out.new.items ≡ out.old.items ++ op_bytes op) }
+    ensures written { OnOk result (out.new.items ≡ out.old.items ++ op_bytes op) }
+    ensures range { OnOk result (InRange op) }
 {
     out.push(code_of(op))?;
     put_fields(out, op)
 }
 
+#[tactic(auto, using(crate::proofs::Each::of_none, crate::proofs::Each::of_one_more, crate::proofs::Each::of_all))]
 fn put_ops(out: &mut Vec<u8>, ops: &[Op]) -> Result<(), AllocError>
-    ensures { OnOk result (out.new.items ≡ out.old.items ++ flat_map op_bytes ops.now) }
+    ensures written { OnOk result (out.new.items ≡ out.old.items ++ flat_map op_bytes ops.now) }
+    ensures ranges { OnOk result (AllByRecursion InRange ops.now) }
 {
     for op in ops {
         put_op(out, *op)?;
@@ -140,14 +149,14 @@ fn put_ops(out: &mut Vec<u8>, ops: &[Op]) -> Result<(), AllocError>
     Ok(())
 }
 
-/// The image of code.
-///
-/// # Errors
-///
-/// Want of memory, which the bytes take.
+/// The image of code. What was written were texts in UTF-8, and numbers in their ranges.
 #[tactic(auto, using(crate::proofs::Joins::whole_image), unfolding(crate::specs::Image::image))]
-pub fn encode(alloc: Global, code: &Code) -> Result<Vec<u8>, AllocError>
-    ensures { IfOk result (λ bytes. bytes.items ≡ image code.now) }
+fn image_of(alloc: Global, code: &Code) -> Result<Vec<u8>, AllocError>
+    ensures image { IfOk result (λ bytes. bytes.items ≡ image code.now) }
+    ensures code { IfOk result (λ _. IsCode code.now) }
+    ensures texts { IfOk result (λ _. AllByRecursion IsText code.now.texts) }
+    ensures names { IfOk result (λ _. AllByRecursion IsText code.now.names) }
+    ensures ranges { IfOk result (λ _. AllByRecursion InRange code.now.ops) }
 {
     let mut out = Vec::new(alloc);
     out.extend_from_slice(&MAGIC)?;
@@ -157,4 +166,19 @@ pub fn encode(alloc: Global, code: &Code) -> Result<Vec<u8>, AllocError>
     put_number(&mut out, code.ops().len() as u64)?;
     put_ops(&mut out, code.ops())?;
     Ok(out)
+}
+
+/// The image of code.
+///
+/// # Errors
+///
+/// Want of memory, which the bytes take.
+#[tactic(auto, using(crate::proofs::Again::read_again))]
+pub fn encode(alloc: Global, code: &Code) -> Result<Vec<u8>, AllocError>
+    ensures image { IfOk result (λ bytes. bytes.items ≡ image code.now) }
+
+    // The image is read as the code.
+    ensures read { IfOk result (λ bytes. decoded bytes.items ≡ Ok code.now) }
+{
+    Ok(image_of(alloc, code)?)
 }

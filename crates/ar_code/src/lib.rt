@@ -10,6 +10,7 @@
 //! - [`op`]: operations; `form`: their codes, and what stands behind each in an image
 //! - [`code`]: code, which contracts see as the `Code` of `specs/Code`
 //! - `image_writing`, `image_reading`: images; `reader`: numbers in them
+//! - `listings`: code as lines for people
 //! - [`error`]: why bytes are no image
 //! - [`laws`]: what holds of all images
 #![tactic(auto)]
@@ -20,6 +21,7 @@ mod form;
 mod image_reading;
 mod image_writing;
 pub mod laws;
+mod listings;
 pub mod op;
 mod reader;
 
@@ -27,4 +29,5 @@ pub use code::Code;
 pub use error::ImageError;
 pub use image_reading::decode;
 pub use image_writing::encode;
+pub use listings::listing;
 pub use op::Op;

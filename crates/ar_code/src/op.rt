@@ -50,7 +50,8 @@ pub enum Op {
     Default,
     /// Takes a whole and gives it as a decimal; nil stays.
     ToDecimal,
-    /// Takes a scalar and a list of scalars and says whether the list has it.
+    /// Takes a scalar or nil, and a list of these, all of one family, and says whether the list has an
+    /// item that equals it.
     IsIn,
     Not,
     /// Arithmetic of two wholes: `AddW`, `SubW`, `MulW`, `DivW`, `RemW`.
