@@ -36,11 +36,11 @@ right_or true b h = refl
 right_or false b h = h
 
 -- what fits the left kind fits what both have in common
-left_fits : (left right merged : Kind) → merge left right ≡ Some merged → (v : Value) → fits_kind v left ≡ true → fits_kind v merged ≡ true
+pub left_fits : (left right merged : Kind) → merge left right ≡ Some merged → (v : Value) → fits_kind v left ≡ true → fits_kind v merged ≡ true
 left_fits left right merged is v fit = merge_has_both left right merged v is (left_or (fits_kind v left) (fits_kind v right) fit)
 
 -- so does what fits the right one
-right_fits : (left right merged : Kind) → merge left right ≡ Some merged → (v : Value) → fits_kind v right ≡ true → fits_kind v merged ≡ true
+pub right_fits : (left right merged : Kind) → merge left right ≡ Some merged → (v : Value) → fits_kind v right ≡ true → fits_kind v merged ≡ true
 right_fits left right merged is v fit = merge_has_both left right merged v is (right_or (fits_kind v left) (fits_kind v right) fit)
 
 -- what is meant has each property that follows from its own
@@ -50,7 +50,7 @@ means_some P Q (Err (operators.faulted fault)) more h = tt
 means_some P Q (Err operators.ill_kinded) more h = absurd h
 
 -- what means a kind means a wider one
-means_more : (kind wider : Kind) → ((v : Value) → fits_kind v kind ≡ true → fits_kind v wider ≡ true) → (m : Meaning) → MeansKind kind m → MeansKind wider m
+pub means_more : (kind wider : Kind) → ((v : Value) → fits_kind v kind ≡ true → fits_kind v wider ≡ true) → (m : Meaning) → MeansKind kind m → MeansKind wider m
 means_more kind wider more (Ok v) h = more v h
 means_more kind wider more (Err (operators.faulted fault)) h = tt
 means_more kind wider more (Err operators.ill_kinded) h = absurd h
@@ -75,7 +75,7 @@ not_nil_fits v (shapes.optional shape) h is = h
 not_nil_fits v shape h is = h
 
 -- a value has a kind where it isn't nil
-abbrev UnlessNil : Kind → Value → Type 0
+abbrev pub UnlessNil : Kind → Value → Type 0
 UnlessNil kind v = operators.is_nil v ≡ false → fits_kind v kind ≡ true
 
 -- what arithmetic gives is a decimal, or a fault
@@ -126,7 +126,7 @@ module _ (result : Value) (here : Option Value) where
   turned_kind (shaped other) (shaped shape) tree h = turned_shape (is_decimal other) shape tree h
 
   -- the first side of a default: plain where it isn't nil
-  unless_nil : (kind : Kind) (tree : Typed) → MeansKind kind (mean result here tree) → Means (UnlessNil (plain_kind kind)) (mean result here tree)
+  pub unless_nil : (kind : Kind) (tree : Typed) → MeansKind kind (mean result here tree) → Means (UnlessNil (plain_kind kind)) (mean result here tree)
   unless_nil nil tree h = means_some (λ v. fits_kind v nil ≡ true) (UnlessNil nil) (mean result here tree) (λ v fit some. fit) h
   unless_nil (shaped shape) tree h = means_some (λ v. fits v shape ≡ true) (UnlessNil (shaped (plain shape))) (mean result here tree) (λ v fit some. not_nil_fits v shape fit some) h
 
@@ -148,7 +148,7 @@ module _ (result : Value) (here : Option Value) where
   -- ---- choices
 
   -- either branch of one kind
-  choice_means : (kind : Kind) (condition met unmet : Typed) → MeansKind truth_kind (mean result here condition) → MeansKind kind (mean result here met) → MeansKind kind (mean result here unmet)
+  pub choice_means : (kind : Kind) (condition met unmet : Typed) → MeansKind truth_kind (mean result here condition) → MeansKind kind (mean result here met) → MeansKind kind (mean result here unmet)
       → MeansKind kind (mean result here (typed.choice condition met unmet))
   choice_means kind condition met unmet h k l =
       truth_then kind (mean result here condition) (λ b. if b then mean result here met else mean result here unmet) h
@@ -172,7 +172,7 @@ module _ (result : Value) (here : Option Value) where
   -- ---- defaults
 
   -- a default of a kind that both sides have
-  otherwise_means : (plain right kind : Kind) (first other : Typed) → Means (UnlessNil plain) (mean result here first) → MeansKind right (mean result here other)
+  pub otherwise_means : (plain right kind : Kind) (first other : Typed) → Means (UnlessNil plain) (mean result here first) → MeansKind right (mean result here other)
       → ((v : Value) → fits_kind v plain ≡ true → fits_kind v kind ≡ true) → ((v : Value) → fits_kind v right ≡ true → fits_kind v kind ≡ true)
       → MeansKind kind (mean result here (typed.otherwise first other))
   otherwise_means plain right kind first other h k more less =

@@ -62,7 +62,7 @@ suits_both scalar (Some scalars.Decimal) (Some scalars.Decimal) h = (h, h)
 suits_both scalar left right h = absurd (suits_none scalar h)
 
 -- whether all items stand in a list of scalars
-abbrev all_suit : Scalar → List Item → Bool
+abbrev pub all_suit : Scalar → List Item → Bool
 all_suit scalar [] = true
 all_suit scalar (item ∷ items) = suits scalar item.scalar && all_suit scalar items
 
@@ -75,7 +75,7 @@ joined_suit scalar found (item ∷ items) is =
     (each.0, both (suits scalar item.scalar) (all_suit scalar items) each.1 rest.1)
 
 -- items suit what they have in common
-common_suits : (scalar : Scalar) (items : List Item) → common_of items ≡ Some scalar → all_suit scalar items ≡ true
+pub common_suits : (scalar : Scalar) (items : List Item) → common_of items ≡ Some scalar → all_suit scalar items ≡ true
 common_suits scalar [] is = absurd (cc)
 common_suits scalar (item ∷ items) is =
     let each = joined_suit scalar item.scalar items is in both (suits scalar item.scalar) (all_suit scalar items) each.0 each.1
@@ -105,11 +105,11 @@ module _ (result : Value) (here : Option Value) where
   turned_item_means scalar of tree is h = absurd (cc)
 
   -- so many values, each of which fits
-  abbrev Fill : Shape → ℕ → Items → Type 0
+  abbrev pub Fill : Shape → ℕ → Items → Type 0
   Fill shape many found = (count found ≡ many) × (all_items (λ v. fits v shape) found ≡ true)
 
   -- one more item
-  more_mean : (scalar : Scalar) (many : ℕ) (first : Typed) (others : Typeds) → MeansKind (shaped (scalar_shape scalar)) (mean result here first)
+  pub more_mean : (scalar : Scalar) (many : ℕ) (first : Typed) (others : Typeds) → MeansKind (shaped (scalar_shape scalar)) (mean result here first)
       → Means (Fill (scalar_shape scalar) many) (items_mean result here others) → Means (Fill (scalar_shape scalar) (suc many)) (items_mean result here (typed.more first others))
   more_mean scalar many first others h k =
       means_then _ (Fill (scalar_shape scalar) (suc many)) (mean result here first) (λ v. operators.scalar_item v >>= λ v. items_mean result here others >>= λ vs. Ok (values.item v vs)) h
@@ -127,7 +127,7 @@ module _ (result : Value) (here : Option Value) where
       (turned_item_means scalar item.scalar item.tree parts.0 h.0) (items_means scalar items parts.1 h.1)
 
   -- a list as long as the literal isn't too long
-  as_long : (m n : ℕ) → m ≡ n → nat_le m n ≡ true
+  pub as_long : (m n : ℕ) → m ≡ n → nat_le m n ≡ true
   as_long m n h = grind (arith, nat_tests)
 
   -- a list literal of scalars means a list of them

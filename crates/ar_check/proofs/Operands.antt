@@ -117,7 +117,7 @@ module _ (result : Value) (here : Option Value) where
   -- ---- plain operands
 
   -- what isn't nil fits the shape inside an optional one
-  not_nil_fits : (shape : Shape) (v : Value) → fits v (shapes.optional shape) ≡ true → MeansKind (shaped shape) (operators.not_nil v)
+  pub not_nil_fits : (shape : Shape) (v : Value) → fits v (shapes.optional shape) ≡ true → MeansKind (shaped shape) (operators.not_nil v)
   not_nil_fits shape values.nil h = tt
   not_nil_fits shape v h = h
 

@@ -34,17 +34,17 @@ truth_then kind m f h step =
 
 module _ (result : Value) (here : Option Value) where
   -- `not` gives a truth value of one
-  opposite_means : (tree : Typed) → MeansKind truth_kind (mean result here tree) → MeansKind truth_kind (mean result here (typed.opposite tree))
+  pub opposite_means : (tree : Typed) → MeansKind truth_kind (mean result here tree) → MeansKind truth_kind (mean result here (typed.opposite tree))
   opposite_means tree h = truth_then truth_kind (mean result here tree) (λ b. Ok (values.bool (not b))) h (λ b. refl)
 
   -- `and` gives a truth value of two
-  both_means : (left right : Typed) → MeansKind truth_kind (mean result here left) → MeansKind truth_kind (mean result here right) → MeansKind truth_kind (mean result here (typed.both left right))
+  pub both_means : (left right : Typed) → MeansKind truth_kind (mean result here left) → MeansKind truth_kind (mean result here right) → MeansKind truth_kind (mean result here (typed.both left right))
   both_means left right h k =
       truth_then truth_kind (mean result here left) (λ b. if b then mean result here right else Ok (values.bool false)) h
       (λ b. either_means truth_kind b (mean result here right) (Ok (values.bool false)) k refl)
 
   -- `or` gives a truth value of two
-  one_means : (left right : Typed) → MeansKind truth_kind (mean result here left) → MeansKind truth_kind (mean result here right) → MeansKind truth_kind (mean result here (typed.either left right))
+  pub one_means : (left right : Typed) → MeansKind truth_kind (mean result here left) → MeansKind truth_kind (mean result here right) → MeansKind truth_kind (mean result here (typed.either left right))
   one_means left right h k =
       truth_then truth_kind (mean result here left) (λ b. if b then Ok (values.bool true) else mean result here right) h
       (λ b. either_means truth_kind b (Ok (values.bool true)) (mean result here right) refl k)
@@ -54,7 +54,7 @@ module _ (result : Value) (here : Option Value) where
   is_nil_means kind tree h = means_then _ _ (mean result here tree) (λ v. Ok (values.bool (operators.is_nil v))) h (λ v fit. refl)
 
   -- whether two are equal is a truth value
-  equal_means : (l r : Kind) (family : Family) (left right : Typed) → MeansKind l (mean result here left) → MeansKind r (mean result here right)
+  pub equal_means : (l r : Kind) (family : Family) (left right : Typed) → MeansKind l (mean result here left) → MeansKind r (mean result here right)
       → MeansKind truth_kind (mean result here (typed.equal family left right))
   equal_means l r family left right h k =
       means_then _ _ (mean result here left) (λ v. mean result here right >>= λ w. Ok (values.bool (operators.same v w))) h

@@ -62,7 +62,7 @@ item_fits shape items (negsuc n) h = from_end shape items n (nat_lt n (count ite
 
 module _ (result : Value) (here : Option Value) where
   -- an item at an index means the shape of items
-  index_means : (shape : Shape) (max : ℕ) (list position : Typed) → MeansKind (shaped (shapes.list shape max)) (mean result here list) → MeansKind (shaped shapes.whole) (mean result here position)
+  pub index_means : (shape : Shape) (max : ℕ) (list position : Typed) → MeansKind (shaped (shapes.list shape max)) (mean result here list) → MeansKind (shaped shapes.whole) (mean result here position)
       → MeansKind (shaped shape) (mean result here (typed.index list position))
   index_means shape max list position h k =
       means_then _ _ (mean result here list) (λ v. mean result here position >>= λ i. operators.index_in v i) h
@@ -84,7 +84,7 @@ module _ (result : Value) (here : Option Value) where
       (λ is. index_means shape of.0 (made_plain list) (made_plain index) (plain_list list shape of h) (is_index result here index k is)))
 
   -- a length is a whole
-  len_means : (shape : Shape) (max : ℕ) (list : Typed) → MeansKind (shaped (shapes.list shape max)) (mean result here list) → MeansKind (shaped shapes.whole) (mean result here (typed.len list))
+  pub len_means : (shape : Shape) (max : ℕ) (list : Typed) → MeansKind (shaped (shapes.list shape max)) (mean result here list) → MeansKind (shaped shapes.whole) (mean result here (typed.len list))
   len_means shape max list h =
       means_then _ _ (mean result here list) (λ v. operators.items_in v >>= λ items. Ok (values.whole (pos (count items)))) h
       (λ v fit. on_list (λ v. MeansKind (shaped shapes.whole) (operators.items_in v >>= λ items. Ok (values.whole (pos (count items))))) shape max (λ items short all. refl) v fit)
@@ -97,7 +97,7 @@ module _ (result : Value) (here : Option Value) where
   -- ---- membership
 
   -- membership in a list is a truth value
-  member_means : (kind : Kind) (shape : Shape) (max : ℕ) (operand list : Typed) → MeansKind kind (mean result here operand) → MeansKind (shaped (shapes.list shape max)) (mean result here list)
+  pub member_means : (kind : Kind) (shape : Shape) (max : ℕ) (operand list : Typed) → MeansKind kind (mean result here operand) → MeansKind (shaped (shapes.list shape max)) (mean result here list)
       → MeansKind truth_kind (mean result here (typed.within operand list))
   member_means kind shape max operand list h k =
       means_then _ _ (mean result here operand) (λ value. mean result here list >>= λ v. operators.items_in v >>= λ items. Ok (values.bool (operators.has_item value items))) h
@@ -120,7 +120,7 @@ module _ (result : Value) (here : Option Value) where
   -- ---- fields
 
   -- a field that a record's shape has means its shape
-  field_means : (fields : FieldShapes) (shape : Shape) (whole : Typed) (name : List ℕ) → shape_named name fields ≡ Some shape → MeansKind (shaped (shapes.object fields)) (mean result here whole)
+  pub field_means : (fields : FieldShapes) (shape : Shape) (whole : Typed) (name : List ℕ) → shape_named name fields ≡ Some shape → MeansKind (shaped (shapes.object fields)) (mean result here whole)
       → MeansKind (shaped shape) (mean result here (typed.field whole name))
   field_means wanted shape whole name is h =
       means_then _ _ (mean result here whole) (operators.field_in name) h

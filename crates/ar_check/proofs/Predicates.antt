@@ -101,7 +101,7 @@ module _ (result : Value) (here : Option Value) where
       means_then _ _ (mean result (Some v) body) operators.truth (each v fit) (λ w is. on_bool (λ w. Means (λ it. Unit {0}) (operators.truth w)) (λ b. tt) w is)
 
   -- a predicate over a list means its kind, where its body is a truth value
-  predicate_means : (predicate : Predicate) (shape : Shape) (max : ℕ) (list body : Typed) → MeansKind (shaped (shapes.list shape max)) (mean result here list)
+  pub predicate_means : (predicate : Predicate) (shape : Shape) (max : ℕ) (list body : Typed) → MeansKind (shaped (shapes.list shape max)) (mean result here list)
       → ((v : Value) → fits v shape ≡ true → MeansKind truth_kind (mean result (Some v) body))
       → MeansKind (predicate_kind predicate (shaped (shapes.list shape max))) (mean result here (typed.predicate predicate list body))
   predicate_means predicate shape max list body h each =

@@ -48,7 +48,7 @@ pub turns : (v : Value) → fits_kind v Whole ≡ true → MeansKind Decimal (op
 turns v fit = on_whole (λ v. MeansKind Decimal (operators.to_decimal v)) (λ w. decimal_or_fault (decimal_of_whole w)) v fit
 
 -- the negative of a number is one of its kind
-negates : (numbers : Numbers) (v : Value) → fits_kind v (number_kind numbers) ≡ true → MeansKind (number_kind numbers) (operators.negative_of v)
+pub negates : (numbers : Numbers) (v : Value) → fits_kind v (number_kind numbers) ≡ true → MeansKind (number_kind numbers) (operators.negative_of v)
 negates Wholes v fit = on_whole (λ v. MeansKind Whole (operators.negative_of v)) (λ w. whole_or_fault (negation w)) v fit
 negates Decimals v fit = on_decimal (λ v. MeansKind Decimal (operators.negative_of v)) (λ d. decimal_or_fault (negation d)) v fit
 
@@ -79,7 +79,7 @@ calculates operator Decimals h v w fit also =
     (λ x. on_decimal (λ w. MeansKind (arithmetic_kind operator Decimals) (operators.arithmetic_of operator (values.decimal x) w)) (λ y. of_decimals operator x y h) w also) v fit
 
 -- the order of any two numbers is a truth value
-orders : (way : Order) (m n : Numbers) (v w : Value) → fits_kind v (number_kind m) ≡ true → fits_kind w (number_kind n) ≡ true → MeansKind truth_kind (operators.order_of way v w)
+pub orders : (way : Order) (m n : Numbers) (v w : Value) → fits_kind v (number_kind m) ≡ true → fits_kind w (number_kind n) ≡ true → MeansKind truth_kind (operators.order_of way v w)
 orders way m n v w fit also =
     on_number (λ v. MeansKind truth_kind (operators.order_of way v w)) m
     (λ x. on_number (λ w. MeansKind truth_kind (operators.order_of way (values.whole x) w)) n (λ y. refl) (λ y. refl) w also)
@@ -105,7 +105,7 @@ module _ (result : Value) (here : Option Value) where
   right_among Decimals Decimals tree h = h
 
   -- arithmetic of two trees of one kind
-  arithmetic_means : (operator : Arithmetic) (numbers : Numbers) (left right : Typed) → takes operator numbers ≡ true → MeansKind (number_kind numbers) (mean result here left)
+  pub arithmetic_means : (operator : Arithmetic) (numbers : Numbers) (left right : Typed) → takes operator numbers ≡ true → MeansKind (number_kind numbers) (mean result here left)
       → MeansKind (number_kind numbers) (mean result here right) → MeansKind (arithmetic_kind operator numbers) (mean result here (typed.arithmetic numbers operator left right))
   arithmetic_means operator numbers left right is h k =
       means_then _ _ (mean result here left) (λ v. mean result here right >>= λ w. operators.arithmetic_of operator v w) h

@@ -1,0 +1,270 @@
+-- What was drafted is the code of the tree, behind what was there.
+use Rattle.std.proofs.Common.{◌≡◌, ℕ, ◌+◌, List, [], ◌∷◌, ◌++◌, length, set, refl, sym, ap, ◌∙◌, append_assoc, arith}
+use Rattle.std.proofs.lemmas.List.{append-nil, length-append, length-set}
+use Rattle.ar_condition.specs.Typed.{Typed, Typeds}
+use Rattle.ar_condition.specs.Typed as typed
+use Rattle.ar_condition.specs.declared.tree.Literal.{Literal}
+use Rattle.ar_condition.specs.declared.tree.Literal.TheVariants as literals
+use Rattle.ar_value.specs.declared.operator.Predicate.{Predicate}
+use Rattle.ar_code.specs.Code.{Code, code_of_parts}
+use Rattle.ar_code.specs.declared.op.Op.{Op}
+use Rattle.ar_code.specs.declared.op.Op.TheVariants.{MakeList, Field, Index, Len, Need, IsNil, Default, ToDecimal, IsIn, Not, Compare, Equal, AndJump, OrJump, BranchFalse, Jump, Enter, Step, Return}
+use Rattle.ar_compile.specs.Compiled.{Tables, arithmetic_op, code_at, compared_of, compiled, how_many, items_at, literal_op, literal_tables, negative_op, number_of, tables_with, tables_with_items, with_text}
+use Rattle.ar_compile.specs.Length.{operations}
+use Rattle.ar_compile.specs.Private.Drafts.{branches, drafted, drafted_items, enters, no_code, place_of, with_field, with_literal, with_loop, with_op, with_set}
+use Rattle.ar_compile.proofs.Standing.{around_length, length_is, one_length}
+
+abbrev tables_of : Code → Tables
+tables_of draft = record { texts = draft.texts; names = draft.names }
+
+-- operations behind those of a draft, and tables in place of its own
+abbrev extended : Code → List Op → Tables → Code
+extended draft ops tables = code_of_parts (draft.ops ++ ops) tables.texts tables.names
+
+abbrev Drafted : Typed → Code → Type 0
+Drafted tree draft = drafted tree draft ≡ extended draft (code_at (place_of draft) (tables_of draft) tree) (tables_with tree (tables_of draft))
+
+-- a draft with other operations, as far as its tables go
+abbrev other_ops : List Op → Code → Code
+other_ops ops draft = code_of_parts ops draft.texts draft.names
+
+-- one operation behind extended code
+behind_one : (draft : Code) (ops : List Op) (tables : Tables) (op : Op) → with_op op (extended draft ops tables) ≡ extended draft (ops ++ op ∷ []) tables
+behind_one draft ops tables op = ap (λ o. code_of_parts o tables.texts tables.names) (append_assoc draft.ops ops (op ∷ []))
+
+set_behind : (xs : List Op) (x y : Op) (ys : List Op) → set (xs ++ (x ∷ ys)) (length xs) y ≡ xs ++ (y ∷ ys)
+set_behind [] x y ys = refl
+set_behind (z ∷ xs) x y ys = ap (λ l. z ∷ l) (set_behind xs x y ys)
+
+place_behind : (draft : Code) (ops : List Op) (n : ℕ) → length ops ≡ n → length (draft.ops ++ ops) ≡ place_of draft + n
+place_behind draft ops n is = length-append draft.ops ops ∙ ap (λ k. place_of draft + k) is
+
+-- an operation behind extended code
+then_op : (draft found : Code) (ops : List Op) (tables : Tables) (op : Op) → found ≡ extended draft ops tables → with_op op found ≡ extended draft (ops ++ op ∷ []) tables
+then_op draft found ops tables op is = ap (with_op op) is ∙ behind_one draft ops tables op
+
+-- a tree behind extended code
+then_tree : (draft found : Code) (ops : List Op) (tables : Tables) (n : ℕ) (tree : Typed) → found ≡ extended draft ops tables → length ops ≡ n → ((d : Code) → Drafted tree d)
+    → drafted tree found ≡ extended draft (ops ++ code_at (place_of draft + n) tables tree) (tables_with tree tables)
+then_tree draft found ops tables n tree is many drafts =
+    let there = extended draft ops tables in
+    let t = tables_with tree tables in
+    ap (drafted tree) is ∙ drafts there
+    ∙ ap (λ place. extended there (code_at place tables tree) t) (place_behind draft ops n many)
+    ∙ ap (λ o. code_of_parts o t.texts t.names) (append_assoc draft.ops ops (code_at (place_of draft + n) tables tree))
+
+-- an operation in extended code is set
+then_set : (draft found : Code) (xs ys : List Op) (x y : Op) (tables : Tables) (place : ℕ) → found ≡ extended draft (xs ++ (x ∷ ys)) tables → place ≡ length (draft.ops ++ xs)
+    → with_set place y found ≡ extended draft (xs ++ (y ∷ ys)) tables
+then_set draft found xs ys x y tables place is at =
+    ap (with_set place y) is
+    ∙ ap (λ p. with_set p y (extended draft (xs ++ (x ∷ ys)) tables)) at
+    ∙ ap (λ o. code_of_parts (set o (length (draft.ops ++ xs)) y) tables.texts tables.names) (sym (append_assoc draft.ops xs (x ∷ ys)))
+    ∙ ap (λ o. code_of_parts o tables.texts tables.names) (set_behind (draft.ops ++ xs) x y ys ∙ append_assoc draft.ops xs (y ∷ ys))
+
+-- the place behind extended code
+place_found : (draft found : Code) (ops : List Op) (tables : Tables) (n : ℕ) → found ≡ extended draft ops tables → length ops ≡ n → place_of found ≡ place_of draft + n
+place_found draft found ops tables n is many = ap place_of is ∙ place_behind draft ops n many
+
+-- operations written in another way
+same_ops : (draft : Code) (xs ys : List Op) (tables : Tables) → xs ≡ ys → extended draft xs tables ≡ extended draft ys tables
+same_ops draft xs ys tables is = ap (λ ops. extended draft ops tables) is
+
+between : (xs ys : List Op) (x : Op) → (xs ++ x ∷ []) ++ ys ≡ xs ++ (x ∷ ys)
+between xs ys x = append_assoc xs (x ∷ []) ys
+
+one_further : (p m : ℕ) → p + (m + 1) ≡ p + m + 1
+one_further p m = omega arith
+
+further : (p m n : ℕ) → p + (m + 1 + n) ≡ p + m + 1 + n
+further p m n = omega arith
+
+further_on : (p m n : ℕ) → p + (m + 1 + n + 1) ≡ p + m + 1 + n + 1
+further_on p m n = omega arith
+
+-- a tree, an operation and another tree
+jump_between : (draft : Code) (left right : Typed) (op : Op) → ((d : Code) → Drafted left d) → ((d : Code) → Drafted right d)
+    → drafted right (with_op op (drafted left draft))
+    ≡ extended draft (code_at (place_of draft) (tables_of draft) left ++ (op ∷ code_at (place_of draft + operations left + 1) (tables_with left (tables_of draft)) right)) (tables_with right (tables_with left (tables_of draft)))
+jump_between draft left right op drafts_left drafts_right =
+    let p = place_of draft in
+    let t = tables_of draft in
+    let l = code_at p t left in
+    let tl = tables_with left t in
+    let tr = tables_with right tl in
+    then_tree draft (with_op op (drafted left draft)) (l ++ op ∷ []) tl (operations left + 1) right (then_op draft (drafted left draft) l tl op (drafts_left draft)) (one_length l op (operations left) (length_is p t left)) drafts_right
+    ∙ ap (λ q. extended draft ((l ++ op ∷ []) ++ code_at q tl right) tr) (one_further p (operations left))
+    ∙ same_ops draft ((l ++ op ∷ []) ++ code_at (p + operations left + 1) tl right) (l ++ (op ∷ code_at (p + operations left + 1) tl right)) tr (between l (code_at (p + operations left + 1) tl right) op)
+
+-- two trees and an operation
+two_drafted : (draft : Code) (left right : Typed) (op : Op) → ((d : Code) → Drafted left d) → ((d : Code) → Drafted right d)
+    → with_op op (drafted right (drafted left draft))
+    ≡ extended draft (code_at (place_of draft) (tables_of draft) left ++ (code_at (place_of draft + operations left) (tables_with left (tables_of draft)) right ++ op ∷ [])) (tables_with right (tables_with left (tables_of draft)))
+two_drafted draft left right op drafts_left drafts_right =
+    let p = place_of draft in
+    let t = tables_of draft in
+    let l = code_at p t left in
+    let tl = tables_with left t in
+    let r = code_at (p + operations left) tl right in
+    let tr = tables_with right tl in
+    then_op draft (drafted right (drafted left draft)) (l ++ r) tr op (then_tree draft (drafted left draft) l tl (operations left) right (drafts_left draft) (length_is p t left) drafts_right)
+    ∙ same_ops draft ((l ++ r) ++ op ∷ []) (l ++ (r ++ op ∷ [])) tr (append_assoc l r (op ∷ []))
+
+one_drafted : (draft : Code) (operand : Typed) (op : Op) → ((d : Code) → Drafted operand d)
+    → with_op op (drafted operand draft) ≡ extended draft (code_at (place_of draft) (tables_of draft) operand ++ op ∷ []) (tables_with operand (tables_of draft))
+one_drafted draft operand op drafts = then_op draft (drafted operand draft) (code_at (place_of draft) (tables_of draft) operand) (tables_with operand (tables_of draft)) op (drafts draft)
+
+literal_drafted : (literal : Literal) (draft : Code) → with_literal literal draft ≡ extended draft (literal_op literal (tables_of draft) ∷ []) (literal_tables literal (tables_of draft))
+literal_drafted literals.Nil draft = refl
+literal_drafted (literals.Bool truth) draft = refl
+literal_drafted (literals.Whole value) draft = refl
+literal_drafted (literals.Decimal millionths) draft = refl
+literal_drafted (literals.Text letters) draft = refl
+
+-- a jump over the right side
+jump_drafted : (draft : Code) (left right : Typed) (op : Op) (jump : ℕ → Op) → ((d : Code) → Drafted left d) → ((d : Code) → Drafted right d)
+    → with_set (place_of (drafted left draft)) (jump (place_of (drafted right (with_op op (drafted left draft))))) (drafted right (with_op op (drafted left draft)))
+    ≡ extended draft (code_at (place_of draft) (tables_of draft) left ++ (jump (place_of draft + operations left + 1 + operations right) ∷ code_at (place_of draft + operations left + 1) (tables_with left (tables_of draft)) right))
+    (tables_with right (tables_with left (tables_of draft)))
+jump_drafted draft left right op jump drafts_left drafts_right =
+    let p = place_of draft in
+    let t = tables_of draft in
+    let l = code_at p t left in
+    let tl = tables_with left t in
+    let r = code_at (p + operations left + 1) tl right in
+    let tr = tables_with right tl in
+    let whole = drafted right (with_op op (drafted left draft)) in
+    let is = jump_between draft left right op drafts_left drafts_right in
+    let end = place_found draft whole (l ++ (op ∷ r)) tr (operations left + 1 + operations right) is (around_length l r op (operations left) (operations right) (length_is p t left) (length_is (p + operations left + 1) tl right)) in
+    let at = ap place_of (drafts_left draft) in
+    ap (λ e. with_set (place_of (drafted left draft)) (jump e) whole) (end ∙ further p (operations left) (operations right))
+    ∙ then_set draft whole l r op (jump (p + operations left + 1 + operations right)) tr (place_of (drafted left draft)) is at
+
+-- a loop over a body
+loop_drafted : (draft : Code) (list body : Typed) (predicate : Predicate) → ((d : Code) → Drafted list d) → ((d : Code) → Drafted body d)
+    → with_loop predicate (place_of (drafted list draft)) (drafted body (with_op (Enter predicate 0) (drafted list draft)))
+    ≡ extended draft (code_at (place_of draft) (tables_of draft) (typed.predicate predicate list body)) (tables_with body (tables_with list (tables_of draft)))
+loop_drafted draft list body predicate drafts_list drafts_body =
+    let p = place_of draft in
+    let t = tables_of draft in
+    let l = code_at p t list in
+    let tl = tables_with list t in
+    let b = code_at (p + operations list + 1) tl body in
+    let tb = tables_with body tl in
+    let enter = place_of (drafted list draft) in
+    let step = p + operations list + 1 + operations body in
+    let over = l ++ (Enter predicate step ∷ b) in
+    let at = place_found draft (drafted list draft) l tl (operations list) (drafts_list draft) (length_is p t list) in
+    then_op draft (enters predicate enter (drafted body (with_op (Enter predicate 0) (drafted list draft)))) over tb (Step predicate enter)
+    (jump_drafted draft list body (Enter predicate 0) (Enter predicate) drafts_list drafts_body)
+    ∙ same_ops draft (over ++ Step predicate enter ∷ []) (l ++ (Enter predicate step ∷ (b ++ Step predicate enter ∷ []))) tb (append_assoc l (Enter predicate step ∷ b) (Step predicate enter ∷ []))
+    ∙ ap (λ e. extended draft (l ++ (Enter predicate step ∷ (b ++ Step predicate e ∷ []))) tb) at
+
+places : (p l m : ℕ) → p + (l + 1 + (m + 1)) ≡ p + l + 1 + m + 1
+places p l m = omega arith
+
+to_the_end : (p l m n : ℕ) → p + (l + 1 + m + 1 + n) ≡ p + l + 1 + m + 1 + n
+to_the_end p l m n = omega arith
+
+regroup : (c m u : List Op) (x y : Op) → (c ++ (x ∷ (m ++ y ∷ []))) ++ u ≡ (c ++ (x ∷ m)) ++ (y ∷ u)
+regroup c m u x y =
+    append_assoc c (x ∷ (m ++ y ∷ [])) u ∙ ap (λ ops. c ++ (x ∷ ops)) (append_assoc m (y ∷ []) u) ∙ sym (append_assoc c (x ∷ m) (y ∷ u))
+
+-- one of two branches
+choice_drafted : (draft : Code) (condition met unmet : Typed) → ((d : Code) → Drafted condition d) → ((d : Code) → Drafted met d) → ((d : Code) → Drafted unmet d) → Drafted (typed.choice condition met unmet) draft
+choice_drafted draft condition met unmet drafts_condition drafts_met drafts_unmet =
+    let p = place_of draft in
+    let t = tables_of draft in
+    let c = code_at p t condition in
+    let tc = tables_with condition t in
+    let q = p + operations condition + 1 in
+    let m = code_at q tc met in
+    let tm = tables_with met tc in
+    let r = q + operations met + 1 in
+    let u = code_at r tm unmet in
+    let tu = tables_with unmet tm in
+    let end = r + operations unmet in
+    let a = drafted condition draft in
+    let b = drafted met (with_op (BranchFalse 0) a) in
+    let b_is = jump_between draft condition met (BranchFalse 0) drafts_condition drafts_met in
+    let many = around_length c m (BranchFalse 0) (operations condition) (operations met) (length_is p t condition) (length_is q tc met) in
+    let jumped = then_op draft b (c ++ (BranchFalse 0 ∷ m)) tm (Jump 0) b_is ∙ same_ops draft ((c ++ (BranchFalse 0 ∷ m)) ++ Jump 0 ∷ []) (c ++ (BranchFalse 0 ∷ (m ++ Jump 0 ∷ []))) tm (append_assoc c (BranchFalse 0 ∷ m) (Jump 0 ∷ [])) in
+    let b_place = place_found draft b (c ++ (BranchFalse 0 ∷ m)) tm (operations condition + 1 + operations met) b_is many ∙ further p (operations condition) (operations met) in
+    let jumped_place = place_found draft (with_op (Jump 0) b) ((c ++ (BranchFalse 0 ∷ m)) ++ Jump 0 ∷ []) tm (operations condition + 1 + operations met + 1) (then_op draft b (c ++ (BranchFalse 0 ∷ m)) tm (Jump 0) b_is)
+    (one_length (c ++ (BranchFalse 0 ∷ m)) (Jump 0) (operations condition + 1 + operations met) many) ∙ further_on p (operations condition) (operations met) in
+    let d = branches (place_of a) (with_op (Jump 0) b) in
+    let d_is = ap (λ e. with_set (place_of a) (BranchFalse e) (with_op (Jump 0) b)) jumped_place
+    ∙ then_set draft (with_op (Jump 0) b) c (m ++ Jump 0 ∷ []) (BranchFalse 0) (BranchFalse r) tm (place_of a) jumped (ap place_of (drafts_condition draft)) in
+    let e = drafted unmet d in
+    let front = c ++ (BranchFalse r ∷ (m ++ Jump 0 ∷ [])) in
+    let front_many = around_length c (m ++ Jump 0 ∷ []) (BranchFalse r) (operations condition) (operations met + 1) (length_is p t condition) (one_length m (Jump 0) (operations met) (length_is q tc met)) in
+    let to_met = c ++ (BranchFalse r ∷ m) in
+    let e_is = then_tree draft d front tm (operations condition + 1 + (operations met + 1)) unmet d_is front_many drafts_unmet
+    ∙ ap (λ s. extended draft (front ++ code_at s tm unmet) tu) (places p (operations condition) (operations met))
+    ∙ same_ops draft (front ++ u) (to_met ++ (Jump 0 ∷ u)) tu (regroup c m u (BranchFalse r) (Jump 0)) in
+    let to_met_many = around_length c m (BranchFalse r) (operations condition) (operations met) (length_is p t condition) (length_is q tc met) in
+    let e_place = place_found draft e (to_met ++ (Jump 0 ∷ u)) tu (operations condition + 1 + operations met + 1 + operations unmet) e_is (around_length to_met u (Jump 0) (operations condition + 1 + operations met) (operations unmet) to_met_many (length_is r tm unmet))
+    ∙ to_the_end p (operations condition) (operations met) (operations unmet) in
+    ap (λ n. with_set (place_of b) (Jump n) e) e_place
+    ∙ then_set draft e to_met u (Jump 0) (Jump end) tu (place_of b) e_is (b_place ∙ sym (place_behind draft to_met (operations condition + 1 + operations met) to_met_many ∙ further p (operations condition) (operations met)))
+    ∙ same_ops draft (to_met ++ (Jump end ∷ u)) (c ++ (BranchFalse r ∷ (m ++ (Jump end ∷ u)))) tu (append_assoc c (BranchFalse r ∷ m) (Jump end ∷ u))
+
+mutual
+  drafted_is : (tree : Typed) (draft : Code) → Drafted tree draft
+  drafted_is typed.result draft = refl
+  drafted_is typed.item draft = refl
+  drafted_is (typed.literal literal) draft = literal_drafted literal draft
+  drafted_is (typed.field owner name) draft =
+      let p = place_of draft in
+      let t = tables_of draft in
+      let to = tables_with owner t in
+      ap (with_field name) (drafted_is owner draft)
+      ∙ ap (λ ops. code_of_parts ops to.texts (with_text name to.names)) (append_assoc draft.ops (code_at p t owner) (Field (number_of name to.names) ∷ []))
+  drafted_is (typed.index list position) draft = two_drafted draft list position Index (λ d. drafted_is list d) (λ d. drafted_is position d)
+  drafted_is (typed.plain operand) draft = one_drafted draft operand Need (λ d. drafted_is operand d)
+  drafted_is (typed.as_decimal operand) draft = one_drafted draft operand ToDecimal (λ d. drafted_is operand d)
+  drafted_is (typed.negative numbers operand) draft = one_drafted draft operand (negative_op numbers) (λ d. drafted_is operand d)
+  drafted_is (typed.arithmetic numbers operator left right) draft = two_drafted draft left right (arithmetic_op numbers operator) (λ d. drafted_is left d) (λ d. drafted_is right d)
+  drafted_is (typed.ordered of beside way left right) draft = two_drafted draft left right (Compare (compared_of of beside) way) (λ d. drafted_is left d) (λ d. drafted_is right d)
+  drafted_is (typed.equal family left right) draft = two_drafted draft left right (Equal family) (λ d. drafted_is left d) (λ d. drafted_is right d)
+  drafted_is (typed.within operand list) draft = two_drafted draft operand list IsIn (λ d. drafted_is operand d) (λ d. drafted_is list d)
+  drafted_is (typed.opposite operand) draft = one_drafted draft operand Not (λ d. drafted_is operand d)
+  drafted_is (typed.both left right) draft = jump_drafted draft left right (AndJump 0) AndJump (λ d. drafted_is left d) (λ d. drafted_is right d)
+  drafted_is (typed.either left right) draft = jump_drafted draft left right (OrJump 0) OrJump (λ d. drafted_is left d) (λ d. drafted_is right d)
+  drafted_is (typed.choice condition met unmet) draft = choice_drafted draft condition met unmet (λ d. drafted_is condition d) (λ d. drafted_is met d) (λ d. drafted_is unmet d)
+  drafted_is (typed.listed scalar items) draft =
+      then_op draft (drafted_items items draft) (items_at (place_of draft) (tables_of draft) items) (tables_with_items items (tables_of draft)) (MakeList scalar (how_many items)) (items_are items draft)
+  drafted_is (typed.len list) draft = one_drafted draft list Len (λ d. drafted_is list d)
+  drafted_is (typed.is_nil operand) draft = one_drafted draft operand IsNil (λ d. drafted_is operand d)
+  drafted_is (typed.otherwise operand other) draft = two_drafted draft operand other Default (λ d. drafted_is operand d) (λ d. drafted_is other d)
+  drafted_is (typed.predicate predicate list body) draft = loop_drafted draft list body predicate (λ d. drafted_is list d) (λ d. drafted_is body d)
+
+  items_are : (items : Typeds) (draft : Code) → drafted_items items draft ≡ extended draft (items_at (place_of draft) (tables_of draft) items) (tables_with_items items (tables_of draft))
+  items_are typed.none draft = ap (λ ops. code_of_parts ops draft.texts draft.names) (sym (append-nil draft.ops))
+  items_are (typed.more first others) draft =
+      let p = place_of draft in
+      let t = tables_of draft in
+      let f = code_at p t first in
+      let tf = tables_with first t in
+      let to = tables_with_items others tf in
+      let found = extended draft f tf in
+      ap (drafted_items others) (drafted_is first draft) ∙ items_are others found
+      ∙ ap (λ q. extended found (items_at q tf others) to) (place_behind draft f (operations first) (length_is p t first))
+      ∙ ap (λ ops. code_of_parts ops to.texts to.names) (append_assoc draft.ops f (items_at (p + operations first) tf others))
+
+-- a whole condition
+pub whole_is : (condition : Typed) → with_op Return (drafted condition no_code) ≡ compiled condition
+unfolding compiled
+whole_is condition = ap (with_op Return) (drafted_is condition no_code)
+
+-- how many operations there are once a tree was drafted
+pub drafted_length : (tree : Typed) (draft : Code) → place_of (drafted tree draft) ≡ place_of draft + operations tree
+drafted_length tree draft = place_found draft (drafted tree draft) (code_at (place_of draft) (tables_of draft) tree) (tables_with tree (tables_of draft)) (operations tree) (drafted_is tree draft) (length_is (place_of draft) (tables_of draft) tree)
+
+-- one operation more
+pub one_place_more : (draft : Code) (op : Op) → place_of (with_op op draft) ≡ place_of draft + 1
+one_place_more draft op = length-append draft.ops (op ∷ [])
+
+-- as many operations once one is another
+pub same_place : (draft : Code) (place : ℕ) (op : Op) → place_of (with_set place op draft) ≡ place_of draft
+same_place draft place op = length-set draft.ops place op

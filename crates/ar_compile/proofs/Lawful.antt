@@ -1,0 +1,291 @@
+-- The code of a tree within limits is code.
+use Rattle.std.proofs.Common.{◌≡◌, ℕ, zero, suc, ◌+◌, ◌<◌, ◌≤◌, Bool, true, false, cond, List, [], ◌∷◌, ◌++◌, length, Some, ap, ◌∙◌, arith}
+use Rattle.std.specs.List.{AllByRecursion}
+use Rattle.std.specs.Str.{bytes_eq}
+use Rattle.std.proofs.lemmas.List.{length-append}
+use Rattle.std.proofs.lemmas.List.Elements.{All-from_recursion}
+use Rattle.ar_condition.specs.Typed.{Typed, Typeds}
+use Rattle.ar_condition.specs.Typed as typed
+use Rattle.ar_condition.specs.declared.tree.Literal.{Literal}
+use Rattle.ar_condition.specs.declared.tree.Literal.TheVariants as literals
+use Rattle.ar_value.specs.declared.operator.Arithmetic.{Arithmetic}
+use Rattle.ar_value.specs.declared.operator.Arithmetic.TheVariants.{Add, Subtract, Multiply, Divide, Remainder}
+use Rattle.ar_value.specs.declared.operator.Numbers.{Numbers}
+use Rattle.ar_value.specs.declared.operator.Numbers.TheVariants.{Wholes, Decimals}
+use Rattle.ar_code.specs.Code.{Inside, IsCode, IsEntry, most_entries}
+use Rattle.ar_code.specs.Machine.{nth}
+use Rattle.ar_code.specs.declared.op.Op.{Op}
+use Rattle.ar_code.specs.declared.op.Op.TheVariants.{MakeList, Field, Index, Len, Need, IsNil, Default, ToDecimal, IsIn, Not, Compare, Equal, AndJump, OrJump, BranchFalse, Jump, Enter, Step, Return}
+use Rattle.ar_compile.specs.Compiled.{Tables, arithmetic_op, code_at, compared_of, compiled, how_many, items_at, literal_op, literal_tables, negative_op, no_tables, number_of, tables_with, tables_with_items, with_text}
+use Rattle.ar_compile.specs.Length.{length_of, operations, operations_of_items}
+use Rattle.ar_compile.specs.Limits.{AllInLimits, InLimits, IsShort}
+use Rattle.ar_compile.proofs.Standing.{GrowTables, is_there, items_grow, length_is, one_text_grows, tables_grow, then_grow}
+
+all_behind : {A : Type 0} (P : A → Type 0) (xs ys : List A) → AllByRecursion P xs → AllByRecursion P ys → AllByRecursion P (xs ++ ys)
+all_behind P [] ys h k = k
+all_behind P (x ∷ xs) ys h k = (h.0, all_behind P xs ys h.1 k)
+
+below : (texts : List (List ℕ)) (n : ℕ) (text : List ℕ) → nth texts n ≡ Some text → n < length texts
+below [] n text is = absurd cc
+below (first ∷ texts) zero text is = omega arith
+below (first ∷ texts) (suc n) text is = let others = below texts n text is in omega (arith, others)
+
+-- ---- tables
+
+-- tables grow by no more than so many, and by short texts alone
+record Little (tables grown : Tables) (n : ℕ) : Type 0 where
+  texts : length grown.texts ≤ length tables.texts + n
+  names : length grown.names ≤ length tables.names + n
+  short_texts : AllByRecursion IsEntry tables.texts → AllByRecursion IsEntry grown.texts
+  short_names : AllByRecursion IsEntry tables.names → AllByRecursion IsEntry grown.names
+
+no_growth : (tables : Tables) (n : ℕ) → Little tables tables n
+no_growth tables n = record { texts = omega arith; names = omega arith; short_texts = λ h. h; short_names = λ h. h }
+
+then_little : (first second third : Tables) (m n k : ℕ) → m + n ≤ k → Little first second m → Little second third n → Little first third k
+then_little first second third m n k room h l = record {
+  texts = omega (arith, room, h.texts, l.texts);
+  names = omega (arith, room, h.names, l.names);
+  short_texts = λ s. l.short_texts (h.short_texts s);
+  short_names = λ s. l.short_names (h.short_names s);
+}
+
+more_room : (first second : Tables) (m k : ℕ) → m ≤ k → Little first second m → Little first second k
+more_room first second m k room h = record { texts = omega (arith, room, h.texts); names = omega (arith, room, h.names); short_texts = h.short_texts; short_names = h.short_names }
+
+longer_by : (b : Bool) (text : List ℕ) (others : List (List ℕ)) → length (with_text text others) ≤ length others + 1 → length (cond b others (with_text text others)) ≤ length others + 1
+longer_by true text others h = omega arith
+longer_by false text others h = h
+
+one_longer : (text : List ℕ) (texts : List (List ℕ)) → length (with_text text texts) ≤ length texts + 1
+one_longer text [] = omega arith
+one_longer text (first ∷ others) = let rest = longer_by (bytes_eq first text) text others (one_longer text others) in omega (arith, rest)
+
+short_by : (b : Bool) (text : List ℕ) (others : List (List ℕ)) → AllByRecursion IsEntry others → AllByRecursion IsEntry (with_text text others) → AllByRecursion IsEntry (cond b others (with_text text others))
+short_by true text others h k = h
+short_by false text others h k = k
+
+all_short : (text : List ℕ) (texts : List (List ℕ)) → IsEntry text → AllByRecursion IsEntry texts → AllByRecursion IsEntry (with_text text texts)
+all_short text [] short h = (short, tt)
+all_short text (first ∷ others) short h = (h.0, short_by (bytes_eq first text) text others h.1 (all_short text others short h.1))
+
+literal_little : (literal : Literal) (tables : Tables) → IsShort literal → Little tables (literal_tables literal tables) 1
+literal_little literals.Nil tables short = no_growth tables 1
+literal_little (literals.Bool truth) tables short = no_growth tables 1
+literal_little (literals.Whole value) tables short = no_growth tables 1
+literal_little (literals.Decimal millionths) tables short = no_growth tables 1
+literal_little (literals.Text letters) tables short = record { texts = one_longer letters tables.texts; names = omega arith; short_texts = λ h. all_short letters tables.texts short h; short_names = λ h. h }
+
+field_little : (name : List ℕ) (tables grown : Tables) (n : ℕ) → IsEntry name → Little tables grown n → Little tables (record { texts = grown.texts; names = with_text name grown.names }) (n + 1)
+field_little name tables grown n short h = record {
+  texts = omega (arith, h.texts);
+  names = omega (arith, h.names, one_longer name grown.names);
+  short_texts = h.short_texts;
+  short_names = λ s. all_short name grown.names short (h.short_names s);
+}
+
+one_room : (m : ℕ) → m ≤ m + 1
+one_room m = omega arith
+
+two_room : (m n : ℕ) → m + n ≤ m + n + 1
+two_room m n = omega arith
+
+jump_room : (m n : ℕ) → m + n ≤ m + 1 + n
+jump_room m n = omega arith
+
+choice_room : (l m n : ℕ) → l + (m + n) ≤ l + 1 + m + 1 + n
+choice_room l m n = omega arith
+
+loop_room : (m n : ℕ) → m + n ≤ m + 1 + n + 1
+loop_room m n = omega arith
+
+exact_room : (m n : ℕ) → m + n ≤ m + n
+exact_room m n = omega arith
+
+mutual
+  tables_little : (tree : Typed) (tables : Tables) → InLimits tree → Little tables (tables_with tree tables) (operations tree)
+  tables_little typed.result tables h = no_growth tables 1
+  tables_little typed.item tables h = no_growth tables 1
+  tables_little (typed.literal literal) tables h = literal_little literal tables h
+  tables_little (typed.field owner name) tables h = field_little name tables (tables_with owner tables) (operations owner) h.1 (tables_little owner tables h.0)
+  tables_little (typed.index list position) tables h =
+      then_little tables (tables_with list tables) (tables_with position (tables_with list tables)) (operations list) (operations position) (operations list + operations position + 1) (two_room (operations list) (operations position))
+      (tables_little list tables h.0) (tables_little position (tables_with list tables) h.1)
+  tables_little (typed.plain operand) tables h = more_room tables (tables_with operand tables) (operations operand) (operations operand + 1) (one_room (operations operand)) (tables_little operand tables h)
+  tables_little (typed.as_decimal operand) tables h = more_room tables (tables_with operand tables) (operations operand) (operations operand + 1) (one_room (operations operand)) (tables_little operand tables h)
+  tables_little (typed.negative numbers operand) tables h = more_room tables (tables_with operand tables) (operations operand) (operations operand + 1) (one_room (operations operand)) (tables_little operand tables h)
+  tables_little (typed.arithmetic numbers operator left right) tables h =
+      then_little tables (tables_with left tables) (tables_with right (tables_with left tables)) (operations left) (operations right) (operations left + operations right + 1) (two_room (operations left) (operations right))
+      (tables_little left tables h.0) (tables_little right (tables_with left tables) h.1)
+  tables_little (typed.ordered of beside way left right) tables h =
+      then_little tables (tables_with left tables) (tables_with right (tables_with left tables)) (operations left) (operations right) (operations left + operations right + 1) (two_room (operations left) (operations right))
+      (tables_little left tables h.0) (tables_little right (tables_with left tables) h.1)
+  tables_little (typed.equal family left right) tables h =
+      then_little tables (tables_with left tables) (tables_with right (tables_with left tables)) (operations left) (operations right) (operations left + operations right + 1) (two_room (operations left) (operations right))
+      (tables_little left tables h.0) (tables_little right (tables_with left tables) h.1)
+  tables_little (typed.within operand list) tables h =
+      then_little tables (tables_with operand tables) (tables_with list (tables_with operand tables)) (operations operand) (operations list) (operations operand + operations list + 1) (two_room (operations operand) (operations list))
+      (tables_little operand tables h.0) (tables_little list (tables_with operand tables) h.1)
+  tables_little (typed.opposite operand) tables h = more_room tables (tables_with operand tables) (operations operand) (operations operand + 1) (one_room (operations operand)) (tables_little operand tables h)
+  tables_little (typed.both left right) tables h =
+      then_little tables (tables_with left tables) (tables_with right (tables_with left tables)) (operations left) (operations right) (operations left + 1 + operations right) (jump_room (operations left) (operations right))
+      (tables_little left tables h.0) (tables_little right (tables_with left tables) h.1)
+  tables_little (typed.either left right) tables h =
+      then_little tables (tables_with left tables) (tables_with right (tables_with left tables)) (operations left) (operations right) (operations left + 1 + operations right) (jump_room (operations left) (operations right))
+      (tables_little left tables h.0) (tables_little right (tables_with left tables) h.1)
+  tables_little (typed.choice condition met unmet) tables h =
+      let c = tables_with condition tables in
+      let m = tables_with met c in
+      let u = tables_with unmet m in
+      then_little tables c u (operations condition) (operations met + operations unmet) (operations condition + 1 + operations met + 1 + operations unmet) (choice_room (operations condition) (operations met) (operations unmet))
+      (tables_little condition tables h.0) (then_little c m u (operations met) (operations unmet) (operations met + operations unmet) (exact_room (operations met) (operations unmet)) (tables_little met c h.1) (tables_little unmet m h.2))
+  tables_little (typed.listed scalar items) tables h = more_room tables (tables_with_items items tables) (operations_of_items items) (operations_of_items items + 1) (one_room (operations_of_items items)) (items_little items tables h.0)
+  tables_little (typed.len list) tables h = more_room tables (tables_with list tables) (operations list) (operations list + 1) (one_room (operations list)) (tables_little list tables h)
+  tables_little (typed.is_nil operand) tables h = more_room tables (tables_with operand tables) (operations operand) (operations operand + 1) (one_room (operations operand)) (tables_little operand tables h)
+  tables_little (typed.otherwise operand other) tables h =
+      then_little tables (tables_with operand tables) (tables_with other (tables_with operand tables)) (operations operand) (operations other) (operations operand + operations other + 1) (two_room (operations operand) (operations other))
+      (tables_little operand tables h.0) (tables_little other (tables_with operand tables) h.1)
+  tables_little (typed.predicate predicate list body) tables h =
+      then_little tables (tables_with list tables) (tables_with body (tables_with list tables)) (operations list) (operations body) (operations list + 1 + operations body + 1) (loop_room (operations list) (operations body))
+      (tables_little list tables h.0) (tables_little body (tables_with list tables) h.1)
+
+  items_little : (items : Typeds) (tables : Tables) → AllInLimits items → Little tables (tables_with_items items tables) (operations_of_items items)
+  items_little typed.none tables h = no_growth tables 0
+  items_little (typed.more first others) tables h =
+      then_little tables (tables_with first tables) (tables_with_items others (tables_with first tables)) (operations first) (operations_of_items others) (operations first + operations_of_items others)
+      (exact_room (operations first) (operations_of_items others)) (tables_little first tables h.0) (items_little others (tables_with first tables) h.1)
+
+-- ---- operations
+
+module _ (final : Tables) where
+  abbrev Fits : Op → Type 0
+  Fits op = Inside (length final.texts) (length final.names) op
+
+  abbrev AllFit : List Op → Type 0
+  AllFit ops = AllByRecursion Fits ops
+
+  one_fits : (ops : List Op) (op : Op) → AllFit ops → Fits op → AllFit (ops ++ op ∷ [])
+  one_fits ops op h k = all_behind Fits ops (op ∷ []) h (k, tt)
+
+  two_fit : (xs ys : List Op) (op : Op) → AllFit xs → AllFit ys → Fits op → AllFit (xs ++ (ys ++ op ∷ []))
+  two_fit xs ys op h k l = all_behind Fits xs (ys ++ op ∷ []) h (one_fits ys op k l)
+
+  jump_fits : (xs ys : List Op) (op : Op) → AllFit xs → AllFit ys → Fits op → AllFit (xs ++ (op ∷ ys))
+  jump_fits xs ys op h k l = all_behind Fits xs (op ∷ ys) h (l, k)
+
+  arithmetic_fits : (numbers : Numbers) (operator : Arithmetic) → Fits (arithmetic_op numbers operator)
+  arithmetic_fits Wholes operator = tt
+  arithmetic_fits Decimals Add = tt
+  arithmetic_fits Decimals Subtract = tt
+  arithmetic_fits Decimals Multiply = tt
+  arithmetic_fits Decimals Divide = tt
+  arithmetic_fits Decimals Remainder = tt
+
+  negative_fits : (numbers : Numbers) → Fits (negative_op numbers)
+  negative_fits Wholes = tt
+  negative_fits Decimals = tt
+
+  literal_fits : (literal : Literal) (tables : Tables) → GrowTables (literal_tables literal tables) final → Fits (literal_op literal tables)
+  literal_fits literals.Nil tables grow = tt
+  literal_fits (literals.Bool truth) tables grow = tt
+  literal_fits (literals.Whole value) tables grow = tt
+  literal_fits (literals.Decimal millionths) tables grow = tt
+  literal_fits (literals.Text letters) tables grow = below final.texts (number_of letters tables.texts) letters (grow.0 (number_of letters tables.texts) letters (is_there letters tables.texts))
+
+  mutual
+    code_fits : (tree : Typed) (place : ℕ) (tables : Tables) → InLimits tree → GrowTables (tables_with tree tables) final → AllFit (code_at place tables tree)
+    code_fits typed.result place tables h grow = (tt, tt)
+    code_fits typed.item place tables h grow = (tt, tt)
+    code_fits (typed.literal literal) place tables h grow = (literal_fits literal tables grow, tt)
+    code_fits (typed.field owner name) place tables h grow =
+        let to = tables_with owner tables in
+        let n = number_of name to.names in
+        one_fits (code_at place tables owner) (Field n) (code_fits owner place tables h.0 (grow.0, λ k found is. grow.1 k found (one_text_grows name to.names k found is)))
+        (below final.names n name (grow.1 n name (is_there name to.names)))
+    code_fits (typed.index list position) place tables h grow =
+        let tl = tables_with list tables in
+        two_fit (code_at place tables list) (code_at (place + operations list) tl position) Index (code_fits list place tables h.0 (then_grow tl (tables_with position tl) final (tables_grow position tl) grow))
+        (code_fits position (place + operations list) tl h.1 grow) tt
+    code_fits (typed.plain operand) place tables h grow = one_fits (code_at place tables operand) Need (code_fits operand place tables h grow) tt
+    code_fits (typed.as_decimal operand) place tables h grow = one_fits (code_at place tables operand) ToDecimal (code_fits operand place tables h grow) tt
+    code_fits (typed.negative numbers operand) place tables h grow = one_fits (code_at place tables operand) (negative_op numbers) (code_fits operand place tables h grow) (negative_fits numbers)
+    code_fits (typed.arithmetic numbers operator left right) place tables h grow =
+        let tl = tables_with left tables in
+        two_fit (code_at place tables left) (code_at (place + operations left) tl right) (arithmetic_op numbers operator) (code_fits left place tables h.0 (then_grow tl (tables_with right tl) final (tables_grow right tl) grow))
+        (code_fits right (place + operations left) tl h.1 grow) (arithmetic_fits numbers operator)
+    code_fits (typed.ordered of beside way left right) place tables h grow =
+        let tl = tables_with left tables in
+        two_fit (code_at place tables left) (code_at (place + operations left) tl right) (Compare (compared_of of beside) way) (code_fits left place tables h.0 (then_grow tl (tables_with right tl) final (tables_grow right tl) grow))
+        (code_fits right (place + operations left) tl h.1 grow) tt
+    code_fits (typed.equal family left right) place tables h grow =
+        let tl = tables_with left tables in
+        two_fit (code_at place tables left) (code_at (place + operations left) tl right) (Equal family) (code_fits left place tables h.0 (then_grow tl (tables_with right tl) final (tables_grow right tl) grow))
+        (code_fits right (place + operations left) tl h.1 grow) tt
+    code_fits (typed.within operand list) place tables h grow =
+        let tl = tables_with operand tables in
+        two_fit (code_at place tables operand) (code_at (place + operations operand) tl list) IsIn (code_fits operand place tables h.0 (then_grow tl (tables_with list tl) final (tables_grow list tl) grow))
+        (code_fits list (place + operations operand) tl h.1 grow) tt
+    code_fits (typed.opposite operand) place tables h grow = one_fits (code_at place tables operand) Not (code_fits operand place tables h grow) tt
+    code_fits (typed.both left right) place tables h grow =
+        let tl = tables_with left tables in
+        jump_fits (code_at place tables left) (code_at (place + operations left + 1) tl right) (AndJump (place + operations left + 1 + operations right))
+        (code_fits left place tables h.0 (then_grow tl (tables_with right tl) final (tables_grow right tl) grow)) (code_fits right (place + operations left + 1) tl h.1 grow) tt
+    code_fits (typed.either left right) place tables h grow =
+        let tl = tables_with left tables in
+        jump_fits (code_at place tables left) (code_at (place + operations left + 1) tl right) (OrJump (place + operations left + 1 + operations right))
+        (code_fits left place tables h.0 (then_grow tl (tables_with right tl) final (tables_grow right tl) grow)) (code_fits right (place + operations left + 1) tl h.1 grow) tt
+    code_fits (typed.choice condition met unmet) place tables h grow =
+        let c = tables_with condition tables in
+        let m = tables_with met c in
+        let u = tables_with unmet m in
+        let p = place + operations condition + 1 in
+        let q = p + operations met + 1 in
+        let met_grows = then_grow m u final (tables_grow unmet m) grow in
+        let met_code = code_at p c met in
+        let unmet_code = code_at q m unmet in
+        let behind = jump_fits met_code unmet_code (Jump (q + operations unmet)) (code_fits met p c h.1 met_grows) (code_fits unmet q m h.2 grow) tt in
+        jump_fits (code_at place tables condition) (met_code ++ (Jump (q + operations unmet) ∷ unmet_code)) (BranchFalse q)
+        (code_fits condition place tables h.0 (then_grow c m final (tables_grow met c) met_grows)) behind tt
+    code_fits (typed.listed scalar items) place tables h grow = one_fits (items_at place tables items) (MakeList scalar (how_many items)) (items_fit items place tables h.0 grow) h.1
+    code_fits (typed.len list) place tables h grow = one_fits (code_at place tables list) Len (code_fits list place tables h grow) tt
+    code_fits (typed.is_nil operand) place tables h grow = one_fits (code_at place tables operand) IsNil (code_fits operand place tables h grow) tt
+    code_fits (typed.otherwise operand other) place tables h grow =
+        let tl = tables_with operand tables in
+        two_fit (code_at place tables operand) (code_at (place + operations operand) tl other) Default (code_fits operand place tables h.0 (then_grow tl (tables_with other tl) final (tables_grow other tl) grow))
+        (code_fits other (place + operations operand) tl h.1 grow) tt
+    code_fits (typed.predicate predicate list body) place tables h grow =
+        let l = tables_with list tables in
+        let p = place + operations list + 1 in
+        let body_code = code_at p l body in
+        jump_fits (code_at place tables list) (body_code ++ Step predicate (place + operations list) ∷ []) (Enter predicate (p + operations body))
+        (code_fits list place tables h.0 (then_grow l (tables_with body l) final (tables_grow body l) grow)) (one_fits body_code (Step predicate (place + operations list)) (code_fits body p l h.1 grow) tt) tt
+
+    items_fit : (items : Typeds) (place : ℕ) (tables : Tables) → AllInLimits items → GrowTables (tables_with_items items tables) final → AllFit (items_at place tables items)
+    items_fit typed.none place tables h grow = tt
+    items_fit (typed.more first others) place tables h grow =
+        let t = tables_with first tables in
+        all_behind Fits (code_at place tables first) (items_at (place + operations first) t others) (code_fits first place tables h.0 (then_grow t (tables_with_items others t) final (items_grow others t) grow))
+        (items_fit others (place + operations first) t h.1 grow)
+
+-- ---- conditions
+
+pub compiled_is_code : (condition : Typed) → InLimits condition → length_of condition ≤ most_entries → IsCode (compiled condition)
+unfolding compiled
+compiled_is_code condition h few =
+    let tables = tables_with condition no_tables in
+    let ops = code_at 0 no_tables condition in
+    let little = tables_little condition no_tables h in
+    let many : length (ops ++ Return ∷ []) ≡ length_of condition = length-append ops (Return ∷ []) ∙ ap (λ n. n + 1) (length_is 0 no_tables condition) in
+    record {
+      few_ops = omega (arith, many, few);
+      few_texts = omega (arith, little.texts, few);
+      few_names = omega (arith, little.names, few);
+      short_texts = All-from_recursion IsEntry tables.texts (little.short_texts tt);
+      short_names = All-from_recursion IsEntry tables.names (little.short_names tt);
+      inside = All-from_recursion (Inside (length tables.texts) (length tables.names)) (ops ++ Return ∷ []) (one_fits tables ops Return (code_fits tables condition 0 no_tables h (λ n text is. is, λ n name is. is)) tt);
+    }
+
+-- as many operations as the length says
+pub compiled_length : (condition : Typed) → length (compiled condition).ops ≡ length_of condition
+unfolding compiled
+compiled_length condition = length-append (code_at 0 no_tables condition) (Return ∷ []) ∙ ap (λ n. n + 1) (length_is 0 no_tables condition)

@@ -1,0 +1,13 @@
+pub mod Steps
+pub mod Standing
+pub mod Nodes
+pub mod Loops
+pub mod Scalars
+pub mod Simulates
+pub mod Meaningful
+pub mod Kindings
+pub mod Conditions
+pub mod Drafts
+pub mod Lawful
+pub mod Sequences
+pub mod Tables

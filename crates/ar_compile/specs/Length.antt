@@ -1,0 +1,40 @@
+-- How many operations the code of a condition has.
+use Rattle.std.specs.Prelude.{ℕ, ◌+◌}
+use Rattle.ar_condition.specs.Typed.{Typed, Typeds}
+use Rattle.ar_condition.specs.Typed as typed
+
+abbrev mutual
+  -- of a tree, which leaves its value on the stack
+  pub operations : Typed → ℕ
+  operations typed.result = 1
+  operations typed.item = 1
+  operations (typed.literal literal) = 1
+  operations (typed.field owner name) = operations owner + 1
+  operations (typed.index list position) = operations list + operations position + 1
+  operations (typed.plain operand) = operations operand + 1
+  operations (typed.as_decimal operand) = operations operand + 1
+  operations (typed.negative numbers operand) = operations operand + 1
+  operations (typed.arithmetic numbers operator left right) = operations left + operations right + 1
+  operations (typed.ordered of beside way left right) = operations left + operations right + 1
+  operations (typed.equal family left right) = operations left + operations right + 1
+  operations (typed.within operand list) = operations operand + operations list + 1
+  operations (typed.opposite operand) = operations operand + 1
+  -- a jump stands between the sides
+  operations (typed.both left right) = operations left + 1 + operations right
+  operations (typed.either left right) = operations left + 1 + operations right
+  -- a branch stands before what is met, and a jump behind it
+  operations (typed.choice condition met unmet) = operations condition + 1 + operations met + 1 + operations unmet
+  operations (typed.listed scalar items) = operations_of_items items + 1
+  operations (typed.len list) = operations list + 1
+  operations (typed.is_nil operand) = operations operand + 1
+  operations (typed.otherwise operand other) = operations operand + operations other + 1
+  -- the body stands between the loop's Enter and its Step
+  operations (typed.predicate predicate list body) = operations list + 1 + operations body + 1
+
+  pub operations_of_items : Typeds → ℕ
+  operations_of_items typed.none = 0
+  operations_of_items (typed.more first others) = operations first + operations_of_items others
+
+-- of a condition, whose code ends in Return
+abbrev pub length_of : Typed → ℕ
+length_of condition = operations condition + 1

@@ -1,0 +1,5 @@
+pub mod Length
+pub mod Compiled
+pub mod Ends
+pub mod Limits
+pub mod Private

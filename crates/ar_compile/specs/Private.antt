@@ -1,0 +1,5 @@
+-- Definitions of private contracts and of proofs alone, which follow the code: a reader need not believe them.
+pub mod Drafts
+pub mod Kinded
+pub mod Standing
+pub mod Trees

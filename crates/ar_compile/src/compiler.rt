@@ -1,0 +1,349 @@
+//! Compiling a typed tree, operands in order.
+
+ghost use Rattle.std.specs.Prelude.{◌≡◌, ◌+◌, ◌<◌, ◌≤◌, Err, IfOk, None, Ok, OnOk, length, true};
+ghost use Rattle.ar_value.specs.Fits.{fits};
+ghost use Rattle.ar_value.specs.Shape.{Shape};
+ghost use Rattle.ar_value.specs.Value.{Value};
+ghost use Rattle.ar_condition.specs.Expression.{Expression};
+ghost use Rattle.ar_condition.specs.Meaning.{answer_of, mean};
+ghost use Rattle.ar_condition.specs.Typed as typed;
+ghost use Rattle.ar_condition.specs.Views.{typed_view};
+ghost use Rattle.ar_check.specs.Check.{checked};
+ghost use Rattle.ar_code.specs.Code.{most_entries};
+ghost use Rattle.ar_code.specs.declared.op.Op.TheVariants.{MakeList};
+ghost use Rattle.ar_compile.specs.Compiled.{arithmetic_op, compared_of, compiled, decimal_op, how_many, negative_op};
+ghost use Rattle.ar_compile.specs.Ends.{EndsWith};
+ghost use Rattle.ar_compile.specs.Length.{length_of, operations, operations_of_items};
+ghost use Rattle.ar_compile.specs.Limits.{AllInLimits, InLimits, IsShort};
+ghost use Rattle.ar_compile.specs.declared.error.CompileError.TheVariants.{TooManyOps};
+ghost use Rattle.ar_compile.specs.Private.Drafts.{drafted, drafted_items, place_of, with_field, with_literal, with_op};
+ghost use Rattle.ar_compile.specs.Private.Trees.{items_view};
+
+use crate::draft::{Draft, MOST_OPS};
+use crate::error::CompileError;
+use crate::length::room_after;
+use ar_code::op::{Compared, DecimalArithmetic};
+use ar_code::{Code, Op};
+use ar_condition::Typed;
+use ar_condition::tree::Literal;
+use ar_value::operator::{Arithmetic, Numbers, Predicate, Scalar};
+use std::alloc::{AllocError, Global};
+
+fn decimal_op(operator: Arithmetic) -> Op
+    ensures { result ≡ decimal_op operator }
+{
+    match operator {
+        Arithmetic::Add => Op::Decimals(DecimalArithmetic::Add),
+        Arithmetic::Subtract => Op::Decimals(DecimalArithmetic::Subtract),
+        Arithmetic::Multiply => Op::Decimals(DecimalArithmetic::Multiply),
+        Arithmetic::Divide => Op::Decimals(DecimalArithmetic::Divide),
+        // No checked condition has one.
+        Arithmetic::Remainder => Op::Wholes(Arithmetic::Remainder),
+    }
+}
+
+fn arithmetic_op(numbers: Numbers, operator: Arithmetic) -> Op
+    ensures { result ≡ arithmetic_op numbers operator }
+{
+    match numbers {
+        Numbers::Wholes => Op::Wholes(operator),
+        Numbers::Decimals => decimal_op(operator),
+    }
+}
+
+fn negative_op(numbers: Numbers) -> Op
+    ensures { result ≡ negative_op numbers }
+{
+    match numbers {
+        Numbers::Wholes => Op::NegW,
+        Numbers::Decimals => Op::NegD,
+    }
+}
+
+/// Two wholes and two decimals each have comparisons of their own.
+fn compared_of(of: Numbers, beside: Numbers) -> Compared
+    ensures { result ≡ compared_of of beside }
+{
+    match (of, beside) {
+        (Numbers::Wholes, Numbers::Wholes) => Compared::Wholes,
+        (Numbers::Decimals, Numbers::Decimals) => Compared::Decimals,
+        (Numbers::Wholes, Numbers::Decimals) | (Numbers::Decimals, Numbers::Wholes) => {
+            Compared::Mixed
+        }
+    }
+}
+
+fn put_literal(alloc: Global, draft: &mut Draft, literal: &Literal) -> Result<(), AllocError>
+    requires { place_of draft.old ≤ 4096 }
+    ensures { OnOk result (draft.new ≡ with_literal literal.now draft.old) }
+{
+    match literal {
+        Literal::Nil => draft.push(Op::PushNil),
+        Literal::Bool(truth) => draft.push(Op::PushBool(*truth)),
+        Literal::Whole(value) => draft.push(Op::PushWhole(*value)),
+        Literal::Decimal(decimal) => draft.push(Op::PushDecimal(decimal.millionths())),
+        Literal::Text(text) => draft.push_text(alloc, text.as_str()),
+    }
+}
+
+/// The code of a tree, behind what is there.
+#[cycle(compiler)]
+pub(crate) fn put(alloc: Global, draft: &mut Draft, tree: &Typed) -> Result<(), AllocError>
+    requires { (InLimits (typed_view tree.now)) × (place_of draft.old + operations (typed_view tree.now) ≤ 4096) }
+    ensures { OnOk result (draft.new ≡ drafted (typed_view tree.now) draft.old) }
+{
+    match tree {
+        Typed::Result => draft.push(Op::LoadResult),
+        Typed::Item => draft.push(Op::Item),
+        Typed::Literal(literal) => put_literal(alloc, draft, literal),
+        Typed::Field { owner, name } => put_field(alloc, draft, owner, name.as_str()),
+        Typed::Plain(operand) => put_one(alloc, draft, operand, Op::Need),
+        Typed::AsDecimal(operand) => put_one(alloc, draft, operand, Op::ToDecimal),
+        Typed::Negative { numbers, operand } => {
+            put_one(alloc, draft, operand, negative_op(*numbers))
+        }
+        Typed::Not(operand) => put_one(alloc, draft, operand, Op::Not),
+        Typed::Len(list) => put_one(alloc, draft, list, Op::Len),
+        Typed::IsNil(operand) => put_one(alloc, draft, operand, Op::IsNil),
+        Typed::Index { list, index } => put_two(alloc, draft, list, index, Op::Index),
+        Typed::Arithmetic {
+            numbers,
+            operator,
+            left,
+            right,
+        } => put_two(
+            alloc,
+            draft,
+            left,
+            right,
+            arithmetic_op(*numbers, *operator),
+        ),
+        Typed::Ordered {
+            of,
+            beside,
+            order,
+            left,
+            right,
+        } => {
+            let compare = Op::Compare(compared_of(*of, *beside), *order);
+            put_two(alloc, draft, left, right, compare)
+        }
+        Typed::Equal {
+            family,
+            left,
+            right,
+        } => put_two(alloc, draft, left, right, Op::Equal(*family)),
+        Typed::Within { operand, list } => put_two(alloc, draft, operand, list, Op::IsIn),
+        Typed::Default { operand, otherwise } => {
+            put_two(alloc, draft, operand, otherwise, Op::Default)
+        }
+        Typed::And { left, right } => put_and(alloc, draft, left, right),
+        Typed::Or { left, right } => put_or(alloc, draft, left, right),
+        Typed::Choice { condition, yes, no } => put_choice(alloc, draft, condition, yes, no),
+        Typed::List { scalar, items } => put_list(alloc, draft, *scalar, &items.items),
+        Typed::Predicate {
+            predicate,
+            list,
+            body,
+        } => put_loop(alloc, draft, *predicate, list, body),
+    }
+}
+
+/// A record, and the operation that takes its field.
+#[cycle(compiler)]
+#[tactic(auto, using(crate::proofs::Drafts::drafted_length))]
+fn put_field(alloc: Global, draft: &mut Draft, owner: &Typed, name: &str) -> Result<(), AllocError>
+    requires { (InLimits (typed_view owner.now)) × (place_of draft.old + operations (typed_view owner.now) ≤ 4096) }
+    ensures { OnOk result (draft.new ≡ with_field name.now (drafted (typed_view owner.now) draft.old)) }
+{
+    put(alloc, draft, owner)?;
+    draft.push_field(alloc, name)
+}
+
+/// An operand, and the operation on it.
+#[cycle(compiler)]
+fn put_one(alloc: Global, draft: &mut Draft, operand: &Typed, op: Op) -> Result<(), AllocError>
+    requires { (InLimits (typed_view operand.now)) × (place_of draft.old + operations (typed_view operand.now) ≤ 4096) }
+    ensures { OnOk result (draft.new ≡ with_op op (drafted (typed_view operand.now) draft.old)) }
+{
+    put(alloc, draft, operand)?;
+    draft.push(op)
+}
+
+/// Two operands, the left one first, and the operation on both.
+#[cycle(compiler)]
+#[tactic(auto, using(crate::proofs::Drafts::drafted_length))]
+fn put_two(
+    alloc: Global,
+    draft: &mut Draft,
+    left: &Typed,
+    right: &Typed,
+    op: Op,
+) -> Result<(), AllocError>
+    requires { (InLimits (typed_view left.now)) × (InLimits (typed_view right.now))
+        × (place_of draft.old + operations (typed_view left.now) + operations (typed_view right.now) ≤ 4096) }
+    ensures { OnOk result (draft.new ≡ with_op op (drafted (typed_view right.now) (drafted (typed_view left.now) draft.old))) }
+{
+    put(alloc, draft, left)?;
+    put(alloc, draft, right)?;
+    draft.push(op)
+}
+
+/// The right side is jumped over where the left one is false.
+#[cycle(compiler)]
+#[tactic(auto, using(crate::proofs::Drafts::drafted_length, crate::proofs::Drafts::one_place_more))]
+fn put_and(alloc: Global, draft: &mut Draft, left: &Typed, right: &Typed) -> Result<(), AllocError>
+    requires { (InLimits (typed_view left.now)) × (InLimits (typed_view right.now))
+        × (place_of draft.old + operations (typed_view left.now) + 1 + operations (typed_view right.now) ≤ 4096) }
+    ensures { OnOk result (draft.new ≡ drafted (typed.both (typed_view left.now) (typed_view right.now)) draft.old) }
+{
+    put(alloc, draft, left)?;
+    let jump = draft.place();
+    draft.push(Op::AndJump(0))?;
+    put(alloc, draft, right)?;
+    let end = draft.place();
+    draft.set(jump, Op::AndJump(end as u32));
+    Ok(())
+}
+
+/// The right side is jumped over where the left one is true.
+#[cycle(compiler)]
+#[tactic(auto, using(crate::proofs::Drafts::drafted_length, crate::proofs::Drafts::one_place_more))]
+fn put_or(alloc: Global, draft: &mut Draft, left: &Typed, right: &Typed) -> Result<(), AllocError>
+    requires { (InLimits (typed_view left.now)) × (InLimits (typed_view right.now))
+        × (place_of draft.old + operations (typed_view left.now) + 1 + operations (typed_view right.now) ≤ 4096) }
+    ensures { OnOk result (draft.new ≡ drafted (typed.either (typed_view left.now) (typed_view right.now)) draft.old) }
+{
+    put(alloc, draft, left)?;
+    let jump = draft.place();
+    draft.push(Op::OrJump(0))?;
+    put(alloc, draft, right)?;
+    let end = draft.place();
+    draft.set(jump, Op::OrJump(end as u32));
+    Ok(())
+}
+
+/// One of two branches.
+#[cycle(compiler)]
+#[tactic(auto, using(crate::proofs::Drafts::drafted_length, crate::proofs::Drafts::one_place_more, crate::proofs::Drafts::same_place))]
+fn put_choice(
+    alloc: Global,
+    draft: &mut Draft,
+    condition: &Typed,
+    met: &Typed,
+    unmet: &Typed,
+) -> Result<(), AllocError>
+    requires { (InLimits (typed_view condition.now)) × (InLimits (typed_view met.now)) × (InLimits (typed_view unmet.now))
+        × (place_of draft.old + operations (typed.choice (typed_view condition.now) (typed_view met.now) (typed_view unmet.now)) ≤ 4096) }
+    ensures { OnOk result (draft.new
+        ≡ drafted (typed.choice (typed_view condition.now) (typed_view met.now) (typed_view unmet.now)) draft.old) }
+{
+    put(alloc, draft, condition)?;
+    let branch = draft.place();
+    draft.push(Op::BranchFalse(0))?;
+    put(alloc, draft, met)?;
+    let jump = draft.place();
+    draft.push(Op::Jump(0))?;
+    let behind_met = draft.place();
+    draft.set(branch, Op::BranchFalse(behind_met as u32));
+    put(alloc, draft, unmet)?;
+    let end = draft.place();
+    draft.set(jump, Op::Jump(end as u32));
+    Ok(())
+}
+
+/// The items of a list literal, at most 16, and the list of them.
+#[cycle(compiler)]
+#[tactic(auto, using(crate::proofs::Sequences::as_many))]
+fn put_list(
+    alloc: Global,
+    draft: &mut Draft,
+    scalar: Scalar,
+    items: &[Typed],
+) -> Result<(), AllocError>
+    requires { (AllInLimits (items_view items.now)) × (how_many (items_view items.now) ≤ 16)
+        × (place_of draft.old + operations_of_items (items_view items.now) ≤ 4096) }
+    ensures { OnOk result (draft.new
+        ≡ with_op (MakeList scalar (how_many (items_view items.now))) (drafted_items (items_view items.now) draft.old)) }
+{
+    put_items(alloc, draft, items)?;
+    let count = items.len() as u8;
+    draft.push(Op::MakeList { scalar, count })
+}
+
+#[cycle(compiler)]
+#[tactic(auto, using(crate::proofs::Sequences::next_operations, crate::proofs::Sequences::no_operations, crate::proofs::Sequences::next_limits, crate::proofs::Sequences::next_drafted, crate::proofs::Sequences::none_drafted, crate::proofs::Drafts::drafted_length))]
+fn put_items(alloc: Global, draft: &mut Draft, items: &[Typed]) -> Result<(), AllocError>
+    requires { (AllInLimits (items_view items.now)) × (place_of draft.old + operations_of_items (items_view items.now) ≤ 4096) }
+    ensures { OnOk result (draft.new ≡ drafted_items (items_view items.now) draft.old) }
+{
+    for item in items {
+        put(alloc, draft, item)?;
+    }
+    Ok(())
+}
+
+/// A loop over a list.
+#[cycle(compiler)]
+#[tactic(auto, using(crate::proofs::Drafts::drafted_length, crate::proofs::Drafts::one_place_more))]
+fn put_loop(
+    alloc: Global,
+    draft: &mut Draft,
+    predicate: Predicate,
+    list: &Typed,
+    body: &Typed,
+) -> Result<(), AllocError>
+    requires { (InLimits (typed_view list.now)) × (InLimits (typed_view body.now))
+        × (place_of draft.old + operations (typed_view list.now) + 1 + operations (typed_view body.now) + 1 ≤ 4096) }
+    ensures { OnOk result (draft.new ≡ drafted (typed.predicate predicate (typed_view list.now) (typed_view body.now)) draft.old) }
+{
+    put(alloc, draft, list)?;
+    let enter = draft.place();
+    draft.push(Op::Enter(predicate, 0))?;
+    put(alloc, draft, body)?;
+    let step = draft.place();
+    draft.set(enter, Op::Enter(predicate, step as u32));
+    draft.push(Op::Step(predicate, enter as u32))
+}
+
+/// The code of a condition that was checked.
+///
+/// # Errors
+///
+/// `TooManyOps` where the code would have more than 4,096 operations.
+#[tactic(auto, using(crate::proofs::Conditions::compiled_means, crate::proofs::Drafts::whole_is, crate::proofs::Lawful::compiled_is_code, crate::proofs::Lawful::compiled_length))]
+pub fn compile(alloc: Global, condition: &Typed) -> Result<Code, CompileError>
+    // Its list literals have at most 16 items, its texts and names at most 4,096 bytes.
+    requires { InLimits (typed_view condition.now) }
+
+    // This code.
+    ensures exact { IfOk result (λ code. code ≡ compiled (typed_view condition.now)) }
+
+    // As many operations as the length says.
+    ensures length { IfOk result (λ code. length code.ops ≡ length_of (typed_view condition.now)) }
+
+    // On each value of the shape that the condition was checked for, the machine ends with what the condition means.
+    ensures means { IfOk result (λ code. (shape : Shape) (tree : Expression) (value : Value)
+        → checked shape tree ≡ Ok (typed_view condition.now) → fits value shape ≡ true
+        → EndsWith code value (answer_of (mean value None (typed_view condition.now)))) }
+
+    // Too many operations, or want of memory, which is answered nowhere else.
+    ensures refused { result ≡ Err TooManyOps → most_entries < length_of (typed_view condition.now) }
+    ensures too_many { most_entries < length_of (typed_view condition.now) → result ≡ Err TooManyOps }
+{
+    if room_after(MOST_OPS - 1, condition).is_none() {
+        return Err(CompileError::TooManyOps);
+    }
+    Ok(code_of(alloc, condition)?)
+}
+
+#[tactic(auto, using(crate::proofs::Drafts::whole_is, crate::proofs::Lawful::compiled_is_code))]
+fn code_of(alloc: Global, condition: &Typed) -> Result<Code, AllocError>
+    requires { (InLimits (typed_view condition.now)) × (length_of (typed_view condition.now) ≤ 4096) }
+    ensures { IfOk result (λ code. code ≡ compiled (typed_view condition.now)) }
+{
+    let mut draft = Draft::new(alloc);
+    put(alloc, &mut draft, condition)?;
+    draft.push(Op::Return)?;
+    Ok(draft.into_code())
+}

@@ -1,0 +1,79 @@
+//! Whether a typed tree fits into code.
+
+ghost use Rattle.std.specs.Prelude.{◌≤◌};
+ghost use Rattle.std.specs.Bool.{Decides};
+ghost use Rattle.ar_code.specs.Code.{most_items};
+ghost use Rattle.ar_compile.specs.Compiled.{how_many};
+ghost use Rattle.ar_condition.specs.Views.{typed_view};
+ghost use Rattle.ar_compile.specs.Limits.{AllInLimits, InLimits, IsShort};
+ghost use Rattle.ar_compile.specs.Private.Trees.{items_view};
+
+use ar_condition::Typed;
+use ar_condition::tree::Literal;
+
+/// The most items of a list literal.
+const MOST_ITEMS: usize = 16;
+
+/// The most bytes of a text or name.
+const MOST_BYTES: usize = 4096;
+
+fn is_short(literal: &Literal) -> bool
+    ensures { Decides result (IsShort literal.now) }
+{
+    match literal {
+        Literal::Text(text) => text.as_str().len() <= MOST_BYTES,
+        Literal::Nil | Literal::Bool(_) | Literal::Whole(_) | Literal::Decimal(_) => true,
+    }
+}
+
+/// Whether list literals have at most 16 items, and texts and names at most 4,096 bytes.
+#[cycle(limits)]
+pub fn in_limits(tree: &Typed) -> bool
+    ensures { Decides result (InLimits (typed_view tree.now)) }
+{
+    match tree {
+        Typed::Result | Typed::Item => true,
+        Typed::Literal(literal) => is_short(literal),
+        Typed::Field { owner, name } => in_limits(owner) && name.as_str().len() <= MOST_BYTES,
+        Typed::Plain(operand)
+        | Typed::AsDecimal(operand)
+        | Typed::Not(operand)
+        | Typed::IsNil(operand) => in_limits(operand),
+        Typed::Negative { operand, .. } => in_limits(operand),
+        Typed::Len(list) => in_limits(list),
+        Typed::Index { list, index } => in_limits(list) && in_limits(index),
+        Typed::Arithmetic { left, right, .. }
+        | Typed::Ordered { left, right, .. }
+        | Typed::Equal { left, right, .. } => in_limits(left) && in_limits(right),
+        Typed::And { left, right } | Typed::Or { left, right } => {
+            in_limits(left) && in_limits(right)
+        }
+        Typed::Within { operand, list } => in_limits(operand) && in_limits(list),
+        Typed::Default { operand, otherwise } => in_limits(operand) && in_limits(otherwise),
+        Typed::Choice { condition, yes, no } => {
+            in_limits(condition) && in_limits(yes) && in_limits(no)
+        }
+        Typed::List { items, .. } => { all_in_limits(&items.items) && is_few(&items.items) }
+        Typed::Predicate { list, body, .. } => in_limits(list) && in_limits(body),
+    }
+}
+
+#[tactic(auto, using(crate::proofs::Sequences::as_many))]
+fn is_few(items: &[Typed]) -> bool
+    ensures { Decides result (how_many (items_view items.now) ≤ most_items) }
+{
+    items.len() <= MOST_ITEMS
+}
+
+#[cycle(limits)]
+#[tactic(auto, using(crate::proofs::Sequences::all_agree, crate::proofs::Sequences::others_agree, crate::proofs::Sequences::one_is_outside, crate::proofs::Sequences::all_are_inside))]
+fn all_in_limits(items: &[Typed]) -> bool
+    ensures { Decides result (AllInLimits (items_view items.now)) }
+{
+    for item in items {
+        if !in_limits(item) {
+            return false;
+        }
+    }
+    true
+}

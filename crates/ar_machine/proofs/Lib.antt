@@ -1,0 +1,8 @@
+pub mod Entries
+pub mod Items
+pub mod Stacks
+pub mod Made
+pub mod Ahead
+pub mod Simulation
+pub mod Reached
+pub mod Ends

@@ -1,0 +1,15 @@
+//! Tests of the public calls of `ar_code`, `ar_compile` and `ar_machine`, which stand above them so that
+//! each library is proved once. They show what no contract says: that calls succeed with ample memory,
+//! and worked rows whose expected values were worked out by hand.
+//!
+//! - `code`: images and listings of code
+//! - `compiled`: conditions that are compiled and run, with what they come to and cost
+//! - `runs`: how runs end
+#![tactic(auto)]
+
+#[cfg(test)]
+mod code;
+#[cfg(test)]
+mod compiled;
+#[cfg(test)]
+mod runs;
