@@ -6,7 +6,7 @@ use Rattle.ar_value.specs.Answer.{◌>>=◌}
 use Rattle.ar_value.specs.Kind.{Kind, nil, shaped, common, plain}
 use Rattle.ar_value.specs.Shape.{Shape, FieldShapes}
 use Rattle.ar_value.specs.Shape as shapes
-use Rattle.ar_condition.specs.Expression.{Expression, Expressions}
+use Rattle.ar_condition.specs.Expression.{Expression, Expressions, count}
 use Rattle.ar_condition.specs.Expression as trees
 use Rattle.ar_condition.specs.declared.tree.Comparison.TheVariants as comparisons
 use Rattle.ar_condition.specs.declared.tree.Binary.{Binary}
@@ -21,7 +21,7 @@ use Rattle.ar_value.specs.Shape.{shape_named}
 use Rattle.ar_check.specs.Operand.{Operand, operand, is_truth, made_plain, plain_of, scalar}
 use Rattle.ar_condition.specs.Typed.{Typed}
 use Rattle.ar_condition.specs.Typed as typed
-use Rattle.ar_check.specs.Typing.{DefaultKind, HasKind, HaveInCommon, InCommon, IsEquality, IsScalar, Operates, OperatesOnOne, PredicateKind, count}
+use Rattle.ar_check.specs.Typing.{DefaultKind, HasKind, HaveInCommon, InCommon, IsEquality, IsScalar, Operates, OperatesOnOne, PredicateKind}
 use Rattle.ar_check.specs.Typing as typing
 use Rattle.ar_check.specs.declared.error.TypeError.TheVariants.{PredicatesTooDeep}
 use Rattle.ar_check.proofs.Tables.{IsTyped, bind_typed, field_is, from_bind, given_kind, into_bind, items_are, list_within, record_within, same_kind, then_typed, truth_is, truth_within, wanted_kind, wanted_typed, whole_is, whole_within}

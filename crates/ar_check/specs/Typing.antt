@@ -3,7 +3,7 @@
 use Rattle.std.specs.Prelude.{◌≡◌, ◌<◌, ℕ, suc, List, Option, Some, None}
 use Rattle.ar_value.specs.Kind.{Kind, nil, shaped, common, plain}
 use Rattle.ar_value.specs.Shape.{Shape, FieldShapes, bool, whole, decimal, text, list, object, shape_named}
-use Rattle.ar_condition.specs.Expression.{Expression, Expressions, none, more, ResultAt, ItemAt, LiteralAt, FieldAt, IndexAt, UnaryAt, BinaryAt, ChoiceAt, ListAt, LenAt, IsNilAt, DefaultAt, PredicateAt}
+use Rattle.ar_condition.specs.Expression.{Expression, Expressions, none, more, ResultAt, ItemAt, LiteralAt, FieldAt, IndexAt, UnaryAt, BinaryAt, ChoiceAt, ListAt, LenAt, IsNilAt, DefaultAt, PredicateAt, count}
 use Rattle.ar_condition.specs.declared.tree.Comparison.TheVariants as comparisons
 use Rattle.ar_condition.specs.declared.tree.Binary.{Binary}
 use Rattle.ar_condition.specs.declared.tree.Binary.TheVariants as binaries
@@ -84,11 +84,6 @@ pub data PredicateKind : Predicate → Shape → Shape → Type 0 where
 pub data DefaultKind : Kind → Kind → Kind → Type 0 where
   of_nil : {other : Kind} → DefaultKind nil other other
   of_shape : {shape : Shape} {other both : Kind} → common (shaped (plain shape)) other ≡ Some both → DefaultKind (shaped shape) other both
-
--- how many items there are
-abbrev pub count : Expressions → ℕ
-count none = 0
-count (more first others) = suc (count others)
 
 -- ---- conditions
 

@@ -55,7 +55,8 @@ pub(crate) fn arithmetic(
     left: Box<Typed>,
     right: Box<Typed>,
 ) -> Result<Box<Typed>, AllocError>
-    ensures { IfOk result (λ tree. typed_view tree.value ≡ typed.arithmetic numbers operator (typed_view left.value) (typed_view right.value)) }
+    ensures { IfOk result (λ tree. typed_view tree.value
+        ≡ typed.arithmetic numbers operator (typed_view left.value) (typed_view right.value)) }
 {
     Ok(Box::new(
         alloc,
@@ -75,7 +76,8 @@ pub(crate) fn ordered(
     left: Box<Typed>,
     right: Box<Typed>,
 ) -> Result<Box<Typed>, AllocError>
-    ensures { IfOk result (λ tree. typed_view tree.value ≡ typed.ordered sides.0 sides.1 order (typed_view left.value) (typed_view right.value)) }
+    ensures { IfOk result (λ tree. typed_view tree.value
+        ≡ typed.ordered sides.0 sides.1 order (typed_view left.value) (typed_view right.value)) }
 {
     let (of, beside) = sides;
     Ok(Box::new(
@@ -150,7 +152,8 @@ pub(crate) fn choice(
     yes: Box<Typed>,
     no: Box<Typed>,
 ) -> Result<Box<Typed>, AllocError>
-    ensures { IfOk result (λ tree. typed_view tree.value ≡ typed.choice (typed_view condition.value) (typed_view yes.value) (typed_view no.value)) }
+    ensures { IfOk result (λ tree. typed_view tree.value
+        ≡ typed.choice (typed_view condition.value) (typed_view yes.value) (typed_view no.value)) }
 {
     Ok(Box::new(alloc, Typed::Choice { condition, yes, no })?)
 }

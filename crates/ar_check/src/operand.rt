@@ -132,7 +132,8 @@ pub(crate) fn is_truth(operand: &Operand<'_>) -> bool
 }
 
 fn field_in<'a>(at: usize, name: &str, shape: &'a Shape) -> Result<&'a Shape, TypeError>
-    ensures { Gives (λ _. false) (λ found. shape_view found.now) result (field_shape at name.now (plain_of (shaped (shape_view shape.now)))) }
+    ensures { Gives (λ _. false) (λ found. shape_view found.now) result
+        (field_shape at name.now (plain_of (shaped (shape_view shape.now)))) }
 {
     match kind::plain(shape) {
         Shape::Object(fields) => match fields.get(name) {

@@ -1,7 +1,7 @@
 -- What was drafted is the code of the tree, behind what was there.
 use Rattle.std.proofs.Common.{◌≡◌, ℕ, ◌+◌, List, [], ◌∷◌, ◌++◌, length, set, refl, sym, ap, ◌∙◌, append_assoc, arith}
 use Rattle.std.proofs.lemmas.List.{append-nil, length-append, length-set}
-use Rattle.ar_condition.specs.Typed.{Typed, Typeds}
+use Rattle.ar_condition.specs.Typed.{Typed, Typeds, how_many}
 use Rattle.ar_condition.specs.Typed as typed
 use Rattle.ar_condition.specs.declared.tree.Literal.{Literal}
 use Rattle.ar_condition.specs.declared.tree.Literal.TheVariants as literals
@@ -9,7 +9,7 @@ use Rattle.ar_value.specs.declared.operator.Predicate.{Predicate}
 use Rattle.ar_code.specs.Code.{Code, code_of_parts}
 use Rattle.ar_code.specs.declared.op.Op.{Op}
 use Rattle.ar_code.specs.declared.op.Op.TheVariants.{MakeList, Field, Index, Len, Need, IsNil, Default, ToDecimal, IsIn, Not, Compare, Equal, AndJump, OrJump, BranchFalse, Jump, Enter, Step, Return}
-use Rattle.ar_compile.specs.Compiled.{Tables, arithmetic_op, code_at, compared_of, compiled, how_many, items_at, literal_op, literal_tables, negative_op, number_of, tables_with, tables_with_items, with_text}
+use Rattle.ar_compile.specs.Compiled.{Tables, arithmetic_op, code_at, compared_of, compiled, items_at, literal_op, literal_tables, negative_op, number_of, tables_with, tables_with_items, with_text}
 use Rattle.ar_compile.specs.Length.{operations}
 use Rattle.ar_compile.specs.Private.Drafts.{branches, drafted, drafted_items, enters, no_code, place_of, with_field, with_literal, with_loop, with_op, with_set}
 use Rattle.ar_compile.proofs.Standing.{around_length, length_is, one_length}

@@ -23,7 +23,7 @@ use Rattle.ar_condition.specs.declared.tree.Comparison.{Comparison}
 use Rattle.ar_condition.specs.declared.tree.Comparison.TheVariants as comparisons
 use Rattle.ar_condition.specs.declared.tree.Unary.{Unary}
 use Rattle.ar_condition.specs.declared.tree.Unary.TheVariants as unaries
-use Rattle.ar_condition.specs.Typed.{Typed, Typeds, typeds}
+use Rattle.ar_condition.specs.Typed.{Typed, Typeds, typeds, how_many}
 use Rattle.ar_condition.specs.Typed as typed
 use Rattle.ar_check.specs.Basics.{most_predicates}
 use Rattle.ar_check.specs.Check.{Answer, Item, arithmetic_kind, arithmetic_on, binary_of, body_of, calculation_of, checked, choice_in, choice_of, common_of, comparison_of, condition_of, default_kind, default_of, entered, equal_of, equality_of, field_of, field_shape, found_field, given, in_common, in_of, index_of, innermost as innermost_of, is_nil_literal, is_whole_number, item_of, item_shape, items_typed, len_of, list_in_common, list_of, member_of, negated, negation_of, no_scalar, number_kind, ordered_of, ordering_of, over_items, plain_kind, plus_of, predicate_kind, predicate_of, same_family, scalar_shape, takes, truth_kind, turned_item, typed_of, unary_of, where_wanted, widened}
@@ -32,7 +32,6 @@ use Rattle.ar_check.specs.declared.error.TypeError.TheVariants.{NotTruth, Predic
 use Rattle.ar_check.proofs.Lists.{all_suit, common_suits, suits}
 use Rattle.ar_check.proofs.Means.{answers, both_hold}
 use Rattle.ar_check.proofs.Parts.{ListOf, is_list}
-use Rattle.ar_compile.specs.Compiled.{how_many}
 use Rattle.ar_compile.specs.Private.Kinded.{Kinded, AllKinded, TurnsInto, family_of, whole_turns, optional_turns, measured, innermost, literally, of_field, of_index, of_sign, of_arithmetic, of_order, of_equality, of_membership, of_opposite, of_both, of_either, of_choice, of_list, of_len, of_nil_test, of_nil_default, of_default, of_predicate, none, one_more}
 use Rattle.ar_compile.specs.Private.Kinded as kinded
 

@@ -4,7 +4,7 @@ use Rattle.std.specs.List.{AllByRecursion}
 use Rattle.std.specs.Str.{bytes_eq}
 use Rattle.std.proofs.lemmas.List.{length-append}
 use Rattle.std.proofs.lemmas.List.Elements.{All-from_recursion}
-use Rattle.ar_condition.specs.Typed.{Typed, Typeds}
+use Rattle.ar_condition.specs.Typed.{Typed, Typeds, how_many}
 use Rattle.ar_condition.specs.Typed as typed
 use Rattle.ar_condition.specs.declared.tree.Literal.{Literal}
 use Rattle.ar_condition.specs.declared.tree.Literal.TheVariants as literals
@@ -16,9 +16,9 @@ use Rattle.ar_code.specs.Code.{Inside, IsCode, IsEntry, most_entries}
 use Rattle.ar_code.specs.Machine.{nth}
 use Rattle.ar_code.specs.declared.op.Op.{Op}
 use Rattle.ar_code.specs.declared.op.Op.TheVariants.{MakeList, Field, Index, Len, Need, IsNil, Default, ToDecimal, IsIn, Not, Compare, Equal, AndJump, OrJump, BranchFalse, Jump, Enter, Step, Return}
-use Rattle.ar_compile.specs.Compiled.{Tables, arithmetic_op, code_at, compared_of, compiled, how_many, items_at, literal_op, literal_tables, negative_op, no_tables, number_of, tables_with, tables_with_items, with_text}
+use Rattle.ar_compile.specs.Compiled.{Tables, arithmetic_op, code_at, compared_of, compiled, items_at, literal_op, literal_tables, negative_op, no_tables, number_of, tables_with, tables_with_items, with_text}
 use Rattle.ar_compile.specs.Length.{length_of, operations, operations_of_items}
-use Rattle.ar_compile.specs.Limits.{AllInLimits, InLimits, IsShort}
+use Rattle.ar_condition.specs.Limits.{AllInLimits, InLimits, IsShortLiteral}
 use Rattle.ar_compile.proofs.Standing.{GrowTables, is_there, items_grow, length_is, one_text_grows, tables_grow, then_grow}
 
 all_behind : {A : Type 0} (P : A → Type 0) (xs ys : List A) → AllByRecursion P xs → AllByRecursion P ys → AllByRecursion P (xs ++ ys)
@@ -69,7 +69,7 @@ all_short : (text : List ℕ) (texts : List (List ℕ)) → IsEntry text → All
 all_short text [] short h = (short, tt)
 all_short text (first ∷ others) short h = (h.0, short_by (bytes_eq first text) text others h.1 (all_short text others short h.1))
 
-literal_little : (literal : Literal) (tables : Tables) → IsShort literal → Little tables (literal_tables literal tables) 1
+literal_little : (literal : Literal) (tables : Tables) → IsShortLiteral literal → Little tables (literal_tables literal tables) 1
 literal_little literals.Nil tables short = no_growth tables 1
 literal_little (literals.Bool truth) tables short = no_growth tables 1
 literal_little (literals.Whole value) tables short = no_growth tables 1

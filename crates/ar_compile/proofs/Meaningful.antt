@@ -11,7 +11,7 @@ use Rattle.ar_value.specs.Value.{Value, count}
 use Rattle.ar_value.specs.Value as values
 use Rattle.ar_value.specs.declared.operator.Scalar.{Scalar}
 use Rattle.ar_condition.specs.Meaning.{items_mean, mean}
-use Rattle.ar_condition.specs.Typed.{Typed, Typeds}
+use Rattle.ar_condition.specs.Typed.{Typed, Typeds, how_many}
 use Rattle.ar_condition.specs.Typed as typed
 use Rattle.ar_check.specs.Check.{number_kind, scalar_shape, truth_kind}
 use Rattle.ar_check.proofs.Branches.{UnlessNil, choice_means, left_fits, means_more, otherwise_means, right_fits, unless_nil}
@@ -22,7 +22,6 @@ use Rattle.ar_check.proofs.Operands.{literal_sound, not_nil_fits, there_fits}
 use Rattle.ar_check.proofs.Parts.{field_means, index_means, len_means, member_means}
 use Rattle.ar_check.proofs.Predicates.{predicate_means}
 use Rattle.ar_check.proofs.Sums.{arithmetic_means, negates, orders, turns}
-use Rattle.ar_compile.specs.Compiled.{how_many}
 use Rattle.ar_compile.specs.Private.Kinded.{Kinded, AllKinded, TurnsInto, whole_turns, optional_turns, measured, innermost, literally, of_field, of_index, made_plain, made_decimal, of_sign, of_arithmetic, of_order, of_equality, of_membership, of_opposite, of_both, of_either, of_choice, of_list, of_len, of_nil_test, of_nil_default, of_default, of_predicate, none, one_more}
 
 -- ---- decimals

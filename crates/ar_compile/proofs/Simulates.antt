@@ -14,7 +14,7 @@ use Rattle.ar_value.specs.declared.fault.Fault.{Fault}
 use Rattle.ar_value.specs.declared.operator.Predicate.{Predicate}
 use Rattle.ar_value.specs.declared.operator.Scalar.{Scalar}
 use Rattle.ar_condition.specs.Meaning.{items_mean, mean, over}
-use Rattle.ar_condition.specs.Typed.{Typed, Typeds}
+use Rattle.ar_condition.specs.Typed.{Typed, Typeds, how_many}
 use Rattle.ar_condition.specs.Typed as typed
 use Rattle.ar_condition.specs.declared.tree.Literal.{Literal}
 use Rattle.ar_condition.specs.declared.tree.Literal.TheVariants as literals
@@ -24,7 +24,7 @@ use Rattle.ar_check.proofs.Operands.{on_list}
 use Rattle.ar_code.specs.Code.{Code}
 use Rattle.ar_code.specs.Machine.{Loop, floor, here}
 use Rattle.ar_code.specs.declared.op.Op.TheVariants.{PushBool, PushWhole, PushDecimal, PushText, PushNil, MakeList, LoadResult, Item, Field, Index, Len, Need, IsNil, Default, ToDecimal, IsIn, Not, Compare, Equal, Enter, Step}
-use Rattle.ar_compile.specs.Compiled.{arithmetic_op, compared_of, how_many, negative_op}
+use Rattle.ar_compile.specs.Compiled.{arithmetic_op, compared_of, negative_op}
 use Rattle.ar_compile.specs.Length.{operations, operations_of_items}
 use Rattle.ar_compile.specs.Private.Kinded.{Kinded, AllKinded, of_field, of_index, made_plain, made_decimal, of_sign, of_arithmetic, of_order, of_equality, of_membership, of_opposite, of_both, of_either, of_choice, of_list, of_len, of_nil_test, of_nil_default, of_default, of_predicate, one_more}
 use Rattle.ar_compile.specs.Private.Standing.{At, StandItems, Stands, StandsLiteral}

@@ -3,7 +3,7 @@ use Rattle.std.proofs.Common.{◌≡◌, ℕ, zero, suc, ◌+◌, Bool, true, fa
 use Rattle.std.specs.Str.{bytes_eq}
 use Rattle.std.proofs.lemmas.List.{length-append}
 use Rattle.std.proofs.lemmas.Slice.Eq.{bytes_eq-Decides}
-use Rattle.ar_condition.specs.Typed.{Typed, Typeds}
+use Rattle.ar_condition.specs.Typed.{Typed, Typeds, how_many}
 use Rattle.ar_condition.specs.Typed as typed
 use Rattle.ar_condition.specs.declared.tree.Literal.{Literal}
 use Rattle.ar_condition.specs.declared.tree.Literal.TheVariants as literals
@@ -11,7 +11,7 @@ use Rattle.ar_code.specs.Code.{Code, code_of_parts}
 use Rattle.ar_code.specs.Machine.{nth}
 use Rattle.ar_code.specs.declared.op.Op.{Op}
 use Rattle.ar_code.specs.declared.op.Op.TheVariants.{MakeList, Field, Index, Len, Need, IsNil, Default, ToDecimal, IsIn, Not, Compare, Equal, AndJump, OrJump, BranchFalse, Jump, Enter, Step, Return}
-use Rattle.ar_compile.specs.Compiled.{Tables, arithmetic_op, code_at, compared_of, compiled, how_many, items_at, literal_op, literal_tables, negative_op, no_tables, number_of, tables_with, tables_with_items, with_text}
+use Rattle.ar_compile.specs.Compiled.{Tables, arithmetic_op, code_at, compared_of, compiled, items_at, literal_op, literal_tables, negative_op, no_tables, number_of, tables_with, tables_with_items, with_text}
 use Rattle.ar_compile.specs.Length.{operations, operations_of_items}
 use Rattle.ar_compile.specs.Private.Standing.{At, StandItems, Stands, StandsLiteral}
 

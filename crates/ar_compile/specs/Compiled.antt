@@ -1,7 +1,7 @@
 -- The code of a condition: operands in order, then the operation.
 use Rattle.std.specs.Prelude.{ℕ, suc, ◌+◌, if◌then◌else◌, List, [], ◌∷◌, ◌++◌}
 use Rattle.std.specs.Str.{bytes_eq}
-use Rattle.ar_condition.specs.Typed.{Typed, Typeds}
+use Rattle.ar_condition.specs.Typed.{Typed, Typeds, how_many}
 use Rattle.ar_condition.specs.Typed as typed
 use Rattle.ar_condition.specs.declared.tree.Literal.{Literal}
 use Rattle.ar_condition.specs.declared.tree.Literal.TheVariants as literals
@@ -99,10 +99,6 @@ abbrev pub compared_of : Numbers → Numbers → Compared
 compared_of numbers.Wholes numbers.Wholes = compared.Wholes
 compared_of numbers.Decimals numbers.Decimals = compared.Decimals
 compared_of of beside = compared.Mixed
-
-abbrev pub how_many : Typeds → ℕ
-how_many typed.none = 0
-how_many (typed.more first others) = suc (how_many others)
 
 abbrev mutual
   -- the operations of a tree that begin at a place, where tables are there already

@@ -1,5 +1,4 @@
 pub mod Length
 pub mod Compiled
 pub mod Ends
-pub mod Limits
 pub mod Private

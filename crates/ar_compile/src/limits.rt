@@ -2,10 +2,9 @@
 
 ghost use Rattle.std.specs.Prelude.{◌≤◌};
 ghost use Rattle.std.specs.Bool.{Decides};
-ghost use Rattle.ar_code.specs.Code.{most_items};
-ghost use Rattle.ar_compile.specs.Compiled.{how_many};
+ghost use Rattle.ar_condition.specs.Limits.{AllInLimits, InLimits, IsShortLiteral, most_items};
+ghost use Rattle.ar_condition.specs.Typed.{how_many};
 ghost use Rattle.ar_condition.specs.Views.{typed_view};
-ghost use Rattle.ar_compile.specs.Limits.{AllInLimits, InLimits, IsShort};
 ghost use Rattle.ar_compile.specs.Private.Trees.{items_view};
 
 use ar_condition::Typed;
@@ -18,7 +17,7 @@ const MOST_ITEMS: usize = 16;
 const MOST_BYTES: usize = 4096;
 
 fn is_short(literal: &Literal) -> bool
-    ensures { Decides result (IsShort literal.now) }
+    ensures { Decides result (IsShortLiteral literal.now) }
 {
     match literal {
         Literal::Text(text) => text.as_str().len() <= MOST_BYTES,

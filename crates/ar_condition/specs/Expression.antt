@@ -1,5 +1,5 @@
 -- What a tree says, without where it lies in memory.
-use Rattle.std.specs.Prelude.{ℕ, List, [], ◌∷◌}
+use Rattle.std.specs.Prelude.{ℕ, suc, List, [], ◌∷◌}
 use Rattle.ar_condition.specs.declared.tree.Binary.{Binary}
 use Rattle.ar_condition.specs.declared.tree.Literal.{Literal}
 use Rattle.ar_value.specs.declared.operator.Predicate.{Predicate}
@@ -29,6 +29,11 @@ mutual
 abbrev pub expressions : List Expression → Expressions
 expressions [] = none
 expressions (first ∷ others) = more first (expressions others)
+
+-- how many there are
+abbrev pub count : Expressions → ℕ
+count none = 0
+count (more first others) = suc (count others)
 
 -- the place of a tree: that of its operator, else of its own token
 abbrev pub place_of : Expression → ℕ

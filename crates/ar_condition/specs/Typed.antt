@@ -1,5 +1,5 @@
 -- Conditions whose kinds are known. Where an operand is made plain or turned into decimal, a node says so, and `+a` is a.
-use Rattle.std.specs.Prelude.{ℕ, List, [], ◌∷◌}
+use Rattle.std.specs.Prelude.{ℕ, suc, List, [], ◌∷◌}
 use Rattle.ar_condition.specs.declared.tree.Literal.{Literal}
 use Rattle.ar_value.specs.declared.operator.Predicate.{Predicate}
 use Rattle.ar_value.specs.declared.operator.Arithmetic.{Arithmetic}
@@ -43,3 +43,7 @@ mutual
 abbrev pub typeds : List Typed → Typeds
 typeds [] = none
 typeds (first ∷ others) = more first (typeds others)
+
+abbrev pub how_many : Typeds → ℕ
+how_many none = 0
+how_many (more first others) = suc (how_many others)

@@ -19,6 +19,7 @@ pub mod Insides
 pub mod Refusals
 pub mod Conditions
 pub mod Texts
+pub mod Limits
 pub mod Memory
 pub mod Climbs
 pub mod Stacks

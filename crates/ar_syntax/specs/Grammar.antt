@@ -18,6 +18,7 @@
 -- not, where so many openers may still begin.
 use Rattle.std.specs.Prelude.{◌≡◌, ℕ, zero, suc, Bool, true, false, ◌||◌, nat_eq, nat_lt, List, [], ◌∷◌, ◌++◌, length, Option, Some, None, pred}
 use Rattle.ar_condition.specs.Expression.{Expression, FieldAt, IndexAt, ItemAt, UnaryAt, BinaryAt, ChoiceAt, ListAt, expressions}
+use Rattle.ar_condition.specs.Limits.{most_items}
 use Rattle.ar_syntax.specs.Roles.{Call, Follow, Ends, Comma, Colon, EndGroup, EndBracket, EndBrace, Operator, NotOf, Choose, Select, Open, Leaf, Prefix, Group, Bracket, Calls, ItemPoint, arity, called, follows, is_body, is_brace, is_group, is_in, looseness, name_of, starts, text_value}
 use Rattle.ar_syntax.specs.declared.token.Token.{Token}
 use Rattle.ar_condition.specs.declared.tree.Binary.{Binary}
@@ -34,9 +35,6 @@ pub record Rules : Type 0 where
 
 abbrev pub most_openers : ℕ
 most_openers = 64
-
-abbrev pub most_items : ℕ
-most_items = 16
 
 -- one more opener where so many may still be unfinished
 abbrev pub may_open : Rules → ℕ → Bool

@@ -9,6 +9,7 @@ ghost use Rattle.ar_syntax.specs.declared.error.SyntaxError.TheVariants.{TooLong
 ghost use Rattle.ar_syntax.specs.Private.Steps.{at_state};
 ghost use Rattle.ar_syntax.specs.Tokens.{is_memory, most_condition_bytes};
 ghost use Rattle.ar_syntax.specs.Private.Frames.{frames_of};
+ghost use Rattle.ar_condition.specs.Limits.{WrittenInLimits};
 ghost use Rattle.ar_condition.specs.Views.{expression_of};
 
 use crate::climb::unwind;
@@ -47,6 +48,9 @@ pub fn parse(alloc: Global, text: &str) -> Result<Tree, SyntaxError>
     // The same in the grammar's words.
     ensures tree { IfOk result (λ tree. SaysTree text.now (expression_of tree)) }
     ensures refused { IfErr result (IsNoCondition text.now) }
+
+    // List literals have at most 16 items, texts and names at most 4,096 bytes.
+    ensures limits { IfOk result (λ tree. WrittenInLimits (expression_of tree)) }
 {
     tree(alloc, text)
 }

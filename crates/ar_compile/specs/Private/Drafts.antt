@@ -1,6 +1,6 @@
 -- Code that grows as a tree is compiled: operation by operation, jumps being set once their places are known.
 use Rattle.std.specs.Prelude.{ℕ, List, [], ◌∷◌, ◌++◌, length, set}
-use Rattle.ar_condition.specs.Typed.{Typed, Typeds}
+use Rattle.ar_condition.specs.Typed.{Typed, Typeds, how_many}
 use Rattle.ar_condition.specs.Typed as typed
 use Rattle.ar_condition.specs.declared.tree.Literal.{Literal}
 use Rattle.ar_condition.specs.declared.tree.Literal.TheVariants as literals
@@ -8,7 +8,7 @@ use Rattle.ar_value.specs.declared.operator.Predicate.{Predicate}
 use Rattle.ar_code.specs.Code.{Code, code_of_parts}
 use Rattle.ar_code.specs.declared.op.Op.{Op}
 use Rattle.ar_code.specs.declared.op.Op.TheVariants.{PushBool, PushWhole, PushDecimal, PushText, PushNil, MakeList, LoadResult, Item, Field, Index, Len, Need, IsNil, Default, ToDecimal, IsIn, Not, Compare, Equal, AndJump, OrJump, BranchFalse, Jump, Enter, Step}
-use Rattle.ar_compile.specs.Compiled.{arithmetic_op, compared_of, how_many, negative_op, number_of, with_text}
+use Rattle.ar_compile.specs.Compiled.{arithmetic_op, compared_of, negative_op, number_of, with_text}
 
 abbrev pub no_code : Code
 no_code = code_of_parts [] [] []

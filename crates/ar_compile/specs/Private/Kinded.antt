@@ -8,13 +8,12 @@ use Rattle.ar_value.specs.declared.operator.Numbers.{Numbers}
 use Rattle.ar_value.specs.declared.operator.Order.{Order}
 use Rattle.ar_value.specs.declared.operator.Predicate.{Predicate}
 use Rattle.ar_value.specs.declared.operator.Scalar.{Scalar}
-use Rattle.ar_condition.specs.Typed.{Typed, Typeds}
+use Rattle.ar_condition.specs.Typed.{Typed, Typeds, how_many}
 use Rattle.ar_condition.specs.Typed as typed
 use Rattle.ar_condition.specs.declared.tree.Literal.{Literal}
 use Rattle.ar_check.specs.Basics.{literal_kind, most_predicates}
 use Rattle.ar_check.specs.Check.{arithmetic_kind, number_kind, predicate_kind, scalar_shape, takes, truth_kind}
 use Rattle.ar_check.specs.Operand.{family_in, scalar_of}
-use Rattle.ar_compile.specs.Compiled.{how_many}
 
 -- a shape whose wholes are turned into decimals; nil stays
 pub data TurnsInto : Shape → Shape → Type 0 where

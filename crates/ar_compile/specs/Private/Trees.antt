@@ -4,7 +4,7 @@ use Rattle.ar_condition.specs.Typed.{Typeds, typeds}
 use Rattle.ar_condition.specs.Views.{typed_view}
 use Rattle.ar_condition.specs.declared.typed.Typed.{Typed as TypedCode}
 use Rattle.ar_compile.specs.Length.{operations}
-use Rattle.ar_compile.specs.Limits.{AllInLimits}
+use Rattle.ar_condition.specs.Limits.{AllInLimits}
 
 -- the items of a list literal
 abbrev pub items_view : List TypedCode → Typeds

@@ -3,7 +3,7 @@ use Rattle.ar_condition.specs.Typed.{typeds}
 use Rattle.ar_condition.specs.Views.{typed_view}
 use Rattle.ar_condition.specs.declared.typed.Typed.{size-Typed}
 use Rattle.ar_compile.specs.Length.{operations_of_items}
-use Rattle.ar_compile.specs.Limits.{AllInLimits}
+use Rattle.ar_condition.specs.Limits.{AllInLimits}
 use Rattle.ar_compile.specs.Private.Drafts.{drafted_items, place_of}
 use Rattle.ar_compile.proofs.compiler.+compiler.Given as goal
 
