@@ -6,6 +6,7 @@ pub mod Scalars
 pub mod Simulates
 pub mod Meaningful
 pub mod Kindings
+pub mod Checked
 pub mod Conditions
 pub mod Drafts
 pub mod Lawful

@@ -7,15 +7,20 @@
 //! stuck. Only a condition of too many operations (`specs/Length`) and want of memory keep it from its
 //! answer.
 //!
+//! [`compile`] asks for a tree within limits. Each condition that was parsed and checked is: the parser
+//! says so of its tree as written, and a law of its typed tree. Of another tree [`in_limits`] tells.
+//!
 //! - `compiler`: the walk through the typed tree
 //! - `draft`: code that grows; `table`: its texts and names
 //! - `length`: how many operations there will be; `limits`: whether a tree fits into code
 //! - [`error`]: why a condition isn't compiled
+//! - [`laws`]: what holds of limits
 #![tactic(auto)]
 
 mod compiler;
 mod draft;
 pub mod error;
+pub mod laws;
 mod length;
 mod limits;
 mod table;
