@@ -12,3 +12,7 @@ pub mod Drafts
 pub mod Lawful
 pub mod Sequences
 pub mod Tables
+pub mod Blocks
+pub mod Merging
+pub mod Flows
+pub mod Accepted

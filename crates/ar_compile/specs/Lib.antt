@@ -1,4 +1,5 @@
 pub mod Length
 pub mod Compiled
 pub mod Ends
+pub mod Acceptance
 pub mod Private

@@ -13,6 +13,7 @@ ghost use Rattle.ar_condition.specs.Views.{typed_view};
 ghost use Rattle.ar_check.specs.Check.{checked};
 ghost use Rattle.ar_code.specs.Code.{most_entries};
 ghost use Rattle.ar_code.specs.declared.op.Op.TheVariants.{MakeList};
+ghost use Rattle.ar_compile.specs.Acceptance.{OnlyTooLarge};
 ghost use Rattle.ar_compile.specs.Compiled.{arithmetic_op, compared_of, compiled, decimal_op, negative_op};
 ghost use Rattle.ar_compile.specs.Ends.{EndsWith};
 ghost use Rattle.ar_compile.specs.Length.{length_of, operations, operations_of_items};
@@ -312,7 +313,7 @@ fn put_loop(
 /// # Errors
 ///
 /// `TooManyOps` where the code would have more than 4,096 operations.
-#[tactic(auto, using(crate::proofs::Conditions::compiled_means, crate::proofs::Drafts::whole_is, crate::proofs::Lawful::compiled_is_code, crate::proofs::Lawful::compiled_length))]
+#[tactic(auto, using(crate::proofs::Accepted::compiled_accepted, crate::proofs::Conditions::compiled_means, crate::proofs::Drafts::whole_is, crate::proofs::Lawful::compiled_is_code, crate::proofs::Lawful::compiled_length))]
 pub fn compile(alloc: Global, condition: &Typed) -> Result<Code, CompileError>
     // Its list literals have at most 16 items, its texts and names at most 4,096 bytes.
     requires { InLimits (typed_view condition.now) }
@@ -327,6 +328,10 @@ pub fn compile(alloc: Global, condition: &Typed) -> Result<Code, CompileError>
     ensures means { IfOk result (λ code. (shape : Shape) (tree : Expression) (value : Value)
         → checked shape tree ≡ Ok (typed_view condition.now) → fits value shape ≡ true
         → EndsWith code value (answer_of (mean value None (typed_view condition.now)))) }
+
+    // Under that shape the verifier refuses it only where a run of it may have too many operands or cost too much.
+    ensures accepted { IfOk result (λ code. (shape : Shape) (tree : Expression)
+        → checked shape tree ≡ Ok (typed_view condition.now) → OnlyTooLarge code shape) }
 
     // Too many operations, or want of memory, which is answered nowhere else.
     ensures refused { result ≡ Err TooManyOps → most_entries < length_of (typed_view condition.now) }

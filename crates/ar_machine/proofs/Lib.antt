@@ -6,3 +6,4 @@ pub mod Ahead
 pub mod Simulation
 pub mod Reached
 pub mod Ends
+pub mod Verified

@@ -8,7 +8,7 @@
 //! and values are lent by the measured value and by the code.
 //!
 //! - [`outcome`]: how runs end
-//! - `run`: the run, a loop over states; `state`: those
+//! - `runs`: runs, loops over states; `state`: those
 //! - `machine`: operations on states; `effect`: those that take operands and give one; `loops`: the
 //!   begin and the step of a loop
 //! - `action`: operations by families, so that each has a function of its own
@@ -30,10 +30,10 @@ mod machine;
 mod operand;
 mod operators;
 pub mod outcome;
-mod run;
+mod runs;
 mod stack;
 mod state;
 mod tables;
 
 pub use outcome::{Answer, Ended, Outcome};
-pub use run::run_tested;
+pub use runs::{run, run_tested};

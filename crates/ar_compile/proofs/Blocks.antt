@@ -1,0 +1,312 @@
+-- Blocks of code: the operations between two places, which a run enters at the first one and leaves at the last. The code of a
+-- tree is one, and the verifier's passes 1 to 4 find nothing in it.
+use Rattle.std.proofs.Common.{◌≡◌, ◌<◌, ◌≤◌, ℕ, suc, ◌-◌, true, nat_le, List, [], ◌∷◌, length, Some, None, Ok, refl, sym, ap, subst, inl, inr, ◌∙◌, arith}
+use Rattle.std.specs.Prelude.{◌==◌, nat_lt}
+use Rattle.std.proofs.lemmas.Bool.{le-leb}
+use Rattle.std.proofs.lemmas.Bool.Decides.{leb_tells, nat_tests}
+use Rattle.ar_value.specs.declared.operator.Predicate.{Predicate}
+use Rattle.ar_value.specs.declared.operator.Predicate.TheVariants.{All, Any, Count, Filter}
+use Rattle.ar_code.specs.Machine.{is_same, nth}
+use Rattle.ar_code.specs.declared.op.Op.{Op}
+use Rattle.ar_code.specs.declared.op.Op.TheVariants.{AndJump, OrJump, BranchFalse, Jump, Enter, Step, Return}
+use Rattle.ar_verify.specs.Places.{forward, has_ops, held, in_innermost, most_loops, names_well, nests_well, places_pass, same_loops, stays}
+use Rattle.ar_verify.proofs.Nesting.{IsNoLoop, all_pass_each, begins, behind_step, reaches_less, stands_below, stays_around}
+
+-- an operation that goes on to the next place alone
+abbrev pub IsPlain : Op → Type 0
+IsPlain (AndJump target) = ⊥
+IsPlain (OrJump target) = ⊥
+IsPlain (BranchFalse target) = ⊥
+IsPlain (Jump target) = ⊥
+IsPlain (Enter predicate step) = ⊥
+IsPlain (Step predicate enter) = ⊥
+IsPlain Return = ⊥
+IsPlain op = Unit {0}
+
+-- a jump where a truth value decides, or the next place
+abbrev pub SkipsTo : ℕ → Op → Type 0
+SkipsTo target (AndJump place) = place ≡ target
+SkipsTo target (OrJump place) = place ≡ target
+SkipsTo target op = ⊥
+
+there_are : (ops : List Op) {end : ℕ} → length ops ≡ suc end → has_ops ops ≡ Ok tt
+there_are [] long = absurd (omega (arith, long))
+there_are (op ∷ ops) long = refl
+
+module _ (ops : List Op) where
+  abbrev pub At : (place : ℕ) → Op → Type 0
+  At place op = nth ops place ≡ Some op
+
+  -- inside so many loops, from a place up to another one
+  pub data Block : ℕ → (begin end : ℕ) → Type 0 where
+    one : {around begin : ℕ} {op : Op} → At begin op → IsPlain op → Block around begin (suc begin)
+    both : {around begin middle end : ℕ} → Block around begin middle → Block around middle end → Block around begin end
+    -- a jump over the rest of the block
+    skips : {around begin end : ℕ} {op : Op} → At begin op → SkipsTo end op → Block around (suc begin) end → Block around begin end
+    -- one of two blocks
+    branches : {around begin middle end : ℕ} → At begin (BranchFalse (suc middle)) → Block around (suc begin) middle → At middle (Jump end) → Block around (suc middle) end → Block around begin end
+    loops : {around begin step : ℕ} {predicate : Predicate} → around < most_loops → At begin (Enter predicate step) → Block (suc around) (suc begin) step → At step (Step predicate begin) → Block around begin (suc step)
+
+  pub forth : {around begin end : ℕ} → Block around begin end → begin ≤ end
+  forth (one there plain) = omega arith
+  forth (both first second) = let h = forth first in let k = forth second in omega arith
+  forth (skips there to rest) = let h = forth rest in omega arith
+  forth (branches there met jump unmet) = let h = forth met in let k = forth unmet in omega arith
+  forth (loops few there body step) = let h = forth body in omega arith
+
+  one_op : (place : ℕ) (op other : Op) → At place op → At place other → op ≡ other
+  one_op place op other h k = cc
+
+  -- ---- places of operations
+
+  abbrev NamesWell : (place : ℕ) → Type 0
+  NamesWell place = (op : Op) → At place op → names_well ops place op ≡ None
+
+  is_named : (place : ℕ) (op : Op) → At place op → names_well ops place op ≡ None → NamesWell place
+  is_named place op there well other also = subst (λ op. names_well ops place op ≡ None) (one_op place op other there also) well
+
+  goes_forward : (place target : ℕ) → place < target → target < length ops → forward ops place target ≡ None
+  goes_forward place target ahead within = let first : nat_lt target (length ops) ≡ true = grind (arith, nat_tests) in let second : nat_lt place target ≡ true = grind (arith, nat_tests) in rw (first, second) refl
+
+  plain_named : (place : ℕ) (op : Op) → IsPlain op → names_well ops place op ≡ None
+  plain_named place (AndJump target) plain = absurd plain
+  plain_named place (OrJump target) plain = absurd plain
+  plain_named place (BranchFalse target) plain = absurd plain
+  plain_named place (Jump target) plain = absurd plain
+  plain_named place (Enter predicate step) plain = absurd plain
+  plain_named place (Step predicate enter) plain = absurd plain
+  plain_named place op plain = refl
+
+  skip_named : (place target : ℕ) (op : Op) → SkipsTo target op → place < target → target < length ops → names_well ops place op ≡ None
+  skip_named place target (AndJump named) to ahead within = rw to (goes_forward place target ahead within)
+  skip_named place target (OrJump named) to ahead within = rw to (goes_forward place target ahead within)
+  skip_named place target op to ahead within = absurd to
+
+  same : (predicate : Predicate) → is_same predicate predicate ≡ true
+  same All = refl
+  same Any = refl
+  same Count = refl
+  same Filter = refl
+
+  itself : (n : ℕ) → (n == n) ≡ true
+  itself n = grind (arith, nat_tests)
+
+  enter_named : (place step : ℕ) (predicate : Predicate) → place < step → step < length ops → At step (Step predicate place) → names_well ops place (Enter predicate step) ≡ None
+  enter_named place step predicate ahead within there = rw (goes_forward place step ahead within, there, same predicate, itself place) refl
+
+  step_named : (place enter : ℕ) (predicate : Predicate) → enter < place → place < length ops → At enter (Enter predicate place) → names_well ops place (Step predicate enter) ≡ None
+  step_named place enter predicate ahead within there =
+      let first : nat_lt enter (length ops) ≡ true = grind (arith, nat_tests) in
+      let second : nat_lt enter place ≡ true = grind (arith, nat_tests) in
+      rw (first, second, there, same predicate, itself place) refl
+
+  at_begin : (begin place : ℕ) → begin ≤ place → place < suc begin → NamesWell begin → NamesWell place
+  at_begin begin place from below well = let same : begin ≡ place = omega arith in subst NamesWell same well
+
+  -- the operations of a block name places as they should
+  pub names : {around begin end : ℕ} → Block around begin end → end < length ops → (place : ℕ) → begin ≤ place → place < end → NamesWell place
+  names (one {begin = begin} {op = op} there plain) within place from below = at_begin begin place from below (is_named begin op there (plain_named begin op plain))
+  names (both {middle = middle} first second) within place from below =
+      let k = forth second in
+      elim (leb_tells middle place) [
+        | inl w ↦ names second within place w.1 below
+        | inr w ↦ names first (omega arith) place from w.1
+      ]
+  names (skips {begin = begin} {end = end} {op = op} there to rest) within place from below =
+      let ahead = forth rest in
+      elim (leb_tells (suc begin) place) [
+        | inl w ↦ names rest within place w.1 below
+        | inr w ↦ at_begin begin place from w.1 (is_named begin op there (skip_named begin end op to (omega arith) within))
+      ]
+  names (branches {begin = begin} {middle = middle} {end = end} branch met jump unmet) within place from below =
+      let ahead = forth met in
+      let further = forth unmet in
+      elim (leb_tells (suc middle) place) [
+        | inl w ↦ names unmet within place w.1 below
+        | inr w ↦ elim (leb_tells middle place) [
+          | inl v ↦ at_begin middle place v.1 w.1 (is_named middle (Jump end) jump (goes_forward middle end (omega arith) within))
+          | inr v ↦ elim (leb_tells (suc begin) place) [
+            | inl u ↦ names met (omega arith) place u.1 v.1
+            | inr u ↦ at_begin begin place from u.1 (is_named begin (BranchFalse (suc middle)) branch (goes_forward begin (suc middle) (omega arith) (omega arith)))
+          ]
+        ]
+      ]
+  names (loops {begin = begin} {step = step} {predicate = predicate} few enter body step_there) within place from below =
+      let ahead = forth body in
+      elim (leb_tells step place) [
+        | inl w ↦ at_begin step place w.1 below (is_named step (Step predicate begin) step_there (step_named step begin predicate (omega arith) (omega arith) enter))
+        | inr w ↦ elim (leb_tells (suc begin) place) [
+          | inl v ↦ names body (omega arith) place v.1 w.1
+          | inr v ↦ at_begin begin place from v.1 (is_named begin (Enter predicate step) enter (enter_named begin step predicate (omega arith) (omega arith) step_there))
+        ]
+      ]
+
+  -- ---- loops
+
+  -- where the names of all places are as they should be
+  module _ (paired : (place : ℕ) (op : Op) → At place op → names_well ops place op ≡ None) where
+    abbrev NestsWell : (place : ℕ) → Type 0
+    NestsWell place = (op : Op) → At place op → nests_well ops place op ≡ None
+
+    abbrev EntersBelow : ℕ → Type 0
+    EntersBelow n = (enter step : ℕ) (predicate : Predicate) → enter < n → At enter (Enter predicate step) → nests_well ops enter (Enter predicate step) ≡ None
+
+    is_nested : (place : ℕ) (op : Op) → At place op → nests_well ops place op ≡ None → NestsWell place
+    is_nested place op there well other also = subst (λ op. nests_well ops place op ≡ None) (one_op place op other there also) well
+
+    plain_nested : (place : ℕ) (op : Op) → IsPlain op → nests_well ops place op ≡ None
+    plain_nested place (AndJump target) plain = absurd plain
+    plain_nested place (OrJump target) plain = absurd plain
+    plain_nested place (BranchFalse target) plain = absurd plain
+    plain_nested place (Jump target) plain = absurd plain
+    plain_nested place (Enter predicate step) plain = absurd plain
+    plain_nested place Return plain = absurd plain
+    plain_nested place op plain = refl
+
+    no_loop : (op : Op) → IsPlain op → IsNoLoop op
+    no_loop (AndJump target) plain = tt
+    no_loop (OrJump target) plain = tt
+    no_loop (BranchFalse target) plain = tt
+    no_loop (Jump target) plain = tt
+    no_loop (Enter predicate step) plain = plain
+    no_loop (Step predicate enter) plain = plain
+    no_loop Return plain = tt
+    no_loop op plain = tt
+
+    alike_loops : (enters : List ℕ) → same_loops enters enters ≡ true
+    alike_loops [] = refl
+    alike_loops (enter ∷ enters) = rw (itself enter, alike_loops enters) refl
+
+    stays_there : (place target : ℕ) → held ops place ≡ held ops target → stays ops place target ≡ None
+    stays_there place target same = rw (same, alike_loops (held ops target)) refl
+
+    skip_nested : (place target : ℕ) (op : Op) → SkipsTo target op → held ops place ≡ held ops target → nests_well ops place op ≡ None
+    skip_nested place target (AndJump named) to same = rw to (stays_there place target same)
+    skip_nested place target (OrJump named) to same = rw to (stays_there place target same)
+    skip_nested place target op to same = absurd to
+
+    skip_no_loop : (target : ℕ) (op : Op) → SkipsTo target op → IsNoLoop op
+    skip_no_loop target (AndJump named) to = tt
+    skip_no_loop target (OrJump named) to = tt
+    skip_no_loop target op to = absurd to
+
+    -- the operations of a block are nested as they should be, and behind it the same loops are around as before it
+    record Nested (around begin end : ℕ) : Type 0 where
+      each : (place : ℕ) → begin ≤ place → place < end → NestsWell place
+      behind : held ops end ≡ held ops begin
+
+    below_or_in : (begin end : ℕ) → EntersBelow begin → ((place : ℕ) → begin ≤ place → place < end → NestsWell place) → EntersBelow end
+    below_or_in begin end before each enter step predicate below there = elim (leb_tells begin enter) [
+        | inl w ↦ each enter w.1 below (Enter predicate step) there
+        | inr w ↦ before enter step predicate w.1 there
+      ]
+
+    reach_less : (enters : List ℕ) (before place : ℕ) → before ≤ place → in_innermost ops enters place ≡ true → in_innermost ops enters before ≡ true
+    reach_less [] before place less h = refl
+    reach_less (enter ∷ outer) before place less h = reaches_less (nth ops enter) place before less h
+
+    at_first : (begin place : ℕ) → begin ≤ place → place < suc begin → NestsWell begin → NestsWell place
+    at_first begin place from below well = let same : begin ≡ place = omega arith in subst NestsWell same well
+
+    -- behind an operation that begins no loop
+    no_enter : (place : ℕ) (op : Op) → At place op → IsNoLoop op → EntersBelow place → EntersBelow (suc place)
+    no_enter place op there plain before enter step predicate below enter_there = elim (leb_tells place enter) [
+        | inl w ↦ let same : place ≡ enter = omega (arith, w.1) in absurd (subst IsNoLoop (one_op place op (Enter predicate step) there (subst (λ at. At at (Enter predicate step)) (sym same) enter_there)) plain)
+        | inr w ↦ before enter step predicate w.1 enter_there
+      ]
+
+    nest : {around begin end : ℕ} → Block around begin end → in_innermost ops (held ops begin) end ≡ true → length (held ops begin) ≡ around → EntersBelow begin → Nested around begin end
+    nest (one {begin = begin} {op = op} there plain) inner deep before =
+        record { each = λ place from below. at_first begin place from below (is_nested begin op there (plain_nested begin op plain)); behind = stays_around ops paired begin op there (no_loop op plain) }
+    nest (both {begin = begin} {middle = middle} {end = end} first second) inner deep before =
+        let k = forth second in
+        let one_nest = nest first (reach_less (held ops begin) middle end k inner) deep before in
+        let other = nest second (rw one_nest.behind inner) (rw one_nest.behind deep) (below_or_in begin middle before one_nest.each) in
+        record {
+          each = λ place from below. elim (leb_tells middle place) [
+              | inl w ↦ other.each place w.1 below
+              | inr w ↦ one_nest.each place from w.1
+            ];
+          behind = other.behind ∙ one_nest.behind;
+        }
+    nest (skips {begin = begin} {end = end} {op = op} there to rest) inner deep before =
+        let next : held ops (suc begin) ≡ held ops begin = stays_around ops paired begin op there (skip_no_loop end op to) in
+        let rest_nest = nest rest (rw next inner) (rw next deep) (no_enter begin op there (skip_no_loop end op to) before) in
+        let behind : held ops end ≡ held ops begin = rest_nest.behind ∙ next in
+        record {
+          each = λ place from below. elim (leb_tells (suc begin) place) [
+              | inl w ↦ rest_nest.each place w.1 below
+              | inr w ↦ at_first begin place from w.1 (is_nested begin op there (skip_nested begin end op to (sym behind)))
+            ];
+          behind = behind;
+        }
+    nest (branches {begin = begin} {middle = middle} {end = end} branch met jump unmet) inner deep before =
+        let ahead = forth met in
+        let further = forth unmet in
+        let next : held ops (suc begin) ≡ held ops begin = stays_around ops paired begin (BranchFalse (suc middle)) branch tt in
+        let met_nest = nest met (rw next (reach_less (held ops begin) middle end (omega arith) inner)) (rw next deep) (no_enter begin (BranchFalse (suc middle)) branch tt before) in
+        let at_jump : held ops middle ≡ held ops begin = met_nest.behind ∙ next in
+        let behind_jump : held ops (suc middle) ≡ held ops begin = stays_around ops paired middle (Jump end) jump tt ∙ at_jump in
+        let unmet_nest = nest unmet (rw behind_jump inner) (rw behind_jump deep) (no_enter middle (Jump end) jump tt (below_or_in (suc begin) middle (no_enter begin (BranchFalse (suc middle)) branch tt before) met_nest.each)) in
+        let behind : held ops end ≡ held ops begin = unmet_nest.behind ∙ behind_jump in
+        record {
+          each = λ place from below. elim (leb_tells (suc middle) place) [
+              | inl w ↦ unmet_nest.each place w.1 below
+              | inr w ↦ elim (leb_tells middle place) [
+                | inl v ↦ at_first middle place v.1 w.1 (is_nested middle (Jump end) jump (stays_there middle end (at_jump ∙ sym behind)))
+                | inr v ↦ elim (leb_tells (suc begin) place) [
+                  | inl u ↦ met_nest.each place u.1 v.1
+                  | inr u ↦ at_first begin place from u.1 (is_nested begin (BranchFalse (suc middle)) branch (stays_there begin (suc middle) (sym behind_jump)))
+                ]
+              ]
+            ];
+          behind = behind;
+        }
+    nest (loops {around = around} {begin = begin} {step = step} {predicate = predicate} few enter body step_there) inner deep before =
+        let ahead = forth body in
+        let next : held ops (suc begin) ≡ begin ∷ held ops begin = begins ops paired predicate begin step enter in
+        let shallow : nat_le (length (held ops (suc begin))) most_loops ≡ true = rw (next, deep) (le-leb (suc around) most_loops few) in
+        let inside_it : in_innermost ops (held ops begin) step ≡ true = reach_less (held ops begin) step (suc step) (omega arith) inner in
+        let enter_nested : nests_well ops begin (Enter predicate step) ≡ None = rw (shallow, inside_it) refl in
+        let entered = below_or_in begin (suc begin) before (λ place from below. at_first begin place from below (is_nested begin (Enter predicate step) enter enter_nested)) in
+        let own : in_innermost ops (held ops (suc begin)) step ≡ true = rw (next, enter) (le-leb step step (omega arith)) in
+        let body_nest = nest body own (rw next (ap suc deep)) entered in
+        record {
+          each = λ place from below. elim (leb_tells step place) [
+              | inl w ↦ at_first step place w.1 below (is_nested step (Step predicate begin) step_there refl)
+              | inr w ↦ elim (leb_tells (suc begin) place) [
+                | inl v ↦ body_nest.each place v.1 w.1
+                | inr v ↦ at_first begin place from v.1 (is_nested begin (Enter predicate step) enter enter_nested)
+              ]
+            ];
+          behind = behind_step ops paired step (below_or_in (suc begin) step entered body_nest.each) predicate step begin step_there (omega arith);
+        }
+
+  -- ---- code that is a block and then Return
+
+  module _ (end : ℕ) (block : Block 0 0 end) (last : At end Return) (long : length ops ≡ suc end) where
+    names_each : (place : ℕ) (op : Op) → At place op → names_well ops place op ≡ None
+    names_each place op there =
+        let below = stands_below ops place op there in
+        elim (leb_tells end place) [
+          | inl w ↦ at_begin end place w.1 (omega (arith, below, long)) (is_named end Return last refl) op there
+          | inr w ↦ names block (omega arith) place (omega arith) w.1 op there
+        ]
+
+    nests_each : (place : ℕ) (op : Op) → At place op → nests_well ops place op ≡ None
+    nests_each place op there =
+        let below = stands_below ops place op there in
+        let nested = nest names_each block refl refl (λ enter step predicate less there. absurd (omega arith)) in
+        elim (leb_tells end place) [
+          | inl w ↦ at_first names_each end place w.1 (omega (arith, below, long)) (is_nested names_each end Return last (rw nested.behind refl)) op there
+          | inr w ↦ nested.each place (omega arith) w.1 op there
+        ]
+
+    some_ops : has_ops ops ≡ Ok tt
+    some_ops = there_are ops long
+
+    -- the passes 1 to 4 find nothing
+    pub places_are_well : places_pass ops ≡ Ok tt
+    places_are_well =
+        let minus : length ops - 1 ≡ end = omega (arith, long) in
+        rw (some_ops, all_pass_each (names_well ops) ops names_each, all_pass_each (nests_well ops) ops nests_each, minus, last) refl

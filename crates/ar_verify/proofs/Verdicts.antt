@@ -1,0 +1,89 @@
+-- Code that the verifier accepts runs safely, within its budget.
+use Rattle.std.proofs.Common.{◌≡◌, ◌<◌, ◌≤◌, ℕ, zero, suc, ◌+◌, true, false, List, [], ◌∷◌, length, Some, Ok, refl, sym, subst, inr, arith}
+use Rattle.std.proofs.lemmas.Bool.Decides.{nat_tests}
+use Rattle.std.specs.List.{AllByRecursion}
+use Rattle.std.specs.Prelude.{nat_le}
+use Rattle.std.proofs.lemmas.List.Elements.{recursion_from_All}
+use Rattle.ar_value.specs.Fits.{fits}
+use Rattle.ar_value.specs.Shape.{Shape}
+use Rattle.ar_value.specs.Value.{Value}
+use Rattle.ar_code.specs.Code.{Code, Inside, IsCode}
+use Rattle.ar_code.specs.Machine.{nth}
+use Rattle.ar_verify.specs.Arrivals.{Sent, deepest, height, most_operands, sent}
+use Rattle.ar_verify.specs.Budget.{IsBudget}
+use Rattle.ar_verify.specs.Places.{places_pass}
+use Rattle.ar_verify.specs.Private.Costs.{AreMost, HasPassed, IsCost}
+use Rattle.ar_verify.specs.Private.Table.{Summary, summed_up}
+use Rattle.ar_verify.specs.Safety.{IsSafe}
+use Rattle.ar_verify.specs.Verdict.{IsFault, IsVerified, greatest_budget, passed}
+use Rattle.ar_verify.specs.declared.error.Reason.TheVariants.{BudgetTooLarge}
+use Rattle.ar_verify.proofs.Arriving.{all_more}
+use Rattle.ar_verify.proofs.Dearest.{budget_is_due, due, prices}
+use Rattle.ar_verify.proofs.Known.{Known, known}
+use Rattle.ar_verify.proofs.Reached.{clean, first_inside}
+use Rattle.ar_verify.proofs.Passing.{all_hold}
+use Rattle.ar_verify.proofs.Runs.{all_below, runs_safely}
+
+all_nth : {A : Type 0} (P : A → Type 0) (xs : List A) (n : ℕ) (x : A) → AllByRecursion P xs → nth xs n ≡ Some x → P x
+all_nth P [] n x all there = absurd cc
+all_nth P (first ∷ xs) zero x all there = let same : first ≡ x = cc in subst P same all.0
+all_nth P (first ∷ xs) (suc n) x all there = all_nth P xs n x all.1 there
+
+pub verified_is_safe : (code : Code) (shape : Shape) (budget depth : ℕ) (value : Value) → IsCode code → IsVerified code shape budget depth → fits value shape ≡ true → IsSafe code value budget depth
+verified_is_safe code shape budget depth value is_code verified fit =
+    let found_clean = clean code shape verified.sents verified.passes in
+    let inside = recursion_from_All (Inside (length code.texts) (length code.names)) code.ops is_code.inside in
+    let safe = runs_safely code shape verified.sents found_clean (λ place op there. all_nth (Inside (length code.texts) (length code.names)) code.ops place op inside there) value fit (due code shape verified.sents found_clean)
+    (prices code shape verified.sents found_clean) in
+    let same = budget_is_due code shape verified.sents found_clean budget (first_inside code shape verified.sents found_clean) verified.dearest in
+    subst (λ budget. IsSafe code value budget depth) same (subst (λ depth. IsSafe code value (due code shape verified.sents found_clean 0) depth) (sym verified.deepest) safe)
+
+-- ---- how many operands there are
+
+deepest_by : (most : ℕ) (sents : List Sent) → AllByRecursion (λ one. height one.operands ≤ most) sents → deepest sents ≤ most
+deepest_by most [] all = omega arith
+deepest_by most (one ∷ others) all = let rest = deepest_by most others all.1 in let first = all.0 in omega arith
+
+pub few_operands : (code : Code) (shape : Shape) (budget depth : ℕ) → IsVerified code shape budget depth → depth ≤ most_operands
+few_operands code shape budget depth verified =
+    let is = clean code shape verified.sents verified.passes in
+    let low = all_hold code shape code.ops (λ one. height one.operands ≤ most_operands) verified.sents
+    (λ place op had more before there came arrive sends all. all_more (λ one. height one.operands ≤ deepest more) (λ one. height one.operands ≤ most_operands) more (λ one h. let few = sends.shallow in omega arith) (all_below more))
+    0 code.ops (sent 0 [] [] ∷ []) (λ n op there. let start : n + 0 ≡ n = omega arith in rw start there) is.paired is.all (omega arith, tt) in
+    let below = deepest_by most_operands verified.sents low in
+    let depth_is = verified.deepest in
+    omega arith
+
+-- ---- verdicts
+
+module _ (code : Code) (shape : Shape) (found : Summary) (places : places_pass code.ops ≡ Ok tt) (summed : summed_up code shape ≡ Ok found) where
+  is_known : Known code shape found
+  is_known = known code shape found summed
+
+  passes : passed code shape ≡ Ok is_known.sents
+  passes = rw places is_known.all
+
+  are_most : AreMost code is_known.sents found.most_items
+  are_most place inside = is_known.most_items place 0 inside
+
+  pub has_passed : HasPassed code
+  has_passed = (shape, (is_known.sents, passes))
+
+  pub so_many : length found.most_items ≡ length code.ops
+  so_many = is_known.long
+
+  -- what costs at most the greatest budget costs what the number says that stands for it
+  pub is_verified : (number : ℕ) → IsCost code found.most_items 0 number → nat_le number greatest_budget ≡ true → IsVerified code shape number found.depth
+  is_verified number is_cost paid =
+      let payable : number ≤ greatest_budget = grind (arith, nat_tests) in
+      let capped = is_cost shape is_known.sents passes are_most in
+      let number_is = capped.is in
+      let same : capped.cost ≡ number = omega arith in
+      record { sents = is_known.sents; passes = passes; dearest = subst (IsBudget code.ops is_known.sents) same capped.dearest; payable = payable; deepest = is_known.depth }
+
+  pub is_too_dear : (number : ℕ) → IsCost code found.most_items 0 number → nat_le number greatest_budget ≡ false → IsFault code shape 0 BudgetTooLarge
+  is_too_dear number is_cost unpaid =
+      let dear : greatest_budget < number = grind (arith, nat_tests) in
+      let capped = is_cost shape is_known.sents passes are_most in
+      let number_is = capped.is in
+      inr (refl, refl, record { sents = is_known.sents; passes = passes; cost = capped.cost; way = capped.dearest.way; too_dear = omega arith })

@@ -1,0 +1,8 @@
+use Rattle.std.proofs.Common.{◌≡◌, ◌∷◌, [], replicate, Ok, Err}
+use Rattle.ar_verify.specs.Arrivals.{operands}
+use Rattle.ar_verify.specs.Private.Table.{table_view}
+use Rattle.ar_verify.specs.declared.error.Reason.TheVariants.{Unreachable}
+use Rattle.ar_verify.proofs.arrivals.table.Given as goal
+
+abbrev pub invariant-loop-place : goal.invariant-loop-place
+invariant-loop-place l = table_view l.arrived.items ≡ Ok (operands [] []) ∷ replicate l._place (Err Unreachable)

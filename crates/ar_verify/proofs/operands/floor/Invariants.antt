@@ -1,0 +1,7 @@
+use Rattle.std.proofs.Common.{◌≡◌, take}
+use Rattle.ar_verify.specs.Arrivals.{floor}
+use Rattle.ar_verify.specs.Private.Held.{counted, from_innermost}
+use Rattle.ar_verify.proofs.operands.floor.Given as goal
+
+abbrev pub invariant-loop-around : goal.invariant-loop-around
+invariant-loop-around l = l.floor ≡ counted (floor (from_innermost (take l.around-index l.loops)))

@@ -1,0 +1,10 @@
+-- Definitions of private contracts and of proofs alone, which follow the code: a reader need not believe them.
+pub mod Kinds
+pub mod Action
+pub mod Failures
+pub mod Stacks
+pub mod Held
+pub mod Sending
+pub mod Table
+pub mod Depths
+pub mod Costs

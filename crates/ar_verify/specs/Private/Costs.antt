@@ -1,0 +1,77 @@
+-- Pass 6 as the code makes it: what the dearest way from each place costs, from what those from the places behind it do. What
+-- costs more than the greatest budget counts as one more than that.
+use Rattle.std.specs.Prelude.{◌≡◌, ℕ, suc, ◌+◌, ◌*◌, ◌<◌, ◌≤◌, min, max, List, length, Ok, slice_index_or}
+use Rattle.ar_value.specs.Shape.{Shape}
+use Rattle.ar_code.specs.Code.{Code}
+use Rattle.ar_code.specs.declared.op.Op.{Op}
+use Rattle.ar_code.specs.declared.op.Op.TheVariants.{AndJump, OrJump, BranchFalse, Jump, Enter, Step, Return}
+use Rattle.ar_verify.specs.Arrivals.{Sent}
+use Rattle.ar_verify.specs.Budget.{IsDearest, most_at, price}
+use Rattle.ar_verify.specs.Verdict.{passed}
+
+-- one more than the greatest budget
+abbrev pub too_dear : ℕ
+too_dear = 1000000001
+
+-- the number of a place, from a list of one for each
+abbrev pub number_at : List ℕ → (place : ℕ) → ℕ
+number_at numbers place = slice_index_or numbers place 0
+
+-- ---- what the dearest way costs, where the list on top has at most so many items, by what is behind
+
+abbrev pub cost_by_next : Op → (most next : ℕ) → ℕ
+cost_by_next op most next = min too_dear (price op most + next)
+
+abbrev pub cost_by_jump : (target : ℕ) → ℕ
+cost_by_jump target = min too_dear (suc target)
+
+abbrev pub cost_by_loop : (most body behind : ℕ) → ℕ
+cost_by_loop most body behind = min too_dear (suc (most * body + behind))
+
+abbrev pub cost_by_either : Op → (most next target : ℕ) → ℕ
+cost_by_either op most next target = max (cost_by_next op most next) (cost_by_jump target)
+
+abbrev pub cost_by : List ℕ → (place most : ℕ) → Op → ℕ
+cost_by costs place most (AndJump target) = cost_by_either (AndJump target) most (number_at costs (suc place)) (number_at costs target)
+cost_by costs place most (OrJump target) = cost_by_either (OrJump target) most (number_at costs (suc place)) (number_at costs target)
+cost_by costs place most (BranchFalse target) = cost_by_either (BranchFalse target) most (number_at costs (suc place)) (number_at costs target)
+cost_by costs place most (Jump target) = cost_by_jump (number_at costs target)
+cost_by costs place most (Enter predicate step) = cost_by_loop most (number_at costs (suc place)) (number_at costs (suc step))
+cost_by costs place most (Step predicate enter) = 1
+cost_by costs place most Return = 1
+cost_by costs place most op = cost_by_next op most (number_at costs (suc place))
+
+-- where an operation at a place leads to places that there are so many of
+abbrev pub LeadsInside : (count place : ℕ) → Op → Type 0
+LeadsInside count place (AndJump target) = (suc place < count) × (target < count)
+LeadsInside count place (OrJump target) = (suc place < count) × (target < count)
+LeadsInside count place (BranchFalse target) = (suc place < count) × (target < count)
+LeadsInside count place (Jump target) = target < count
+LeadsInside count place (Enter predicate step) = (suc place < count) × (suc step < count)
+LeadsInside count place (Step predicate enter) = Unit {0}
+LeadsInside count place Return = Unit {0}
+LeadsInside count place op = suc place < count
+
+-- ---- what the numbers are
+
+-- the passes 1 to 5 found nothing in the code, for some shape
+abbrev pub HasPassed : Code → Type 0
+HasPassed code = (shape : Shape) × ((sents : List Sent) × (passed code shape ≡ Ok sents))
+
+-- for each place, how many items the list on top may have that arrives there
+abbrev pub AreMost : Code → List Sent → (most : List ℕ) → Type 0
+AreMost code sents most = (place : ℕ) → place < length code.ops → number_at most place ≡ most_at code.ops sents place
+
+-- a number that stands for what the dearest way from a place costs
+pub record IsCapped (code : Code) (sents : List Sent) (place number : ℕ) : Type 0 where
+  pub cost : ℕ
+  pub dearest : IsDearest code.ops sents place cost
+  pub is : number ≡ min too_dear cost
+
+-- a number stands for what the dearest way from a place costs, whatever the passes found to arrive there
+abbrev pub IsCost : Code → (most : List ℕ) → (place number : ℕ) → Type 0
+IsCost code most place number = (shape : Shape) (sents : List Sent) → passed code shape ≡ Ok sents → AreMost code sents most → IsCapped code sents place number
+
+-- for each place from one on
+abbrev pub AreCosts : Code → (most : List ℕ) → (from : ℕ) → (costs : List ℕ) → Type 0
+AreCosts code most from costs = (place : ℕ) → from ≤ place → place < length code.ops → IsCost code most place (number_at costs place)

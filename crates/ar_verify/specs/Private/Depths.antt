@@ -1,0 +1,77 @@
+-- Pass 3 as the code makes it, from the number of loops around each place and the Steps of the loops that are open at the
+-- operation at hand, the outermost first.
+use Rattle.std.specs.Prelude.{◌≡◌, ℕ, ◌+◌, ◌-◌, ◌==◌, ◌<◌, Bool, true, ◌&&◌, nat_le, nat_lt, List, [], ◌∷◌, ◌++◌, length, drop, take, Option, Some, None, slice_get, slice_index_or}
+use Rattle.ar_code.specs.Machine.{nth}
+use Rattle.ar_code.specs.declared.op.Op.{Op}
+use Rattle.ar_code.specs.declared.op.Op.TheVariants.{AndJump, OrJump, BranchFalse, Jump, Enter, Step, Return}
+use Rattle.ar_verify.specs.Places.{all_pass, held, most_loops, nests_well, or_else, unless}
+use Rattle.ar_verify.specs.declared.error.Reason.{Reason}
+use Rattle.ar_verify.specs.declared.error.Reason.TheVariants.{CrossesLoop, LoopsTooDeep}
+
+-- ---- how many loops are around each place
+
+abbrev pub depth_behind : Op → (depth : ℕ) → ℕ
+depth_behind (Enter predicate step) depth = depth + 1
+depth_behind (Step predicate enter) depth = depth - 1
+depth_behind op depth = depth
+
+-- at each operation, where there are so many around the first
+abbrev pub depths : (depth : ℕ) → List Op → List ℕ
+depths depth [] = []
+depths depth (op ∷ ops) = depth ∷ depths (depth_behind op depth) ops
+
+abbrev pub depth_at : List ℕ → (place : ℕ) → ℕ
+depth_at around place = slice_index_or around place 0
+
+-- ---- the Steps of open loops
+
+abbrev pub last_of : List ℕ → Option ℕ
+last_of steps = slice_get steps (length steps - 1)
+
+abbrev pub step_of : Option Op → ℕ
+step_of (Some (Enter predicate step)) = step
+step_of op = 0
+
+-- of the loops of some Enters, the innermost of which is the first
+abbrev pub open_steps : List Op → List ℕ → List ℕ
+open_steps ops [] = []
+open_steps ops (enter ∷ outer) = open_steps ops outer ++ step_of (nth ops enter) ∷ []
+
+abbrev pub open_behind : Op → List ℕ → List ℕ
+open_behind (Enter predicate step) steps = steps ++ step ∷ []
+open_behind (Step predicate enter) steps = take (length steps - 1) steps
+open_behind op steps = steps
+
+-- ---- the pass
+
+-- whether a place lies inside the innermost loop, by its Step
+abbrev pub is_inside : Option ℕ → (place : ℕ) → Bool
+is_inside None place = true
+is_inside (Some step) place = nat_le place step
+
+abbrev pub stays_by : List ℕ → Option ℕ → (place target : ℕ) → Option Reason
+stays_by around innermost place target = unless (is_inside innermost target && depth_at around place == depth_at around target) CrossesLoop
+
+abbrev pub nests_by : List ℕ → Option ℕ → (place : ℕ) → Op → Option Reason
+nests_by around innermost place (AndJump target) = stays_by around innermost place target
+nests_by around innermost place (OrJump target) = stays_by around innermost place target
+nests_by around innermost place (BranchFalse target) = stays_by around innermost place target
+nests_by around innermost place (Jump target) = stays_by around innermost place target
+nests_by around innermost place (Enter predicate step) = or_else (unless (nat_lt (depth_at around place) most_loops) LoopsTooDeep) (unless (is_inside innermost step) CrossesLoop)
+nests_by around innermost place Return = unless (depth_at around place == 0) CrossesLoop
+nests_by around innermost place op = None
+
+-- what the pass finds from a place on is what it finds at all, since it found nothing before; and these are the Steps of the loops
+-- that hold the place
+abbrev pub IsNested : List Op → (place : ℕ) → (steps : List ℕ) → Type 0
+IsNested ops place steps = (steps ≡ open_steps ops (held ops place))
+    × ((before : ℕ) (op : Op) → before < place → nth ops before ≡ Some op → nests_well ops before op ≡ None)
+    × (all_pass (nests_well ops) place (drop place ops) ≡ all_pass (nests_well ops) 0 ops)
+
+-- where jumps name places that are counted
+abbrev pub JumpsInside : (count : ℕ) → Op → Type 0
+JumpsInside count (AndJump target) = target < count
+JumpsInside count (OrJump target) = target < count
+JumpsInside count (BranchFalse target) = target < count
+JumpsInside count (Jump target) = target < count
+JumpsInside count op = Unit {0}

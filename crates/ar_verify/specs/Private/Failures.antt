@@ -1,0 +1,17 @@
+-- What helpers answer that know no place.
+use Rattle.std.specs.Prelude.{◌≡◌, ℕ, Result, Ok, Err}
+use Rattle.ar_verify.specs.declared.error.Cause.{Cause}
+use Rattle.ar_verify.specs.declared.error.Cause.TheVariants as causes
+use Rattle.ar_verify.specs.declared.error.Reason.{Reason}
+use Rattle.ar_verify.specs.declared.failure.Failure.{Failure}
+use Rattle.ar_verify.specs.declared.failure.Failure.TheVariants as failures
+
+abbrev pub cause_at : (place : ℕ) → Failure → Cause
+cause_at place (failures.Fault reason) = causes.Fault place reason
+cause_at place failures.OutOfMemory = causes.OutOfMemory
+
+-- What a helper gave, seen by a view, is what is meant, and so is why it gave nothing, unless memory ran out.
+abbrev pub Meets : {X Y : Type 0} → (X → Y) → Result X Failure → Result Y Reason → Type 0
+Meets view (Ok x) answer = answer ≡ Ok (view x)
+Meets view (Err (failures.Fault reason)) answer = answer ≡ Err reason
+Meets view (Err failures.OutOfMemory) answer = Unit {0}

@@ -1,0 +1,27 @@
+-- What operands and loops in memory stand for.
+use Rattle.std.specs.Prelude.{ℕ, ◌-◌, ◌^◌, min, List, map, reverse, Result, Ok, Err}
+use Rattle.ar_verify.specs.Arrivals.{Around, Operands, operands}
+use Rattle.ar_verify.specs.Private.Kinds.{any_view}
+use Rattle.ar_verify.specs.Private.Stacks.{from_top}
+use Rattle.ar_verify.specs.declared.error.Reason.{Reason}
+use Rattle.ar_verify.specs.declared.operands.Around as code
+use Rattle.ar_verify.specs.declared.operands.Operands as held
+
+abbrev pub around_view : code.Around → Around
+around_view a = record { item = any_view a.list.item; most = a.list.most; below = from_top a.below.items }
+
+-- loops of which the last is the innermost, from the innermost
+abbrev pub from_innermost : List code.Around → List Around
+from_innermost loops = reverse (map around_view loops)
+
+abbrev pub operands_view : held.Operands → Operands
+operands_view o = operands (from_top o.kinds.items) (from_innermost o.loops.items)
+
+-- what arrived somewhere, or why nothing can be performed there
+abbrev pub arrival_view : Result held.Operands Reason → Result Operands Reason
+arrival_view (Ok had) = Ok (operands_view had)
+arrival_view (Err reason) = Err reason
+
+-- a number as it is counted, which stops at the greatest one
+abbrev pub counted : ℕ → ℕ
+counted n = min n (2 ^ 64 - 1)

@@ -1,0 +1,88 @@
+-- What operations send on as the code makes it, by what they do with kinds and the number of the next place.
+use Rattle.std.specs.Prelude.{ℕ, ◌+◌, Bool, if◌then◌else◌, nat_lt, List, [], ◌∷◌, is_none, length, Option, Some, None, Result, Ok, Err}
+use Rattle.ar_value.specs.Answer.{◌>>=◌}
+use Rattle.ar_value.specs.Kind.{Kind, shaped}
+use Rattle.ar_value.specs.Shape.{Shape, bool}
+use Rattle.ar_value.specs.declared.operator.Predicate.{Predicate}
+use Rattle.ar_code.specs.Code.{Code}
+use Rattle.ar_verify.specs.Arrivals.{Around, Operands, Sent, answer_kind, item_of, sent, where_shallow}
+use Rattle.ar_verify.specs.Private.Action.{after_effect, taken}
+use Rattle.ar_verify.specs.Private.Held.{operands_view}
+use Rattle.ar_verify.specs.Private.Kinds.{list_in}
+use Rattle.ar_verify.specs.declared.action.Action.{Action}
+use Rattle.ar_verify.specs.declared.action.Action.TheVariants as actions
+use Rattle.ar_verify.specs.declared.action.Effect.TheVariants as effects
+use Rattle.ar_verify.specs.declared.action.Source.TheVariants as sources
+use Rattle.ar_verify.specs.declared.error.Reason.{Reason}
+use Rattle.ar_verify.specs.declared.error.Reason.TheVariants.{BadMerge, IllKinded, MissingOperand}
+use Rattle.ar_verify.specs.declared.sending.Sends.{Sends}
+use Rattle.ar_verify.specs.declared.sending.Sends.TheVariants as code
+use Rattle.ar_verify.specs.declared.sending.Sent as codes
+
+abbrev pub sent_view : codes.Sent → Sent
+sent_view s = record { target = s.target; operands = operands_view s.operands }
+
+abbrev pub sends_view : Sends → List Sent
+sends_view code.Nothing = []
+sends_view (code.One only) = sent_view only ∷ []
+sends_view (code.Two first second) = sent_view first ∷ sent_view second ∷ []
+
+-- ---- what is taken off the top
+
+abbrev pub truth_taken : List Kind → Result (List Kind) Reason
+truth_taken (shaped bool ∷ kinds) = Ok kinds
+truth_taken kinds = Err IllKinded
+
+abbrev pub parts_taken : Option (Shape × ℕ) → List Kind → Result ((Shape × ℕ) × List Kind) Reason
+parts_taken (Some parts) kinds = Ok (parts, kinds)
+parts_taken None kinds = Err IllKinded
+
+-- a list's item and greatest length, and what is below it
+abbrev pub list_taken : List Kind → Result ((Shape × ℕ) × List Kind) Reason
+list_taken [] = Err IllKinded
+list_taken (kind ∷ kinds) = parts_taken (list_in kind) kinds
+
+-- ---- what is sent on, where the next place has a number
+
+abbrev pub going_on : (next : ℕ) → List Around → Option (List Kind) → Result (List Sent) Reason
+going_on next loops (Some kinds) = Ok (sent next kinds loops ∷ [])
+going_on next loops None = Err IllKinded
+
+abbrev pub kept_or_taken : (next target : ℕ) → List Kind → List Around → Result (List Sent) Reason
+kept_or_taken next target kinds loops = truth_taken kinds >>= λ taken. Ok (sent target kinds loops ∷ sent next taken loops ∷ [])
+
+abbrev pub branched : (next target : ℕ) → List Kind → List Around → Result (List Sent) Reason
+branched next target kinds loops = truth_taken kinds >>= λ taken. Ok (sent target taken loops ∷ sent next taken loops ∷ [])
+
+abbrev pub around : (Shape × ℕ) × List Kind → Around
+around taken = record { item = taken.0.0; most = taken.0.1; below = taken.1 }
+
+abbrev pub beginning : Predicate → (next behind : ℕ) → List Kind → List Around → Result (List Sent) Reason
+beginning predicate next behind kinds loops = list_taken kinds >>= λ taken.
+    Ok (sent next [] (around taken ∷ loops) ∷ sent behind (answer_kind predicate taken.0.0 taken.0.1 ∷ taken.1) loops ∷ [])
+
+abbrev pub ending : Predicate → (next : ℕ) → List Kind → List Around → Result (List Sent) Reason
+ending predicate next [] (loop ∷ outer) = Ok (sent next (answer_kind predicate loop.item loop.most ∷ loop.below) outer ∷ [])
+ending predicate next kinds loops = Err BadMerge
+
+abbrev pub stepping : Predicate → (next : ℕ) → List Kind → List Around → Result (List Sent) Reason
+stepping predicate next kinds loops = truth_taken kinds >>= λ taken. ending predicate next taken loops
+
+abbrev pub returning : List Kind → Result (List Sent) Reason
+returning kinds = truth_taken kinds >>= λ taken. Ok []
+
+abbrev pub passed_by : Code → Shape → (next : ℕ) → Action → List Kind → List Around → Result (List Sent) Reason
+passed_by code result next (actions.Effect effect) kinds loops = going_on next loops (after_effect code result (item_of loops) effect kinds)
+passed_by code result next (actions.KeepOrTake target) kinds loops = kept_or_taken next target kinds loops
+passed_by code result next (actions.Branch target) kinds loops = branched next target kinds loops
+passed_by code result next (actions.Jump target) kinds loops = Ok (sent target kinds loops ∷ [])
+passed_by code result next (actions.Enter predicate step) kinds loops = beginning predicate next (step + 1) kinds loops
+passed_by code result next (actions.Step predicate) kinds loops = stepping predicate next kinds loops
+passed_by code result next actions.Return kinds loops = returning kinds
+
+abbrev pub lacks_by : Action → Operands → Bool
+lacks_by (actions.Effect (effects.Push sources.Item)) had = is_none (item_of had.loops)
+lacks_by action had = nat_lt (length had.kinds) (taken action)
+
+abbrev pub sends_by : Code → Shape → (next : ℕ) → Action → Operands → Result (List Sent) Reason
+sends_by code result next action had = if lacks_by action had then Err MissingOperand else passed_by code result next action had.kinds had.loops >>= where_shallow

@@ -1,0 +1,193 @@
+//! What arrives at each place of code: operands are passed on from one place to the next, and none is
+//! sent back, so one way through the operations is enough.
+
+ghost use Rattle.std.specs.Prelude.{◌≡◌, ◌+◌, ◌<◌, ◌∷◌, ◌++◌, [], IfOk, OnOk, Ok, Err, length, replicate};
+ghost use Rattle.std.specs.List.{AllByRecursion};
+ghost use Rattle.ar_value.specs.Answer.{Gives};
+ghost use Rattle.ar_value.specs.View.{shape_view};
+ghost use Rattle.ar_verify.specs.Arrivals.{operands};
+ghost use Rattle.ar_verify.specs.Budget.{most_on_top};
+ghost use Rattle.ar_verify.specs.Memory.{is_memory};
+ghost use Rattle.ar_verify.specs.Places.{all_pass, names_well};
+ghost use Rattle.ar_verify.specs.Private.Action.{action};
+ghost use Rattle.ar_verify.specs.Private.Failures.{Meets};
+ghost use Rattle.ar_verify.specs.Private.Held.{arrival_view, operands_view};
+ghost use Rattle.ar_verify.specs.Private.Sending.{sends_view, sent_view};
+ghost use Rattle.ar_verify.specs.Private.Stacks.{from_top};
+ghost use Rattle.ar_verify.specs.Private.Table.{ComesTo, StaysWithin, entry, looked_at, one_more, pass_view, summary_view, summed_up, table_view, with_all, with_one, without};
+ghost use Rattle.ar_verify.specs.declared.error.Reason.TheVariants.{Unreachable};
+
+use crate::action::action_of;
+use crate::error::{Cause, Reason};
+use crate::failure::Failure;
+use crate::kind::{Kind, list_in};
+use crate::operands::{Operands, join};
+use crate::sending::{Sends, Sent, send_on};
+use ar_code::code::Code;
+use ar_code::op::Op;
+use ar_value::shape::Shape;
+use std::alloc::{AllocError, Global};
+use std::mem;
+
+/// What is known of the operands of code.
+#[derive(Drop)]
+pub(crate) struct Arrivals {
+    /// The greatest number of operands on the way anywhere.
+    pub depth: usize,
+    /// How many items the list on top may have at each place, and 0 where no list is on top.
+    pub most_items: Vec<usize>,
+}
+
+/// The way through the operations.
+#[derive(Drop)]
+struct Pass<'s> {
+    /// What arrived so far at each place further on, or why nothing can be performed there.
+    arrived: Vec<Result<Operands<'s>, Reason>>,
+    found: Arrivals,
+}
+
+/// How many items the list on top may have.
+#[tactic(auto, using(crate::proofs::Tops::most_in_list))]
+fn most_on_top(kinds: &[Kind<'_>]) -> usize
+    ensures { result ≡ most_on_top (from_top kinds.now) }
+{
+    let Some(kind) = kinds.last() else {
+        return 0;
+    };
+    match list_in(kind) {
+        Some(list) => list.most,
+        None => 0,
+    }
+}
+
+/// A table of the places of so many operations, and of one behind them. A run begins at the first.
+fn table<'s>(alloc: Global, count: usize) -> Result<Vec<Result<Operands<'s>, Reason>>, AllocError>
+    ensures { IfOk result (λ arrived. table_view arrived.items ≡ Ok (operands [] []) ∷ replicate count (Err Unreachable)) }
+{
+    let mut arrived = Vec::new(alloc);
+    arrived.push(Ok(Operands::none(alloc)))?;
+    for _place in 0..count {
+        arrived.push(Err(Reason::Unreachable))?;
+    }
+    Ok(arrived)
+}
+
+/// Takes what arrived at a place.
+#[tactic(auto, using(crate::proofs::Table::entry_is, crate::proofs::Table::taken_away))]
+fn take<'s>(
+    arrived: &mut [Result<Operands<'s>, Reason>],
+    place: usize,
+) -> Result<Operands<'s>, Reason>
+    requires { place < length arrived.old }
+    ensures taken { arrival_view result ≡ entry (table_view arrived.old) place }
+    ensures left { table_view arrived.new ≡ without (table_view arrived.old) place }
+{
+    mem::replace(&mut arrived[place], Err(Reason::Unreachable))
+}
+
+/// What arrived somewhere, and one more behind it.
+fn one_more<'s>(
+    alloc: Global,
+    arrived: Result<Operands<'s>, Reason>,
+    next: Operands<'s>,
+) -> Result<Result<Operands<'s>, Reason>, AllocError>
+    ensures { IfOk result (λ joined. arrival_view joined ≡ one_more (arrival_view arrived.entry) (operands_view next.entry)) }
+{
+    match arrived {
+        Ok(so_far) => join(alloc, so_far, &next),
+        Err(Reason::Unreachable) => Ok(Ok(next)),
+        Err(reason) => Ok(Err(reason)),
+    }
+}
+
+/// Adds operands to what arrived where they go.
+#[tactic(auto, using(crate::proofs::Table::put_there))]
+fn send<'s>(
+    alloc: Global,
+    arrived: &mut [Result<Operands<'s>, Reason>],
+    sent: Sent<'s>,
+) -> Result<(), AllocError>
+    requires { sent.target < length arrived.old }
+    ensures { OnOk result (table_view arrived.new ≡ with_one (table_view arrived.old) (sent_view sent.entry)) }
+{
+    let Sent { target, operands } = sent;
+    let so_far = take(arrived, target);
+    arrived[target] = one_more(alloc, so_far, operands)?;
+    Ok(())
+}
+
+/// Adds all that an operation sends on.
+fn send_all<'s>(
+    alloc: Global,
+    arrived: &mut [Result<Operands<'s>, Reason>],
+    sends: Sends<'s>,
+) -> Result<(), AllocError>
+    requires { AllByRecursion (λ one. one.target < length arrived.old) (sends_view sends) }
+    ensures { OnOk result (table_view arrived.new ≡ with_all (table_view arrived.old) (sends_view sends.entry)) }
+{
+    match sends {
+        Sends::Nothing => Ok(()),
+        Sends::One(only) => send(alloc, arrived, only),
+        Sends::Two(first, second) => {
+            send(alloc, arrived, first)?;
+            send(alloc, arrived, second)
+        }
+    }
+}
+
+impl Arrivals {
+    /// Notes how many items the list on top may have at the next place.
+    fn note_items(&mut self, most: usize) -> Result<(), AllocError>
+        ensures depth { self.new.depth ≡ self.old.depth }
+        ensures items { OnOk result (self.new.most_items.items ≡ self.old.most_items.items ++ most ∷ []) }
+    {
+        self.most_items.push(most)?;
+        Ok(())
+    }
+}
+
+impl<'s> Pass<'s> {
+    /// Looks at the operation at a place, to which the pass has come.
+    fn look_at(
+        &mut self,
+        alloc: Global,
+        code: &Code,
+        measured: &'s Shape,
+        place: usize,
+        op: Op,
+    ) -> Result<(), Failure>
+        requires inside { place + 1 < length self.old.arrived.items }
+        requires targets { StaysWithin (length self.old.arrived.items) (action op) }
+        ensures { Meets (λ _. pass_view self.new) result (looked_at code.now (shape_view measured.now) place op (pass_view self.old)) }
+    {
+        let had = take(&mut self.arrived, place)?;
+        self.found.note_items(most_on_top(&had.kinds))?;
+        let sends = send_on(alloc, code, measured, place + 1, action_of(op), had)?;
+        self.found.depth = self.found.depth.max(sends.deepest());
+        send_all(alloc, &mut self.arrived, sends)?;
+        Ok(())
+    }
+}
+
+/// Finds the first operation that what arrives at its place can't be given to, or what is known of
+/// the operands where there is none.
+pub(crate) fn find_arrivals(alloc: Global, code: &Code, measured: &Shape) -> Result<Arrivals, Cause>
+    requires { all_pass (names_well code.now.ops) 0 code.now.ops ≡ Ok tt }
+    ensures { Gives is_memory summary_view result (summed_up code.now (shape_view measured.now)) }
+{
+    let ops = code.ops();
+    let found = Arrivals {
+        depth: 0,
+        most_items: Vec::with_capacity(alloc, ops.len())?,
+    };
+    let mut pass = Pass {
+        arrived: table(alloc, ops.len())?,
+        found,
+    };
+    for (place, op) in ops.iter().enumerate() {
+        if let Err(failure) = pass.look_at(alloc, code, measured, place, *op) {
+            return Err(failure.at(place));
+        }
+    }
+    Ok(pass.found)
+}

@@ -1,0 +1,97 @@
+//! The verifier's pass 6: what a run may cost at most.
+
+ghost use Rattle.std.specs.Prelude.{◌≡◌, IfOk, length, nat_le};
+ghost use Rattle.ar_verify.specs.Private.Costs.{cost_by, cost_by_jump, cost_by_loop, cost_by_next, AreCosts, HasPassed, IsCost, LeadsInside};
+ghost use Rattle.ar_verify.specs.Verdict.{greatest_budget};
+
+use ar_code::code::Code;
+use ar_code::op::Op;
+use std::alloc::{AllocError, Global};
+
+/// The greatest budget that code is accepted with.
+const GREATEST_BUDGET: u64 = 1_000_000_000;
+
+/// What all costs above the greatest budget count as. Where a part of code is too dear, so is the
+/// code, unless the part is in a loop over no items, which then costs nothing of it. So this changes
+/// no budget that is accepted.
+const TOO_DEAR: u64 = GREATEST_BUDGET + 1;
+
+/// Whether code of a budget is accepted.
+pub(crate) fn is_payable(budget: u64) -> bool
+    ensures { result ≡ nat_le budget greatest_budget }
+{
+    budget <= GREATEST_BUDGET
+}
+
+/// The cost of an operation, over a list of at most so many items, and of what follows it.
+fn cost_by_next(op: Op, most: u64, next: u64) -> u64
+    ensures { result ≡ cost_by_next op most next }
+{
+    let price = match op {
+        Op::IsIn => most.saturating_add(1),
+        _ => 1,
+    };
+    price.saturating_add(next).min(TOO_DEAR)
+}
+
+/// The cost of a jump and of what follows at its target.
+fn cost_by_jump(target: u64) -> u64
+    ensures { result ≡ cost_by_jump target }
+{
+    target.saturating_add(1).min(TOO_DEAR)
+}
+
+/// The cost of a loop over at most so many items, of a body of such a cost, and of what follows it.
+fn cost_by_loop(most: u64, body: u64, behind: u64) -> u64
+    ensures { result ≡ cost_by_loop most body behind }
+{
+    most.saturating_mul(body)
+        .saturating_add(behind)
+        .saturating_add(1)
+        .min(TOO_DEAR)
+}
+
+/// The cost of the dearest way from a place, by those of the places behind it.
+fn cost_by(costs: &[u64], place: usize, most: u64, op: Op) -> u64
+    requires { LeadsInside (length costs.now) place op }
+    ensures { result ≡ cost_by costs.now place most op }
+{
+    match op {
+        Op::AndJump(target) | Op::OrJump(target) | Op::BranchFalse(target) => {
+            let goes_on = cost_by_next(op, most, costs[place + 1]);
+            let jumps = cost_by_jump(costs[target as usize]);
+            goes_on.max(jumps)
+        }
+        Op::Jump(target) => cost_by_jump(costs[target as usize]),
+        Op::Enter(_, step) => cost_by_loop(most, costs[place + 1], costs[step as usize + 1]),
+        Op::Step(..) | Op::Return => 1,
+        _ => cost_by_next(op, most, costs[place + 1]),
+    }
+}
+
+/// The cost of the dearest way from each place. Ways lead on to places behind alone, so the costs
+/// are found from the code's end.
+fn costs(alloc: Global, code: &Code, most: &[usize]) -> Result<Vec<u64>, AllocError>
+    requires passed { HasPassed code.now }
+    requires counted { length most.now ≡ length code.now.ops }
+    ensures counted { IfOk result (λ costs. length costs.items ≡ length code.now.ops) }
+    ensures costs { IfOk result (λ costs. AreCosts code.now most.now 0 costs.items) }
+{
+    let ops = code.ops();
+    let mut costs = vec![in alloc; 0; ops.len()]?;
+    for place in (0..ops.len()).rev() {
+        costs[place] = cost_by(&costs, place, most[place] as u64, ops[place]);
+    }
+    Ok(costs)
+}
+
+/// What a run may cost at most, or [`TOO_DEAR`], where for each place it is known how many items the
+/// list on top may have that arrives there.
+pub(crate) fn budget(alloc: Global, code: &Code, most: &[usize]) -> Result<u64, AllocError>
+    requires passed { HasPassed code.now }
+    requires counted { length most.now ≡ length code.now.ops }
+    ensures { IfOk result (IsCost code.now most.now 0) }
+{
+    let costs = costs(alloc, code, most)?;
+    Ok(costs[0])
+}

@@ -1,0 +1,168 @@
+//! What operations that go on to the next place give of the kinds on a stack, which they take. What
+//! they give isn't pushed here.
+
+ghost use Rattle.std.specs.Prelude.{◌≡◌, IfOk, map, option_map, string_bytes};
+ghost use Rattle.ar_value.specs.View.{shape_view};
+ghost use Rattle.ar_code.specs.Machine.{nth};
+ghost use Rattle.ar_verify.specs.Effects.{list_made, on_one, on_two, scalar_shape};
+ghost use Rattle.ar_verify.specs.Private.Action.{after_effect, field_by, one, pushed, two};
+ghost use Rattle.ar_verify.specs.Private.Kinds.{any_view, kind_view};
+ghost use Rattle.ar_verify.specs.Private.Stacks.{Leaves, TakesScalar, from_top};
+
+use crate::action::{Binary, Effect, Source, Unary};
+use crate::kind::{AnyShape, Kind, is_scalar};
+use crate::operators::{apply_binary, apply_unary, field_of};
+use crate::stack::pop;
+use ar_code::code::Code;
+use ar_value::operator::Scalar;
+use ar_value::shape::Shape;
+use std::alloc::{AllocError, Global};
+
+/// What is pushed, where the innermost loop, if there is one, has items of a shape.
+fn pushed<'s>(
+    alloc: Global,
+    measured: &'s Shape,
+    here: Option<&AnyShape<'s>>,
+    source: Source,
+) -> Result<Option<Kind<'s>>, AllocError>
+    ensures { IfOk result (λ given. option_map kind_view given
+        ≡ pushed (shape_view measured.now) (option_map (λ shape. any_view shape.now) here.entry) source) }
+{
+    Ok(Some(match source {
+        Source::Bool => Kind::made(Shape::Bool),
+        Source::Whole => Kind::made(Shape::Whole),
+        Source::Decimal => Kind::made(Shape::Decimal),
+        Source::Text => Kind::made(Shape::Text),
+        Source::Nil => Kind::Nil,
+        Source::Result => Kind::Shape(AnyShape::Declared(measured)),
+        Source::Item => match here {
+            Some(item) => Kind::Shape(item.copy(alloc)?),
+            None => return Ok(None),
+        },
+    }))
+}
+
+/// Takes an operand.
+fn unary<'s>(
+    alloc: Global,
+    operator: Unary,
+    kinds: &mut Vec<Kind<'s>>,
+) -> Result<Option<Kind<'s>>, AllocError>
+    ensures { IfOk result (λ given. Leaves given kinds.new.items (on_one (one operator) (from_top kinds.old.items))) }
+{
+    match pop(kinds) {
+        Some(operand) => apply_unary(alloc, operator, operand),
+        None => Ok(None),
+    }
+}
+
+/// Takes two operands, the right one from the top.
+fn binary<'s>(
+    alloc: Global,
+    operator: Binary,
+    kinds: &mut Vec<Kind<'s>>,
+) -> Result<Option<Kind<'s>>, AllocError>
+    ensures { IfOk result (λ given. Leaves given kinds.new.items (on_two (two operator) (from_top kinds.old.items))) }
+{
+    let Some(right) = pop(kinds) else {
+        return Ok(None);
+    };
+    let Some(left) = pop(kinds) else {
+        return Ok(None);
+    };
+    apply_binary(alloc, operator, left, right)
+}
+
+/// The name of a number.
+#[tactic(auto, using(crate::proofs::Names::nth_name, crate::proofs::Names::no_name))]
+fn name_at(names: &[String], number: u32) -> Option<&str>
+    ensures { option_map (λ name. name.now) result ≡ nth (map string_bytes names.now) number }
+{
+    let number = number as usize;
+    if number < names.len() {
+        Some(names[number].as_str())
+    } else {
+        None
+    }
+}
+
+/// Takes a record and gives its field, by the number of the name.
+fn field<'s>(
+    alloc: Global,
+    code: &Code,
+    number: u32,
+    kinds: &mut Vec<Kind<'s>>,
+) -> Result<Option<Kind<'s>>, AllocError>
+    ensures { IfOk result (λ given. Leaves given kinds.new.items (field_by code.now number (from_top kinds.old.items))) }
+{
+    let Some(name) = name_at(code.names(), number) else {
+        return Ok(None);
+    };
+    match pop(kinds) {
+        Some(operand) => field_of(alloc, name, operand),
+        None => Ok(None),
+    }
+}
+
+fn scalar_shape(scalar: Scalar) -> Shape
+    ensures { shape_view result ≡ scalar_shape scalar }
+{
+    match scalar {
+        Scalar::Bool => Shape::Bool,
+        Scalar::Whole => Shape::Whole,
+        Scalar::Decimal => Shape::Decimal,
+        Scalar::Text => Shape::Text,
+    }
+}
+
+/// Takes an operand off the top and says whether it was a scalar of a kind.
+fn takes_scalar(scalar: Scalar, kinds: &mut Vec<Kind<'_>>) -> bool
+    ensures { TakesScalar scalar (from_top kinds.old.items) (from_top kinds.new.items) result }
+{
+    match pop(kinds) {
+        Some(kind) => is_scalar(scalar, &kind),
+        None => false,
+    }
+}
+
+/// Takes so many scalars of a kind and gives the list of them.
+#[tactic(auto, using(crate::proofs::Tops::scalar_taken, crate::proofs::Tops::scalar_refused, crate::proofs::Tops::all_taken))]
+fn make_list<'s>(
+    alloc: Global,
+    scalar: Scalar,
+    count: u8,
+    kinds: &mut Vec<Kind<'s>>,
+) -> Result<Option<Kind<'s>>, AllocError>
+    ensures { IfOk result (λ given. Leaves given kinds.new.items (list_made scalar count count (from_top kinds.old.items))) }
+{
+    for _taken in 0..count {
+        if !takes_scalar(scalar, kinds) {
+            return Ok(None);
+        }
+    }
+    Ok(Some(Kind::made(Shape::List {
+        item: Box::new(alloc, scalar_shape(scalar))?,
+        max: usize::from(count),
+    })))
+}
+
+/// Takes the operands of an effect and gives what it makes of them.
+pub(crate) fn apply<'s>(
+    alloc: Global,
+    code: &Code,
+    measured: &'s Shape,
+    here: Option<&AnyShape<'s>>,
+    effect: Effect,
+    kinds: &mut Vec<Kind<'s>>,
+) -> Result<Option<Kind<'s>>, AllocError>
+    ensures { IfOk result (λ given. Leaves given kinds.new.items
+        (after_effect code.now (shape_view measured.now) (option_map (λ shape. any_view shape.now) here.entry) effect (from_top kinds.old.items))) }
+{
+    match effect {
+        Effect::Push(source) => pushed(alloc, measured, here, source),
+        Effect::MakeList { scalar, count } => make_list(alloc, scalar, count, kinds),
+        Effect::Field(number) => field(alloc, code, number, kinds),
+        Effect::Unary(operator) => unary(alloc, operator, kinds),
+        Effect::Binary(operator) => binary(alloc, operator, kinds),
+    }
+}

@@ -1,0 +1,47 @@
+//! Why an operation sends nothing on.
+
+use crate::error::{Cause, Reason};
+use std::alloc::AllocError;
+
+/// A fault of an operation, told without its place, or want of memory.
+#[derive(Clone, Copy)]
+pub(crate) enum Failure {
+    Fault(Reason),
+    OutOfMemory,
+}
+
+impl From<AllocError> for Failure {
+    ghost use Rattle.std.specs.Prelude.{◌≡◌};
+    ghost use Rattle.ar_verify.specs.declared.failure.Failure.TheVariants.{OutOfMemory};
+
+    ghost from_gives = { λ _ e. e ≡ OutOfMemory };
+
+    fn from(_error: AllocError) -> Failure {
+        Failure::OutOfMemory
+    }
+}
+
+impl From<Reason> for Failure {
+    ghost use Rattle.std.specs.Prelude.{◌≡◌};
+    ghost use Rattle.ar_verify.specs.declared.failure.Failure.TheVariants as failures;
+
+    ghost from_gives = { λ reason e. e ≡ failures.Fault reason };
+
+    fn from(reason: Reason) -> Failure {
+        Failure::Fault(reason)
+    }
+}
+
+impl Failure {
+    ghost use Rattle.std.specs.Prelude.{◌≡◌};
+    ghost use Rattle.ar_verify.specs.Private.Failures.{cause_at};
+
+    pub(crate) fn at(self, place: usize) -> Cause
+        ensures { result ≡ cause_at place self }
+    {
+        match self {
+            Failure::Fault(reason) => Cause::Fault { place, reason },
+            Failure::OutOfMemory => Cause::OutOfMemory,
+        }
+    }
+}

@@ -1,0 +1,123 @@
+//! Whether loops lie one in another, at most four deep, and jumps and Returns stay inside their loop.
+//!
+//! A place and one further on lie in the same loops exactly if as many loops are around both and the
+//! innermost loop of the first reaches up to the second. So no jump needs a look at what lies
+//! between, and the pass is linear in the code.
+
+ghost use Rattle.std.specs.Prelude.{◌≡◌, ◌<◌, length, IfOk, Ok};
+ghost use Rattle.ar_value.specs.Answer.{Gives};
+ghost use Rattle.ar_verify.specs.Memory.{is_memory};
+ghost use Rattle.ar_verify.specs.Places.{all_pass, names_well, nests_well};
+ghost use Rattle.ar_verify.specs.Private.Depths.{depth_behind, depths, is_inside, last_of, nests_by, open_behind, stays_by, JumpsInside};
+
+use crate::error::{Cause, Reason};
+use crate::places::unless;
+use ar_code::op::Op;
+use std::alloc::{AllocError, Global};
+
+/// How many loops may be around an operation.
+const MOST_LOOPS: usize = 4;
+
+/// How many loops are around the place behind an operation.
+fn depth_behind(op: Op, depth: usize) -> usize
+    requires { depth < usize.MAX }
+    ensures { result ≡ depth_behind op depth }
+{
+    match op {
+        Op::Enter(..) => depth + 1,
+        Op::Step(..) => depth.saturating_sub(1),
+        _ => depth,
+    }
+}
+
+/// How many loops are around each operation.
+#[tactic(auto, using(crate::proofs::Depths::counts_on, crate::proofs::Depths::counted_all, crate::proofs::Depths::one_deeper))]
+fn depths(alloc: Global, ops: &[Op]) -> Result<Vec<usize>, AllocError>
+    ensures { IfOk result (λ around. around.items ≡ depths 0 ops.now) }
+{
+    let mut around = Vec::with_capacity(alloc, ops.len())?;
+    let mut depth = 0;
+    for op in ops {
+        around.push(depth)?;
+        depth = depth_behind(*op, depth);
+    }
+    Ok(around)
+}
+
+/// The Step of the innermost loop that is open.
+fn innermost(steps: &[usize]) -> Option<usize>
+    ensures { result ≡ last_of steps.now }
+{
+    steps.last().copied()
+}
+
+/// Whether a place lies inside the innermost loop, by its Step.
+fn is_inside(innermost: Option<usize>, place: usize) -> bool
+    ensures { result ≡ is_inside innermost place }
+{
+    match innermost {
+        None => true,
+        Some(step) => place <= step,
+    }
+}
+
+/// What is wrong with a jump from a place to one further on.
+fn stays(around: &[usize], innermost: Option<usize>, place: usize, target: usize) -> Option<Reason>
+    requires from { place < length around.now }
+    requires to { target < length around.now }
+    ensures { result ≡ stays_by around.now innermost place target }
+{
+    let in_same_loops = is_inside(innermost, target) && around[place] == around[target];
+    unless(in_same_loops, Reason::CrossesLoop)
+}
+
+/// What is wrong with the operation at a place, by the loops around it.
+fn nests_well(around: &[usize], innermost: Option<usize>, place: usize, op: Op) -> Option<Reason>
+    requires from { place < length around.now }
+    requires to { JumpsInside (length around.now) op }
+    ensures { result ≡ nests_by around.now innermost place op }
+{
+    match op {
+        Op::AndJump(target) | Op::OrJump(target) | Op::BranchFalse(target) | Op::Jump(target) => {
+            stays(around, innermost, place, target as usize)
+        }
+        Op::Enter(_, step) => {
+            let is_shallow = around[place] < MOST_LOOPS;
+            let ends_inside = is_inside(innermost, step as usize);
+            unless(is_shallow, Reason::LoopsTooDeep).or(unless(ends_inside, Reason::CrossesLoop))
+        }
+        Op::Return => unless(around[place] == 0, Reason::CrossesLoop),
+        _ => None,
+    }
+}
+
+/// Opens the loop that an operation begins, or closes the one that it ends, in a list of the Steps
+/// of the open loops, the innermost of which is the last.
+fn open_or_close(steps: &mut Vec<usize>, op: Op) -> Result<(), AllocError>
+    ensures { IfOk result (λ _. steps.new.items ≡ open_behind op steps.old.items) }
+{
+    match op {
+        Op::Enter(_, step) => steps.push(step as usize)?,
+        Op::Step(..) => {
+            steps.pop();
+        }
+        _ => {}
+    }
+    Ok(())
+}
+
+/// Finds the first operation that begins or leaves a loop as it shouldn't.
+pub(crate) fn all_nest_well(alloc: Global, ops: &[Op]) -> Result<(), Cause>
+    requires { all_pass (names_well ops.now) 0 ops.now ≡ Ok tt }
+    ensures { Gives is_memory (λ x. x) result (all_pass (nests_well ops.now) 0 ops.now) }
+{
+    let around = depths(alloc, ops)?;
+    let mut steps = Vec::new(alloc);
+    for (place, op) in ops.iter().enumerate() {
+        if let Some(reason) = nests_well(&around, innermost(&steps), place, *op) {
+            return Err(Cause::Fault { place, reason });
+        }
+        open_or_close(&mut steps, *op)?;
+    }
+    Ok(())
+}

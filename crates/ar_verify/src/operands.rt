@@ -1,0 +1,146 @@
+//! Operands on the way to a place, by their kinds.
+
+ghost use Rattle.std.specs.Prelude.{◌≡◌, ◌∷◌, [], IfOk, MatchOption, OnOk, map, option_map};
+ghost use Rattle.ar_verify.specs.Arrivals.{floor, height, merged, of_loops, operands};
+ghost use Rattle.ar_verify.specs.Private.Held.{around_view, arrival_view, counted, from_innermost, operands_view};
+ghost use Rattle.ar_verify.specs.Private.Kinds.{any_view, kind_view};
+ghost use Rattle.ar_verify.specs.Private.Stacks.{from_top};
+
+use crate::error::Reason;
+use crate::kind::{AnyShape, Kind, ListKind, merge};
+use std::alloc::{AllocError, Global};
+
+/// A loop around a place.
+#[derive(Drop)]
+pub(crate) struct Around<'s> {
+    pub list: ListKind<'s>,
+    /// The operands below its floor and above that of the loop around it, of which the last is on top.
+    pub below: Vec<Kind<'s>>,
+}
+
+#[derive(Drop)]
+pub(crate) struct Operands<'s> {
+    /// Those above the floor of the innermost loop, of which the last is on top.
+    pub kinds: Vec<Kind<'s>>,
+    /// The last is the innermost.
+    pub loops: Vec<Around<'s>>,
+}
+
+fn copy_kinds<'s>(alloc: Global, kinds: &[Kind<'s>]) -> Result<Vec<Kind<'s>>, AllocError>
+    ensures { IfOk result (λ copies. map kind_view copies.items ≡ map kind_view kinds.now) }
+{
+    let mut copies = Vec::with_capacity(alloc, kinds.len())?;
+    for kind in kinds {
+        copies.push(kind.copy(alloc)?)?;
+    }
+    Ok(copies)
+}
+
+impl<'s> Around<'s> {
+    fn copy(&self, alloc: Global) -> Result<Around<'s>, AllocError>
+        ensures { IfOk result (λ copy. around_view copy ≡ around_view self.now) }
+    {
+        let item = self.list.item.copy(alloc)?;
+        let below = copy_kinds(alloc, &self.below)?;
+        Ok(Around {
+            list: ListKind {
+                item,
+                most: self.list.most,
+            },
+            below,
+        })
+    }
+}
+
+fn copy_loops<'s>(alloc: Global, loops: &[Around<'s>]) -> Result<Vec<Around<'s>>, AllocError>
+    ensures { IfOk result (λ copies. map around_view copies.items ≡ map around_view loops.now) }
+{
+    let mut copies = Vec::with_capacity(alloc, loops.len())?;
+    for around in loops {
+        copies.push(around.copy(alloc)?)?;
+    }
+    Ok(copies)
+}
+
+/// How many operands lie below the floor of the innermost loop.
+#[tactic(auto, using(crate::proofs::Heights::one_deeper, crate::proofs::Heights::all_taken))]
+fn floor(loops: &[Around<'_>]) -> usize
+    ensures { result ≡ counted (floor (from_innermost loops.now)) }
+{
+    let mut floor: usize = 0;
+    for around in loops {
+        floor = floor.saturating_add(around.below.len());
+    }
+    floor
+}
+
+impl<'s> Operands<'s> {
+    /// A run begins without operands.
+    pub(crate) fn none(alloc: Global) -> Operands<'s>
+        ensures { operands_view result ≡ operands [] [] }
+    {
+        Operands {
+            kinds: Vec::new(alloc),
+            loops: Vec::new(alloc),
+        }
+    }
+
+    pub(crate) fn copy(&self, alloc: Global) -> Result<Operands<'s>, AllocError>
+        ensures { IfOk result (λ copy. operands_view copy ≡ operands_view self.now) }
+    {
+        let kinds = copy_kinds(alloc, &self.kinds)?;
+        let loops = copy_loops(alloc, &self.loops)?;
+        Ok(Operands { kinds, loops })
+    }
+
+    /// How many operands there are, those below the floor too.
+    #[tactic(auto, using(crate::proofs::Heights::both_counted))]
+    pub(crate) fn height(&self) -> usize
+        ensures { result ≡ counted (height (operands_view self.now)) }
+    {
+        floor(&self.loops).saturating_add(self.kinds.len())
+    }
+}
+
+/// What two stacks have in common, kind by kind, where they are as high.
+#[tactic(auto, using(crate::proofs::Joins::unlike_heights, crate::proofs::Joins::one_merged, crate::proofs::Joins::one_clashes, crate::proofs::Joins::all_merged))]
+fn merge_all<'s>(
+    alloc: Global,
+    lefts: &[Kind<'_>],
+    rights: &[Kind<'_>],
+) -> Result<Option<Vec<Kind<'s>>>, AllocError>
+    ensures { IfOk result (λ kinds. option_map (λ kinds. map kind_view kinds.items) kinds
+        ≡ merged (map kind_view lefts.now) (map kind_view rights.now)) }
+{
+    if lefts.len() != rights.len() {
+        return Ok(None);
+    }
+    let mut kinds = Vec::with_capacity(alloc, lefts.len())?;
+    for (index, left) in lefts.iter().enumerate() {
+        match merge(alloc, left, &rights[index])? {
+            Some(kind) => kinds.push(kind)?,
+            None => return Ok(None),
+        }
+    }
+    Ok(Some(kinds))
+}
+
+/// What arrives where some operands arrived already. They come from inside the same loops, so they
+/// differ above the floor alone.
+#[tactic(auto, using(crate::proofs::Joins::merged_from_top))]
+pub(crate) fn join<'s>(
+    alloc: Global,
+    so_far: Operands<'s>,
+    next: &Operands<'_>,
+) -> Result<Result<Operands<'s>, Reason>, AllocError>
+    ensures { IfOk result (λ joined. arrival_view joined ≡ of_loops (operands_view so_far.entry).loops
+        (merged (operands_view so_far.entry).kinds (operands_view next.now).kinds)) }
+{
+    match merge_all(alloc, &so_far.kinds, &next.kinds)? {
+        Some(kinds) => Ok(Ok(Operands {
+            kinds,
+            loops: so_far.loops,
+        })),
+        None => Ok(Err(Reason::BadMerge)),
+    }
+}

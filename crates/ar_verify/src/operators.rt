@@ -1,0 +1,241 @@
+//! What operators give of the kinds of their operands: nothing where they don't take these.
+
+ghost use Rattle.std.specs.Prelude.{◌≡◌, ◌&&◌, IfOk, option_map};
+ghost use Rattle.ar_value.specs.Kind.{shaped};
+ghost use Rattle.ar_value.specs.View.{shape_view};
+ghost use Rattle.ar_verify.specs.Effects.{decimal_kind, decimal_shape, family_in, is_scalar, decimals_kind, default_kind, equal_kind, field_kind, is_compared, is_family, is_number, item_kind, length_kind, member_kind, needed_kind, of_one_family, opposite_kind, order_kind, quotient_kind, same_kind, truth, where_taken, wholes_kind};
+ghost use Rattle.ar_verify.specs.Private.Action.{one, two};
+ghost use Rattle.ar_verify.specs.Private.Kinds.{kind_view};
+
+use crate::action::{Binary, Unary};
+use crate::kind::{
+    AnyShape, Kind, family_in, family_of, field_in, into_list, is_scalar, list_in, merge, plain,
+};
+use ar_code::op::Compared;
+use ar_value::kind;
+use ar_value::operator::{Arithmetic, Family, Scalar};
+use ar_value::shape::Shape;
+use std::alloc::{AllocError, Global};
+
+fn truth<'s>() -> Kind<'s>
+    ensures { kind_view result ≡ truth }
+{
+    Kind::made(Shape::Bool)
+}
+
+/// A kind, where the operands are taken.
+fn where_taken<'s>(is_taken: bool, kind: Kind<'s>) -> Option<Kind<'s>>
+    ensures { option_map kind_view result ≡ where_taken is_taken (kind_view kind.entry) }
+{
+    if is_taken { Some(kind) } else { None }
+}
+
+/// The field of a record, by its name.
+pub(crate) fn field_of<'s>(
+    alloc: Global,
+    name: &str,
+    operand: Kind<'s>,
+) -> Result<Option<Kind<'s>>, AllocError>
+    ensures { IfOk result (λ given. option_map kind_view given ≡ field_kind name.now (kind_view operand.entry)) }
+{
+    match operand {
+        Kind::Nil => Ok(None),
+        Kind::Shape(AnyShape::Declared(shape)) => match field_in(name, shape) {
+            Some(field) => Ok(Some(Kind::Shape(AnyShape::Declared(field)))),
+            None => Ok(None),
+        },
+        Kind::Shape(AnyShape::Made(shape)) => match field_in(name, &shape) {
+            Some(field) => Ok(Some(Kind::made(field.copy(alloc)?))),
+            None => Ok(None),
+        },
+    }
+}
+
+#[tactic(auto, using(crate::proofs::Parts::item_by_list))]
+fn item<'s>(list: Kind<'s>, index: &Kind<'_>) -> Option<Kind<'s>>
+    ensures { option_map kind_view result ≡ item_kind (kind_view list.entry) (kind_view index.now) }
+{
+    if !is_scalar(Scalar::Whole, index) {
+        return None;
+    }
+    Some(Kind::Shape(into_list(list)?.item))
+}
+
+#[tactic(auto, using(crate::proofs::Parts::length_of_list))]
+fn length<'s>(list: &Kind<'_>) -> Option<Kind<'s>>
+    ensures { option_map kind_view result ≡ length_kind (kind_view list.now) }
+{
+    where_taken(list_in(list).is_some(), Kind::made(Shape::Whole))
+}
+
+fn needed<'s>(operand: Kind<'s>) -> Option<Kind<'s>>
+    ensures { option_map kind_view result ≡ needed_kind (kind_view operand.entry) }
+{
+    match operand {
+        Kind::Nil => None,
+        Kind::Shape(shape) => Some(Kind::Shape(plain(shape))),
+    }
+}
+
+/// The kind of what isn't nil, or of what stands for it.
+fn default<'s>(
+    alloc: Global,
+    operand: Kind<'s>,
+    other: Kind<'s>,
+) -> Result<Option<Kind<'s>>, AllocError>
+    ensures { IfOk result (λ given. option_map kind_view given ≡ default_kind (kind_view operand.entry) (kind_view other.entry)) }
+{
+    match operand {
+        Kind::Nil => Ok(Some(other)),
+        Kind::Shape(shape) => merge(alloc, &Kind::Shape(plain(shape)), &other),
+    }
+}
+
+/// The shape of a whole as a decimal, also of what is nil or a whole.
+fn decimal_shape(alloc: Global, shape: &Shape) -> Result<Option<Shape>, AllocError>
+    ensures { IfOk result (λ decimal. option_map shape_view decimal ≡ decimal_shape (shape_view shape.now)) }
+{
+    match shape {
+        Shape::Whole => Ok(Some(Shape::Decimal)),
+        Shape::Optional(plain) => match decimal_shape(alloc, plain)? {
+            Some(decimal) => Ok(Some(Shape::Optional(Box::new(alloc, decimal)?))),
+            None => Ok(None),
+        },
+        Shape::Bool | Shape::Decimal | Shape::Text | Shape::List { .. } | Shape::Object(_) => {
+            Ok(None)
+        }
+    }
+}
+
+fn decimal<'s>(alloc: Global, operand: &Kind<'_>) -> Result<Option<Kind<'s>>, AllocError>
+    ensures { IfOk result (λ given. option_map kind_view given ≡ decimal_kind (kind_view operand.now)) }
+{
+    match operand.shape() {
+        None => Ok(None),
+        Some(shape) => match decimal_shape(alloc, shape)? {
+            Some(decimal) => Ok(Some(Kind::made(decimal))),
+            None => Ok(None),
+        },
+    }
+}
+
+fn is_family(family: Family, of: Option<Family>) -> bool
+    ensures { result ≡ is_family family of }
+{
+    match of {
+        Some(of) => of == family,
+        None => false,
+    }
+}
+
+fn of_one_family(family: Option<Family>, other: Option<Family>) -> bool
+    ensures { result ≡ of_one_family family other }
+{
+    match family {
+        Some(family) => is_family(family, other),
+        None => false,
+    }
+}
+
+#[tactic(auto, using(crate::proofs::Parts::member_of_list))]
+fn member<'s>(operand: &Kind<'_>, list: &Kind<'_>) -> Option<Kind<'s>>
+    ensures { option_map kind_view result ≡ member_kind (kind_view operand.now) (kind_view list.now) }
+{
+    let family = family_of(kind::plain(list_in(list)?.item.get()));
+    where_taken(of_one_family(family_in(operand), family), truth())
+}
+
+fn quotient<'s>(operator: Arithmetic) -> Kind<'s>
+    ensures { kind_view result ≡ quotient_kind operator }
+{
+    match operator {
+        Arithmetic::Divide => Kind::made(Shape::Decimal),
+        Arithmetic::Add | Arithmetic::Subtract | Arithmetic::Multiply | Arithmetic::Remainder => {
+            Kind::made(Shape::Whole)
+        }
+    }
+}
+
+fn same<'s>(scalar: Scalar, operand: Kind<'s>) -> Option<Kind<'s>>
+    ensures { option_map kind_view result ≡ same_kind scalar (kind_view operand.entry) }
+{
+    where_taken(is_scalar(scalar, &operand), operand)
+}
+
+#[tactic(auto, using(crate::proofs::Parts::number_is_either))]
+fn is_compared(numbers: Compared, operand: &Kind<'_>) -> bool
+    ensures { result ≡ is_compared numbers (kind_view operand.now) }
+{
+    match numbers {
+        Compared::Wholes => is_scalar(Scalar::Whole, operand),
+        Compared::Decimals => is_scalar(Scalar::Decimal, operand),
+        Compared::Mixed => {
+            is_scalar(Scalar::Whole, operand) || is_scalar(Scalar::Decimal, operand)
+        }
+    }
+}
+
+/// What an operator gives of one operand.
+pub(crate) fn apply_unary<'s>(
+    alloc: Global,
+    operator: Unary,
+    operand: Kind<'s>,
+) -> Result<Option<Kind<'s>>, AllocError>
+    ensures { IfOk result (λ given. option_map kind_view given ≡ one operator (kind_view operand.entry)) }
+{
+    match operator {
+        Unary::Len => Ok(length(&operand)),
+        Unary::Need => Ok(needed(operand)),
+        Unary::IsNil => Ok(Some(truth())),
+        Unary::ToDecimal => decimal(alloc, &operand),
+        Unary::Not => Ok(where_taken(is_scalar(Scalar::Bool, &operand), truth())),
+        Unary::NegateWhole => Ok(same(Scalar::Whole, operand)),
+        Unary::NegateDecimal => Ok(same(Scalar::Decimal, operand)),
+    }
+}
+
+fn are_scalars(scalar: Scalar, left: &Kind<'_>, right: &Kind<'_>) -> bool
+    ensures { result ≡ (is_scalar scalar (kind_view left.now) && is_scalar scalar (kind_view right.now)) }
+{
+    is_scalar(scalar, left) && is_scalar(scalar, right)
+}
+
+fn are_compared(numbers: Compared, left: &Kind<'_>, right: &Kind<'_>) -> bool
+    ensures { result ≡ (is_compared numbers (kind_view left.now) && is_compared numbers (kind_view right.now)) }
+{
+    is_compared(numbers, left) && is_compared(numbers, right)
+}
+
+fn are_in_family(family: Family, left: &Kind<'_>, right: &Kind<'_>) -> bool
+    ensures { result ≡ (is_family family (family_in (kind_view left.now)) && is_family family (family_in (kind_view right.now))) }
+{
+    is_family(family, family_in(left)) && is_family(family, family_in(right))
+}
+
+/// What an operator gives of two operands.
+pub(crate) fn apply_binary<'s>(
+    alloc: Global,
+    operator: Binary,
+    left: Kind<'s>,
+    right: Kind<'s>,
+) -> Result<Option<Kind<'s>>, AllocError>
+    ensures { IfOk result (λ given. option_map kind_view given ≡ two operator (kind_view left.entry) (kind_view right.entry)) }
+{
+    match operator {
+        Binary::Index => Ok(item(left, &right)),
+        Binary::Default => default(alloc, left, right),
+        Binary::IsIn => Ok(member(&left, &right)),
+        Binary::Wholes(operator) => {
+            Ok(where_taken(
+                are_scalars(Scalar::Whole, &left, &right),
+                quotient(operator),
+            ))
+        }
+        Binary::Decimals => Ok(where_taken(
+            are_scalars(Scalar::Decimal, &left, &right),
+            Kind::made(Shape::Decimal),
+        )),
+        Binary::Compare(numbers) => Ok(where_taken(are_compared(numbers, &left, &right), truth())),
+        Binary::Equal(family) => Ok(where_taken(are_in_family(family, &left, &right), truth())),
+    }
+}

@@ -1,0 +1,159 @@
+//! The verifier's passes 1 to 4: there are operations, they name places inside the code and further
+//! on, a loop's Enter and Step name each other, loops lie one in another, and the last operation is
+//! Return.
+
+ghost use Rattle.std.specs.Prelude.{◌≡◌};
+ghost use Rattle.ar_value.specs.Answer.{Gives};
+ghost use Rattle.ar_code.specs.Machine.{begins_loop, is_same, nth};
+ghost use Rattle.ar_code.specs.declared.op.Op.TheVariants.{Enter, Step};
+ghost use Rattle.ar_verify.specs.Memory.{is_memory};
+ghost use Rattle.ar_verify.specs.Places.{all_pass, ends_in_return, ends_loop, forward, has_ops, inside, is_return, names_well, places_pass, unless};
+
+use crate::error::{Cause, Reason};
+use crate::loops::all_nest_well;
+use ar_code::op::Op;
+use ar_value::operator::Predicate;
+use std::alloc::Global;
+
+/// The operation at a place.
+#[tactic(auto, using(crate::proofs::Entries::nth_within, crate::proofs::Entries::nth_past))]
+fn op_at(ops: &[Op], place: usize) -> Option<Op>
+    ensures { result ≡ nth ops.now place }
+{
+    if place < ops.len() {
+        Some(ops[place])
+    } else {
+        None
+    }
+}
+
+/// The reason for a fault, where something doesn't hold.
+pub(crate) fn unless(holds: bool, reason: Reason) -> Option<Reason>
+    ensures { result ≡ unless holds reason }
+{
+    if holds { None } else { Some(reason) }
+}
+
+pub(crate) fn has_ops(ops: &[Op]) -> Result<(), Cause>
+    ensures { result ≡ has_ops ops.now }
+{
+    match ops {
+        [] => Err(Cause::Fault {
+            place: 0,
+            reason: Reason::Empty,
+        }),
+        [_, ..] => Ok(()),
+    }
+}
+
+fn inside(ops: &[Op], named: usize) -> Option<Reason>
+    ensures { result ≡ inside ops.now named }
+{
+    unless(named < ops.len(), Reason::JumpOutside)
+}
+
+fn forward(ops: &[Op], place: usize, named: usize) -> Option<Reason>
+    ensures { result ≡ forward ops.now place named }
+{
+    inside(ops, named).or(unless(place < named, Reason::Backward))
+}
+
+fn is_same(predicate: Predicate, other: Predicate) -> bool
+    ensures { result ≡ is_same predicate other }
+{
+    predicate == other
+}
+
+/// Whether an operation is the Step of the Enter at a place.
+fn ends_loop(predicate: Predicate, enter: usize, op: Option<Op>) -> bool
+    ensures { result ≡ ends_loop predicate enter op }
+{
+    match op {
+        Some(Op::Step(of, place)) => is_same(predicate, of) && place as usize == enter,
+        _ => false,
+    }
+}
+
+/// Whether an operation is the Enter of the Step at a place.
+fn begins_loop(predicate: Predicate, step: usize, op: Option<Op>) -> bool
+    ensures { result ≡ begins_loop predicate step op }
+{
+    match op {
+        Some(Op::Enter(of, place)) => is_same(predicate, of) && place as usize == step,
+        _ => false,
+    }
+}
+
+/// What is wrong with the Step that the Enter at a place names.
+fn names_step(ops: &[Op], place: usize, predicate: Predicate, step: u32) -> Option<Reason>
+    ensures { result ≡ names_well ops.now place (Enter predicate step) }
+{
+    let is_paired = ends_loop(predicate, place, op_at(ops, step as usize));
+    forward(ops, place, step as usize).or(unless(is_paired, Reason::UnpairedLoop))
+}
+
+/// What is wrong with the Enter that the Step at a place names.
+fn names_enter(ops: &[Op], place: usize, predicate: Predicate, enter: u32) -> Option<Reason>
+    ensures { result ≡ names_well ops.now place (Step predicate enter) }
+{
+    let enter = enter as usize;
+    let is_paired = enter < place && begins_loop(predicate, place, op_at(ops, enter));
+    inside(ops, enter).or(unless(is_paired, Reason::UnpairedLoop))
+}
+
+/// What is wrong with the places that the operation at a place names.
+fn names_well(ops: &[Op], place: usize, op: Op) -> Option<Reason>
+    ensures { result ≡ names_well ops.now place op }
+{
+    match op {
+        Op::AndJump(target) | Op::OrJump(target) | Op::BranchFalse(target) | Op::Jump(target) => {
+            forward(ops, place, target as usize)
+        }
+        Op::Enter(predicate, step) => names_step(ops, place, predicate, step),
+        Op::Step(predicate, enter) => names_enter(ops, place, predicate, enter),
+        _ => None,
+    }
+}
+
+/// Finds the first operation that names a place as it shouldn't.
+#[tactic(auto, using(crate::proofs::Passes::finds, crate::proofs::Passes::goes_on, crate::proofs::Passes::finds_nothing))]
+pub(crate) fn all_name_well(ops: &[Op]) -> Result<(), Cause>
+    ensures { result ≡ all_pass (names_well ops.now) 0 ops.now }
+{
+    for (place, op) in ops.iter().enumerate() {
+        if let Some(reason) = names_well(ops, place, *op) {
+            return Err(Cause::Fault { place, reason });
+        }
+    }
+    Ok(())
+}
+
+fn is_return(op: Option<Op>) -> bool
+    ensures { result ≡ is_return op }
+{
+    matches!(op, Some(Op::Return))
+}
+
+pub(crate) fn ends_in_return(ops: &[Op]) -> Result<(), Cause>
+    ensures { result ≡ ends_in_return ops.now }
+{
+    let place = ops.len().saturating_sub(1);
+    if is_return(op_at(ops, place)) {
+        Ok(())
+    } else {
+        Err(Cause::Fault {
+            place,
+            reason: Reason::NoReturn,
+        })
+    }
+}
+
+/// The passes 1 to 4, one after the other.
+pub(crate) fn check_places(alloc: Global, ops: &[Op]) -> Result<(), Cause>
+    ensures { Gives is_memory (λ x. x) result (places_pass ops.now) }
+{
+    has_ops(ops)?;
+    all_name_well(ops)?;
+    all_nest_well(alloc, ops)?;
+    ends_in_return(ops)
+}

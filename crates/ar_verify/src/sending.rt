@@ -1,0 +1,326 @@
+//! What operations send on.
+
+ghost use Rattle.std.specs.Prelude.{◌≡◌, ◌+◌, ◌<◌, ◌≤◌, ◌∷◌, [], IfOk, MatchOption, OnOk, option_map};
+ghost use Rattle.ar_value.specs.View.{shape_view};
+ghost use Rattle.ar_verify.specs.Arrivals.{answer_kind, deepest, item_of, most_operands, operands};
+ghost use Rattle.ar_verify.specs.Private.Failures.{Meets};
+ghost use Rattle.ar_verify.specs.Private.Held.{around_view, counted, from_innermost, operands_view};
+ghost use Rattle.ar_verify.specs.Private.Kinds.{any_view, kind_view, list_view};
+ghost use Rattle.ar_verify.specs.Private.Sending.{around, beginning, branched, kept_or_taken, lacks_by, list_taken, passed_by, returning, sends_by, sends_view, stepping, truth_taken};
+ghost use Rattle.ar_verify.specs.Private.Stacks.{from_top};
+ghost use Rattle.ar_verify.specs.declared.action.Action.TheVariants as actions;
+
+use crate::action::{Action, Effect, Source, taken};
+use crate::effect::apply;
+use crate::error::Reason;
+use crate::failure::Failure;
+use crate::kind::{AnyShape, Kind, ListKind, into_list, is_scalar};
+use crate::operands::{Around, Operands};
+use crate::stack::{pop, push};
+use ar_code::code::Code;
+use ar_value::operator::{Predicate, Scalar};
+use ar_value::shape::Shape;
+use std::alloc::{AllocError, Global};
+
+/// How many operands there may be, those below the floor too.
+const MOST_OPERANDS: usize = 64;
+
+/// Operands on the way to a place.
+#[derive(Drop)]
+pub(crate) struct Sent<'s> {
+    pub target: usize,
+    pub operands: Operands<'s>,
+}
+
+/// What an operation sends on, in the order in which it arrives.
+#[derive(Drop)]
+pub(crate) enum Sends<'s> {
+    Nothing,
+    One(Sent<'s>),
+    Two(Sent<'s>, Sent<'s>),
+}
+
+/// Takes a truth value.
+#[tactic(auto, using(crate::proofs::Passed::truth_on_top, crate::proofs::Passed::no_truth_on_top))]
+fn take_truth(kinds: &mut Vec<Kind<'_>>) -> Result<(), Failure>
+    ensures { Meets (λ _. from_top kinds.new.items) result (truth_taken (from_top kinds.old.items)) }
+{
+    let operand = pop(kinds).ok_or(Reason::IllKinded)?;
+    if is_scalar(Scalar::Bool, &operand) {
+        Ok(())
+    } else {
+        Err(Failure::Fault(Reason::IllKinded))
+    }
+}
+
+/// Takes a list.
+fn take_list<'s>(kinds: &mut Vec<Kind<'s>>) -> Result<ListKind<'s>, Failure>
+    ensures { Meets (λ list. (list_view list, from_top kinds.new.items)) result (list_taken (from_top kinds.old.items)) }
+{
+    let operand = pop(kinds).ok_or(Reason::IllKinded)?;
+    Ok(into_list(operand).ok_or(Reason::IllKinded)?)
+}
+
+/// What a loop gives over a list.
+fn answer_kind<'s>(
+    alloc: Global,
+    predicate: Predicate,
+    list: &ListKind<'_>,
+) -> Result<Kind<'s>, AllocError>
+    ensures { IfOk result (λ answer. kind_view answer ≡ answer_kind predicate (any_view list.now.item) list.now.most) }
+{
+    match predicate {
+        Predicate::All | Predicate::Any => Ok(Kind::made(Shape::Bool)),
+        Predicate::Count => Ok(Kind::made(Shape::Whole)),
+        Predicate::Filter => Ok(Kind::made(Shape::List {
+            item: Box::new(alloc, list.item.get().copy(alloc)?)?,
+            max: list.most,
+        })),
+    }
+}
+
+#[tactic(auto, using(crate::proofs::Tops::on_top))]
+fn push_loop<'s>(loops: &mut Vec<Around<'s>>, innermost: Around<'s>) -> Result<(), AllocError>
+    ensures { OnOk result (from_innermost loops.new.items ≡ around_view innermost.entry ∷ from_innermost loops.old.items) }
+{
+    loops.push(innermost)?;
+    Ok(())
+}
+
+#[tactic(auto, using(crate::proofs::Tops::on_top))]
+fn pop_loop<'s>(loops: &mut Vec<Around<'s>>) -> Option<Around<'s>>
+    ensures { MatchOption result (from_innermost loops.old.items ≡ [])
+        (λ popped. from_innermost loops.old.items ≡ around_view popped ∷ from_innermost loops.new.items) }
+{
+    loops.pop()
+}
+
+/// The shape of the innermost loop's items.
+#[tactic(auto, using(crate::proofs::Tops::last_item))]
+fn item_of<'a, 's>(loops: &'a [Around<'s>]) -> Option<&'a AnyShape<'s>>
+    ensures { option_map (λ item. any_view item.now) result ≡ item_of (from_innermost loops.now) }
+{
+    Some(&loops.last()?.list.item)
+}
+
+/// Goes to a place with the truth value on top, or on without it.
+fn keep_or_take<'s>(
+    alloc: Global,
+    next: usize,
+    target: u32,
+    mut had: Operands<'s>,
+) -> Result<Sends<'s>, Failure>
+    ensures { Meets sends_view result (kept_or_taken next target (operands_view had.entry).kinds (operands_view had.entry).loops) }
+{
+    let kept = had.copy(alloc)?;
+    take_truth(&mut had.kinds)?;
+    Ok(Sends::Two(
+        Sent {
+            target: target as usize,
+            operands: kept,
+        },
+        Sent {
+            target: next,
+            operands: had,
+        },
+    ))
+}
+
+/// Goes to a place or on, without the truth value on top.
+fn branch<'s>(
+    alloc: Global,
+    next: usize,
+    target: u32,
+    mut had: Operands<'s>,
+) -> Result<Sends<'s>, Failure>
+    ensures { Meets sends_view result (branched next target (operands_view had.entry).kinds (operands_view had.entry).loops) }
+{
+    take_truth(&mut had.kinds)?;
+    let taken = had.copy(alloc)?;
+    Ok(Sends::Two(
+        Sent {
+            target: target as usize,
+            operands: taken,
+        },
+        Sent {
+            target: next,
+            operands: had,
+        },
+    ))
+}
+
+/// Operands at the begin of the body of a loop over a list, where there are none above its floor.
+fn inside<'s>(
+    alloc: Global,
+    list: ListKind<'s>,
+    had: Operands<'s>,
+) -> Result<Operands<'s>, AllocError>
+    ensures { IfOk result (λ inside. operands_view inside
+        ≡ operands [] (around (list_view list.entry, (operands_view had.entry).kinds) ∷ (operands_view had.entry).loops)) }
+{
+    let Operands { kinds, mut loops } = had;
+    push_loop(&mut loops, Around { list, below: kinds })?;
+    Ok(Operands {
+        kinds: Vec::new(alloc),
+        loops,
+    })
+}
+
+/// Begins a loop over the list on top, or goes behind it with its answer.
+fn enter<'s>(
+    alloc: Global,
+    predicate: Predicate,
+    next: usize,
+    step: u32,
+    mut had: Operands<'s>,
+) -> Result<Sends<'s>, Failure>
+    ensures { Meets sends_view result
+        (beginning predicate next (step + 1) (operands_view had.entry).kinds (operands_view had.entry).loops) }
+{
+    let list = take_list(&mut had.kinds)?;
+    let mut behind = had.copy(alloc)?;
+    push(&mut behind.kinds, answer_kind(alloc, predicate, &list)?)?;
+    let body = inside(alloc, list, had)?;
+    Ok(Sends::Two(
+        Sent {
+            target: next,
+            operands: body,
+        },
+        Sent {
+            target: step as usize + 1,
+            operands: behind,
+        },
+    ))
+}
+
+/// Goes behind a loop, where nothing but the truth value of its body is above its floor.
+fn step<'s>(
+    alloc: Global,
+    predicate: Predicate,
+    next: usize,
+    had: Operands<'s>,
+) -> Result<Sends<'s>, Failure>
+    ensures { Meets sends_view result (stepping predicate next (operands_view had.entry).kinds (operands_view had.entry).loops) }
+{
+    let Operands {
+        mut kinds,
+        mut loops,
+    } = had;
+    take_truth(&mut kinds)?;
+    if !kinds.is_empty() {
+        return Err(Failure::Fault(Reason::BadMerge));
+    }
+    let Around { list, mut below } = pop_loop(&mut loops).ok_or(Reason::BadMerge)?;
+    push(&mut below, answer_kind(alloc, predicate, &list)?)?;
+    Ok(Sends::One(Sent {
+        target: next,
+        operands: Operands {
+            kinds: below,
+            loops,
+        },
+    }))
+}
+
+/// Ends with the truth value on top.
+fn answer<'s>(had: Operands<'s>) -> Result<Sends<'s>, Failure>
+    ensures { Meets sends_view result (returning (operands_view had.entry).kinds) }
+{
+    let Operands { mut kinds, .. } = had;
+    take_truth(&mut kinds)?;
+    Ok(Sends::Nothing)
+}
+
+/// Goes to the next place.
+fn go_on<'s>(
+    alloc: Global,
+    code: &Code,
+    measured: &'s Shape,
+    next: usize,
+    effect: Effect,
+    had: Operands<'s>,
+) -> Result<Sends<'s>, Failure>
+    ensures { Meets sends_view result (passed_by code.now (shape_view measured.now) next (actions.Effect effect)
+        (operands_view had.entry).kinds (operands_view had.entry).loops) }
+{
+    let Operands { mut kinds, loops } = had;
+    let given = apply(alloc, code, measured, item_of(&loops), effect, &mut kinds)?;
+    push(&mut kinds, given.ok_or(Reason::IllKinded)?)?;
+    Ok(Sends::One(Sent {
+        target: next,
+        operands: Operands { kinds, loops },
+    }))
+}
+
+fn passed_on<'s>(
+    alloc: Global,
+    code: &Code,
+    measured: &'s Shape,
+    next: usize,
+    action: Action,
+    had: Operands<'s>,
+) -> Result<Sends<'s>, Failure>
+    ensures { Meets sends_view result (passed_by code.now (shape_view measured.now) next action
+        (operands_view had.entry).kinds (operands_view had.entry).loops) }
+{
+    match action {
+        Action::Effect(effect) => go_on(alloc, code, measured, next, effect, had),
+        Action::KeepOrTake(target) => keep_or_take(alloc, next, target, had),
+        Action::Branch(target) => branch(alloc, next, target, had),
+        Action::Jump(target) => Ok(Sends::One(Sent {
+            target: target as usize,
+            operands: had,
+        })),
+        Action::Enter(predicate, end) => enter(alloc, predicate, next, end, had),
+        Action::Step(predicate) => step(alloc, predicate, next, had),
+        Action::Return => answer(had),
+    }
+}
+
+/// Whether an operand is missing above the floor, or the item.
+#[tactic(auto, using(crate::proofs::Tops::so_many))]
+fn lacks(action: Action, had: &Operands<'_>) -> bool
+    ensures { result ≡ lacks_by action (operands_view had.now) }
+{
+    match action {
+        Action::Effect(Effect::Push(Source::Item)) => item_of(&had.loops).is_none(),
+        _ => had.kinds.len() < taken(action),
+    }
+}
+
+impl<'s> Sends<'s> {
+    /// The greatest number of operands on the way.
+    pub(crate) fn deepest(&self) -> usize
+        ensures { result ≡ counted (deepest (sends_view self.now)) }
+    {
+        match self {
+            Sends::Nothing => 0,
+            Sends::One(only) => only.operands.height(),
+            Sends::Two(first, second) => {
+                let height = first.operands.height();
+                height.max(second.operands.height())
+            }
+        }
+    }
+}
+
+/// What an operation sends on, of operands that arrived.
+pub(crate) fn send_on<'s>(
+    alloc: Global,
+    code: &Code,
+    measured: &'s Shape,
+    next: usize,
+    action: Action,
+    had: Operands<'s>,
+) -> Result<Sends<'s>, Failure>
+    ensures exact { Meets sends_view result (sends_by code.now (shape_view measured.now) next action (operands_view had.entry)) }
+    ensures shallow { IfOk result (λ sends. deepest (sends_view sends) ≤ most_operands) }
+{
+    if lacks(action, &had) {
+        return Err(Failure::Fault(Reason::MissingOperand));
+    }
+    let sends = passed_on(alloc, code, measured, next, action, had)?;
+    if sends.deepest() > MOST_OPERANDS {
+        return Err(Failure::Fault(Reason::StackTooDeep));
+    }
+    Ok(sends)
+}

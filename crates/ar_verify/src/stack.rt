@@ -1,0 +1,24 @@
+//! Stacks of kinds, of which the last is on top.
+
+ghost use Rattle.std.specs.Prelude.{◌≡◌, ◌∷◌, [], MatchOption, OnOk};
+ghost use Rattle.ar_verify.specs.Private.Kinds.{kind_view};
+ghost use Rattle.ar_verify.specs.Private.Stacks.{from_top};
+
+use crate::kind::Kind;
+use std::alloc::{AllocError, Global};
+
+#[tactic(auto, using(crate::proofs::Tops::on_top))]
+pub(crate) fn push<'s>(kinds: &mut Vec<Kind<'s>>, kind: Kind<'s>) -> Result<(), AllocError>
+    ensures { OnOk result (from_top kinds.new.items ≡ kind_view kind.entry ∷ from_top kinds.old.items) }
+{
+    kinds.push(kind)?;
+    Ok(())
+}
+
+#[tactic(auto, using(crate::proofs::Tops::on_top))]
+pub(crate) fn pop<'s>(kinds: &mut Vec<Kind<'s>>) -> Option<Kind<'s>>
+    ensures { MatchOption result ((from_top kinds.old.items ≡ []) × (from_top kinds.new.items ≡ []))
+        (λ kind. from_top kinds.old.items ≡ kind_view kind ∷ from_top kinds.new.items) }
+{
+    kinds.pop()
+}

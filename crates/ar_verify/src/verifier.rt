@@ -1,0 +1,59 @@
+//! The verifier's passes, one after the other.
+
+ghost use Rattle.std.specs.Prelude.{◌≡◌, IfErr, IfOk};
+ghost use Rattle.ar_value.specs.View.{shape_view};
+ghost use Rattle.ar_code.specs.Code.{IsCode};
+ghost use Rattle.ar_verify.specs.Verdict.{IsCause, IsVerified};
+
+use crate::arrivals::find_arrivals;
+use crate::budget::{budget, is_payable};
+use crate::error::{Cause, Reason, Refused};
+use crate::places::check_places;
+use crate::verified::Verified;
+use ar_code::code::Code;
+use ar_value::shape::Shape;
+use std::alloc::Global;
+
+/// What a run costs at most, and how many operands it has.
+#[derive(Clone, Copy)]
+struct Bounds {
+    budget: u64,
+    depth: usize,
+}
+
+fn check(alloc: Global, code: &Code, shape: &Shape) -> Result<Bounds, Cause>
+    ensures accepted { IfOk result (λ bounds. IsVerified code.now (shape_view shape.now) bounds.budget bounds.depth) }
+    ensures refused { IfErr result (IsCause code.now (shape_view shape.now)) }
+    ensures code { IsCode code.now }
+{
+    check_places(alloc, code.ops())?;
+    let arrivals = find_arrivals(alloc, code, shape)?;
+    let budget = budget(alloc, code, &arrivals.most_items)?;
+    if !is_payable(budget) {
+        return Err(Cause::Fault {
+            place: 0,
+            reason: Reason::BudgetTooLarge,
+        });
+    }
+    Ok(Bounds {
+        budget,
+        depth: arrivals.depth,
+    })
+}
+
+/// Verifies code for a shape of the measured value. It is accepted if it has no fault, and refused
+/// for its first one otherwise.
+///
+/// # Errors
+///
+/// The code, with its fault or want of memory.
+pub fn verify(alloc: Global, code: Code, shape: Shape) -> Result<Verified, Refused>
+    ensures accepted { IfOk result (λ verified. (verified.code ≡ code) × (verified.shape ≡ shape)
+        × IsVerified code (shape_view shape) verified.budget verified.depth) }
+    ensures refused { IfErr result (λ refused. (refused.code ≡ code) × IsCause code (shape_view shape) refused.cause) }
+{
+    match check(alloc, &code, &shape) {
+        Ok(bounds) => Ok(Verified::new(code, shape, bounds.budget, bounds.depth)),
+        Err(cause) => Err(Refused { code, cause }),
+    }
+}
