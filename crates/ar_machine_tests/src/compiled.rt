@@ -1,13 +1,18 @@
 //! Conditions that are compiled and run: their operations, and what they come to and cost on values,
 //! which was worked out by hand.
 
+ghost use Rattle.std.specs.Prelude.{◌≡◌, true, IfOk};
+ghost use Rattle.ar_value.specs.Fits.{fits};
+ghost use Rattle.ar_value.specs.View.{shape_view, value_view};
+
 use ar_check::check;
 use ar_code::{Code, listing};
 use ar_compile::{CompileError, compile, in_limits};
-use ar_machine::{Answer, Ended, Outcome, run_tested};
+use ar_machine::{Answer, Ended, Outcome, run, run_tested};
 use ar_syntax::parse;
 use ar_value::fault::Fault;
 use ar_value::{Shape, Value, read_shape, read_value};
+use ar_verify::verify;
 use serde_json::Value as Json;
 use std::alloc::Global;
 use std::test::Fail;
@@ -18,12 +23,14 @@ const OPTIONAL_DECIMAL: &str = "{\"optional\":\"decimal\"}";
 
 const RECORD: &str = "{\"record\":{\"errors\":{\"optional\":\"whole\"},\"retry\":\"text\"}}";
 
-fn shape_of(alloc: Global, text: &str) -> Result<Shape, Fail> {
+pub(crate) fn shape_of(alloc: Global, text: &str) -> Result<Shape, Fail> {
     let json = Json::from_str(alloc, text)?;
     Ok(read_shape(alloc, &json)?)
 }
 
-fn value_of(alloc: Global, shape: &Shape, text: &str) -> Result<Value, Fail> {
+pub(crate) fn value_of(alloc: Global, shape: &Shape, text: &str) -> Result<Value, Fail>
+    ensures { IfOk result (λ value. fits (value_view value) (shape_view shape.now) ≡ true) }
+{
     let json = Json::from_str(alloc, text)?;
     Ok(read_value(alloc, &json, shape)?)
 }
@@ -42,17 +49,29 @@ fn compiled(
     Ok(compile(alloc, &typed))
 }
 
-fn code_of(alloc: Global, condition: &str, shape: &Shape) -> Result<Code, Fail> {
+pub(crate) fn code_of(alloc: Global, condition: &str, shape: &Shape) -> Result<Code, Fail> {
     Ok(compiled(alloc, condition, shape)??)
 }
 
-/// A condition, the shape of `result`, how many operations it has, a value, and the answer and its cost.
-type Row = (&'static str, &'static str, usize, &'static str, Answer, u64);
+/// A condition, the shape of `result`, how many operations, what depth and what budget its code has, a
+/// value, and the answer and its cost.
+type Row = (
+    &'static str,
+    &'static str,
+    usize,
+    usize,
+    u64,
+    &'static str,
+    Answer,
+    u64,
+);
 
 const ROWS: [Row; 18] = [
     (
         "result[0] >= 0.95",
         DECIMALS,
+        6,
+        2,
         6,
         "[\"0.9523809523809523\"]",
         Ok(true),
@@ -62,6 +81,8 @@ const ROWS: [Row; 18] = [
         "result[0] >= 0.95",
         DECIMALS,
         6,
+        2,
+        6,
         "[]",
         Err(Fault::IndexOutOfRange),
         3,
@@ -70,6 +91,8 @@ const ROWS: [Row; 18] = [
         "len(result) == 0 || result[0] >= 0.95",
         DECIMALS,
         11,
+        2,
+        11,
         "[]",
         Ok(true),
         6,
@@ -77,6 +100,8 @@ const ROWS: [Row; 18] = [
     (
         "len(result) == 0 || result[0] >= 0.95",
         DECIMALS,
+        11,
+        2,
         11,
         "[\"0.9\"]",
         Ok(false),
@@ -86,6 +111,8 @@ const ROWS: [Row; 18] = [
         "isNil(result) || result < 0.05",
         OPTIONAL_DECIMAL,
         8,
+        2,
+        8,
         "null",
         Ok(true),
         4,
@@ -93,6 +120,8 @@ const ROWS: [Row; 18] = [
     (
         "result < 0.05",
         OPTIONAL_DECIMAL,
+        5,
+        2,
         5,
         "null",
         Err(Fault::NilOperand),
@@ -102,15 +131,28 @@ const ROWS: [Row; 18] = [
         "default(result, 0) < 0.05",
         OPTIONAL_DECIMAL,
         7,
+        2,
+        7,
         "null",
         Ok(true),
         7,
     ),
-    ("all(result, # < 0.5)", DECIMALS, 7, "[]", Ok(true), 3),
     (
         "all(result, # < 0.5)",
         DECIMALS,
         7,
+        2,
+        43,
+        "[]",
+        Ok(true),
+        3,
+    ),
+    (
+        "all(result, # < 0.5)",
+        DECIMALS,
+        7,
+        2,
+        43,
         "[\"0.5\"]",
         Ok(false),
         7,
@@ -119,6 +161,8 @@ const ROWS: [Row; 18] = [
         "all(result, # < 0.5)",
         DECIMALS,
         7,
+        2,
+        43,
         "[\"0.1\",\"0.1\",\"0.1\",\"0.1\",\"0.1\",\"0.1\",\"0.1\",\"0.1\",\"0.1\",\"0.9\"]",
         Ok(false),
         43,
@@ -127,6 +171,8 @@ const ROWS: [Row; 18] = [
         "all(result, all(result, # < 0.5))",
         DECIMALS,
         10,
+        2,
+        433,
         "[\"0.1\",\"0.2\"]",
         Ok(true),
         25,
@@ -134,6 +180,8 @@ const ROWS: [Row; 18] = [
     (
         "9223372036854775807 + 1 > 0",
         "\"whole\"",
+        6,
+        2,
         6,
         "0",
         Err(Fault::Overflow),
@@ -143,6 +191,8 @@ const ROWS: [Row; 18] = [
         "1 / 0 == 0",
         "\"whole\"",
         6,
+        2,
+        6,
         "0",
         Err(Fault::DivisionByZero),
         3,
@@ -150,6 +200,8 @@ const ROWS: [Row; 18] = [
     (
         "9223372036854775807 > 0.5",
         "\"whole\"",
+        4,
+        2,
         4,
         "0",
         Ok(true),
@@ -159,6 +211,8 @@ const ROWS: [Row; 18] = [
         "-result[-1] * 2 not in [1, 2.5]",
         DECIMALS,
         15,
+        3,
+        17,
         "[\"0.25\",\"-0.5\"]",
         Ok(false),
         17,
@@ -166,6 +220,8 @@ const ROWS: [Row; 18] = [
     (
         "!result.a == result.b",
         "{\"record\":{\"a\":\"bool\",\"b\":\"bool\"}}",
+        7,
+        2,
         7,
         "{\"a\":true,\"b\":false}",
         Ok(true),
@@ -175,6 +231,8 @@ const ROWS: [Row; 18] = [
         "len(filter(result, # > 1)) == 2",
         "{\"list\":\"whole\",\"max\":5}",
         10,
+        2,
+        26,
         "[1,2,3]",
         Ok(true),
         18,
@@ -183,6 +241,8 @@ const ROWS: [Row; 18] = [
         "all(result[0].Values, {# <= 0.01})",
         "{\"list\":{\"record\":{\"Values\":{\"list\":\"decimal\",\"max\":100}}},\"max\":3}",
         10,
+        2,
+        406,
         "[{\"Values\":[\"0.004\",\"0.01\"]}]",
         Ok(true),
         14,
@@ -192,13 +252,17 @@ const ROWS: [Row; 18] = [
 #[test]
 fn rows(rt: HostRuntime) -> Result<(), Fail> {
     let alloc = rt.alloc();
-    for (condition, shape, operations, value, answer, cost) in ROWS {
+    for (condition, shape, operations, depth, budget, value, answer, cost) in ROWS {
         let shape = shape_of(alloc, shape)?;
         let code = code_of(alloc, condition, &shape)?;
         assert_eq!(rt; code.ops().len(), operations);
         let value = value_of(alloc, &shape, value)?;
-        let ended = run_tested(alloc, &code, &value, 1000)?;
-        assert!(rt; ended == Ended::Done(Outcome { answer, cost }));
+        let outcome = Outcome { answer, cost };
+        assert!(rt; run_tested(alloc, &code, &value, 1000)? == Ended::Done(outcome));
+        let verified = verify(alloc, code, shape)?;
+        assert_eq!(rt; verified.depth(), depth);
+        assert_eq!(rt; verified.budget(), budget);
+        assert!(rt; run(alloc, &verified, &value)? == outcome);
     }
     Ok(())
 }

@@ -1,9 +1,10 @@
-//! Tests of the public calls of `ar_code`, `ar_compile` and `ar_machine`, which stand above them so that
+//! Tests of the public calls of `ar_code`, `ar_verify`, `ar_compile` and `ar_machine`, which stand above them so that
 //! each library is proved once. They show what no contract says: that calls succeed with ample memory,
 //! and worked rows whose expected values were worked out by hand.
 //!
 //! - `code`: images and listings of code
 //! - `compiled`: conditions that are compiled and run, with what they come to and cost
+//! - `verified`: what the verifier says of code, and runs of verified code
 //! - `runs`: how runs end
 #![tactic(auto)]
 
@@ -13,3 +14,5 @@ mod code;
 mod compiled;
 #[cfg(test)]
 mod runs;
+#[cfg(test)]
+mod verified;
