@@ -197,9 +197,9 @@ module _ (ops : List Op) where
 
     below_or_in : (begin end : ℕ) → EntersBelow begin → ((place : ℕ) → begin ≤ place → place < end → NestsWell place) → EntersBelow end
     below_or_in begin end before each enter step predicate below there = elim (leb_tells begin enter) [
-        | inl w ↦ each enter w.1 below (Enter predicate step) there
-        | inr w ↦ before enter step predicate w.1 there
-      ]
+      | inl w ↦ each enter w.1 below (Enter predicate step) there
+      | inr w ↦ before enter step predicate w.1 there
+    ]
 
     reach_less : (enters : List ℕ) (before place : ℕ) → before ≤ place → in_innermost ops enters place ≡ true → in_innermost ops enters before ≡ true
     reach_less [] before place less h = refl
@@ -211,9 +211,9 @@ module _ (ops : List Op) where
     -- behind an operation that begins no loop
     no_enter : (place : ℕ) (op : Op) → At place op → IsNoLoop op → EntersBelow place → EntersBelow (suc place)
     no_enter place op there plain before enter step predicate below enter_there = elim (leb_tells place enter) [
-        | inl w ↦ let same : place ≡ enter = omega (arith, w.1) in absurd (subst IsNoLoop (one_op place op (Enter predicate step) there (subst (λ at. At at (Enter predicate step)) (sym same) enter_there)) plain)
-        | inr w ↦ before enter step predicate w.1 enter_there
-      ]
+      | inl w ↦ let same : place ≡ enter = omega (arith, w.1) in absurd (subst IsNoLoop (one_op place op (Enter predicate step) there (subst (λ at. At at (Enter predicate step)) (sym same) enter_there)) plain)
+      | inr w ↦ before enter step predicate w.1 enter_there
+    ]
 
     nest : {around begin end : ℕ} → Block around begin end → in_innermost ops (held ops begin) end ≡ true → length (held ops begin) ≡ around → EntersBelow begin → Nested around begin end
     nest (one {begin = begin} {op = op} there plain) inner deep before =
@@ -224,9 +224,9 @@ module _ (ops : List Op) where
         let other = nest second (rw one_nest.behind inner) (rw one_nest.behind deep) (below_or_in begin middle before one_nest.each) in
         record {
           each = λ place from below. elim (leb_tells middle place) [
-              | inl w ↦ other.each place w.1 below
-              | inr w ↦ one_nest.each place from w.1
-            ];
+            | inl w ↦ other.each place w.1 below
+            | inr w ↦ one_nest.each place from w.1
+          ];
           behind = other.behind ∙ one_nest.behind;
         }
     nest (skips {begin = begin} {end = end} {op = op} there to rest) inner deep before =
@@ -235,9 +235,9 @@ module _ (ops : List Op) where
         let behind : held ops end ≡ held ops begin = rest_nest.behind ∙ next in
         record {
           each = λ place from below. elim (leb_tells (suc begin) place) [
-              | inl w ↦ rest_nest.each place w.1 below
-              | inr w ↦ at_first begin place from w.1 (is_nested begin op there (skip_nested begin end op to (sym behind)))
-            ];
+            | inl w ↦ rest_nest.each place w.1 below
+            | inr w ↦ at_first begin place from w.1 (is_nested begin op there (skip_nested begin end op to (sym behind)))
+          ];
           behind = behind;
         }
     nest (branches {begin = begin} {middle = middle} {end = end} branch met jump unmet) inner deep before =
@@ -251,15 +251,15 @@ module _ (ops : List Op) where
         let behind : held ops end ≡ held ops begin = unmet_nest.behind ∙ behind_jump in
         record {
           each = λ place from below. elim (leb_tells (suc middle) place) [
-              | inl w ↦ unmet_nest.each place w.1 below
-              | inr w ↦ elim (leb_tells middle place) [
-                | inl v ↦ at_first middle place v.1 w.1 (is_nested middle (Jump end) jump (stays_there middle end (at_jump ∙ sym behind)))
-                | inr v ↦ elim (leb_tells (suc begin) place) [
-                  | inl u ↦ met_nest.each place u.1 v.1
-                  | inr u ↦ at_first begin place from u.1 (is_nested begin (BranchFalse (suc middle)) branch (stays_there begin (suc middle) (sym behind_jump)))
-                ]
+            | inl w ↦ unmet_nest.each place w.1 below
+            | inr w ↦ elim (leb_tells middle place) [
+              | inl v ↦ at_first middle place v.1 w.1 (is_nested middle (Jump end) jump (stays_there middle end (at_jump ∙ sym behind)))
+              | inr v ↦ elim (leb_tells (suc begin) place) [
+                | inl u ↦ met_nest.each place u.1 v.1
+                | inr u ↦ at_first begin place from u.1 (is_nested begin (BranchFalse (suc middle)) branch (stays_there begin (suc middle) (sym behind_jump)))
               ]
-            ];
+            ]
+          ];
           behind = behind;
         }
     nest (loops {around = around} {begin = begin} {step = step} {predicate = predicate} few enter body step_there) inner deep before =
@@ -273,12 +273,12 @@ module _ (ops : List Op) where
         let body_nest = nest body own (rw next (ap suc deep)) entered in
         record {
           each = λ place from below. elim (leb_tells step place) [
-              | inl w ↦ at_first step place w.1 below (is_nested step (Step predicate begin) step_there refl)
-              | inr w ↦ elim (leb_tells (suc begin) place) [
-                | inl v ↦ body_nest.each place v.1 w.1
-                | inr v ↦ at_first begin place from v.1 (is_nested begin (Enter predicate step) enter enter_nested)
-              ]
-            ];
+            | inl w ↦ at_first step place w.1 below (is_nested step (Step predicate begin) step_there refl)
+            | inr w ↦ elim (leb_tells (suc begin) place) [
+              | inl v ↦ body_nest.each place v.1 w.1
+              | inr v ↦ at_first begin place from v.1 (is_nested begin (Enter predicate step) enter enter_nested)
+            ]
+          ];
           behind = behind_step ops paired step (below_or_in (suc begin) step entered body_nest.each) predicate step begin step_there (omega arith);
         }
 

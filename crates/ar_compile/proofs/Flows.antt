@@ -175,13 +175,13 @@ module _ (code : Code) (shape : Shape) where
             let fresh_next : Fresh middle end (before ++ front.more) = λ place from below. none_more place before front.more (fresh place (omega arith) below) (elsewhere place front.more (all_more (λ sent. sent.target ≤ middle) (λ sent. sent.target ≡ place → ⊥) front.more (λ sent w same. omega arith) away)) in
             elim (second (before ++ front.more) came_next fresh_next) [
               | inl other ↦ inl (record {
-                  more = front.more ++ other.more;
-                  flows = front.flows ∙ other.flows ∙ ap (flow end) (append_assoc before front.more other.more);
-                  within = all_append (λ sent. (begin < sent.target) × (sent.target ≤ end)) front.more other.more
-                      (all_more (λ sent. (begin < sent.target) × (sent.target ≤ middle)) (λ sent. (begin < sent.target) × (sent.target ≤ end)) front.more (λ sent w. (w.0, omega (arith, w.1))) front.within)
-                      (all_more (λ sent. (middle < sent.target) × (sent.target ≤ end)) (λ sent. (begin < sent.target) × (sent.target ≤ end)) other.more (λ sent w. (omega (arith, w.0), w.1)) other.within);
-                  came = ap arrived (only_more end front.more other.more (elsewhere end front.more (all_more (λ sent. sent.target ≤ middle) (λ sent. sent.target ≡ end → ⊥) front.more (λ sent w same. omega arith) away))) ∙ other.came;
-                })
+                more = front.more ++ other.more;
+                flows = front.flows ∙ other.flows ∙ ap (flow end) (append_assoc before front.more other.more);
+                within = all_append (λ sent. (begin < sent.target) × (sent.target ≤ end)) front.more other.more
+                    (all_more (λ sent. (begin < sent.target) × (sent.target ≤ middle)) (λ sent. (begin < sent.target) × (sent.target ≤ end)) front.more (λ sent w. (w.0, omega (arith, w.1))) front.within)
+                    (all_more (λ sent. (middle < sent.target) × (sent.target ≤ end)) (λ sent. (begin < sent.target) × (sent.target ≤ end)) other.more (λ sent w. (omega (arith, w.0), w.1)) other.within);
+                came = ap arrived (only_more end front.more other.more (elsewhere end front.more (all_more (λ sent. sent.target ≤ middle) (λ sent. sent.target ≡ end → ⊥) front.more (λ sent w same. omega arith) away))) ∙ other.came;
+              })
               | inr deep ↦ inr (deep.0, front.flows ∙ deep.1)
             ]
         | inr deep ↦ inr deep
@@ -204,8 +204,13 @@ module _ (code : Code) (shape : Shape) where
       record {
         more = two ++ rest.more;
         flows = goes ∙ rest.flows ∙ ap (flow end) (append_assoc before two rest.more);
-        within = ((omega arith, omega arith), ((h, omega arith),
-            all_more (λ sent. (start < sent.target) × (sent.target ≤ end)) (λ sent. (begin < sent.target) × (sent.target ≤ end)) rest.more (λ sent w. (omega (arith, w.0), w.1)) rest.within));
+        within = (
+          (omega arith, omega arith),
+          (
+            (h, omega arith),
+            all_more (λ sent. (start < sent.target) × (sent.target ≤ end)) (λ sent. (begin < sent.target) × (sent.target ≤ end)) rest.more (λ sent w. (omega (arith, w.0), w.1)) rest.within,
+          ),
+        );
         came = ap arrived all_there ∙ front_arrives around_it first given all (sent_to end rest.more) rest.came merges;
       }
 
@@ -244,7 +249,7 @@ module _ (code : Code) (shape : Shape) where
       ∙ sent_to_both (suc middle) (before ++ two) met.more ∙ ap (λ others. sent_to (suc middle) (before ++ two) ++ others) (low (suc middle) (omega arith)) ∙ append-nil (sent_to (suc middle) (before ++ two))
       ∙ only_more (suc middle) before two (fresh (suc middle) (omega arith) k) ∙ sent_here (suc middle) kinds around (sent (suc begin) kinds around ∷ []) ∙ ap (λ others. operands kinds around ∷ others) (sent_away (suc middle) (suc begin) kinds around [] (λ same. omega arith)) in
       let fresh_unmet : Fresh (suc middle) end (three ++ one_more ∷ []) = λ place from below.
-          none_more place three (one_more ∷ []) (none_more place (before ++ two) met.more (none_front place (omega arith) below (λ same. omega arith)) (low place (omega arith))) (sent_away place end (left ∷ kinds) around [] (λ same. omega arith)) in
+      none_more place three (one_more ∷ []) (none_more place (before ++ two) met.more (none_front place (omega arith) below (λ same. omega arith)) (low place (omega arith))) (sent_away place end (left ∷ kinds) around [] (λ same. omega arith)) in
       elim (steps middle (Jump end) (operands (left ∷ kinds) around) three (one_more ∷ []) jump came_jump (nothing_lacks (suc (length kinds))) refl) [
         | inl jumps ↦ elim (unmet (three ++ one_more ∷ []) (ap arrived at_unmet) fresh_unmet) [
           | inl last ↦
@@ -254,9 +259,15 @@ module _ (code : Code) (shape : Shape) where
               inl (record {
                 more = two ++ (met.more ++ (one_more ∷ last.more));
                 flows = goes ∙ met.flows ∙ jumps ∙ last.flows ∙ ap (flow end) (four_lists before two met.more last.more one_more);
-                within = ((omega arith, omega arith), ((omega arith, omega arith), all_append (λ sent. (begin < sent.target) × (sent.target ≤ end)) met.more (one_more ∷ last.more)
-                    (all_more (λ sent. (suc begin < sent.target) × (sent.target ≤ middle)) (λ sent. (begin < sent.target) × (sent.target ≤ end)) met.more (λ sent w. (omega (arith, w.0), omega (arith, w.1))) met.within)
-                    ((omega arith, omega arith), all_more (λ sent. (suc middle < sent.target) × (sent.target ≤ end)) (λ sent. (begin < sent.target) × (sent.target ≤ end)) last.more (λ sent w. (omega (arith, w.0), w.1)) last.within)));
+                within = (
+                  (omega arith, omega arith),
+                  (
+                    (omega arith, omega arith),
+                    all_append (λ sent. (begin < sent.target) × (sent.target ≤ end)) met.more (one_more ∷ last.more)
+                        (all_more (λ sent. (suc begin < sent.target) × (sent.target ≤ middle)) (λ sent. (begin < sent.target) × (sent.target ≤ end)) met.more (λ sent w. (omega (arith, w.0), omega (arith, w.1))) met.within)
+                        ((omega arith, omega arith), all_more (λ sent. (suc middle < sent.target) × (sent.target ≤ end)) (λ sent. (begin < sent.target) × (sent.target ≤ end)) last.more (λ sent w. (omega (arith, w.0), w.1)) last.within),
+                  ),
+                );
                 came = ap arrived all_there ∙ front_arrives around (left ∷ kinds) (right ∷ kinds) (kind ∷ kinds) (sent_to end last.more) last.came (merged_tops left right kind kinds common);
               })
           | inr deep ↦ inr (deep.0, goes ∙ met.flows ∙ jumps ∙ deep.1)
@@ -308,9 +319,15 @@ module _ (code : Code) (shape : Shape) where
                     inl (record {
                       more = two ++ (through.more ++ one_more ∷ []);
                       flows = goes ∙ through.flows ∙ ends ∙ ap (flow (suc step)) (append_assoc (before ++ two) through.more (one_more ∷ []) ∙ append_assoc before two (through.more ++ one_more ∷ []));
-                      within = ((omega arith, omega arith), ((omega arith, omega arith), all_append (λ sent. (begin < sent.target) × (sent.target ≤ suc step)) through.more (one_more ∷ [])
-                          (all_more (λ sent. (suc begin < sent.target) × (sent.target ≤ step)) (λ sent. (begin < sent.target) × (sent.target ≤ suc step)) through.more (λ sent w. (omega (arith, w.0), omega (arith, w.1))) through.within)
-                          ((omega arith, omega arith), tt)));
+                      within = (
+                        (omega arith, omega arith),
+                        (
+                          (omega arith, omega arith),
+                          all_append (λ sent. (begin < sent.target) × (sent.target ≤ suc step)) through.more (one_more ∷ [])
+                              (all_more (λ sent. (suc begin < sent.target) × (sent.target ≤ step)) (λ sent. (begin < sent.target) × (sent.target ≤ suc step)) through.more (λ sent w. (omega (arith, w.0), omega (arith, w.1))) through.within)
+                              ((omega arith, omega arith), tt),
+                        ),
+                      );
                       came = ap arrived all_there ∙ front_arrives around answer answer answer (operands answer around ∷ []) refl (merged_self answer);
                     })
                 | inr deep ↦ inr (step, goes ∙ through.flows ∙ deep)

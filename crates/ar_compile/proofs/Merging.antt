@@ -189,9 +189,11 @@ beside_nil first third all h =
 behind_nil : (first second : Shape) (all : Kind) → merge (shaped first) (shaped (or_nil second)) ≡ Some all → Front (shaped first) (shaped second) nil all
 behind_nil first second all h =
     let parts = to_both first (or_nil second) all h in
-    let front_parts = common_parts first second parts.0 parts.1 in
-    (shaped (with_nil (is_optional first || is_optional second) parts.0), of_both first second parts.0 parts.1,
-      ap (λ s. Some (shaped (optional s))) front_parts.0 ∙ ap (λ b. Some (shaped (with_nil b parts.0))) (sym (or_true (is_optional first))) ∙ ap Some parts.2)
+    let front_parts = common_parts first second parts.0 parts.1 in (
+      shaped (with_nil (is_optional first || is_optional second) parts.0),
+      of_both first second parts.0 parts.1,
+      ap (λ s. Some (shaped (optional s))) front_parts.0 ∙ ap (λ b. Some (shaped (with_nil b parts.0))) (sym (or_true (is_optional first))) ∙ ap Some parts.2,
+    )
 
 before_nil : (second third : Shape) (both all : Kind) → merge (shaped second) (shaped third) ≡ Some both → merge nil both ≡ Some all → Front nil (shaped second) (shaped third) all
 before_nil second third both all h k =
