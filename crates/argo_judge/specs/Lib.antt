@@ -2,3 +2,4 @@ pub mod Device
 pub mod Input
 pub mod Evaluation
 pub mod Serving
+pub mod Private

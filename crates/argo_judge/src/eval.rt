@@ -3,18 +3,26 @@
 ghost use Rattle.std.specs.Prelude.{◌≡◌, ◌<◌, Err, false, length};
 ghost use Rattle.serde_json.specs.View.{view};
 ghost use Rattle.ar_value.specs.Answer as answer;
-ghost use Rattle.argo_judge.specs.Evaluation.{Gives, evaluation_of, judged, parts_of};
+ghost use Rattle.argo_judge.specs.Evaluation.{Evaluates, Follows, Judges, UnlessMemory, parts_of, prepared};
+ghost use Rattle.argo_judge.specs.Private.Readiness.{IsChecked, Readies, given};
+ghost use Rattle.ar_condition.specs.Limits.{InLimits};
+ghost use Rattle.ar_condition.specs.Views.{typed_view};
+ghost use Rattle.ar_value.specs.View.{shape_view};
 ghost use Rattle.argo_judge.specs.Input.{most_bytes};
 ghost use Rattle.argo_judge.specs.declared.eval.EvalError.TheVariants.{TooLarge};
 
 use crate::input::MOST_INPUT_BYTES;
 use ar_check::check;
 use ar_check::error::TypeError;
-use ar_meaning::{Answer, answer};
+use ar_compile::{CompileError, compile};
+use ar_condition::Typed;
+use ar_machine::{Answer, run};
 use ar_syntax::error::SyntaxError;
 use ar_syntax::parse;
+use ar_value::shape::Shape;
 use ar_value::shape_reading::{ShapeError, read_shape};
 use ar_value::value_reading::{ShapeFault, read_value};
+use ar_verify::{Cause, Reason, Verified, verify};
 use serde_json::Value as Json;
 use std::alloc::{AllocError, Global};
 use thiserror::Error;
@@ -34,6 +42,11 @@ pub enum EvalError {
     Grammar(SyntaxError),
     #[error("condition, {0}")]
     Kinds(TypeError),
+    #[error("condition: {0}")]
+    Compiler(CompileError),
+    /// The verifier refuses the condition's code at an operation, counted from 0.
+    #[error("condition: {1} (operation {0} of its code)")]
+    Verifier(usize, Reason),
     #[error("value: {0}")]
     Misfit(ShapeFault),
     #[error("out of memory")]
@@ -82,6 +95,34 @@ impl From<ShapeError> for EvalError {
     }
 }
 
+impl From<CompileError> for EvalError {
+    ghost use Rattle.std.specs.Prelude.{◌≡◌};
+    ghost use Rattle.argo_judge.specs.Evaluation.{of_code};
+
+    ghost from_gives = { λ error e. e ≡ of_code error };
+
+    fn from(error: CompileError) -> EvalError {
+        match error {
+            CompileError::OutOfMemory => EvalError::OutOfMemory,
+            error => EvalError::Compiler(error),
+        }
+    }
+}
+
+impl From<Cause> for EvalError {
+    ghost use Rattle.std.specs.Prelude.{◌≡◌};
+    ghost use Rattle.argo_judge.specs.Evaluation.{of_cause};
+
+    ghost from_gives = { λ cause e. e ≡ of_cause cause };
+
+    fn from(cause: Cause) -> EvalError {
+        match cause {
+            Cause::OutOfMemory => EvalError::OutOfMemory,
+            Cause::Fault { place, reason } => EvalError::Verifier(place, reason),
+        }
+    }
+}
+
 impl From<ShapeFault> for EvalError {
     ghost use Rattle.std.specs.Prelude.{◌≡◌};
     ghost use Rattle.argo_judge.specs.Evaluation.{of_misfit};
@@ -113,9 +154,9 @@ impl From<AllocError> for EvalError {
 /// # Errors
 ///
 /// The first fault that stands in the input, in the order of `EvalError`.
-#[tactic(auto, using(crate::proofs::Documents::json, crate::proofs::Documents::no_json), unfolding(crate::specs::Evaluation::evaluation_of))]
+#[tactic(auto, using(crate::proofs::Documents::json, crate::proofs::Documents::no_json, crate::proofs::Judging::of_document), unfolding(crate::specs::Evaluation::prepared_input))]
 pub fn evaluate(alloc: Global, input: &[u8]) -> Result<Answer, EvalError>
-    ensures exact { Gives result (evaluation_of input.now) }
+    ensures exact { UnlessMemory result (Evaluates input.now) }
 
     // An input that is too large is refused for that alone.
     ensures too_large { most_bytes < length input.now → result ≡ Err TooLarge }
@@ -131,15 +172,44 @@ pub fn evaluate(alloc: Global, input: &[u8]) -> Result<Answer, EvalError>
 }
 
 /// What the condition of a document says of its value.
-#[tactic(auto, unfolding(crate::specs::Evaluation::judged))]
+#[tactic(auto, using(crate::proofs::Judging::in_limits), unfolding(crate::specs::Evaluation::prepared))]
 fn judge(alloc: Global, document: &Json) -> Result<Answer, EvalError>
-    ensures { Gives result (judged (view document.now)) }
+    ensures { UnlessMemory result (Follows (prepared (view document.now))) }
 {
     let (condition, declared, measured) = parts_of(document)?;
     let shape = read_shape(alloc, declared)?;
-    let condition = check(alloc, parse(alloc, condition)?, &shape)?;
-    let value = read_value(alloc, measured, &shape)?;
-    Ok(answer(alloc, &condition, &value)?)
+    let tree = parse(alloc, condition)?;
+    let condition = check(alloc, tree, &shape)?;
+    judge_checked(alloc, &condition, shape, measured)
+}
+
+/// What a checked condition says of what was measured.
+#[tactic(auto, using(crate::proofs::Judging::run_means))]
+fn judge_checked(
+    alloc: Global,
+    condition: &Typed,
+    shape: Shape,
+    measured: &Json,
+) -> Result<Answer, EvalError>
+    requires limits { InLimits (typed_view condition.now) }
+    requires checked { IsChecked (shape_view shape) (typed_view condition.now) }
+    ensures { UnlessMemory result (Judges (given (shape_view shape) (typed_view condition.now) (view measured.now))) }
+{
+    let verified = runnable(alloc, condition, shape)?;
+    let value = read_value(alloc, measured, verified.shape())?;
+    Ok(run(alloc, &verified, &value)?.answer)
+}
+
+/// The verified code of a condition.
+fn runnable(alloc: Global, condition: &Typed, shape: Shape) -> Result<Verified, EvalError>
+    requires { InLimits (typed_view condition.now) }
+    ensures { Readies (shape_view shape) (typed_view condition.now) result }
+{
+    let code = compile(alloc, condition)?;
+    match verify(alloc, code, shape) {
+        Ok(verified) => Ok(verified),
+        Err(refused) => Err(refused.cause.into()),
+    }
 }
 
 /// A document's condition, shape and value.

@@ -2,12 +2,12 @@
 
 ghost use Rattle.std.specs.Prelude.{◌≡◌, ◌≢◌, ℕ, List, false, true, Ok, Err, Result, IfOk, IfErr, IfSome, OnOk};
 ghost use Rattle.std.specs.Io.KnownBytes.{Appends};
-ghost use Rattle.argo_judge.specs.Evaluation.{line_of, output_of};
+ghost use Rattle.argo_judge.specs.Evaluation.{Evaluates, Writes, line_of};
 
 use crate::device::{Sink, Source};
 use crate::eval::{EvalError, evaluate};
 use crate::input::{InputError, read_input};
-use ar_meaning::Answer;
+use ar_machine::Answer;
 use ar_value::fault::Fault;
 use std::alloc::Global;
 use thiserror::Error;
@@ -94,12 +94,12 @@ pub fn serve_plain<R: Source, W: Sink>(
 
     // What is written is the line of what was read.
     ensures written { OnOk result (IfSome (R.remaining reader.old)
-        (λ input. (line : List ℕ) × (output_of input ≡ Ok line) × Appends (W.contents writer.old) (W.contents writer.new) line)) }
+        (λ input. (line : List ℕ) × Writes input line × Appends (W.contents writer.old) (W.contents writer.new) line)) }
     ensures closing { IfOk result (λ closing. closing ≡ Closing.Good) }
 
     // A refusal is the first fault of what was read.
     ensures refused { (fault : EvalError) → result ≡ Err (ServeError.Refused (Refusal.Eval fault))
-        → IfSome (R.remaining reader.old) (λ input. output_of input ≡ Err fault) }
+        → IfSome (R.remaining reader.old) (λ input. Evaluates input (Err fault)) }
     ensures read { result ≡ Err ServeError.Read → R.has_failed reader.new ≡ true }
     ensures write { result ≡ Err ServeError.Write → W.has_failed writer.new ≡ true }
 

@@ -1,3 +1,0 @@
-pub mod Items
-pub mod Pairs
-pub mod Walks

@@ -1,2 +1,0 @@
-pub use Rattle.ar_condition.specs.Meaning
-pub mod Private
