@@ -1,0 +1,51 @@
+-- Histories that are lawful: each number stands once, in its own run's history, with its finding and its effect.
+use Rattle.std.specs.Prelude.{◌≡◌, ◌<◌, ◌==◌, ◌+◌, ℕ, suc, if◌then◌else◌, List, [], ◌∷◌, length, map, slice_get, Option, Some, None}
+use Rattle.std.specs.List.{AllByRecursion}
+use Rattle.ar_limits.specs.Run.{effects}
+use Rattle.ar_limits.specs.declared.event.Effect.{Effect}
+use Rattle.ar_limits.specs.declared.limits.Limits.{Limits}
+use Rattle.ar_board.specs.Bundle.{Bundle, events_of, found, run_of}
+use Rattle.ar_board.specs.declared.bundle.RunPart.{RunPart}
+use Rattle.ar_board.specs.declared.history.Entry.{Entry}
+
+abbrev pub numbers_of : List Entry → List ℕ
+numbers_of history = map (λ entry. entry.number) history
+
+-- a number of the run, with its finding
+pub record IsFound (bundle : Bundle) (run : ℕ) (entry : Entry) : Type 0 where
+  pub own : run_of bundle entry.number ≡ Some run
+  pub finding : found bundle entry.number ≡ Some entry.finding
+
+-- a history of a run with these limits: of its own numbers alone, each with its finding and the effect that it has there
+pub record IsHistory (bundle : Bundle) (run : ℕ) (limits : List Limits) (history : List Entry) : Type 0 where
+  pub found : AllByRecursion (IsFound bundle run) history
+  pub effects : map (λ entry. entry.effect) history ≡ effects limits (events_of bundle (numbers_of history))
+
+-- how often a number stands among some, and in all histories
+abbrev pub times_in : (number : ℕ) → List ℕ → ℕ
+times_in number [] = 0
+times_in number (first ∷ numbers) = if first == number then suc (times_in number numbers) else times_in number numbers
+
+abbrev pub times : (number : ℕ) → List (List Entry) → ℕ
+times number [] = 0
+times number (history ∷ histories) = times_in number (numbers_of history) + times number histories
+
+-- each run of the bundle has a history, counting from a run
+abbrev pub AreHistories : Bundle → (from : ℕ) → List RunPart → List (List Entry) → Type 0
+AreHistories bundle from [] [] = Unit {0}
+AreHistories bundle from (run ∷ runs) (history ∷ histories) = IsHistory bundle from run.limits history × AreHistories bundle (suc from) runs histories
+AreHistories bundle from runs histories = ⊥
+
+-- a history for each run, and each number of the bundle just once in them
+pub record AreLawful (bundle : Bundle) (histories : List (List Entry)) : Type 0 where
+  pub of_runs : AreHistories bundle 0 bundle.runs histories
+  pub once : (number : ℕ) → number < length bundle.entries → times number histories ≡ 1
+
+-- each number is below those behind it
+abbrev pub Rise : List ℕ → Type 0
+Rise [] = Unit {0}
+Rise (number ∷ numbers) = AllByRecursion (λ later. number < later) numbers × Rise numbers
+
+-- numbers rise in each history
+abbrev pub AllRise : List (List Entry) → Type 0
+AllRise histories = AllByRecursion (λ history. Rise (numbers_of history)) histories

@@ -1,0 +1,237 @@
+//! Bundles and their parts.
+
+ghost use Rattle.std.specs.Prelude.{◌≡◌, ◌<◌, IfOk, Some, length};
+ghost use Rattle.ar_limits.specs.Replay.{IsOfMetricBelow};
+ghost use Rattle.ar_board.specs.Bundle.{IsBundle, SuitsMetric, bundle_of, found, found_of, happened, run_of};
+ghost use Rattle.ar_board.specs.declared.bundle.What.TheVariants as What;
+ghost use Rattle.ar_judge.specs.Verdict.{sample_view};
+
+use crate::finding::{Finding, mark_of};
+use ar_judge::{Judge, Sample};
+use ar_limits::{Event, Limits};
+use ar_value::shape::Shape;
+use ar_value::text::Text;
+use std::alloc::{AllocError, Global};
+use std::marker::Model;
+
+/// A metric of the template.
+#[derive(Debug, Drop)]
+pub struct MetricPart {
+    pub name: Text,
+    /// Of its measured values.
+    pub shape: Shape,
+}
+
+/// The judges of a run, one for each metric. Contracts see their list.
+#[derive(Debug, Drop)]
+pub struct Judges {
+    judges: Vec<Judge>,
+}
+
+/// The limits of a run, one for each metric. Contracts see their list.
+#[derive(Debug, Drop)]
+pub struct RunLimits {
+    limits: Vec<Limits>,
+}
+
+/// An analysis run.
+#[derive(Debug, Drop)]
+pub struct RunPart {
+    pub name: Text,
+    pub judges: Judges,
+    pub limits: RunLimits,
+}
+
+/// What happens to a run.
+#[derive(Debug, Drop)]
+pub enum What {
+    /// A measurement of the metric with this number, counted from 0.
+    Measure(usize, Sample),
+    /// The run is stopped from outside.
+    Stop,
+}
+
+/// An entry of a bundle: what happened to the run with this number, counted from 0.
+#[derive(Debug, Drop)]
+pub struct EventPart {
+    pub run: usize,
+    pub what: What,
+}
+
+/// The metrics of a template, its runs, and what happened to them. Contracts see it as the `Bundle`
+/// of `specs/Bundle`.
+#[derive(Debug, Drop)]
+pub struct Bundle {
+    metrics: Vec<MetricPart>,
+    runs: Vec<RunPart>,
+    entries: Vec<EventPart>,
+}
+
+impl Model for Judges {
+    ghost use Rattle.std.specs.Coded.{codes};
+    ghost use Rattle.std.specs.Prelude.{List};
+    ghost use Rattle.ar_value.specs.contracts.shape.Shape as shape_row;
+    ghost use Rattle.ar_judge.specs.Verdict.{Judge};
+
+    ghost Value = { List Judge };
+
+    ghost coded = { Prim.hlevel (codes, shape_row.the_row.coded) };
+
+    ghost view = { λ judges. judges.judges.items };
+}
+
+impl Judges {
+    pub fn as_slice(&self) -> &[Judge]
+        ensures { result.now ≡ self.now }
+    {
+        &self.judges
+    }
+}
+
+impl From<Vec<Judge>> for Judges {
+    ghost from_gives = { λ list judges. judges ≡ list.items };
+
+    fn from(judges: Vec<Judge>) -> Judges {
+        Judges { judges }
+    }
+}
+
+impl Model for RunLimits {
+    ghost use Rattle.std.specs.Prelude.{List};
+    ghost use Rattle.ar_limits.specs.declared.limits.Limits.{Limits};
+
+    ghost Value = { List Limits };
+
+    ghost view = { λ limits. limits.limits.items };
+}
+
+impl RunLimits {
+    pub fn as_slice(&self) -> &[Limits]
+        ensures { result.now ≡ self.now }
+    {
+        &self.limits
+    }
+}
+
+impl From<Vec<Limits>> for RunLimits {
+    ghost from_gives = { λ list limits. limits ≡ list.items };
+
+    fn from(limits: Vec<Limits>) -> RunLimits {
+        RunLimits { limits }
+    }
+}
+
+impl Model for Bundle {
+    ghost use Rattle.std.specs.Coded.{codes};
+    ghost use Rattle.ar_value.specs.contracts.shape.Shape as shape_row;
+    ghost use Rattle.ar_value.specs.contracts.value.Value as value_row;
+    ghost use Rattle.ar_board.specs.Bundle.{Bundle as Parts, IsBundle, bundle_of};
+
+    ghost Value = { Parts };
+
+    ghost coded = { Prim.hlevel (codes, shape_row.the_row.coded, value_row.the_row.coded) };
+
+    ghost view = { λ b. bundle_of b.metrics.items b.runs.items b.entries.items };
+
+    ghost invariant = { λ b. IsBundle (bundle_of b.metrics.items b.runs.items b.entries.items) };
+}
+
+impl Bundle {
+    /// The bundle of these parts: 64 metrics, 64 runs and 100,000 entries at most, each run with a
+    /// judge and limits for each metric, and each entry of a run and a metric that are there, with a
+    /// value that fits. No memory is taken.
+    pub fn of_parts(metrics: Vec<MetricPart>, runs: Vec<RunPart>, entries: Vec<EventPart>) -> Bundle
+        requires { IsBundle (bundle_of metrics.items runs.items entries.items) }
+        ensures { result ≡ bundle_of metrics.items runs.items entries.items }
+    {
+        Bundle {
+            metrics,
+            runs,
+            entries,
+        }
+    }
+
+    pub fn metrics(&self) -> &[MetricPart]
+        ensures { result.now ≡ self.now.metrics }
+    {
+        &self.metrics
+    }
+
+    pub fn runs(&self) -> &[RunPart]
+        ensures { result.now ≡ self.now.runs }
+    {
+        &self.runs
+    }
+
+    pub fn entries(&self) -> &[EventPart]
+        ensures { result.now ≡ self.now.entries }
+    {
+        &self.entries
+    }
+
+    /// How many entries there are.
+    pub fn events(&self) -> u64
+        ensures count { result ≡ length self.now.entries }
+        ensures bundle { IsBundle self.now }
+    {
+        self.entries.len() as u64
+    }
+
+    /// What an entry comes to: the verdict of its sample by its run's judge for its metric, or a
+    /// stop.
+    ///
+    /// # Errors
+    ///
+    /// Want of memory alone, which runs of conditions take for their operands.
+    #[tactic(auto, using(crate::proofs::Bundles::entry_there, crate::proofs::Bundles::measure_suits, crate::proofs::Bundles::run_there))]
+    pub fn finding(&self, alloc: Global, number: u64) -> Result<Finding, AllocError>
+        requires { number < length self.now.entries }
+        ensures { IfOk result (λ finding. found self.now number ≡ Some finding) }
+    {
+        let entry = &self.entries[number as usize];
+        match &entry.what {
+            What::Measure(metric, sample) => self.judged(alloc, entry.run, *metric, sample),
+            What::Stop => Ok(Finding::Stop),
+        }
+    }
+
+    /// The verdict of a sample by a run's judge for a metric.
+    #[tactic(auto, using(crate::proofs::Bundles::judge_inside))]
+    fn judged(
+        &self,
+        alloc: Global,
+        run: usize,
+        metric: usize,
+        sample: &Sample,
+    ) -> Result<Finding, AllocError>
+        requires run { run < length self.now.runs }
+        requires suits { SuitsMetric self.now.metrics metric (sample_view sample.now) }
+        ensures { IfOk result (λ finding. found_of self.now run (What.Measure metric sample.now) ≡ Some finding) }
+    {
+        let judges = self.runs[run].judges.as_slice();
+        Ok(Finding::Judged(judges[metric].judge(alloc, sample)?))
+    }
+
+    /// The run of an entry.
+    pub fn run_of(&self, number: u64) -> usize
+        requires { number < length self.now.entries }
+        ensures own { run_of self.now number ≡ Some result }
+        ensures there { result < length self.now.runs }
+    {
+        self.entries[number as usize].run
+    }
+
+    /// What an entry with its finding is to its run.
+    pub fn event(&self, number: u64, finding: Finding) -> Event
+        requires { found self.now number ≡ Some finding }
+        ensures exact { happened self.now number ≡ Some result }
+        ensures metric { IsOfMetricBelow (length self.now.metrics) result }
+    {
+        match (&self.entries[number as usize].what, finding) {
+            (What::Measure(metric, _), Finding::Judged(verdict)) => {
+                Event::Mark(*metric, mark_of(verdict))
+            }
+            (What::Measure(..), Finding::Stop) | (What::Stop, _) => Event::Stop,
+        }
+    }
+}

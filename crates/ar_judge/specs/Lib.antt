@@ -1,0 +1,3 @@
+pub mod Private
+pub mod Condition
+pub mod Verdict

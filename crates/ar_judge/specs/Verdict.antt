@@ -1,0 +1,102 @@
+-- What a sample comes to under a metric's conditions.
+use Rattle.std.specs.Prelude.{◌≡◌, ◌≢◌, ℕ, Bool, true, false, if◌then◌else◌, List, Option, Some, None, option_and_then, option_map, Result, Ok, Err}
+use Rattle.ar_value.specs.Fits.{fits}
+use Rattle.ar_value.specs.Shape.{Shape}
+use Rattle.ar_value.specs.Value.{Value}
+use Rattle.ar_value.specs.View.{shape_view, value_view}
+use Rattle.ar_value.specs.declared.fault.Fault.{Fault}
+use Rattle.ar_value.specs.declared.value_reading.ShapeFault.{ShapeFault}
+use Rattle.ar_value.specs.declared.value_reading.ShapeFault.TheVariants as shape_fault
+use Rattle.ar_judge.specs.Condition.{Condition, IsBuilt, IsRefused, said}
+use Rattle.ar_judge.specs.declared.error.BuildCause.{BuildCause}
+use Rattle.ar_judge.specs.declared.error.BuildCause.TheVariants as causes
+use Rattle.ar_judge.specs.declared.error.BuildError.{BuildError}
+use Rattle.ar_judge.specs.declared.error.BuildError.TheVariants as errors
+use Rattle.ar_judge.specs.declared.sample.Sample as code
+use Rattle.ar_judge.specs.declared.sample.Sample.TheVariants as samples
+use Rattle.ar_judge.specs.declared.verdict.Cause.TheVariants as error
+use Rattle.ar_judge.specs.declared.verdict.Verdict.{Verdict}
+use Rattle.ar_judge.specs.declared.verdict.Verdict.TheVariants.{Successful, Failed, Inconclusive, Error}
+
+-- ---- samples
+
+-- what a metric's provider gave: nothing, something that doesn't fit the declared shape, or a measured value
+pub data Sample : Type 0 where
+  provider : Sample
+  misfit : ShapeFault → Sample
+  measured : Value → Sample
+
+abbrev pub sample_view : code.Sample → Sample
+sample_view samples.Provider = provider
+sample_view (samples.Misfit fault) = misfit fault
+sample_view (samples.Measured value) = measured (value_view value)
+
+-- ---- verdicts
+
+-- by what the success condition and the failure condition say, where they are there
+abbrev pub verdict_by : (success failure : Option (Result Bool Fault)) → Verdict
+verdict_by (Some (Err fault)) failure = Error (error.Success fault)
+verdict_by None (Some (Err fault)) = Error (error.Failure fault)
+verdict_by (Some (Ok succeeded)) (Some (Err fault)) = Error (error.Failure fault)
+verdict_by None None = Successful
+verdict_by (Some (Ok succeeded)) None = if succeeded then Successful else Failed
+verdict_by None (Some (Ok failed)) = if failed then Failed else Successful
+verdict_by (Some (Ok succeeded)) (Some (Ok failed)) = if failed then Failed else if succeeded then Successful else Inconclusive
+
+-- a metric's conditions, each where it is there
+pub record Judge : Type 0 where
+  pub success : Option Condition
+  pub failure : Option Condition
+
+abbrev pub judge_of : (success failure : Option Condition) → Judge
+judge_of success failure = record { success = success; failure = failure }
+
+abbrev pub said_of : Value → Condition → Option (Result Bool Fault)
+said_of value condition = said (shape_view condition.verified.shape) condition.text value
+
+abbrev pub verdict : Judge → Sample → Verdict
+verdict judge provider = Error error.Provider
+verdict judge (misfit fault) = Error (error.Shape fault)
+verdict judge (measured value) = verdict_by (option_and_then (said_of value) judge.success) (option_and_then (said_of value) judge.failure)
+
+-- ---- which samples a judge takes
+
+abbrev pub FitsEach : Value → Option Condition → Type 0
+FitsEach value (Some condition) = fits value (shape_view condition.verified.shape) ≡ true
+FitsEach value None = Unit {0}
+
+-- a measured value fits the shape that the conditions are for, and a misfit is no want of memory
+abbrev pub Suits : Judge → Sample → Type 0
+Suits judge provider = Unit {0}
+Suits judge (misfit fault) = fault ≢ shape_fault.OutOfMemory
+Suits judge (measured value) = FitsEach value judge.success × FitsEach value judge.failure
+
+-- ---- judges of texts
+
+-- the condition of a text, where there is one
+abbrev pub AreBuilt : Shape → Option (List ℕ) → Option Condition → Type 0
+AreBuilt shape (Some text) (Some condition) = IsBuilt shape text condition
+AreBuilt shape None None = Unit {0}
+AreBuilt shape text condition = ⊥
+
+-- the judge of a metric's texts under a shape
+pub record IsJudge (shape : Shape) (success failure : Option (List ℕ)) (judge : Judge) : Type 0 where
+  pub success_is : AreBuilt shape success judge.success
+  pub failure_is : AreBuilt shape failure judge.failure
+
+-- a text is there and refused, and not for want of memory
+pub record RefusesText (shape : Shape) (text : Option (List ℕ)) (cause : BuildCause) : Type 0 where
+  pub refused_text : List ℕ
+  pub is_there : text ≡ Some refused_text
+  pub own : cause ≢ causes.OutOfMemory
+  pub is : IsRefused shape refused_text cause
+
+-- a text that is there is a condition that can be run
+abbrev pub Stands : Shape → Option (List ℕ) → Type 0
+Stands shape text = (condition : Option Condition) × AreBuilt shape text condition
+
+-- why there is no judge: the first text that is refused
+abbrev pub RefusesTexts : Shape → (success failure : Option (List ℕ)) → BuildError → Type 0
+RefusesTexts shape success failure (errors.Success cause) = RefusesText shape success cause
+RefusesTexts shape success failure (errors.Failure cause) = Stands shape success × RefusesText shape failure cause
+RefusesTexts shape success failure errors.OutOfMemory = Unit {0}

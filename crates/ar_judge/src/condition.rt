@@ -1,0 +1,102 @@
+//! A condition that can be run.
+
+ghost use Rattle.std.specs.Prelude.{◌≡◌, Some, true, IfOk};
+ghost use Rattle.ar_value.specs.Fits.{fits};
+ghost use Rattle.ar_value.specs.View.{shape_view, value_view};
+ghost use Rattle.ar_condition.specs.Limits.{InLimits};
+ghost use Rattle.ar_condition.specs.Views.{typed_view};
+ghost use Rattle.ar_judge.specs.Condition.{BuildsTo, said};
+ghost use Rattle.ar_judge.specs.Private.Readiness.{Readies};
+
+use crate::error::BuildCause;
+use ar_check::check;
+use ar_compile::compile;
+use ar_condition::Typed;
+use ar_machine::{Answer, run};
+use ar_syntax::parse;
+use ar_value::shape::Shape;
+use ar_value::text::Text;
+use ar_value::value::Value;
+use ar_verify::{Verified, verify};
+use std::alloc::{AllocError, Global};
+use std::marker::Model;
+
+/// A condition's text with its verified code. Contracts see it as the `Condition` of
+/// `specs/Condition`.
+#[derive(Debug, Drop)]
+pub struct Condition {
+    text: Text,
+    verified: Verified,
+}
+
+impl Model for Condition {
+    ghost use Rattle.std.specs.Coded.{codes};
+    ghost use Rattle.ar_value.specs.contracts.shape.Shape as shape_row;
+    ghost use Rattle.ar_judge.specs.Condition.{Condition as Parts, condition_of};
+    ghost use Rattle.ar_judge.specs.Private.Readiness.{IsReady};
+
+    ghost Value = { Parts };
+
+    ghost coded = { Prim.hlevel (codes, shape_row.the_row.coded) };
+
+    ghost view = { λ c. condition_of c.text c.verified };
+
+    ghost invariant = { λ c. IsReady c.text c.verified };
+}
+
+impl Condition {
+    /// The condition of a text where `result` has a shape.
+    ///
+    /// # Errors
+    ///
+    /// The first fault of its grammar, of its kinds, or of its code.
+    #[tactic(auto, using(crate::proofs::Running::in_limits, crate::proofs::Running::ready, crate::proofs::Running::built))]
+    pub fn build(alloc: Global, text: &str, shape: Shape) -> Result<Condition, BuildCause>
+        ensures { BuildsTo (shape_view shape) text.now result }
+    {
+        let tree = parse(alloc, text)?;
+        let tree = check(alloc, tree, &shape)?;
+        let verified = runnable(alloc, &tree, shape)?;
+        let text = Text::of(alloc, text)?;
+        Ok(Condition { text, verified })
+    }
+
+    /// The text that it was built of.
+    pub fn text(&self) -> &str
+        ensures { result.now ≡ self.now.text }
+    {
+        self.text.as_str()
+    }
+
+    pub fn verified(&self) -> &Verified
+        ensures { result.now ≡ self.now.verified }
+    {
+        &self.verified
+    }
+
+    /// What it says of a value of its shape.
+    ///
+    /// # Errors
+    ///
+    /// Want of memory alone, which a run takes for its operands.
+    #[tactic(auto, using(crate::proofs::Running::run_says))]
+    pub fn answer(&self, alloc: Global, value: &Value) -> Result<Answer, AllocError>
+        requires { fits (value_view value.now) (shape_view self.now.verified.shape) ≡ true }
+        ensures { IfOk result (λ answer.
+            said (shape_view self.now.verified.shape) self.now.text (value_view value.now) ≡ Some answer) }
+    {
+        Ok(run(alloc, &self.verified, value)?.answer)
+    }
+}
+
+/// The verified code of a condition that was checked for a shape.
+fn runnable(alloc: Global, tree: &Typed, shape: Shape) -> Result<Verified, BuildCause>
+    requires { InLimits (typed_view tree.now) }
+    ensures { Readies (shape_view shape) (typed_view tree.now) result }
+{
+    let code = compile(alloc, tree)?;
+    match verify(alloc, code, shape) {
+        Ok(verified) => Ok(verified),
+        Err(refused) => Err(refused.cause.into()),
+    }
+}

@@ -1,0 +1,106 @@
+//! Why a text is no condition that can be run.
+
+use ar_check::TypeError;
+use ar_compile::CompileError;
+use ar_syntax::SyntaxError;
+use ar_verify::Reason;
+use std::alloc::AllocError;
+use thiserror::Error;
+
+/// Why a text is no condition that can be run, in the order in which it is looked at. It is told
+/// behind the name of the condition.
+#[derive(Clone, Copy, Debug, PartialEq, Eq, Error)]
+pub enum BuildCause {
+    /// It isn't of the language.
+    #[error(", {0}")]
+    Grammar(SyntaxError),
+    /// It has no kinds where `result` is of the declared shape.
+    #[error(", {0}")]
+    Kinds(TypeError),
+    /// It has no code.
+    #[error(": {0}")]
+    Compiler(CompileError),
+    /// The verifier refuses its code at an operation, counted from 0.
+    #[error(": {1} (operation {0} of its code)")]
+    Verifier(usize, Reason),
+    #[error(": out of memory")]
+    OutOfMemory,
+}
+
+/// Why a metric has no judge: the first of its texts that is no condition that can be run.
+#[derive(Clone, Copy, Debug, PartialEq, Eq, Error)]
+pub enum BuildError {
+    #[error("successCondition{0}")]
+    Success(BuildCause),
+    #[error("failureCondition{0}")]
+    Failure(BuildCause),
+    #[error("out of memory")]
+    OutOfMemory,
+}
+
+impl From<SyntaxError> for BuildCause {
+    ghost use Rattle.std.specs.Prelude.{◌≡◌};
+    ghost use Rattle.ar_judge.specs.Condition.{of_syntax};
+
+    ghost from_gives = { λ error e. e ≡ of_syntax error };
+
+    fn from(error: SyntaxError) -> BuildCause {
+        match error {
+            SyntaxError::OutOfMemory => BuildCause::OutOfMemory,
+            error => BuildCause::Grammar(error),
+        }
+    }
+}
+
+impl From<TypeError> for BuildCause {
+    ghost use Rattle.std.specs.Prelude.{◌≡◌};
+    ghost use Rattle.ar_judge.specs.Condition.{of_type};
+
+    ghost from_gives = { λ error e. e ≡ of_type error };
+
+    fn from(error: TypeError) -> BuildCause {
+        match error {
+            TypeError::OutOfMemory => BuildCause::OutOfMemory,
+            error => BuildCause::Kinds(error),
+        }
+    }
+}
+
+impl From<CompileError> for BuildCause {
+    ghost use Rattle.std.specs.Prelude.{◌≡◌};
+    ghost use Rattle.ar_judge.specs.Condition.{of_compiler};
+
+    ghost from_gives = { λ error e. e ≡ of_compiler error };
+
+    fn from(error: CompileError) -> BuildCause {
+        match error {
+            CompileError::OutOfMemory => BuildCause::OutOfMemory,
+            error => BuildCause::Compiler(error),
+        }
+    }
+}
+
+impl From<ar_verify::Cause> for BuildCause {
+    ghost use Rattle.std.specs.Prelude.{◌≡◌};
+    ghost use Rattle.ar_judge.specs.Condition.{of_verifier};
+
+    ghost from_gives = { λ cause e. e ≡ of_verifier cause };
+
+    fn from(cause: ar_verify::Cause) -> BuildCause {
+        match cause {
+            ar_verify::Cause::OutOfMemory => BuildCause::OutOfMemory,
+            ar_verify::Cause::Fault { place, reason } => BuildCause::Verifier(place, reason),
+        }
+    }
+}
+
+impl From<AllocError> for BuildCause {
+    ghost use Rattle.std.specs.Prelude.{◌≡◌};
+    ghost use Rattle.ar_judge.specs.declared.error.BuildCause.TheVariants.{OutOfMemory};
+
+    ghost from_gives = { λ _ e. e ≡ OutOfMemory };
+
+    fn from(_error: AllocError) -> BuildCause {
+        BuildCause::OutOfMemory
+    }
+}

@@ -1,0 +1,152 @@
+//! The conditions of a metric.
+
+ghost use Rattle.std.specs.Prelude.{◌≡◌, IfErr, IfOk, option_and_then, option_map};
+ghost use Rattle.ar_value.specs.View.{shape_view, value_view};
+ghost use Rattle.ar_judge.specs.Verdict.{FitsEach, IsJudge, RefusesTexts, Suits, said_of, sample_view, verdict, verdict_by};
+ghost use Rattle.ar_judge.specs.Private.Building.{BuildsEach, failure_refused, success_refused};
+
+use crate::condition::Condition;
+use crate::error::{BuildCause, BuildError};
+use crate::sample::Sample;
+use crate::verdict::{Cause, Verdict};
+use ar_machine::Answer;
+use ar_manifest::{BoundMetric, Text};
+use ar_value::shape::Shape;
+use ar_value::value::Value;
+use ar_verify::Verified;
+use std::alloc::{AllocError, Global};
+use std::marker::Model;
+
+/// A metric's success condition and failure condition, each where it is there. Contracts see it as
+/// the `Judge` of `specs/Verdict`.
+#[derive(Debug, Drop)]
+pub struct Judge {
+    success: Option<Condition>,
+    failure: Option<Condition>,
+}
+
+impl Model for Judge {
+    ghost use Rattle.std.specs.Coded.{codes};
+    ghost use Rattle.ar_value.specs.contracts.shape.Shape as shape_row;
+    ghost use Rattle.ar_judge.specs.Verdict.{Judge as Parts, judge_of};
+
+    ghost Value = { Parts };
+
+    ghost coded = { Prim.hlevel (codes, shape_row.the_row.coded) };
+
+    ghost view = { λ j. judge_of j.success j.failure };
+}
+
+impl Judge {
+    /// The judge of a metric's conditions where a measured value has a shape.
+    ///
+    /// # Errors
+    ///
+    /// The first text, the success condition's before the failure condition's, that is no condition
+    /// that can be run, and why.
+    #[tactic(auto, using(crate::proofs::Refusing::success_told, crate::proofs::Refusing::failure_told))]
+    pub fn build(alloc: Global, metric: &BoundMetric, shape: &Shape) -> Result<Judge, BuildError>
+        ensures built { IfOk result (IsJudge (shape_view shape.now) metric.now.success_condition metric.now.failure_condition) }
+        ensures refused { IfErr result (RefusesTexts (shape_view shape.now) metric.now.success_condition metric.now.failure_condition) }
+    {
+        let success = built(alloc, &metric.success_condition, shape).map_err(success_refused)?;
+        let failure = built(alloc, &metric.failure_condition, shape).map_err(failure_refused)?;
+        Ok(Judge { success, failure })
+    }
+
+    /// The verified code of the success condition.
+    pub fn success(&self) -> Option<&Verified>
+        ensures { option_map (λ verified. verified.now) result ≡ option_map (λ condition. condition.verified) self.now.success }
+    {
+        self.success.as_ref().map(Condition::verified)
+    }
+
+    /// The verified code of the failure condition.
+    pub fn failure(&self) -> Option<&Verified>
+        ensures { option_map (λ verified. verified.now) result ≡ option_map (λ condition. condition.verified) self.now.failure }
+    {
+        self.failure.as_ref().map(Condition::verified)
+    }
+
+    /// The verdict of a sample, whose value, if it has one, fits the shape that the conditions are
+    /// for. A misfit is never want of memory.
+    ///
+    /// # Errors
+    ///
+    /// Want of memory alone, which runs of conditions take for their operands.
+    pub fn judge(&self, alloc: Global, sample: &Sample) -> Result<Verdict, AllocError>
+        requires { Suits self.now (sample_view sample.now) }
+        ensures { IfOk result (λ found. found ≡ verdict self.now (sample_view sample.now)) }
+    {
+        match sample {
+            Sample::Provider => Ok(Verdict::Error(Cause::Provider)),
+            Sample::Misfit(fault) => Ok(Verdict::Error(Cause::Shape(*fault))),
+            Sample::Measured(value) => {
+                let success = said(alloc, &self.success, value)?;
+                if let Some(Err(fault)) = success {
+                    return Ok(Verdict::Error(Cause::Success(fault)));
+                }
+                let failure = said(alloc, &self.failure, value)?;
+                Ok(verdict_by(success, failure))
+            }
+        }
+    }
+}
+
+/// The condition of a text, where there is one.
+fn built(alloc: Global, text: &Option<Text>, shape: &Shape) -> Result<Option<Condition>, BuildCause>
+    ensures { BuildsEach (shape_view shape.now) text.now result }
+{
+    match text {
+        Some(text) => Ok(Some(Condition::build(alloc, text.as_str(), shape.copy(alloc)?)?)),
+        None => Ok(None),
+    }
+}
+
+fn success_refused(cause: BuildCause) -> BuildError
+    ensures { result ≡ success_refused cause }
+{
+    match cause {
+        BuildCause::OutOfMemory => BuildError::OutOfMemory,
+        cause => BuildError::Success(cause),
+    }
+}
+
+fn failure_refused(cause: BuildCause) -> BuildError
+    ensures { result ≡ failure_refused cause }
+{
+    match cause {
+        BuildCause::OutOfMemory => BuildError::OutOfMemory,
+        cause => BuildError::Failure(cause),
+    }
+}
+
+/// What a condition says of a value, where there is one.
+fn said(
+    alloc: Global,
+    condition: &Option<Condition>,
+    value: &Value,
+) -> Result<Option<Answer>, AllocError>
+    requires { FitsEach (value_view value.now) condition.now }
+    ensures { IfOk result (λ said. said ≡ option_and_then (said_of (value_view value.now)) condition.now) }
+{
+    match condition {
+        Some(condition) => Ok(Some(condition.answer(alloc, value)?)),
+        None => Ok(None),
+    }
+}
+
+/// The verdict by what the two conditions say, where they are there.
+fn verdict_by(success: Option<Answer>, failure: Option<Answer>) -> Verdict
+    ensures { result ≡ verdict_by success failure }
+{
+    match (success, failure) {
+        (Some(Err(fault)), _) => Verdict::Error(Cause::Success(fault)),
+        (_, Some(Err(fault))) => Verdict::Error(Cause::Failure(fault)),
+        (None, None) | (Some(Ok(true)), None | Some(Ok(false))) | (None, Some(Ok(false))) => {
+            Verdict::Successful
+        }
+        (Some(Ok(false)), None) | (_, Some(Ok(true))) => Verdict::Failed,
+        (Some(Ok(false)), Some(Ok(false))) => Verdict::Inconclusive,
+    }
+}

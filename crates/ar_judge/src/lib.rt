@@ -1,0 +1,24 @@
+//! Verdicts of measurements: what a metric's conditions come to on what its provider gave.
+//!
+//! [`Judge::build`] takes the texts of a metric's conditions and the shape of the measured value,
+//! and answers a judge only where each text is a condition with kinds whose code the verifier
+//! accepts; otherwise it names the first text that isn't, and why. [`Judge::judge`] gives the verdict
+//! of a sample, which is that of the definitions in `specs/Verdict`: by what the conditions of these
+//! texts mean, with no code and no machine in it. Only want of memory can keep it from its answer.
+//!
+//! - [`condition`]: one condition, ready to be run
+//! - [`judge`]: the conditions of a metric; [`sample`]: what it judges; [`verdict`]: what it finds
+//! - [`error`]: why a text is no condition that can be run
+#![tactic(auto)]
+
+pub mod condition;
+pub mod error;
+pub mod judge;
+pub mod sample;
+pub mod verdict;
+
+pub use condition::Condition;
+pub use error::{BuildCause, BuildError};
+pub use judge::Judge;
+pub use sample::Sample;
+pub use verdict::{Cause, Verdict};

@@ -1,0 +1,15 @@
+//! What a judge is given.
+
+use ar_value::value::Value;
+use ar_value::value_reading::ShapeFault;
+
+/// What a metric's provider gave. Contracts see it by `sample_view` of `specs/Verdict`.
+#[derive(Debug, Drop)]
+pub enum Sample {
+    /// It failed, and measured nothing.
+    Provider,
+    /// What it gave doesn't fit the declared shape, and why.
+    Misfit(ShapeFault),
+    /// A value of the declared shape.
+    Measured(Value),
+}

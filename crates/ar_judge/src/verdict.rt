@@ -1,0 +1,28 @@
+//! What a judge finds.
+
+use ar_value::fault::Fault;
+use ar_value::value_reading::ShapeFault;
+
+/// What a measurement comes to.
+#[derive(Clone, Copy, Debug, PartialEq, Eq)]
+pub enum Verdict {
+    Successful,
+    Failed,
+    /// Neither condition is true.
+    Inconclusive,
+    /// There is no answer, for this cause.
+    Error(Cause),
+}
+
+/// Why a measurement has no answer.
+#[derive(Clone, Copy, Debug, PartialEq, Eq)]
+pub enum Cause {
+    /// The provider failed.
+    Provider,
+    /// What it gave doesn't fit the declared shape.
+    Shape(ShapeFault),
+    /// The success condition meets a fault on it.
+    Success(Fault),
+    /// The failure condition meets a fault on it, and the success condition, if there is one, none.
+    Failure(Fault),
+}

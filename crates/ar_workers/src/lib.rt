@@ -1,0 +1,11 @@
+//! Runs of a bundle: each of its numbers is judged and applied to its run.
+//!
+//! [`run_plain`] does it in one thread, in the order of the numbers. Its histories are lawful by
+//! `ar_board/specs/Lawful`, and numbers rise in each.
+//!
+//! - `plain`: the plain run
+#![tactic(auto)]
+
+mod plain;
+
+pub use plain::run_plain;
