@@ -1,11 +1,15 @@
 -- What operators give, told by the parts of a list's kind.
 use Rattle.std.proofs.Common.{◌≡◌, ℕ, Bool, true, false, Option, Some, None, option_map, refl}
 use Rattle.std.specs.Prelude.{◌||◌, if◌then◌else◌, option_and_then}
-use Rattle.ar_value.specs.Kind.{Kind, nil, shaped, plain}
+use Rattle.ar_value.specs.Kind.{Kind, nil, shaped, is_optional, plain}
 use Rattle.ar_value.specs.Shape.{Shape, bool, whole, decimal, text, list, object, optional}
 use Rattle.ar_value.specs.declared.operator.Scalar.TheVariants as scalars
 use Rattle.ar_verify.specs.Effects.{family_in, family_of, is_number, is_scalar, item_kind, length_kind, member_kind, of_one_family, truth, where_taken}
 use Rattle.ar_verify.specs.Private.Kinds.{list_in}
+
+pub plain_already : (shape : Shape) → is_optional shape ≡ false → plain shape ≡ shape
+plain_already (optional shape) h = absurd cc
+plain_already shape h = refl
 
 both_same : (test : Bool) (kind : Option Kind) → kind ≡ (if test then kind else kind)
 both_same true kind = refl

@@ -29,14 +29,14 @@ fn pushed<'s>(
         ≡ pushed (shape_view measured.now) (option_map (λ shape. any_view shape.now) here.entry) source) }
 {
     Ok(Some(match source {
-        Source::Bool => Kind::made(Shape::Bool),
-        Source::Whole => Kind::made(Shape::Whole),
-        Source::Decimal => Kind::made(Shape::Decimal),
-        Source::Text => Kind::made(Shape::Text),
+        Source::Bool => Kind::made(alloc, Shape::Bool)?,
+        Source::Whole => Kind::made(alloc, Shape::Whole)?,
+        Source::Decimal => Kind::made(alloc, Shape::Decimal)?,
+        Source::Text => Kind::made(alloc, Shape::Text)?,
         Source::Nil => Kind::Nil,
         Source::Result => Kind::Shape(AnyShape::Declared(measured)),
         Source::Item => match here {
-            Some(item) => Kind::Shape(item.copy(alloc)?),
+            Some(item) => Kind::Shape(item.share()?),
             None => return Ok(None),
         },
     }))
@@ -140,10 +140,11 @@ fn make_list<'s>(
             return Ok(None);
         }
     }
-    Ok(Some(Kind::made(Shape::List {
+    let list = Shape::List {
         item: Box::new(alloc, scalar_shape(scalar))?,
         max: usize::from(count),
-    })))
+    };
+    Ok(Some(Kind::made(alloc, list)?))
 }
 
 /// Takes the operands of an effect and gives what it makes of them.

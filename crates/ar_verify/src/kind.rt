@@ -1,5 +1,6 @@
 //! Kinds of operands.
 
+ghost use Rattle.std.specs.Bool.{Decides};
 ghost use Rattle.std.specs.Prelude.{◌≡◌, IfOk, option_map};
 ghost use Rattle.ar_value.specs.Kind.{merge, plain, shaped};
 ghost use Rattle.ar_value.specs.View.{shape_view};
@@ -7,16 +8,18 @@ ghost use Rattle.ar_value.specs.View as values;
 ghost use Rattle.ar_verify.specs.Effects.{family_in, field_kind, family_of, is_scalar};
 ghost use Rattle.ar_verify.specs.Private.Kinds.{any_view, kind_view, list_in, list_parts, list_view, shape_in};
 
+use crate::sameness::are_same_shapes;
 use ar_value::kind;
 use ar_value::operator::{Family, Scalar};
 use ar_value::shape::Shape;
 use std::alloc::{AllocError, Global};
+use std::rc::Rc;
 
-/// A shape, which is lent where it is a part of a declared one.
+/// A shape, which is lent where it is a part of a declared one, and else shared by all that have it.
 #[derive(Drop)]
 pub(crate) enum AnyShape<'s> {
     Declared(&'s Shape),
-    Made(Shape),
+    Made(Rc<Shape>),
 }
 
 /// The kind of an operand: that of the literal `nil`, or a shape.
@@ -44,23 +47,31 @@ impl<'s> AnyShape<'s> {
         }
     }
 
-    /// A copy, which takes memory where the shape isn't lent.
-    pub(crate) fn copy(&self, alloc: Global) -> Result<AnyShape<'s>, AllocError>
-        ensures { IfOk result (λ copy. any_view copy ≡ any_view self.now) }
+    /// A shape that stands alone.
+    pub(crate) fn made(alloc: Global, shape: Shape) -> Result<AnyShape<'s>, AllocError>
+        ensures { IfOk result (λ made. any_view made ≡ shape_view shape) }
+    {
+        Ok(AnyShape::Made(Rc::new(alloc, shape)?))
+    }
+
+    /// The same shape once more, which takes no memory: it is refused only where a made one has more
+    /// owners than can be counted.
+    pub(crate) fn share(&self) -> Result<AnyShape<'s>, AllocError>
+        ensures { IfOk result (λ shared. any_view shared ≡ any_view self.now) }
     {
         match self {
             AnyShape::Declared(shape) => Ok(AnyShape::Declared(shape)),
-            AnyShape::Made(shape) => Ok(AnyShape::Made(shape.copy(alloc)?)),
+            AnyShape::Made(shape) => Ok(AnyShape::Made(shape.clone()?)),
         }
     }
 }
 
 impl<'s> Kind<'s> {
-    /// The kind of operands of a shape that has no other inside.
-    pub(crate) fn made(shape: Shape) -> Kind<'s>
-        ensures { kind_view result ≡ shaped (shape_view shape) }
+    /// The kind of operands of a shape that stands alone.
+    pub(crate) fn made(alloc: Global, shape: Shape) -> Result<Kind<'s>, AllocError>
+        ensures { IfOk result (λ kind. kind_view kind ≡ shaped (shape_view shape)) }
     {
-        Kind::Shape(AnyShape::Made(shape))
+        Ok(Kind::Shape(AnyShape::made(alloc, shape)?))
     }
 
     pub(crate) fn shape(&self) -> Option<&Shape>
@@ -72,13 +83,13 @@ impl<'s> Kind<'s> {
         }
     }
 
-    /// A copy, which takes memory where its shape isn't lent.
-    pub(crate) fn copy(&self, alloc: Global) -> Result<Kind<'s>, AllocError>
-        ensures { IfOk result (λ copy. kind_view copy ≡ kind_view self.now) }
+    /// The same kind once more, its shape likewise.
+    pub(crate) fn share(&self) -> Result<Kind<'s>, AllocError>
+        ensures { IfOk result (λ shared. kind_view shared ≡ kind_view self.now) }
     {
         match self {
             Kind::Nil => Ok(Kind::Nil),
-            Kind::Shape(shape) => Ok(Kind::Shape(shape.copy(alloc)?)),
+            Kind::Shape(shape) => Ok(Kind::Shape(shape.share()?)),
         }
     }
 
@@ -93,8 +104,20 @@ impl<'s> Kind<'s> {
     }
 }
 
-/// The kind of what has the one kind or the other, where there is one.
-pub(crate) fn merge<'s>(
+fn are_same(left: &Kind<'_>, right: &Kind<'_>) -> bool
+    ensures { Decides result (kind_view left.now ≡ kind_view right.now) }
+{
+    match left {
+        Kind::Nil => matches!(right, Kind::Nil),
+        Kind::Shape(left) => match right {
+            Kind::Nil => false,
+            Kind::Shape(right) => are_same_shapes(left.get(), right.get()),
+        },
+    }
+}
+
+/// The merge of kinds that differ. Both are copied, since it is that of kinds which own their shapes.
+fn merge_different<'s>(
     alloc: Global,
     left: &Kind<'_>,
     right: &Kind<'_>,
@@ -105,8 +128,25 @@ pub(crate) fn merge<'s>(
     let right = right.owned(alloc)?;
     match kind::merge(alloc, &left, &right)? {
         Some(kind::Kind::Nil) => Ok(Some(Kind::Nil)),
-        Some(kind::Kind::Shape(shape)) => Ok(Some(Kind::made(shape))),
+        Some(kind::Kind::Shape(shape)) => Ok(Some(Kind::made(alloc, shape)?)),
         None => Ok(None),
+    }
+}
+
+/// The kind of what has the one kind or the other, where there is one: of a kind and itself that kind,
+/// which is shared.
+#[tactic(auto, using(crate::proofs::Same::merged_with_itself))]
+pub(crate) fn merge<'s>(
+    alloc: Global,
+    left: &Kind<'s>,
+    right: &Kind<'_>,
+) -> Result<Option<Kind<'s>>, AllocError>
+    ensures { IfOk result (λ kind. option_map kind_view kind ≡ merge (kind_view left.now) (kind_view right.now)) }
+{
+    if are_same(left, right) {
+        Ok(Some(left.share()?))
+    } else {
+        merge_different(alloc, left, right)
     }
 }
 
@@ -152,26 +192,19 @@ pub(crate) fn family_in(kind: &Kind<'_>) -> Option<Family>
 }
 
 /// The kind of what isn't nil.
-pub(crate) fn plain(shape: AnyShape<'_>) -> AnyShape<'_>
-    ensures { any_view result ≡ plain (any_view shape.entry) }
+#[tactic(auto, using(crate::proofs::Parts::plain_already))]
+pub(crate) fn plain<'s>(alloc: Global, shape: AnyShape<'s>) -> Result<AnyShape<'s>, AllocError>
+    ensures { IfOk result (λ inner. any_view inner ≡ plain (any_view shape.entry)) }
 {
     match shape {
-        AnyShape::Declared(shape) => AnyShape::Declared(kind::plain(shape)),
-        AnyShape::Made(shape) => AnyShape::Made(into_plain(shape)),
-    }
-}
-
-fn into_plain(shape: Shape) -> Shape
-    ensures { shape_view result ≡ plain (shape_view shape) }
-{
-    match shape {
-        Shape::Optional(plain) => Box::into_inner(plain),
-        Shape::Bool
-        | Shape::Whole
-        | Shape::Decimal
-        | Shape::Text
-        | Shape::List { .. }
-        | Shape::Object(_) => shape,
+        AnyShape::Declared(shape) => Ok(AnyShape::Declared(kind::plain(shape))),
+        AnyShape::Made(shape) => {
+            if kind::is_optional(&shape) {
+                AnyShape::made(alloc, kind::plain(&shape).copy(alloc)?)
+            } else {
+                Ok(AnyShape::Made(shape))
+            }
+        }
     }
 }
 
@@ -192,31 +225,35 @@ fn lent_list(shape: &Shape) -> Option<ListKind<'_>>
     }
 }
 
-fn made_list<'s>(shape: Shape) -> Option<ListKind<'s>>
-    ensures { option_map list_view result ≡ list_parts (shape_view shape) }
+/// What is known of a list that was made, with a copy of the shape of its items.
+fn made_list<'s>(alloc: Global, shape: &Shape) -> Result<Option<ListKind<'s>>, AllocError>
+    ensures { IfOk result (λ list. option_map list_view list ≡ list_parts (shape_view shape.now)) }
 {
     match shape {
-        Shape::List { item, max } => Some(ListKind {
-            item: AnyShape::Made(Box::into_inner(item)),
-            most: max,
-        }),
+        Shape::List { item, max } => Ok(Some(ListKind {
+            item: AnyShape::made(alloc, item.copy(alloc)?)?,
+            most: *max,
+        })),
         Shape::Bool
         | Shape::Whole
         | Shape::Decimal
         | Shape::Text
         | Shape::Object(_)
-        | Shape::Optional(_) => None,
+        | Shape::Optional(_) => Ok(None),
     }
 }
 
 /// What is known of a list, where the kind is that of one.
-pub(crate) fn into_list(kind: Kind<'_>) -> Option<ListKind<'_>>
-    ensures { option_map list_view result ≡ list_in (kind_view kind.entry) }
+pub(crate) fn into_list<'s>(
+    alloc: Global,
+    kind: Kind<'s>,
+) -> Result<Option<ListKind<'s>>, AllocError>
+    ensures { IfOk result (λ list. option_map list_view list ≡ list_in (kind_view kind.entry)) }
 {
     match kind {
-        Kind::Nil => None,
-        Kind::Shape(AnyShape::Declared(shape)) => lent_list(shape),
-        Kind::Shape(AnyShape::Made(shape)) => made_list(shape),
+        Kind::Nil => Ok(None),
+        Kind::Shape(AnyShape::Declared(shape)) => Ok(lent_list(shape)),
+        Kind::Shape(AnyShape::Made(shape)) => made_list(alloc, &shape),
     }
 }
 

@@ -31,7 +31,7 @@ fn copy_kinds<'s>(alloc: Global, kinds: &[Kind<'s>]) -> Result<Vec<Kind<'s>>, Al
 {
     let mut copies = Vec::with_capacity(alloc, kinds.len())?;
     for kind in kinds {
-        copies.push(kind.copy(alloc)?)?;
+        copies.push(kind.share()?)?;
     }
     Ok(copies)
 }
@@ -40,7 +40,7 @@ impl<'s> Around<'s> {
     fn copy(&self, alloc: Global) -> Result<Around<'s>, AllocError>
         ensures { IfOk result (λ copy. around_view copy ≡ around_view self.now) }
     {
-        let item = self.list.item.copy(alloc)?;
+        let item = self.list.item.share()?;
         let below = copy_kinds(alloc, &self.below)?;
         Ok(Around {
             list: ListKind {
@@ -106,7 +106,7 @@ impl<'s> Operands<'s> {
 #[tactic(auto, using(crate::proofs::Joins::unlike_heights, crate::proofs::Joins::one_merged, crate::proofs::Joins::one_clashes, crate::proofs::Joins::all_merged))]
 fn merge_all<'s>(
     alloc: Global,
-    lefts: &[Kind<'_>],
+    lefts: &[Kind<'s>],
     rights: &[Kind<'_>],
 ) -> Result<Option<Vec<Kind<'s>>>, AllocError>
     ensures { IfOk result (λ kinds. option_map (λ kinds. map kind_view kinds.items) kinds

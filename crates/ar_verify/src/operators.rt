@@ -17,17 +17,19 @@ use ar_value::operator::{Arithmetic, Family, Scalar};
 use ar_value::shape::Shape;
 use std::alloc::{AllocError, Global};
 
-fn truth<'s>() -> Kind<'s>
-    ensures { kind_view result ≡ truth }
+/// The kind of a shape, where the operands are taken.
+fn where_taken<'s>(
+    alloc: Global,
+    is_taken: bool,
+    shape: Shape,
+) -> Result<Option<Kind<'s>>, AllocError>
+    ensures { IfOk result (λ given. option_map kind_view given ≡ where_taken is_taken (shaped (shape_view shape))) }
 {
-    Kind::made(Shape::Bool)
-}
-
-/// A kind, where the operands are taken.
-fn where_taken<'s>(is_taken: bool, kind: Kind<'s>) -> Option<Kind<'s>>
-    ensures { option_map kind_view result ≡ where_taken is_taken (kind_view kind.entry) }
-{
-    if is_taken { Some(kind) } else { None }
+    if is_taken {
+        Ok(Some(Kind::made(alloc, shape)?))
+    } else {
+        Ok(None)
+    }
 }
 
 /// The field of a record, by its name.
@@ -45,35 +47,38 @@ pub(crate) fn field_of<'s>(
             None => Ok(None),
         },
         Kind::Shape(AnyShape::Made(shape)) => match field_in(name, &shape) {
-            Some(field) => Ok(Some(Kind::made(field.copy(alloc)?))),
+            Some(field) => Ok(Some(Kind::made(alloc, field.copy(alloc)?)?)),
             None => Ok(None),
         },
     }
 }
 
 #[tactic(auto, using(crate::proofs::Parts::item_by_list))]
-fn item<'s>(list: Kind<'s>, index: &Kind<'_>) -> Option<Kind<'s>>
-    ensures { option_map kind_view result ≡ item_kind (kind_view list.entry) (kind_view index.now) }
+fn item<'s>(alloc: Global, list: Kind<'s>, index: &Kind<'_>) -> Result<Option<Kind<'s>>, AllocError>
+    ensures { IfOk result (λ given. option_map kind_view given ≡ item_kind (kind_view list.entry) (kind_view index.now)) }
 {
     if !is_scalar(Scalar::Whole, index) {
-        return None;
+        return Ok(None);
     }
-    Some(Kind::Shape(into_list(list)?.item))
+    match into_list(alloc, list)? {
+        Some(list) => Ok(Some(Kind::Shape(list.item))),
+        None => Ok(None),
+    }
 }
 
 #[tactic(auto, using(crate::proofs::Parts::length_of_list))]
-fn length<'s>(list: &Kind<'_>) -> Option<Kind<'s>>
-    ensures { option_map kind_view result ≡ length_kind (kind_view list.now) }
+fn length<'s>(alloc: Global, list: &Kind<'_>) -> Result<Option<Kind<'s>>, AllocError>
+    ensures { IfOk result (λ given. option_map kind_view given ≡ length_kind (kind_view list.now)) }
 {
-    where_taken(list_in(list).is_some(), Kind::made(Shape::Whole))
+    where_taken(alloc, list_in(list).is_some(), Shape::Whole)
 }
 
-fn needed<'s>(operand: Kind<'s>) -> Option<Kind<'s>>
-    ensures { option_map kind_view result ≡ needed_kind (kind_view operand.entry) }
+fn needed<'s>(alloc: Global, operand: Kind<'s>) -> Result<Option<Kind<'s>>, AllocError>
+    ensures { IfOk result (λ given. option_map kind_view given ≡ needed_kind (kind_view operand.entry)) }
 {
     match operand {
-        Kind::Nil => None,
-        Kind::Shape(shape) => Some(Kind::Shape(plain(shape))),
+        Kind::Nil => Ok(None),
+        Kind::Shape(shape) => Ok(Some(Kind::Shape(plain(alloc, shape)?))),
     }
 }
 
@@ -87,7 +92,7 @@ fn default<'s>(
 {
     match operand {
         Kind::Nil => Ok(Some(other)),
-        Kind::Shape(shape) => merge(alloc, &Kind::Shape(plain(shape)), &other),
+        Kind::Shape(shape) => merge(alloc, &Kind::Shape(plain(alloc, shape)?), &other),
     }
 }
 
@@ -113,7 +118,7 @@ fn decimal<'s>(alloc: Global, operand: &Kind<'_>) -> Result<Option<Kind<'s>>, Al
     match operand.shape() {
         None => Ok(None),
         Some(shape) => match decimal_shape(alloc, shape)? {
-            Some(decimal) => Ok(Some(Kind::made(decimal))),
+            Some(decimal) => Ok(Some(Kind::made(alloc, decimal)?)),
             None => Ok(None),
         },
     }
@@ -138,20 +143,31 @@ fn of_one_family(family: Option<Family>, other: Option<Family>) -> bool
 }
 
 #[tactic(auto, using(crate::proofs::Parts::member_of_list))]
-fn member<'s>(operand: &Kind<'_>, list: &Kind<'_>) -> Option<Kind<'s>>
-    ensures { option_map kind_view result ≡ member_kind (kind_view operand.now) (kind_view list.now) }
+fn member<'s>(
+    alloc: Global,
+    operand: &Kind<'_>,
+    list: &Kind<'_>,
+) -> Result<Option<Kind<'s>>, AllocError>
+    ensures { IfOk result (λ given. option_map kind_view given ≡ member_kind (kind_view operand.now) (kind_view list.now)) }
 {
-    let family = family_of(kind::plain(list_in(list)?.item.get()));
-    where_taken(of_one_family(family_in(operand), family), truth())
+    let Some(list) = list_in(list) else {
+        return Ok(None);
+    };
+    let family = family_of(kind::plain(list.item.get()));
+    where_taken(
+        alloc,
+        of_one_family(family_in(operand), family),
+        Shape::Bool,
+    )
 }
 
-fn quotient<'s>(operator: Arithmetic) -> Kind<'s>
-    ensures { kind_view result ≡ quotient_kind operator }
+fn quotient(operator: Arithmetic) -> Shape
+    ensures { shaped (shape_view result) ≡ quotient_kind operator }
 {
     match operator {
-        Arithmetic::Divide => Kind::made(Shape::Decimal),
+        Arithmetic::Divide => Shape::Decimal,
         Arithmetic::Add | Arithmetic::Subtract | Arithmetic::Multiply | Arithmetic::Remainder => {
-            Kind::made(Shape::Whole)
+            Shape::Whole
         }
     }
 }
@@ -159,7 +175,11 @@ fn quotient<'s>(operator: Arithmetic) -> Kind<'s>
 fn same<'s>(scalar: Scalar, operand: Kind<'s>) -> Option<Kind<'s>>
     ensures { option_map kind_view result ≡ same_kind scalar (kind_view operand.entry) }
 {
-    where_taken(is_scalar(scalar, &operand), operand)
+    if is_scalar(scalar, &operand) {
+        Some(operand)
+    } else {
+        None
+    }
 }
 
 #[tactic(auto, using(crate::proofs::Parts::number_is_either))]
@@ -184,11 +204,11 @@ pub(crate) fn apply_unary<'s>(
     ensures { IfOk result (λ given. option_map kind_view given ≡ one operator (kind_view operand.entry)) }
 {
     match operator {
-        Unary::Len => Ok(length(&operand)),
-        Unary::Need => Ok(needed(operand)),
-        Unary::IsNil => Ok(Some(truth())),
+        Unary::Len => length(alloc, &operand),
+        Unary::Need => needed(alloc, operand),
+        Unary::IsNil => Ok(Some(Kind::made(alloc, Shape::Bool)?)),
         Unary::ToDecimal => decimal(alloc, &operand),
-        Unary::Not => Ok(where_taken(is_scalar(Scalar::Bool, &operand), truth())),
+        Unary::Not => where_taken(alloc, is_scalar(Scalar::Bool, &operand), Shape::Bool),
         Unary::NegateWhole => Ok(same(Scalar::Whole, operand)),
         Unary::NegateDecimal => Ok(same(Scalar::Decimal, operand)),
     }
@@ -222,20 +242,24 @@ pub(crate) fn apply_binary<'s>(
     ensures { IfOk result (λ given. option_map kind_view given ≡ two operator (kind_view left.entry) (kind_view right.entry)) }
 {
     match operator {
-        Binary::Index => Ok(item(left, &right)),
+        Binary::Index => item(alloc, left, &right),
         Binary::Default => default(alloc, left, right),
-        Binary::IsIn => Ok(member(&left, &right)),
-        Binary::Wholes(operator) => {
-            Ok(where_taken(
-                are_scalars(Scalar::Whole, &left, &right),
-                quotient(operator),
-            ))
-        }
-        Binary::Decimals => Ok(where_taken(
+        Binary::IsIn => member(alloc, &left, &right),
+        Binary::Wholes(operator) => where_taken(
+            alloc,
+            are_scalars(Scalar::Whole, &left, &right),
+            quotient(operator),
+        ),
+        Binary::Decimals => where_taken(
+            alloc,
             are_scalars(Scalar::Decimal, &left, &right),
-            Kind::made(Shape::Decimal),
-        )),
-        Binary::Compare(numbers) => Ok(where_taken(are_compared(numbers, &left, &right), truth())),
-        Binary::Equal(family) => Ok(where_taken(are_in_family(family, &left, &right), truth())),
+            Shape::Decimal,
+        ),
+        Binary::Compare(numbers) => {
+            where_taken(alloc, are_compared(numbers, &left, &right), Shape::Bool)
+        }
+        Binary::Equal(family) => {
+            where_taken(alloc, are_in_family(family, &left, &right), Shape::Bool)
+        }
     }
 }

@@ -54,11 +54,11 @@ fn take_truth(kinds: &mut Vec<Kind<'_>>) -> Result<(), Failure>
 }
 
 /// Takes a list.
-fn take_list<'s>(kinds: &mut Vec<Kind<'s>>) -> Result<ListKind<'s>, Failure>
+fn take_list<'s>(alloc: Global, kinds: &mut Vec<Kind<'s>>) -> Result<ListKind<'s>, Failure>
     ensures { Meets (λ list. (list_view list, from_top kinds.new.items)) result (list_taken (from_top kinds.old.items)) }
 {
     let operand = pop(kinds).ok_or(Reason::IllKinded)?;
-    Ok(into_list(operand).ok_or(Reason::IllKinded)?)
+    Ok(into_list(alloc, operand)?.ok_or(Reason::IllKinded)?)
 }
 
 /// What a loop gives over a list.
@@ -70,12 +70,15 @@ fn answer_kind<'s>(
     ensures { IfOk result (λ answer. kind_view answer ≡ answer_kind predicate (any_view list.now.item) list.now.most) }
 {
     match predicate {
-        Predicate::All | Predicate::Any => Ok(Kind::made(Shape::Bool)),
-        Predicate::Count => Ok(Kind::made(Shape::Whole)),
-        Predicate::Filter => Ok(Kind::made(Shape::List {
-            item: Box::new(alloc, list.item.get().copy(alloc)?)?,
-            max: list.most,
-        })),
+        Predicate::All | Predicate::Any => Kind::made(alloc, Shape::Bool),
+        Predicate::Count => Kind::made(alloc, Shape::Whole),
+        Predicate::Filter => {
+            let list = Shape::List {
+                item: Box::new(alloc, list.item.get().copy(alloc)?)?,
+                max: list.most,
+            };
+            Kind::made(alloc, list)
+        }
     }
 }
 
@@ -177,7 +180,7 @@ fn enter<'s>(
     ensures { Meets sends_view result
         (beginning predicate next (step + 1) (operands_view had.entry).kinds (operands_view had.entry).loops) }
 {
-    let list = take_list(&mut had.kinds)?;
+    let list = take_list(alloc, &mut had.kinds)?;
     let mut behind = had.copy(alloc)?;
     push(&mut behind.kinds, answer_kind(alloc, predicate, &list)?)?;
     let body = inside(alloc, list, had)?;

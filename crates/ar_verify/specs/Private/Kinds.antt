@@ -12,7 +12,7 @@ use Rattle.ar_verify.specs.declared.kind.ListKind.{ListKind}
 -- a shape, wherever it lies
 abbrev pub any_view : AnyShape → Shape
 any_view (shapes.Declared shape) = shape_view shape.now
-any_view (shapes.Made shape) = shape_view shape
+any_view (shapes.Made shape) = shape_view shape.value
 
 abbrev pub kind_view : code.Kind → Kind
 kind_view kinds.Nil = nil

@@ -1,0 +1,7 @@
+use Rattle.std.proofs.Common.{◌≡◌, drop}
+use Rattle.ar_verify.proofs.Same.{SameFields}
+use Rattle.ar_verify.proofs.sameness.+is_same.Given as goal
+
+-- what is left decides
+abbrev pub invariant-are_fields_same-loop-index : goal.invariant-are_fields_same-loop-index
+invariant-are_fields_same-loop-index l = SameFields l.fields l.others ≡ SameFields (drop l.index l.fields) (drop l.index l.others)
