@@ -1,66 +1,53 @@
--- What a condition comes to, once its code is verified and run on what was read.
-use Rattle.std.proofs.Common.{◌≡◌, ◌<◌, ◌≤◌, ℕ, ◌+◌, Bool, true, None, Result, Ok, Err, refl, sym, ap, subst, ◌∙◌, arith}
+-- What a condition comes to on what was read.
+use Rattle.std.proofs.Common.{◌≡◌, ◌≤◌, ℕ, Bool, true, false, List, Option, Some, None, Result, Ok, Err, refl, sym, ap, subst, ◌∙◌, arith}
+use Rattle.std.specs.Prelude.{IfSome, length, nat_lt}
+use Rattle.std.proofs.lemmas.Bool.Decides.{nat_tests}
 use Rattle.serde_json.specs.Data.{Data}
-use Rattle.ar_value.specs.Answer.{◌>>=◌}
-use Rattle.ar_value.specs.Fits.{fits}
-use Rattle.ar_value.specs.Reading.{read}
+use Rattle.ar_value.specs.Answer.{◌>>=◌, Unless}
+use Rattle.ar_value.specs.Reading.{is_memory, read}
 use Rattle.ar_value.specs.Shape.{Shape}
 use Rattle.ar_value.specs.Value.{Value}
 use Rattle.ar_value.specs.View.{shape_view}
 use Rattle.ar_value.specs.declared.fault.Fault.{Fault}
-use Rattle.ar_condition.specs.Meaning.{answer_of, mean}
-use Rattle.ar_condition.specs.Typed.{Typed}
-use Rattle.ar_code.specs.Code.{Code}
-use Rattle.ar_compile.specs.Compiled.{compiled}
-use Rattle.ar_compile.specs.Ends.{EndsWith}
-use Rattle.ar_machine.specs.Run.{IsDone}
-use Rattle.ar_machine.specs.declared.outcome.Ended.TheVariants.{Done}
-use Rattle.ar_machine.specs.declared.outcome.Outcome.{Outcome}
-use Rattle.ar_machine.proofs.Ends.{one_end}
-use Rattle.ar_verify.specs.Verdict.{Verified}
-use Rattle.std.specs.Prelude.{IfSome, List, Option, length, nat_lt, Some, false}
-use Rattle.std.proofs.lemmas.Bool.Decides.{nat_tests}
-use Rattle.ar_condition.specs.Expression.{Expression}
-use Rattle.ar_condition.specs.Limits.{InLimits, WrittenInLimits}
-use Rattle.ar_check.specs.Check.{checked}
-use Rattle.ar_compile.proofs.Checked.{checked_in_limits}
-use Rattle.argo_judge.specs.Input.{most_bytes}
-use Rattle.argo_judge.specs.Evaluation.{Evaluates, Follows, IsRunnable, Judges, UnlessMemory, of_misfit, document_of, meant, prepared, prepared_input}
-use Rattle.ar_value.specs.Answer.{Unless}
-use Rattle.ar_value.specs.Reading.{is_memory}
 use Rattle.ar_value.specs.declared.value_reading.ShapeFault.{ShapeFault}
 use Rattle.ar_value.specs.declared.value_reading.ShapeFault.TheVariants as shape_fault
+use Rattle.ar_judge.specs.Condition.{Condition, IsBuilt, IsRefused, said}
+use Rattle.ar_judge.specs.declared.error.BuildCause.{BuildCause}
+use Rattle.ar_judge.specs.declared.error.BuildCause.TheVariants as causes
+use Rattle.argo_judge.specs.Input.{most_bytes}
+use Rattle.argo_judge.specs.Evaluation.{Evaluates, Follows, IsRunnable, Judges, UnlessMemory, document_of, given, meant, of_build, of_misfit, prepared, prepared_input}
 use Rattle.argo_judge.specs.Serving.{of_eval}
 use Rattle.argo_judge.specs.declared.serve.Refusal.TheVariants.{Eval}
 use Rattle.argo_judge.specs.declared.serve.ServeError.TheVariants.{Refused}
 use Rattle.argo_judge.specs.declared.eval.EvalError.{EvalError}
 use Rattle.argo_judge.specs.declared.eval.EvalError.TheVariants.{OutOfMemory}
-use Rattle.argo_judge.specs.Private.Readiness.{IsChecked, IsReady, given}
 
-same_answer : (first second : Outcome) → Done first ≡ Done second → first.answer ≡ second.answer
-same_answer first second h = let same : first ≡ second = cc in ap (λ (o : Outcome). o.answer) same
+-- a text that is no condition that can be run is refused for its cause
+pub not_built : (text : List ℕ) (shape : Shape) (measured : Data) (cause : BuildCause) → IsRefused shape text cause → UnlessMemory (Err (of_build cause)) (Judges (given text shape measured))
+not_built text shape measured causes.OutOfMemory refused = tt
+not_built text shape measured (causes.Grammar error) refused = refused
+not_built text shape measured (causes.Kinds error) refused = refused
+not_built text shape measured (causes.Compiler error) refused = refused
+not_built text shape measured (causes.Verifier place reason) refused = refused
 
--- a run of code has one answer
-one_answer : (code : Code) (value : Value) (fuel cost : ℕ) (said meant : Result Bool Fault) → IsDone code value fuel said cost → EndsWith code value meant → said ≡ meant
-one_answer code value fuel cost said meant done ends =
-    same_answer (record { answer = said; cost = cost }) (record { answer = meant; cost = ends.cost })
-    (one_end code value (cost + ends.cost) (Done (record { answer = said; cost = cost })) (Done (record { answer = meant; cost = ends.cost })) (record { steps = done.steps; done = done.done; paid = omega arith })
-    (record { steps = ends.steps; done = ends.is; paid = omega arith }))
+said_as : (shape : Shape) (text : List ℕ) (condition : Condition) (value : Value) (answer : Result Bool Fault) → IsBuilt shape text condition → said (shape_view condition.verified.shape) condition.text value ≡ Some answer → said shape text value ≡ Some answer
+said_as shape text condition value answer built says = subst (λ text. said shape text value ≡ Some answer) built.text_is (subst (λ shape. said shape condition.text value ≡ Some answer) built.shape_is says)
 
--- a run of verified code on what was read gives what the condition means on it
-pub run_means : (shape : Shape) (condition : Typed) (measured : Data) (verified : Verified) (value : Value) (said : Result Bool Fault) (cost : ℕ) → IsChecked shape condition → IsReady shape condition verified → read (shape_view verified.shape) measured ≡ Ok value
-    → fits value (shape_view verified.shape) ≡ true → IsDone verified.code value verified.budget said cost → IsRunnable (given shape condition measured) × (Ok said ≡ meant (given shape condition measured))
-run_means shape condition measured verified value said cost checked ready is_read fit done =
-    let fit_shape : fits value shape ≡ true = rw ready.of at fit in
-    let read_shape : read shape measured ≡ Ok value = rw ready.of at is_read in
-    let ends = ready.means checked.tree value checked.is fit_shape in
-    let done_code : IsDone (compiled condition) value verified.budget said cost = subst (λ code. IsDone code value verified.budget said cost) ready.code done in
-    let same : said ≡ answer_of (mean value None condition) = one_answer (compiled condition) value verified.budget cost said (answer_of (mean value None condition)) done_code ends in
-    (record { short = ready.short; budget = verified.budget; depth = verified.depth; verified = ready.is }, rw (read_shape, same) refl)
+-- a condition that is run on what was read answers what is meant
+pub answered : (text : List ℕ) (shape : Shape) (measured : Data) (condition : Condition) (value : Value) (answer : Result Bool Fault) → IsBuilt shape text condition → read (shape_view condition.verified.shape) measured ≡ Ok value → said (shape_view condition.verified.shape) condition.text value ≡ Some answer
+    → Judges (given text shape measured) (Ok answer)
+answered text shape measured condition value answer built is_read says =
+    let read_shape : read shape measured ≡ Ok value = rw built.shape_is at is_read in
+    let said_shape = said_as shape text condition value answer built says in
+    (record { condition = condition; built = built }, rw (read_shape, said_shape) refl)
 
--- a condition that was parsed and checked is within limits
-pub in_limits : (shape : Shape) (tree : Expression) (condition : Typed) → WrittenInLimits tree → checked shape tree ≡ Ok condition → InLimits condition
-in_limits shape tree condition written is = checked_in_limits shape tree condition is written
+-- a misfit of what was measured is told, where the condition can be run
+pub misfit_told : (text : List ℕ) (shape : Shape) (measured : Data) (condition : Condition) (fault : ShapeFault) → IsBuilt shape text condition → Unless (is_memory fault) (read (shape_view condition.verified.shape) measured ≡ Err fault)
+    → UnlessMemory (Err (of_misfit fault)) (Judges (given text shape measured))
+misfit_told text shape measured condition shape_fault.OutOfMemory built told = tt
+misfit_told text shape measured condition fault built told =
+    let unread : read shape measured ≡ Err fault = rw built.shape_is at told in
+    (record { condition = condition; built = built }, rw unread refl)
 
 -- an answer for a document is one for the input that it is
 pub of_document : (input : List ℕ) (document : Data) (answer : Result (Result Bool Fault) EvalError) → nat_lt most_bytes (length input) ≡ false → document_of input ≡ Some document → UnlessMemory answer (Follows (prepared document)) → UnlessMemory answer (Evaluates input)
@@ -68,14 +55,6 @@ unfolding prepared_input
 of_document input document (Ok said) small is h = record { follows = rw (small, is) h }
 of_document input document (Err OutOfMemory) small is h = tt
 of_document input document (Err fault) small is h = record { follows = rw (small, is) h }
-
--- a misfit of what was measured is told, where the code is runnable
-pub misfit_told : (shape : Shape) (condition : Typed) (measured : Data) (verified : Verified) (fault : ShapeFault) → IsReady shape condition verified → Unless (is_memory fault) (read (shape_view verified.shape) measured ≡ Err fault)
-    → UnlessMemory (Err (of_misfit fault)) (Judges (given shape condition measured))
-misfit_told shape condition measured verified shape_fault.OutOfMemory ready told = tt
-misfit_told shape condition measured verified fault ready told =
-    let unread : read shape measured ≡ Err fault = rw ready.of at told in
-    (record { short = ready.short; budget = verified.budget; depth = verified.depth; verified = ready.is }, rw unread refl)
 
 -- a refusal of what was read is one of the input
 pub refusal_of : (input bytes : List ℕ) (error : EvalError) (fault : EvalError) → ((answer : Result (Result Bool Fault) EvalError) → Evaluates bytes answer → Evaluates input answer) → UnlessMemory (Err error) (Evaluates bytes) → Refused (Eval fault) ≡ of_eval error

@@ -12,33 +12,14 @@ use Rattle.ar_value.specs.declared.shape_reading.ShapeError.TheVariants as shape
 use Rattle.ar_value.specs.declared.value_reading.ShapeFault.{ShapeFault}
 use Rattle.ar_value.specs.declared.value_reading.ShapeFault.TheVariants as shape_fault
 use Rattle.ar_value.specs.Shape.{Shape}
-use Rattle.ar_condition.specs.Typed.{Typed}
-use Rattle.ar_code.specs.Code.{most_entries}
-use Rattle.ar_compile.specs.Compiled.{compiled}
-use Rattle.ar_compile.specs.Length.{length_of}
-use Rattle.ar_compile.specs.declared.error.CompileError.{CompileError}
-use Rattle.ar_compile.specs.declared.error.CompileError.TheVariants as compile_error
-use Rattle.ar_compile.specs.declared.error.CompileError.TheVariants.{TooManyOps}
-use Rattle.ar_verify.specs.Verdict.{IsFault, IsVerified}
-use Rattle.ar_verify.specs.declared.error.Cause.{Cause}
-use Rattle.ar_verify.specs.declared.error.Cause.TheVariants as causes
-use Rattle.ar_syntax.specs.Parse.{parse_of}
-use Rattle.ar_syntax.specs.declared.error.SyntaxError.{SyntaxError}
-use Rattle.ar_syntax.specs.declared.error.SyntaxError.TheVariants as syntax
-use Rattle.ar_check.specs.Check.{checked}
-use Rattle.ar_condition.specs.Meaning.{answer_of, mean}
-use Rattle.ar_check.specs.declared.error.TypeError.{TypeError}
-use Rattle.ar_check.specs.declared.error.TypeError.TheVariants as types
+use Rattle.ar_judge.specs.Condition.{Condition, IsBuilt, IsRefused, refused_as, said}
+use Rattle.ar_judge.specs.declared.error.BuildCause.{BuildCause}
+use Rattle.ar_judge.specs.declared.error.BuildCause.TheVariants as causes
 use Rattle.ar_value.specs.declared.fault.Fault.{Fault}
 use Rattle.ar_value.specs.declared.fault.Fault.TheVariants.{IndexOutOfRange, NilOperand, Overflow, DivisionByZero}
 use Rattle.argo_judge.specs.Input.{most_bytes}
 use Rattle.argo_judge.specs.declared.eval.EvalError.{EvalError}
 use Rattle.argo_judge.specs.declared.eval.EvalError.TheVariants.{TooLarge, Utf8OrJson, BadDocument, Shape as BadShape, Grammar, Kinds, Compiler, Verifier, Misfit, OutOfMemory}
-
--- an answer, with its refusal under a name of `eval`'s
-abbrev pub refused_as : {A E : Type 0} → (E → EvalError) → Result A E → Result A EvalError
-refused_as name (Ok x) = Ok x
-refused_as name (Err e) = Err (name e)
 
 -- a member that has to be there
 abbrev pub wanted : {A : Type 0} → Option A → Result A EvalError
@@ -53,26 +34,26 @@ parts_of document = do
   measured ← wanted (get (codes "value") document)
   Ok (text, declared, measured)
 
--- a condition whose kinds are known, the shape that it was checked for, and what was measured
+-- a condition's text, the shape that `result` has, and what was measured
 pub record Prepared : Type 0 where
+  pub text : List ℕ
   pub shape : Shape
-  pub condition : Typed
   pub measured : Data
 
--- The shape is read, the condition, and its kinds under the shape.
+abbrev pub given : List ℕ → Shape → Data → Prepared
+given text shape measured = record { text = text; shape = shape; measured = measured }
+
 unfoldable pub prepared : Data → Result Prepared EvalError
 prepared document = do
   parts ← parts_of document
   shape ← refused_as BadShape (shape_of parts.1)
-  tree ← refused_as Grammar (parse_of parts.0)
-  condition ← refused_as Kinds (checked shape tree)
-  Ok (record { shape = shape; condition = condition; measured = parts.2 })
+  Ok (given parts.0 shape parts.2)
 
--- what a condition means on what was measured, which is read under the shape
-abbrev pub meant : Prepared → Result (Result Bool Fault) EvalError
+-- what a condition says of what was measured, which is read under the shape
+abbrev pub meant : Prepared → Result (Option (Result Bool Fault)) EvalError
 meant given = do
   value ← refused_as Misfit (read given.shape given.measured)
-  Ok (answer_of (mean value None given.condition))
+  Ok (said given.shape given.text value)
 
 -- the JSON value (RFC 8259) whose text in UTF-8 an input is
 abbrev pub document_of : List ℕ → Option Data
@@ -85,18 +66,19 @@ prepared_document (Some document) = prepared document
 unfoldable pub prepared_input : List ℕ → Result Prepared EvalError
 prepared_input input = if nat_lt most_bytes (length input) then Err TooLarge else prepared_document (document_of input)
 
--- the condition's code has at most so many operations, and the verifier accepts it for the shape
+-- the text is a condition that can be run
 pub record IsRunnable (given : Prepared) : Type 0 where
-  pub short : length_of given.condition ≤ most_entries
-  pub budget : ℕ
-  pub depth : ℕ
-  pub verified : IsVerified (compiled given.condition) given.shape budget depth
+  pub condition : Condition
+  pub built : IsBuilt given.shape given.text condition
 
--- what is answered: that the code is too long, or the verifier's refusal, or else what is meant
+-- what is answered: why the text is no condition that can be run, or else what it says of the value
 abbrev pub Judges : Prepared → Result (Result Bool Fault) EvalError → Type 0
-Judges given (Err (Compiler error)) = (error ≡ TooManyOps) × (most_entries < length_of given.condition)
-Judges given (Err (Verifier place reason)) = (length_of given.condition ≤ most_entries) × IsFault (compiled given.condition) given.shape place reason
-Judges given answer = IsRunnable given × (answer ≡ meant given)
+Judges given (Err (Grammar error)) = IsRefused given.shape given.text (causes.Grammar error)
+Judges given (Err (Kinds error)) = IsRefused given.shape given.text (causes.Kinds error)
+Judges given (Err (Compiler error)) = IsRefused given.shape given.text (causes.Compiler error)
+Judges given (Err (Verifier place reason)) = IsRefused given.shape given.text (causes.Verifier place reason)
+Judges given (Err error) = IsRunnable given × (meant given ≡ Err error)
+Judges given (Ok answer) = IsRunnable given × (meant given ≡ Ok (Some answer))
 
 abbrev pub Follows : Result Prepared EvalError → Result (Result Bool Fault) EvalError → Type 0
 Follows (Ok given) answer = Judges given answer
@@ -124,16 +106,15 @@ pub record Writes (input line : List ℕ) : Type 0 where
   pub evaluates : Evaluates input (Ok answer)
   pub is : line ≡ line_of answer
 
--- a fault of the condition's text, as `eval` answers it
-abbrev pub of_syntax : SyntaxError → EvalError
-of_syntax syntax.OutOfMemory = OutOfMemory
-of_syntax fault = Grammar fault
+-- why a text is no condition that can be run, as `eval` answers it
+abbrev pub of_build : BuildCause → EvalError
+of_build causes.OutOfMemory = OutOfMemory
+of_build (causes.Grammar error) = Grammar error
+of_build (causes.Kinds error) = Kinds error
+of_build (causes.Compiler error) = Compiler error
+of_build (causes.Verifier place reason) = Verifier place reason
 
--- a fault of kinds, of the shape, and of the value, likewise
-abbrev pub of_type : TypeError → EvalError
-of_type types.OutOfMemory = OutOfMemory
-of_type error = Kinds error
-
+-- a fault of the shape, and of the value, likewise
 abbrev pub of_shape : ShapeError → EvalError
 of_shape shape_error.OutOfMemory = OutOfMemory
 of_shape error = BadShape error
@@ -141,14 +122,6 @@ of_shape error = BadShape error
 abbrev pub of_misfit : ShapeFault → EvalError
 of_misfit shape_fault.OutOfMemory = OutOfMemory
 of_misfit fault = Misfit fault
-
-abbrev pub of_code : CompileError → EvalError
-of_code compile_error.OutOfMemory = OutOfMemory
-of_code error = Compiler error
-
-abbrev pub of_cause : Cause → EvalError
-of_cause causes.OutOfMemory = OutOfMemory
-of_cause (causes.Fault place reason) = Verifier place reason
 
 abbrev pub is_memory : EvalError → Bool
 is_memory OutOfMemory = true

@@ -2,4 +2,3 @@ pub mod Device
 pub mod Input
 pub mod Evaluation
 pub mod Serving
-pub mod Private

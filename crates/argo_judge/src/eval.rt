@@ -1,28 +1,25 @@
 //! `eval`: one condition, judged on one value.
 
-ghost use Rattle.std.specs.Prelude.{◌≡◌, ◌<◌, Err, false, length};
+ghost use Rattle.std.specs.Prelude.{◌≡◌, ◌<◌, Err, List, false, length, ℕ};
 ghost use Rattle.serde_json.specs.View.{view};
 ghost use Rattle.ar_value.specs.Answer as answer;
-ghost use Rattle.argo_judge.specs.Evaluation.{Evaluates, Follows, Judges, UnlessMemory, parts_of, prepared};
-ghost use Rattle.argo_judge.specs.Private.Readiness.{IsChecked, Readies, given};
-ghost use Rattle.ar_condition.specs.Limits.{InLimits};
-ghost use Rattle.ar_condition.specs.Views.{typed_view};
+ghost use Rattle.argo_judge.specs.Evaluation.{Evaluates, Follows, Judges, UnlessMemory, given, parts_of, prepared};
+ghost use Rattle.ar_value.specs.Shape.{Shape as Declared};
 ghost use Rattle.ar_value.specs.View.{shape_view};
+ghost use Rattle.ar_judge.specs.Condition.{IsBuilt};
 ghost use Rattle.argo_judge.specs.Input.{most_bytes};
 ghost use Rattle.argo_judge.specs.declared.eval.EvalError.TheVariants.{TooLarge};
 
 use crate::input::MOST_INPUT_BYTES;
-use ar_check::check;
-use ar_check::error::TypeError;
-use ar_compile::{CompileError, compile};
-use ar_condition::Typed;
-use ar_machine::{Answer, run};
-use ar_syntax::error::SyntaxError;
-use ar_syntax::parse;
+use ar_check::TypeError;
+use ar_compile::CompileError;
+use ar_judge::{BuildCause, Condition};
+use ar_machine::Answer;
+use ar_syntax::SyntaxError;
 use ar_value::shape::Shape;
 use ar_value::shape_reading::{ShapeError, read_shape};
 use ar_value::value_reading::{ShapeFault, read_value};
-use ar_verify::{Cause, Reason, Verified, verify};
+use ar_verify::Reason;
 use serde_json::Value as Json;
 use std::alloc::{AllocError, Global};
 use thiserror::Error;
@@ -53,30 +50,19 @@ pub enum EvalError {
     OutOfMemory,
 }
 
-impl From<SyntaxError> for EvalError {
+impl From<BuildCause> for EvalError {
     ghost use Rattle.std.specs.Prelude.{◌≡◌};
-    ghost use Rattle.argo_judge.specs.Evaluation.{of_syntax};
+    ghost use Rattle.argo_judge.specs.Evaluation.{of_build};
 
-    ghost from_gives = { λ syntax e. e ≡ of_syntax syntax };
+    ghost from_gives = { λ cause e. e ≡ of_build cause };
 
-    fn from(error: SyntaxError) -> EvalError {
-        match error {
-            SyntaxError::OutOfMemory => EvalError::OutOfMemory,
-            error => EvalError::Grammar(error),
-        }
-    }
-}
-
-impl From<TypeError> for EvalError {
-    ghost use Rattle.std.specs.Prelude.{◌≡◌};
-    ghost use Rattle.argo_judge.specs.Evaluation.{of_type};
-
-    ghost from_gives = { λ error e. e ≡ of_type error };
-
-    fn from(error: TypeError) -> EvalError {
-        match error {
-            TypeError::OutOfMemory => EvalError::OutOfMemory,
-            error => EvalError::Kinds(error),
+    fn from(cause: BuildCause) -> EvalError {
+        match cause {
+            BuildCause::Grammar(error) => EvalError::Grammar(error),
+            BuildCause::Kinds(error) => EvalError::Kinds(error),
+            BuildCause::Compiler(error) => EvalError::Compiler(error),
+            BuildCause::Verifier(place, reason) => EvalError::Verifier(place, reason),
+            BuildCause::OutOfMemory => EvalError::OutOfMemory,
         }
     }
 }
@@ -91,34 +77,6 @@ impl From<ShapeError> for EvalError {
         match error {
             ShapeError::OutOfMemory => EvalError::OutOfMemory,
             error => EvalError::Shape(error),
-        }
-    }
-}
-
-impl From<CompileError> for EvalError {
-    ghost use Rattle.std.specs.Prelude.{◌≡◌};
-    ghost use Rattle.argo_judge.specs.Evaluation.{of_code};
-
-    ghost from_gives = { λ error e. e ≡ of_code error };
-
-    fn from(error: CompileError) -> EvalError {
-        match error {
-            CompileError::OutOfMemory => EvalError::OutOfMemory,
-            error => EvalError::Compiler(error),
-        }
-    }
-}
-
-impl From<Cause> for EvalError {
-    ghost use Rattle.std.specs.Prelude.{◌≡◌};
-    ghost use Rattle.argo_judge.specs.Evaluation.{of_cause};
-
-    ghost from_gives = { λ cause e. e ≡ of_cause cause };
-
-    fn from(cause: Cause) -> EvalError {
-        match cause {
-            Cause::OutOfMemory => EvalError::OutOfMemory,
-            Cause::Fault { place, reason } => EvalError::Verifier(place, reason),
         }
     }
 }
@@ -172,44 +130,32 @@ pub fn evaluate(alloc: Global, input: &[u8]) -> Result<Answer, EvalError>
 }
 
 /// What the condition of a document says of its value.
-#[tactic(auto, using(crate::proofs::Judging::in_limits), unfolding(crate::specs::Evaluation::prepared))]
+#[tactic(auto, unfolding(crate::specs::Evaluation::prepared))]
 fn judge(alloc: Global, document: &Json) -> Result<Answer, EvalError>
     ensures { UnlessMemory result (Follows (prepared (view document.now))) }
 {
-    let (condition, declared, measured) = parts_of(document)?;
+    let (text, declared, measured) = parts_of(document)?;
     let shape = read_shape(alloc, declared)?;
-    let tree = parse(alloc, condition)?;
-    let condition = check(alloc, tree, &shape)?;
-    judge_checked(alloc, &condition, shape, measured)
+    judge_text(alloc, text, shape, measured)
 }
 
-/// What a checked condition says of what was measured.
-#[tactic(auto, using(crate::proofs::Judging::run_means))]
-fn judge_checked(
-    alloc: Global,
-    condition: &Typed,
-    shape: Shape,
-    measured: &Json,
-) -> Result<Answer, EvalError>
-    requires limits { InLimits (typed_view condition.now) }
-    requires checked { IsChecked (shape_view shape) (typed_view condition.now) }
-    ensures { UnlessMemory result (Judges (given (shape_view shape) (typed_view condition.now) (view measured.now))) }
+/// What a condition's text says of what was measured.
+#[tactic(auto, using(crate::proofs::Judging::not_built))]
+fn judge_text(alloc: Global, text: &str, shape: Shape, measured: &Json) -> Result<Answer, EvalError>
+    ensures { UnlessMemory result (Judges (given text.now (shape_view shape) (view measured.now))) }
 {
-    let verified = runnable(alloc, condition, shape)?;
-    let value = read_value(alloc, measured, verified.shape())?;
-    Ok(run(alloc, &verified, &value)?.answer)
+    let condition = Condition::build(alloc, text, shape)?;
+    answer(alloc, &condition, measured)
 }
 
-/// The verified code of a condition.
-fn runnable(alloc: Global, condition: &Typed, shape: Shape) -> Result<Verified, EvalError>
-    requires { InLimits (typed_view condition.now) }
-    ensures { Readies (shape_view shape) (typed_view condition.now) result }
+/// What a condition says of what was measured.
+#[tactic(auto, using(crate::proofs::Judging::answered))]
+fn answer(alloc: Global, condition: &Condition, measured: &Json) -> Result<Answer, EvalError>
+    ensures { (text : List ℕ) (shape : Declared) → IsBuilt shape text condition.now
+        → UnlessMemory result (Judges (given text shape (view measured.now))) }
 {
-    let code = compile(alloc, condition)?;
-    match verify(alloc, code, shape) {
-        Ok(verified) => Ok(verified),
-        Err(refused) => Err(refused.cause.into()),
-    }
+    let value = read_value(alloc, measured, condition.verified().shape())?;
+    Ok(condition.answer(alloc, &value)?)
 }
 
 /// A document's condition, shape and value.
