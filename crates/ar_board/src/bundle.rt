@@ -158,7 +158,8 @@ impl Bundle {
     }
 
     pub fn runs(&self) -> &[RunPart]
-        ensures { result.now ≡ self.now.runs }
+        ensures runs { result.now ≡ self.now.runs }
+        ensures bundle { IsBundle self.now }
     {
         &self.runs
     }

@@ -1,0 +1,13 @@
+use Rattle.std.proofs.Common.{◌≡◌, ◌++◌, string_bytes, subst, sym}
+use Rattle.ar_report.specs.Report.{metric_lines, run_line}
+use Rattle.ar_report.proofs.Lines.{on_ok, run_is}
+use Rattle.ar_report.proofs.reports.put_run.Goals as goal
+
+pub returns : goal.returns
+returns c =
+    let line = subst (λ phase. string_bytes c.put_run_line.new.out ≡ string_bytes c.args.out.now ++ run_line c.args.run.now phase) c.phase.ensures.shown c.in_ok-put_run_line.ensures in
+    let metrics = subst (λ metrics. string_bytes c.put_metrics.new.out ≡ string_bytes c.put_run_line.new.out ++ metric_lines metrics c.in_ok-state.state.phases c.in_ok-state.state.counts) c.metrics.ensures c.in_ok-put_metrics.ensures in
+    on_ok c.put_events.result
+    (run_is c.args.bundle.now c.args.run.now c.args.entries.now c.in_ok-state.state (string_bytes c.args.out.now) (string_bytes c.put_run_line.new.out) (string_bytes c.put_metrics.new.out) (string_bytes c.put_events.new.out)
+    c.in_ok-state.ensures c.requires.effects line metrics)
+    c.put_events.ensures

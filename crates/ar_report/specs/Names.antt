@@ -1,0 +1,55 @@
+-- Names of phases, faults, verdicts and effects, as reports print them.
+use Rattle.std.specs.Prelude.{ℕ, List, codes, ◌++◌}
+use Rattle.ar_value.specs.declared.fault.Fault.{Fault}
+use Rattle.ar_value.specs.declared.fault.Fault.TheVariants.{IndexOutOfRange, NilOperand, Overflow, DivisionByZero}
+use Rattle.ar_value.specs.declared.value_reading.ShapeFault.{ShapeFault}
+use Rattle.ar_value.specs.declared.value_reading.ShapeFault.TheVariants.{WrongKind, FloatNumber, NotFinite, BadDecimal, OutOfRange, ListTooLong, MissingField, OutOfMemory}
+use Rattle.ar_limits.specs.declared.event.Effect.{Effect}
+use Rattle.ar_limits.specs.declared.event.Effect.TheVariants as effects
+use Rattle.ar_limits.specs.declared.phase.Phase.{Phase}
+use Rattle.ar_limits.specs.declared.phase.Phase.TheVariants as phases
+use Rattle.ar_judge.specs.declared.verdict.Cause.{Cause}
+use Rattle.ar_judge.specs.declared.verdict.Cause.TheVariants as causes
+use Rattle.ar_judge.specs.declared.verdict.Verdict.{Verdict}
+use Rattle.ar_judge.specs.declared.verdict.Verdict.TheVariants as verdicts
+
+abbrev pub phase_name : Phase → List ℕ
+phase_name phases.Pending = codes "Pending"
+phase_name phases.Running = codes "Running"
+phase_name phases.Successful = codes "Successful"
+phase_name phases.Failed = codes "Failed"
+phase_name phases.Error = codes "Error"
+phase_name phases.Inconclusive = codes "Inconclusive"
+
+abbrev pub fault_name : Fault → List ℕ
+fault_name IndexOutOfRange = codes "IndexOutOfRange"
+fault_name NilOperand = codes "NilOperand"
+fault_name Overflow = codes "Overflow"
+fault_name DivisionByZero = codes "DivisionByZero"
+
+abbrev pub misfit_name : ShapeFault → List ℕ
+misfit_name WrongKind = codes "WrongKind"
+misfit_name FloatNumber = codes "FloatNumber"
+misfit_name NotFinite = codes "NotFinite"
+misfit_name BadDecimal = codes "BadDecimal"
+misfit_name OutOfRange = codes "OutOfRange"
+misfit_name ListTooLong = codes "ListTooLong"
+misfit_name MissingField = codes "MissingField"
+misfit_name OutOfMemory = codes "OutOfMemory"
+
+abbrev pub cause_text : Cause → List ℕ
+cause_text causes.Provider = codes "provider"
+cause_text (causes.Shape fault) = codes "shape " ++ misfit_name fault
+cause_text (causes.Success fault) = codes "success " ++ fault_name fault
+cause_text (causes.Failure fault) = codes "failure " ++ fault_name fault
+
+abbrev pub verdict_text : Verdict → List ℕ
+verdict_text verdicts.Successful = codes "Successful"
+verdict_text verdicts.Failed = codes "Failed"
+verdict_text verdicts.Inconclusive = codes "Inconclusive"
+verdict_text (verdicts.Error cause) = codes "Error " ++ cause_text cause
+
+abbrev pub effect_text : Effect → List ℕ
+effect_text effects.Applied = codes "applied"
+effect_text (effects.Closed phase) = codes "closed " ++ phase_name phase
+effect_text effects.Late = codes "late"

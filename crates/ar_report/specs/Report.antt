@@ -1,0 +1,86 @@
+-- The text of a report: a function of a bundle and of one list of its numbers for each run. Phases, counts and effects
+-- are those of the list of events that the numbers are.
+use Rattle.std.specs.Prelude.{ℕ, List, [], ◌∷◌, ◌++◌, codes, decimal, map, slice_get, Option, Some, None, option_and_then, option_map, unwrap_or}
+use Rattle.std.specs.List.{AllByRecursion}
+use Rattle.std.specs.Prelude.{◌≡◌, ◌≤◌}
+use Rattle.ar_limits.specs.Run.{effects, metric_counts, metric_phases, run_phase}
+use Rattle.ar_limits.specs.declared.counts.Counts.{Counts}
+use Rattle.ar_limits.specs.declared.event.Effect.{Effect}
+use Rattle.ar_limits.specs.declared.phase.Phase.{Phase}
+use Rattle.ar_board.specs.Bundle.{Bundle, events_of, found_of}
+use Rattle.ar_board.specs.Lawful.{AreHistories, numbers_of, times_in}
+use Rattle.ar_board.specs.declared.bundle.MetricPart.{MetricPart}
+use Rattle.ar_board.specs.declared.bundle.RunPart.{RunPart}
+use Rattle.ar_board.specs.declared.bundle.What.{What}
+use Rattle.ar_board.specs.declared.bundle.What.TheVariants.{Measure, Stop}
+use Rattle.ar_board.specs.declared.finding.Finding.{Finding}
+use Rattle.ar_board.specs.declared.finding.Finding.TheVariants.{Judged}
+use Rattle.ar_board.specs.declared.history.Entry.{Entry}
+use Rattle.ar_report.specs.Names.{effect_text, phase_name, verdict_text}
+
+-- ---- a metric's line
+
+unfoldable pub counted : (name : List ℕ) → ℕ → List ℕ
+counted name number = codes " " ++ (name ++ (codes "=" ++ decimal number))
+
+abbrev pub errors_text : Counts → List ℕ
+errors_text counts = counted (codes "error") counts.error ++ counted (codes "consecutiveError") counts.succession
+
+abbrev pub counts_text : Counts → List ℕ
+counts_text counts = counted (codes "successful") counts.successful ++ (counted (codes "failed") counts.failed ++ (counted (codes "inconclusive") counts.inconclusive ++ errors_text counts))
+
+abbrev pub metric_line : MetricPart → Phase → Counts → List ℕ
+metric_line metric phase counts = codes "metric " ++ (metric.name ++ (codes " " ++ (phase_name phase ++ (counts_text counts ++ codes "\n"))))
+
+abbrev pub metric_lines : List MetricPart → List Phase → List Counts → List ℕ
+metric_lines (metric ∷ metrics) (phase ∷ phases) (counts ∷ others) = metric_line metric phase counts ++ metric_lines metrics phases others
+metric_lines metrics phases counts = []
+
+-- ---- an event's line
+
+abbrev pub name_at : List MetricPart → (metric : ℕ) → List ℕ
+name_at metrics metric = unwrap_or (option_map (λ part. part.name) (slice_get metrics metric)) []
+
+-- what came of an entry: the metric and the verdict, or that it is a stop
+abbrev pub finding_text : List MetricPart → What → Finding → List ℕ
+finding_text metrics (Measure metric sample) (Judged verdict) = name_at metrics metric ++ (codes " " ++ verdict_text verdict)
+finding_text metrics what said = codes "stop"
+
+abbrev pub found_text : Bundle → (number : ℕ) → List ℕ
+found_text bundle number =
+    unwrap_or (option_and_then (λ entry. option_map (finding_text bundle.metrics entry.what) (found_of bundle entry.run entry.what)) (slice_get bundle.entries number)) []
+
+abbrev pub event_line : Bundle → (number : ℕ) → Effect → List ℕ
+event_line bundle number effect = (codes "event " ++ (decimal number ++ codes " ")) ++ (found_text bundle number ++ (codes " " ++ (effect_text effect ++ codes "\n")))
+
+abbrev pub event_lines : Bundle → (numbers : List ℕ) → List Effect → List ℕ
+event_lines bundle (number ∷ numbers) (effect ∷ effects) = event_line bundle number effect ++ event_lines bundle numbers effects
+event_lines bundle numbers effects = []
+
+-- ---- a run's lines, and the report
+
+abbrev pub run_line : RunPart → Phase → List ℕ
+run_line run phase = codes "run " ++ (run.name ++ (codes " " ++ (phase_name phase ++ codes "\n")))
+
+abbrev pub run_text : Bundle → RunPart → (numbers : List ℕ) → List ℕ
+run_text bundle run numbers =
+    run_line run (run_phase run.limits (events_of bundle numbers))
+    ++ (metric_lines bundle.metrics (metric_phases run.limits (events_of bundle numbers)) (metric_counts run.limits (events_of bundle numbers))
+    ++ event_lines bundle numbers (effects run.limits (events_of bundle numbers)))
+
+abbrev pub run_texts : Bundle → List RunPart → List (List ℕ) → List ℕ
+run_texts bundle (run ∷ runs) (numbers ∷ others) = run_text bundle run numbers ++ run_texts bundle runs others
+run_texts bundle runs numbers = []
+
+abbrev pub report : Bundle → List (List ℕ) → List ℕ
+report bundle numbers = run_texts bundle bundle.runs numbers
+
+-- ---- what can be reported
+
+abbrev pub AtMostOnce : List ℕ → Type 0
+AtMostOnce numbers = (number : ℕ) → times_in number numbers ≤ 1
+
+-- a history for each run, of its own numbers, each at most once, with their findings and effects
+pub record CanBeReported (bundle : Bundle) (histories : List (List Entry)) : Type 0 where
+  pub of_runs : AreHistories bundle 0 bundle.runs histories
+  pub once : AllByRecursion (λ history. AtMostOnce (numbers_of history)) histories

@@ -1,0 +1,15 @@
+//! Texts for people and pipelines: reports of runs, and what is known of conditions before any run.
+//!
+//! [`report`] prints the histories of a bundle's runs: the phase of each run, the phase and counts of
+//! each metric, and each event with its verdict and effect. The text is the function of the
+//! histories' numbers that `specs/Report` defines, whatever order these are in.
+//!
+//! - `names`: phases, faults, verdicts and effects as they are printed
+//! - `reports`: the lines of a report
+#![tactic(auto)]
+
+mod names;
+mod reports;
+
+pub use names::{fault_name, phase_name};
+pub use reports::report;
