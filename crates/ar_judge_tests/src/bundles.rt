@@ -1,0 +1,185 @@
+//! Bundles whose metrics are alike, and so are their runs.
+
+ghost use Rattle.std.specs.Prelude.{◌≡◌, ◌≤◌, true, IfOk, length};
+ghost use Rattle.std.specs.List.{AllByRecursion};
+ghost use Rattle.ar_board.specs.Bundle.{CanHappen, IsEntry, IsRun, JudgesEach};
+
+use crate::judging::{Conditions, judge_of, shape_of, value_of};
+use ar_board::{Bundle, EventPart, Judges, MetricPart, RunLimits, RunPart, What};
+use ar_judge::{Judge, Sample};
+use ar_limits::Limits;
+use ar_value::text::Text;
+use std::alloc::{AllocError, Global};
+use std::test::Fail;
+
+/// What the metrics and the runs of a bundle have in common.
+#[derive(Clone, Copy, Debug)]
+pub struct Plan {
+    pub metrics: usize,
+    pub runs: usize,
+    pub shape: &'static str,
+    pub conditions: Conditions,
+    pub limits: Limits,
+}
+
+/// A run, and what happens to it: a measurement of a metric, with its value as JSON, or a stop.
+pub type Row = (usize, Option<(usize, &'static str)>);
+
+/// Metrics `m0`, `m1` and so on.
+fn metrics_of(alloc: Global, plan: &Plan) -> Result<Vec<MetricPart>, Fail> {
+    let mut metrics = Vec::new(alloc);
+    for number in 0..plan.metrics {
+        metrics.push(MetricPart {
+            name: Text::from(format!(in alloc; "m{number}")?),
+            shape: shape_of(alloc, plan.shape)?,
+        })?;
+    }
+    Ok(metrics)
+}
+
+/// A judge for each metric.
+fn judges_of(alloc: Global, conditions: Conditions, metrics: &[MetricPart]) -> Result<Judges, Fail>
+    ensures { IfOk result (JudgesEach metrics.now) }
+{
+    let mut judges = Vec::new(alloc);
+    for metric in metrics {
+        judges.push(judge_of(alloc, &metric.shape, conditions)?)?;
+    }
+    Ok(Judges::from(judges))
+}
+
+/// The same limits for each metric.
+fn limits_of(alloc: Global, limits: Limits, count: usize) -> Result<RunLimits, AllocError> {
+    let mut list = Vec::new(alloc);
+    for _ in 0..count {
+        list.push(limits)?;
+    }
+    Ok(RunLimits::from(list))
+}
+
+fn run_of(
+    alloc: Global,
+    plan: &Plan,
+    metrics: &[MetricPart],
+    number: usize,
+) -> Result<RunPart, Fail>
+    ensures { IfOk result (IsRun metrics.now) }
+{
+    let name = Text::from(format!(in alloc; "r{number}")?);
+    let limits = limits_of(alloc, plan.limits, metrics.len())?;
+    if limits.as_slice().len() != metrics.len()
+        || !Limits::have_positive_counts(limits.as_slice())
+    {
+        return Err(Fail::from("expected limits for each metric"));
+    }
+    let judges = judges_of(alloc, plan.conditions, metrics)?;
+    Ok(RunPart {
+        name,
+        judges,
+        limits,
+    })
+}
+
+/// Runs `r0`, `r1` and so on.
+#[tactic(auto, using(crate::proofs::Shaped::one_more))]
+fn runs_of(alloc: Global, plan: &Plan, metrics: &[MetricPart]) -> Result<Vec<RunPart>, Fail>
+    ensures { IfOk result (λ runs. AllByRecursion (IsRun metrics.now) runs.items) }
+{
+    let mut runs = Vec::new(alloc);
+    for number in 0..plan.runs {
+        runs.push(run_of(alloc, plan, metrics, number)?)?;
+    }
+    Ok(runs)
+}
+
+/// A measurement of a metric.
+fn measure(alloc: Global, metrics: &[MetricPart], metric: usize, value: &str) -> Result<What, Fail>
+    ensures { IfOk result (CanHappen metrics.now) }
+{
+    if metric >= metrics.len() {
+        return Err(Fail::from("expected a metric that is there"));
+    }
+    let part = &metrics[metric];
+    let value = value_of(alloc, &part.shape, value)?;
+    Ok(What::Measure(metric, Sample::Measured(value)))
+}
+
+fn what_of(
+    alloc: Global,
+    metrics: &[MetricPart],
+    what: Option<(usize, &'static str)>,
+) -> Result<What, Fail>
+    ensures { IfOk result (CanHappen metrics.now) }
+{
+    match what {
+        Some((metric, value)) => measure(alloc, metrics, metric, value),
+        None => Ok(What::Stop),
+    }
+}
+
+fn entry_of(alloc: Global, metrics: &[MetricPart], runs: usize, row: Row) -> Result<EventPart, Fail>
+    ensures { IfOk result (IsEntry metrics.now runs) }
+{
+    let (run, what) = row;
+    if run >= runs {
+        return Err(Fail::from("expected a run that is there"));
+    }
+    let what = what_of(alloc, metrics, what)?;
+    Ok(EventPart { run, what })
+}
+
+#[tactic(auto, using(crate::proofs::Shaped::one_more))]
+fn entries_of(
+    alloc: Global,
+    metrics: &[MetricPart],
+    runs: usize,
+    rows: &[Row],
+) -> Result<Vec<EventPart>, Fail>
+    ensures { IfOk result (λ entries. AllByRecursion (IsEntry metrics.now runs) entries.items) }
+{
+    let mut entries = Vec::new(alloc);
+    for row in rows {
+        entries.push(entry_of(alloc, metrics, runs, *row)?)?;
+    }
+    Ok(entries)
+}
+
+/// Parts that are few enough, as a bundle.
+fn of_parts(
+    metrics: Vec<MetricPart>,
+    runs: Vec<RunPart>,
+    entries: Vec<EventPart>,
+) -> Result<Bundle, Fail>
+    requires runs { AllByRecursion (IsRun metrics.items) runs.items }
+    requires entries { AllByRecursion (IsEntry metrics.items (length runs.items)) entries.items }
+{
+    if metrics.len() > 64 || runs.len() > 64 || entries.len() > 100_000 {
+        return Err(Fail::from("expected few parts"));
+    }
+    Ok(Bundle::of_parts(metrics, runs, entries))
+}
+
+/// The bundle of a plan, to which this happens.
+pub fn bundle_of(alloc: Global, plan: &Plan, rows: &[Row]) -> Result<Bundle, Fail> {
+    let metrics = metrics_of(alloc, plan)?;
+    let runs = runs_of(alloc, plan, &metrics)?;
+    let entries = entries_of(alloc, &metrics, runs.len(), rows)?;
+    of_parts(metrics, runs, entries)
+}
+
+/// So many measurements of one value, of the runs in turn and of the metrics in turn.
+pub fn rows_in_turn(
+    alloc: Global,
+    plan: &Plan,
+    count: usize,
+    value: &'static str,
+) -> Result<Vec<Row>, Fail> {
+    if plan.runs == 0 || plan.metrics == 0 {
+        return Err(Fail::from("expected runs and metrics"));
+    }
+    let mut rows = Vec::new(alloc);
+    for number in 0..count {
+        rows.push((number % plan.runs, Some((number % plan.metrics, value))))?;
+    }
+    Ok(rows)
+}
