@@ -1,6 +1,6 @@
 -- What stands at a number of a bundle.
-use Rattle.std.proofs.Common.{◌≡◌, ◌≢◌, ◌<◌, ◌≤◌, ℕ, zero, suc, List, [], ◌∷◌, length, Option, Some, None, refl, sym, ◌∙◌, subst, ap, arith, true}
-use Rattle.std.specs.Prelude.{slice_get, slice_index_or, option_map, option_and_then}
+use Rattle.std.proofs.Common.{◌≡◌, ◌<◌, ℕ, zero, suc, List, [], ◌∷◌, length, Option, Some, None, refl, sym, subst, arith, true}
+use Rattle.std.specs.Prelude.{slice_get, slice_index_or}
 use Rattle.std.specs.List.{AllByRecursion}
 use Rattle.std.proofs.lemmas.Option.{slice_get_read, slice_get_within}
 use Rattle.ar_value.specs.Fits.{fits}
@@ -8,15 +8,13 @@ use Rattle.ar_value.specs.Shape.{Shape}
 use Rattle.ar_value.specs.Value.{Value}
 use Rattle.ar_value.specs.View.{shape_view}
 use Rattle.ar_judge.specs.Condition.{Condition}
-use Rattle.ar_judge.specs.Verdict.{FitsEach, Judge, Sample, Suits, measured, misfit, provider, sample_view, verdict}
+use Rattle.ar_judge.specs.Verdict.{FitsEach, Judge, Sample, Suits, measured, misfit, provider, sample_view}
 use Rattle.ar_judge.specs.declared.sample.Sample.{Sample as Declared}
-use Rattle.ar_board.specs.Bundle.{Bundle, CanHappen, IsBundle, IsEntry, IsOfShape, IsRun, JudgesEach, JudgesShape, SampleSuits, SuitsMetric, found, found_of, judge_at, run_of}
+use Rattle.ar_board.specs.Bundle.{Bundle, CanHappen, IsBundle, IsEntry, IsOfShape, IsRun, JudgesEach, JudgesShape, SampleSuits, SuitsMetric, judge_at, run_of}
 use Rattle.ar_board.specs.declared.bundle.EventPart.{EventPart}
 use Rattle.ar_board.specs.declared.bundle.MetricPart.{MetricPart}
 use Rattle.ar_board.specs.declared.bundle.RunPart.{RunPart}
-use Rattle.ar_board.specs.declared.bundle.What.TheVariants.{Measure, Stop}
-use Rattle.ar_board.specs.declared.finding.Finding.{Finding}
-use Rattle.ar_board.specs.declared.finding.Finding.TheVariants as finding
+use Rattle.ar_board.specs.declared.bundle.What.TheVariants.{Measure}
 
 -- what holds of all holds of each
 pub of_each : {A : Type 0} (P : A → Type 0) (xs : List A) (place : ℕ) (x : A) → AllByRecursion P xs → slice_get xs place ≡ Some x → P x

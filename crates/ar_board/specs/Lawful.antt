@@ -1,8 +1,7 @@
 -- Histories that are lawful: each number stands once, in its own run's history, with its finding and its effect.
-use Rattle.std.specs.Prelude.{◌≡◌, ◌<◌, ◌==◌, ◌+◌, ℕ, suc, if◌then◌else◌, List, [], ◌∷◌, length, map, slice_get, Option, Some, None}
+use Rattle.std.specs.Prelude.{◌≡◌, ◌<◌, ◌==◌, ◌+◌, ℕ, suc, if◌then◌else◌, List, [], ◌∷◌, length, map, Some}
 use Rattle.std.specs.List.{AllByRecursion}
 use Rattle.ar_limits.specs.Run.{effects}
-use Rattle.ar_limits.specs.declared.event.Effect.{Effect}
 use Rattle.ar_limits.specs.declared.limits.Limits.{Limits}
 use Rattle.ar_board.specs.Bundle.{Bundle, events_of, found, run_of}
 use Rattle.ar_board.specs.declared.bundle.RunPart.{RunPart}

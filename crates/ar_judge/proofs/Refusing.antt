@@ -1,8 +1,8 @@
 -- Metrics without a judge.
-use Rattle.std.proofs.Common.{◌≡◌, ℕ, List, Option, Some, None, Result, Ok, Err, refl}
+use Rattle.std.proofs.Common.{ℕ, List, Option, Ok, Err}
 use Rattle.ar_value.specs.Shape.{Shape}
 use Rattle.ar_judge.specs.Condition.{Condition}
-use Rattle.ar_judge.specs.Verdict.{AreBuilt, RefusesTexts}
+use Rattle.ar_judge.specs.Verdict.{RefusesTexts}
 use Rattle.ar_judge.specs.Private.Building.{BuildsEach, failure_refused, success_refused}
 use Rattle.ar_judge.specs.declared.error.BuildCause.{BuildCause}
 use Rattle.ar_judge.specs.declared.error.BuildCause.TheVariants.{Grammar, Kinds, Compiler, Verifier, OutOfMemory}

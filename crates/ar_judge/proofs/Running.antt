@@ -1,5 +1,5 @@
 -- Conditions that are built of texts, and what they say when they are run.
-use Rattle.std.proofs.Common.{◌≡◌, ◌≤◌, ℕ, ◌+◌, List, Bool, true, None, Option, Some, Result, Ok, Err, refl, sym, ap, subst, ◌∙◌, arith}
+use Rattle.std.proofs.Common.{◌≡◌, ℕ, ◌+◌, List, Bool, true, None, Some, Result, Ok, refl, sym, ap, subst, arith}
 use Rattle.ar_value.specs.Fits.{fits}
 use Rattle.ar_value.specs.Shape.{Shape}
 use Rattle.ar_value.specs.Value.{Value}
@@ -13,14 +13,13 @@ use Rattle.ar_syntax.specs.Parse.{parse_of}
 use Rattle.ar_check.specs.Check.{checked}
 use Rattle.ar_code.specs.Code.{Code}
 use Rattle.ar_compile.proofs.Checked.{checked_in_limits}
-use Rattle.ar_compile.specs.Compiled.{compiled}
 use Rattle.ar_compile.specs.Ends.{EndsWith}
 use Rattle.ar_machine.proofs.Ends.{one_end}
 use Rattle.ar_machine.specs.Run.{IsDone}
 use Rattle.ar_machine.specs.declared.outcome.Ended.TheVariants.{Done}
 use Rattle.ar_machine.specs.declared.outcome.Outcome.{Outcome}
 use Rattle.ar_verify.specs.Verdict.{Verified}
-use Rattle.ar_judge.specs.Condition.{Condition, IsBuilt, condition_of, said, said_by, typed_of}
+use Rattle.ar_judge.specs.Condition.{IsBuilt, condition_of, said, typed_of}
 use Rattle.ar_judge.specs.Private.Readiness.{IsReady, IsRunnable, Means}
 
 -- a text that is parsed and checked has the tree that was checked

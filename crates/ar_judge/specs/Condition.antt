@@ -1,5 +1,5 @@
 -- Conditions of metrics: what a text is built to under the shape of the measured value, and what it says of values.
-use Rattle.std.specs.Prelude.{◌≡◌, ◌<◌, ◌≤◌, ℕ, Bool, true, false, List, Option, Some, None, Result, Ok, Err}
+use Rattle.std.specs.Prelude.{◌≡◌, ◌<◌, ◌≤◌, ℕ, Bool, List, Option, Some, None, Result, Ok, Err}
 use Rattle.ar_value.specs.Answer.{◌>>=◌}
 use Rattle.ar_value.specs.Shape.{Shape}
 use Rattle.ar_value.specs.Value.{Value}

@@ -3,11 +3,11 @@ use Rattle.std.proofs.Common.{◌≡◌, ◌≢◌, ◌<◌, ◌≤◌, ℕ, zer
 use Rattle.std.specs.Prelude.{if◌then◌else◌, option_map, slice_get, slice_index_or}
 use Rattle.std.specs.List.{AllByRecursion}
 use Rattle.std.proofs.lemmas.Bool.Decides.{nat_tests}
-use Rattle.std.proofs.lemmas.List.{append_assoc, length-map}
+use Rattle.std.proofs.lemmas.List.{append_assoc}
 use Rattle.std.proofs.lemmas.Option.{slice_get_read, slice_get_within}
 use Rattle.ar_limits.specs.Run.{effects}
 use Rattle.ar_board.proofs.Bundles.{of_each}
-use Rattle.ar_board.specs.Bundle.{Bundle, IsBundle, IsRun, events_of, found, most_events}
+use Rattle.ar_board.specs.Bundle.{Bundle, IsBundle, IsRun, events_of, most_events}
 use Rattle.ar_board.specs.Lawful.{AreHistories, IsFound, IsHistory, numbers_of, times_in}
 use Rattle.ar_board.specs.declared.bundle.EventPart.{EventPart}
 use Rattle.ar_board.specs.declared.bundle.RunPart.{RunPart}

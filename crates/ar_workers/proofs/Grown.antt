@@ -1,7 +1,7 @@
 -- Histories that grow by one number.
-use Rattle.std.proofs.Common.{◌≡◌, ◌≢◌, ◌<◌, ◌≤◌, ℕ, zero, suc, ◌+◌, true, List, [], ◌∷◌, ◌++◌, length, map, Option, Some, None, refl, sym, ◌∙◌, ap, subst, arith, append-nil, take}
+use Rattle.std.proofs.Common.{◌≡◌, ◌≢◌, ◌<◌, ◌≤◌, ℕ, zero, suc, ◌+◌, List, [], ◌∷◌, ◌++◌, length, Some, refl, sym, ◌∙◌, ap, subst, arith, take}
 use Rattle.std.specs.Prelude.{slice_get, slice_set, slice_index_or}
-use Rattle.std.specs.List.{AllByRecursion, filter_map}
+use Rattle.std.specs.List.{AllByRecursion}
 use Rattle.std.proofs.Math.Seq.{take-suc}
 use Rattle.std.proofs.lemmas.List.{map_push}
 use Rattle.std.proofs.lemmas.List.Elements.{filter_map-append}
@@ -16,7 +16,7 @@ use Rattle.ar_board.specs.Bundle.{Bundle, IsBundle, IsRun, events_of, found, hap
 use Rattle.ar_board.proofs.Bundles.{entry_at, of_each}
 use Rattle.ar_limits.specs.Metric.{HasPositiveCounts}
 use Rattle.ar_limits.specs.Prefixes.{with_earlier}
-use Rattle.ar_board.specs.Lawful.{IsFound, IsHistory, numbers_of}
+use Rattle.ar_board.specs.Lawful.{IsFound, numbers_of}
 use Rattle.ar_board.specs.declared.bundle.RunPart.{RunPart}
 use Rattle.ar_board.specs.declared.finding.Finding.{Finding}
 use Rattle.ar_board.specs.declared.history.Entry.{Entry}

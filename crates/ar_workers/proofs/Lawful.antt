@@ -1,13 +1,12 @@
 -- Histories that have all numbers of a bundle are lawful.
-use Rattle.std.proofs.Common.{◌≡◌, ◌≢◌, ◌<◌, ◌≤◌, ℕ, zero, suc, ◌+◌, List, [], ◌∷◌, length, Option, Some, None, refl, sym, ◌∙◌, ap, subst, arith}
-use Rattle.std.specs.List.{AllByRecursion}
+use Rattle.std.proofs.Common.{◌≡◌, ◌<◌, ℕ, zero, suc, ◌+◌, List, [], ◌∷◌, length, Some, refl, sym, ◌∙◌, ap, subst, arith}
 use Rattle.ar_limits.specs.Replay.{Standing}
 use Rattle.ar_board.specs.Bundle.{Bundle, IsBundle, run_of}
-use Rattle.ar_board.specs.Lawful.{AllRise, AreHistories, AreLawful, Rise, numbers_of, times, times_in}
+use Rattle.ar_board.specs.Lawful.{AllRise, AreHistories, AreLawful, Rise, times, times_in}
 use Rattle.ar_board.specs.declared.bundle.RunPart.{RunPart}
 use Rattle.ar_board.specs.declared.history.Entry.{Entry}
 use Rattle.ar_board.proofs.Bundles.{run_of_number}
-use Rattle.ar_workers.specs.Private.Growing.{AreGrown, below}
+use Rattle.ar_workers.specs.Private.Growing.{AreGrown}
 use Rattle.ar_workers.proofs.Below.{of_another, of_run, rises}
 
 histories_are : (bundle : Bundle) (upto from : ℕ) (runs : List RunPart) (states : List Standing) (histories : List (List Entry)) → AreGrown bundle upto from runs states histories → AreHistories bundle from runs histories

@@ -1,5 +1,5 @@
 -- What a metric's text is built to, where it has one.
-use Rattle.std.specs.Prelude.{◌≡◌, ℕ, List, Option, Some, None, Result, Ok, Err}
+use Rattle.std.specs.Prelude.{◌≡◌, ℕ, List, Option, Some, Result, Ok, Err}
 use Rattle.ar_value.specs.Shape.{Shape}
 use Rattle.ar_judge.specs.Condition.{Condition, IsRefused}
 use Rattle.ar_judge.specs.Verdict.{AreBuilt}

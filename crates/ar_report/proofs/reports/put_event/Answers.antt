@@ -1,4 +1,4 @@
-use Rattle.std.proofs.Common.{rules, ◌≡◌, ◌++◌, ◌∙◌, ap, codes, decimal, string_bytes, subst, sym}
+use Rattle.std.proofs.Common.{rules, ◌≡◌, ◌++◌, codes, decimal, string_bytes, subst, sym}
 use Rattle.std.specs.Prelude.{slice_index_or}
 use Rattle.ar_report.specs.Names.{effect_text}
 use Rattle.ar_report.specs.Report.{found_text}

@@ -1,4 +1,4 @@
-use Rattle.std.proofs.Common.{◌≡◌, ◌++◌, string_bytes, subst, sym}
+use Rattle.std.proofs.Common.{◌≡◌, ◌++◌, string_bytes, subst}
 use Rattle.ar_report.specs.Report.{metric_lines, run_line}
 use Rattle.ar_report.proofs.Lines.{on_ok, run_is}
 use Rattle.ar_report.proofs.reports.put_run.Goals as goal

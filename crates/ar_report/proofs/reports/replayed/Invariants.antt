@@ -1,4 +1,4 @@
-use Rattle.std.proofs.Common.{◌≡◌, ◌≤◌, take}
+use Rattle.std.proofs.Common.{◌≡◌, take}
 use Rattle.ar_limits.specs.Replay.{Replays}
 use Rattle.ar_board.specs.Bundle.{events_of}
 use Rattle.ar_board.specs.Lawful.{numbers_of}

@@ -1,6 +1,5 @@
-use Rattle.std.proofs.Common.{rules, ◌≡◌, ◌<◌, length, string_bytes, subst}
-use Rattle.std.specs.Prelude.{slice_index_or}
-use Rattle.ar_report.proofs.Runs.{has_history, next_run, run_is_run}
+use Rattle.std.proofs.Common.{rules}
+use Rattle.ar_report.proofs.Runs.{has_history, run_is_run}
 use Rattle.ar_report.proofs.reports.report.Goals as goal
 
 pub bounds-histories-number : goal.bounds-histories-number

@@ -1,4 +1,4 @@
-use Rattle.std.proofs.Common.{rules, ◌≡◌, length, subst, sym, arith, ◌∙◌}
+use Rattle.std.proofs.Common.{◌≡◌, length, subst, sym, arith}
 use Rattle.ar_board.specs.Lawful.{AreLawful}
 use Rattle.ar_workers.specs.Private.Growing.{AreGrown}
 use Rattle.ar_workers.proofs.Lawful.{are_lawful}

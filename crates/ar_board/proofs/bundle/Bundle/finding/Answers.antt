@@ -1,4 +1,4 @@
-use Rattle.std.proofs.Common.{rules, ◌<◌, length, subst, sym}
+use Rattle.std.proofs.Common.{◌<◌, length, subst, sym}
 use Rattle.ar_judge.specs.Verdict.{sample_view}
 use Rattle.ar_board.specs.Bundle.{SuitsMetric, bundle_of}
 use Rattle.ar_board.proofs.Bundles.{measure_suits}

@@ -1,7 +1,7 @@
 use Rattle.std.proofs.Common.{rules, ◌<◌, length, subst, sym}
 use Rattle.ar_judge.specs.Verdict.{sample_view}
 use Rattle.ar_board.specs.Bundle.{SuitsMetric, bundle_of}
-use Rattle.ar_board.proofs.Bundles.{Reads, judge_inside, judge_of_reads}
+use Rattle.ar_board.proofs.Bundles.{judge_inside}
 use Rattle.ar_board.proofs.bundle.Bundle.judged.Goals as goal
 
 pub bounds-judges-metric : goal.bounds-judges-metric
