@@ -6,12 +6,17 @@
 //! - `compiled`: conditions that are compiled and run, with what they come to and cost
 //! - `verified`: what the verifier says of code, and runs of verified code
 //! - `runs`: how runs end
+//! - `random`: codes that were made at random, with `random_codes`, what they have to come to
 #![tactic(auto)]
 
 #[cfg(test)]
 mod code;
 #[cfg(test)]
 mod compiled;
+#[cfg(test)]
+mod random;
+#[cfg(test)]
+mod random_codes;
 #[cfg(test)]
 mod runs;
 #[cfg(test)]
