@@ -1,3 +1,4 @@
 pub mod Lines
 pub mod Replaying
 pub mod Runs
+pub mod Shown

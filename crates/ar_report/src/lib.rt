@@ -2,14 +2,20 @@
 //!
 //! [`report`] prints the histories of a bundle's runs: the phase of each run, the phase and counts of
 //! each metric, and each event with its verdict and effect. The text is the function of the
-//! histories' numbers that `specs/Report` defines, whatever order these are in.
+//! histories' numbers that `specs/Report` defines, whatever order these are in. [`check_text`] prints
+//! the bounds of each condition, and [`list_text`] its code (`specs/Check`).
 //!
+//! - `conditions`: the lines of conditions
 //! - `names`: phases, faults, verdicts and effects as they are printed
 //! - `reports`: the lines of a report
+//! - [`laws`]: what can be reported
 #![tactic(auto)]
 
+mod conditions;
+pub mod laws;
 mod names;
 mod reports;
 
+pub use conditions::{check_text, list_text};
 pub use names::{fault_name, phase_name};
 pub use reports::report;

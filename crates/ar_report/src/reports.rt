@@ -23,7 +23,7 @@ fn put_number(out: &mut String, number: u64) -> Result<(), AllocError>
 }
 
 #[tactic(auto, unfolding(crate::specs::Report::counted))]
-fn put_counted(out: &mut String, name: &str, number: u64) -> Result<(), AllocError>
+pub(crate) fn put_counted(out: &mut String, name: &str, number: u64) -> Result<(), AllocError>
     ensures { OnOk result (string_bytes out.new ≡ string_bytes out.old ++ counted name.now number) }
 {
     out.push_str(" ")?;

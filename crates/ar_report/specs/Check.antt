@@ -1,0 +1,51 @@
+-- What is known of a bundle's conditions before any run: the size of each one's code, and what a run may cost and hold
+-- at most; and the listing of their code.
+use Rattle.std.specs.Prelude.{ℕ, List, [], ◌∷◌, ◌++◌, codes, length, Option, Some, None, option_map}
+use Rattle.ar_code.specs.Listing.{listing}
+use Rattle.ar_judge.specs.Condition.{Condition}
+use Rattle.ar_judge.specs.Verdict.{Judge}
+use Rattle.ar_verify.specs.Verdict.{Verified}
+use Rattle.ar_board.specs.Bundle.{Bundle}
+use Rattle.ar_board.specs.declared.bundle.MetricPart.{MetricPart}
+use Rattle.ar_board.specs.declared.bundle.RunPart.{RunPart}
+use Rattle.ar_report.specs.Report.{counted}
+
+-- what stands before the text of each condition: its run, its metric, and which of the two it is
+unfoldable pub condition_name : (run metric which : List ℕ) → List ℕ
+condition_name run metric which = codes "run " ++ (run ++ (codes " metric " ++ (metric ++ (codes " " ++ which))))
+
+-- the texts of a run's conditions, metric by metric, success before failure
+abbrev pub condition_text : (Verified → List ℕ) → (name : List ℕ) → Option Verified → List ℕ
+condition_text text name (Some verified) = name ++ text verified
+condition_text text name None = []
+
+abbrev pub verified_of : Option Condition → Option Verified
+verified_of condition = option_map (λ condition. condition.verified) condition
+
+abbrev pub judge_text : (Verified → List ℕ) → (run metric : List ℕ) → Judge → List ℕ
+judge_text text run metric judge =
+    condition_text text (condition_name run metric (codes "success")) (verified_of judge.success) ++ condition_text text (condition_name run metric (codes "failure")) (verified_of judge.failure)
+
+abbrev pub judges_text : (Verified → List ℕ) → (run : List ℕ) → List MetricPart → List Judge → List ℕ
+judges_text text run (metric ∷ metrics) (judge ∷ judges) = judge_text text run metric.name judge ++ judges_text text run metrics judges
+judges_text text run metrics judges = []
+
+abbrev pub runs_text : (Verified → List ℕ) → List MetricPart → List RunPart → List ℕ
+runs_text text metrics [] = []
+runs_text text metrics (run ∷ runs) = judges_text text run.name metrics run.judges ++ runs_text text metrics runs
+
+-- ---- bounds
+
+unfoldable pub bounds_text : Verified → List ℕ
+bounds_text verified = counted (codes "operations") (length verified.code.ops) ++ (counted (codes "depth") verified.depth ++ (counted (codes "budget") verified.budget ++ codes "\n"))
+
+abbrev pub check_text : Bundle → List ℕ
+check_text bundle = runs_text bounds_text bundle.metrics bundle.runs
+
+-- ---- listings
+
+unfoldable pub listed_text : Verified → List ℕ
+listed_text verified = codes "\n" ++ listing verified.code
+
+abbrev pub list_text : Bundle → List ℕ
+list_text bundle = runs_text listed_text bundle.metrics bundle.runs
