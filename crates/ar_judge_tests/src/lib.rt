@@ -1,4 +1,4 @@
-//! Tests of the public calls of `ar_judge`, `ar_board` and `ar_workers`, which stand above them so that
+//! Tests of the public calls of `ar_judge`, `ar_board`, `ar_workers` and `ar_report`, which stand above them so that
 //! each is proved once. They show what no contract says: that calls succeed with ample memory, and
 //! worked rows whose expected values were worked out by hand.
 //!
@@ -8,6 +8,7 @@
 //! - `verdicts`: verdicts of samples
 //! - `findings`: bundles, what stands in them, and what their numbers come to
 //! - `histories`: plain runs
+//! - [`reporting`], `reports`: texts of reports and of conditions
 #![tactic(auto)]
 
 pub mod bundles;
@@ -18,5 +19,8 @@ mod histories;
 pub mod judging;
 #[cfg(test)]
 mod refusals;
+pub mod reporting;
+#[cfg(test)]
+mod reports;
 #[cfg(test)]
 mod verdicts;

@@ -1,0 +1,140 @@
+//! Texts of reports, and of what is known of conditions before any run.
+
+use crate::bundles::{Plan, Row, bundle_of};
+use crate::judging::Conditions;
+use crate::reporting::reported;
+use ar_limits::{Limits, Phase};
+use ar_report::{check_text, fault_name, list_text, phase_name};
+use ar_value::fault::Fault;
+use std::test::Fail;
+
+const THRICE: Limits = Limits {
+    failure: 0,
+    inconclusive: 0,
+    consecutive_error: 4,
+    count: Some(3),
+};
+
+const LENIENT: Limits = Limits {
+    failure: 9,
+    inconclusive: 9,
+    consecutive_error: 9,
+    count: None,
+};
+
+const POSITIVE: Plan = Plan {
+    metrics: 2,
+    runs: 2,
+    shape: "\"whole\"",
+    conditions: Conditions {
+        success: Some("result > 0"),
+        failure: None,
+    },
+    limits: THRICE,
+};
+
+const STOPPED_AND_FAILED: &str = "\
+run r0 Successful
+metric m0 Successful successful=0 failed=0 inconclusive=0 error=0 consecutiveError=0
+metric m1 Successful successful=0 failed=0 inconclusive=0 error=0 consecutiveError=0
+event 0 stop closed Successful
+run r1 Failed
+metric m0 Failed successful=0 failed=1 inconclusive=0 error=0 consecutiveError=0
+metric m1 Successful successful=0 failed=0 inconclusive=0 error=0 consecutiveError=0
+event 1 m0 Failed closed Failed
+";
+
+#[test]
+fn a_stop_and_a_failure_are_reported(rt: HostRuntime) -> Result<(), Fail> {
+    let alloc = rt.alloc();
+    let rows = [(0, None), (1, Some((0, "0")))];
+    let text = reported(alloc, &bundle_of(alloc, &POSITIVE, &rows)?)?;
+    assert_eq!(rt; text.as_str(), STOPPED_AND_FAILED);
+    Ok(())
+}
+
+const BOTH: Plan = Plan {
+    metrics: 1,
+    runs: 1,
+    shape: "\"whole\"",
+    conditions: Conditions {
+        success: Some("result > 1"),
+        failure: Some("10 / result > 4"),
+    },
+    limits: LENIENT,
+};
+
+const EACH_VERDICT: [Row; 6] = [
+    (0, Some((0, "2"))),
+    (0, Some((0, "-1"))),
+    (0, Some((0, "0"))),
+    (0, Some((0, "3"))),
+    (0, None),
+    (0, Some((0, "2"))),
+];
+
+const EACH_VERDICTS_TEXT: &str = "\
+run r0 Successful
+metric m0 Successful successful=1 failed=1 inconclusive=1 error=1 consecutiveError=0
+event 0 m0 Failed applied
+event 1 m0 Inconclusive applied
+event 2 m0 Error failure DivisionByZero applied
+event 3 m0 Successful applied
+event 4 stop closed Successful
+event 5 m0 Failed late
+";
+
+#[test]
+fn verdicts_and_effects_are_reported(rt: HostRuntime) -> Result<(), Fail> {
+    let alloc = rt.alloc();
+    let text = reported(alloc, &bundle_of(alloc, &BOTH, &EACH_VERDICT)?)?;
+    assert_eq!(rt; text.as_str(), EACH_VERDICTS_TEXT);
+    Ok(())
+}
+
+const RATES: Plan = Plan {
+    metrics: 1,
+    runs: 2,
+    shape: "{\"list\":\"decimal\",\"max\":10}",
+    conditions: Conditions {
+        success: Some("result[0] >= 0.95"),
+        failure: Some("false"),
+    },
+    limits: THRICE,
+};
+
+const BOUNDS: &str = "\
+run r0 metric m0 success operations=6 depth=2 budget=6
+run r0 metric m0 failure operations=2 depth=1 budget=2
+run r1 metric m0 success operations=6 depth=2 budget=6
+run r1 metric m0 failure operations=2 depth=1 budget=2
+";
+
+const LISTING: &str = "\
+run r0 metric m0 success
+0 LoadResult
+1 PushWhole 0
+2 Index
+3 PushDecimal 950000
+4 GeD
+5 Return
+run r0 metric m0 failure
+0 PushBool false
+1 Return
+";
+
+#[test]
+fn bounds_and_listings(rt: HostRuntime) -> Result<(), Fail> {
+    let alloc = rt.alloc();
+    let bundle = bundle_of(alloc, &RATES, &[])?;
+    assert_eq!(rt; check_text(alloc, &bundle)?.as_str(), BOUNDS);
+    let listed = list_text(alloc, &bundle)?;
+    assert!(rt; listed.as_str().starts_with(LISTING));
+    Ok(())
+}
+
+#[test]
+fn names(rt: HostRuntime) {
+    assert_eq!(rt; phase_name(Phase::Inconclusive), "Inconclusive");
+    assert_eq!(rt; fault_name(Fault::NilOperand), "NilOperand");
+}
