@@ -86,6 +86,13 @@ impl Judges {
     {
         &self.judges
     }
+
+    /// The judges as a `Vec`, without taking memory.
+    pub fn into_vec(self) -> Vec<Judge>
+        ensures { result.items ≡ self }
+    {
+        self.judges
+    }
 }
 
 impl From<Vec<Judge>> for Judges {
@@ -110,6 +117,13 @@ impl RunLimits {
         ensures { result.now ≡ self.now }
     {
         &self.limits
+    }
+
+    /// The limits as a `Vec`, without taking memory.
+    pub fn into_vec(self) -> Vec<Limits>
+        ensures { result.items ≡ self }
+    {
+        self.limits
     }
 }
 
@@ -137,9 +151,10 @@ impl Model for Bundle {
 }
 
 impl Bundle {
-    /// The bundle of these parts: 64 metrics, 64 runs and 100,000 entries at most, each run with a
-    /// judge and limits for each metric, and each entry of a run and a metric that are there, with a
-    /// value that fits. No memory is taken.
+    /// The bundle of these parts: 64 metrics, 64 runs and 100,000 entries at most; each run with a
+    /// judge of each metric's shape, and limits for it whose `count`, if there is one, is 1 or more;
+    /// each entry of a run and a metric that are there, with a value of the metric's shape or a misfit
+    /// that isn't want of memory. No memory is taken.
     pub fn of_parts(metrics: Vec<MetricPart>, runs: Vec<RunPart>, entries: Vec<EventPart>) -> Bundle
         requires { IsBundle (bundle_of metrics.items runs.items entries.items) }
         ensures { result ≡ bundle_of metrics.items runs.items entries.items }

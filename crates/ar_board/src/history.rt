@@ -55,6 +55,13 @@ impl History {
     {
         &self.entries
     }
+
+    /// The entries as a `Vec`, without taking memory.
+    pub fn into_vec(self) -> Vec<Entry>
+        ensures { result.items ≡ self }
+    {
+        self.entries
+    }
 }
 
 impl From<Vec<Entry>> for History {
@@ -85,6 +92,13 @@ impl Histories {
         ensures { result.now ≡ self.now }
     {
         &self.runs
+    }
+
+    /// The histories as a `Vec`, without taking memory.
+    pub fn into_vec(self) -> Vec<History>
+        ensures { result.items ≡ self }
+    {
+        self.runs
     }
 }
 

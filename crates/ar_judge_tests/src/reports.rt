@@ -15,6 +15,13 @@ const THRICE: Limits = Limits {
     count: Some(3),
 };
 
+const ONCE: Limits = Limits {
+    failure: 0,
+    inconclusive: 0,
+    consecutive_error: 4,
+    count: Some(1),
+};
+
 const LENIENT: Limits = Limits {
     failure: 9,
     inconclusive: 9,
@@ -92,6 +99,45 @@ fn verdicts_and_effects_are_reported(rt: HostRuntime) -> Result<(), Fail> {
     Ok(())
 }
 
+const RATE: Plan = Plan {
+    metrics: 1,
+    runs: 2,
+    shape: "{\"list\":\"decimal\",\"max\":10}",
+    conditions: Conditions {
+        success: Some("result[0] >= 0.95"),
+        failure: None,
+    },
+    limits: ONCE,
+};
+
+const TWO_SUCCESSES: &str = "\
+run r0 Successful
+metric m0 Successful successful=1 failed=0 inconclusive=0 error=0 consecutiveError=0
+event 0 m0 Successful closed Successful
+run r1 Successful
+metric m0 Successful successful=1 failed=0 inconclusive=0 error=0 consecutiveError=0
+event 1 m0 Successful closed Successful
+";
+
+const NOTHING_MEASURED: &str = "\
+run r0 Running
+metric m0 Running successful=0 failed=0 inconclusive=0 error=1 consecutiveError=1
+event 0 m0 Error success IndexOutOfRange applied
+run r1 Pending
+metric m0 Pending successful=0 failed=0 inconclusive=0 error=0 consecutiveError=0
+";
+
+#[test]
+fn rates_are_reported(rt: HostRuntime) -> Result<(), Fail> {
+    let alloc = rt.alloc();
+    let rows = [(0, Some((0, "[\"0.99\"]"))), (1, Some((0, "[\"0.96\"]")))];
+    let text = reported(alloc, &bundle_of(alloc, &RATE, &rows)?)?;
+    assert_eq!(rt; text.as_str(), TWO_SUCCESSES);
+    let text = reported(alloc, &bundle_of(alloc, &RATE, &[(0, Some((0, "[]")))])?)?;
+    assert_eq!(rt; text.as_str(), NOTHING_MEASURED);
+    Ok(())
+}
+
 const RATES: Plan = Plan {
     metrics: 1,
     runs: 2,
@@ -121,6 +167,16 @@ run r0 metric m0 success
 run r0 metric m0 failure
 0 PushBool false
 1 Return
+run r1 metric m0 success
+0 LoadResult
+1 PushWhole 0
+2 Index
+3 PushDecimal 950000
+4 GeD
+5 Return
+run r1 metric m0 failure
+0 PushBool false
+1 Return
 ";
 
 #[test]
@@ -128,8 +184,7 @@ fn bounds_and_listings(rt: HostRuntime) -> Result<(), Fail> {
     let alloc = rt.alloc();
     let bundle = bundle_of(alloc, &RATES, &[])?;
     assert_eq!(rt; check_text(alloc, &bundle)?.as_str(), BOUNDS);
-    let listed = list_text(alloc, &bundle)?;
-    assert!(rt; listed.as_str().starts_with(LISTING));
+    assert_eq!(rt; list_text(alloc, &bundle)?.as_str(), LISTING);
     Ok(())
 }
 
