@@ -3,7 +3,7 @@
 use crate::bundles::{Plan, Row, bundle_of};
 use crate::judging::Conditions;
 use ar_board::finding::mark_of;
-use ar_board::{Entry, Finding, Histories, History};
+use ar_board::{Entry, Finding, Histories, History, Judges, RunLimits};
 use ar_judge::{Cause, Verdict};
 use ar_limits::{Effect, Event, Limits, Mark, Phase};
 use ar_value::Shape;
@@ -140,5 +140,31 @@ fn by_hand(rt: HostRuntime) -> Result<(), Fail> {
     for (history, length) in histories.runs().iter().zip([1, 2]) {
         assert_eq!(rt; history.entries().len(), length);
     }
+    Ok(())
+}
+
+/// Lists are given back as they were handed in.
+#[test]
+fn given_back(rt: HostRuntime) -> Result<(), Fail> {
+    let alloc = rt.alloc();
+    let entry = Entry {
+        number: 7,
+        finding: Finding::Stop,
+        effect: Effect::Late,
+    };
+    let history = History::from(vec![in alloc; entry]?);
+    let histories = Histories::from(vec![in alloc; history]?);
+    for history in histories.into_vec() {
+        assert_eq!(rt; history.into_vec().as_slice(), [entry].as_slice());
+    }
+    let limits = Limits {
+        failure: 1,
+        inconclusive: 2,
+        consecutive_error: 3,
+        count: Some(4),
+    };
+    let list = RunLimits::from(vec![in alloc; limits]?).into_vec();
+    assert_eq!(rt; list.as_slice(), [limits].as_slice());
+    assert!(rt; Judges::from(Vec::new(alloc)).into_vec().is_empty());
     Ok(())
 }
