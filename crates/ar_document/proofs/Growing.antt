@@ -1,0 +1,48 @@
+-- Judges of metrics and parts of runs, one after another.
+use Rattle.std.proofs.Common.{◌≡◌, ◌<◌, ◌+◌, ℕ, List, [], ◌∷◌, ◌++◌, length, take, map, get_or, sym, ◌∙◌, ap, add-one}
+use Rattle.std.specs.List.{AllByRecursion}
+use Rattle.std.proofs.lemmas.List.{map-append}
+use Rattle.std.proofs.Math.Seq.{take-suc}
+use Rattle.ar_manifest.specs.declared.bound.BoundMetric.{BoundMetric}
+use Rattle.ar_judge.specs.Verdict.{IsJudge, Judge}
+use Rattle.ar_board.specs.declared.bundle.MetricPart.{MetricPart}
+use Rattle.ar_board.specs.declared.bundle.RunPart.{RunPart}
+use Rattle.ar_document.specs.Opening.{Metric, Opened, metric_view}
+use Rattle.ar_document.specs.Runs.{AreJudges, AreParts, IsPart}
+use Rattle.ar_document.specs.declared.runs.Run.{Run}
+
+pub one_more : {A : Type 0} (P : A → Type 0) (xs : List A) (x : A) → AllByRecursion P xs → P x → AllByRecursion P (xs ++ x ∷ [])
+one_more P [] x all last = (last, tt)
+one_more P (first ∷ rest) x all last = (all.0, one_more P rest x all.1 last)
+
+-- one item more is taken
+pub taken_next : {A : Type 0} (xs : List A) (i : ℕ) (x : A) → i < length xs → x ≡ get_or xs i x → take (i + 1) xs ≡ take i xs ++ x ∷ []
+taken_next xs i x inside is = ap (λ n. take n xs) (add-one i) ∙ take-suc xs i x inside ∙ ap (λ last. take i xs ++ last ∷ []) (sym is)
+
+judge_more : (metrics : List Metric) (bound : List BoundMetric) (judges : List Judge) (metric : Metric) (own : BoundMetric) (judge : Judge) → AreJudges metrics bound judges
+    → IsJudge metric.shape own.success_condition own.failure_condition judge → AreJudges (metrics ++ metric ∷ []) (bound ++ own ∷ []) (judges ++ judge ∷ [])
+judge_more [] [] [] metric own judge are is = (is, tt)
+judge_more (first ∷ metrics) (other ∷ bound) (earlier ∷ judges) metric own judge are is = (are.0, judge_more metrics bound judges metric own judge are.1 is)
+judge_more [] [] (earlier ∷ judges) metric own judge are is = absurd are
+judge_more [] (other ∷ bound) judges metric own judge are is = absurd are
+judge_more (first ∷ metrics) [] judges metric own judge are is = absurd are
+judge_more (first ∷ metrics) (other ∷ bound) [] metric own judge are is = absurd are
+
+-- the judge of the next metric
+pub next_judge : (metrics : List MetricPart) (bound : List BoundMetric) (judges : List Judge) (i : ℕ) (metric : MetricPart) (own : BoundMetric) (judge : Judge) → i < length metrics → i < length bound
+    → metric ≡ get_or metrics i metric → own ≡ get_or bound i own → AreJudges (map metric_view (take i metrics)) (take i bound) judges
+    → IsJudge (metric_view metric).shape own.success_condition own.failure_condition judge → AreJudges (map metric_view (take (i + 1) metrics)) (take (i + 1) bound) (judges ++ judge ∷ [])
+next_judge metrics bound judges i metric own judge inside own_inside metric_is own_is are is =
+    let longer : map metric_view (take (i + 1) metrics) ≡ map metric_view (take i metrics) ++ metric_view metric ∷ [] = ap (map metric_view) (taken_next metrics i metric inside metric_is) ∙ map-append metric_view (take i metrics) (metric ∷ []) in
+    rw (longer, taken_next bound i own own_inside own_is) (judge_more (map metric_view (take i metrics)) (take i bound) judges (metric_view metric) own judge are is)
+
+part_more : (opened : Opened) (runs : List Run) (parts : List RunPart) (run : Run) (part : RunPart) → AreParts opened runs parts → IsPart opened run part → AreParts opened (runs ++ run ∷ []) (parts ++ part ∷ [])
+part_more opened [] [] run part are is = (is, tt)
+part_more opened (first ∷ runs) (earlier ∷ parts) run part are is = (are.0, part_more opened runs parts run part are.1 is)
+part_more opened [] (earlier ∷ parts) run part are is = absurd are
+part_more opened (first ∷ runs) [] run part are is = absurd are
+
+-- the part of the next run
+pub next_part : (opened : Opened) (runs : List Run) (parts : List RunPart) (i : ℕ) (run : Run) (part : RunPart) → i < length runs → run ≡ get_or runs i run → AreParts opened (take i runs) parts → IsPart opened run part
+    → AreParts opened (take (i + 1) runs) (parts ++ part ∷ [])
+next_part opened runs parts i run part inside is are next = rw (taken_next runs i run inside is) (part_more opened (take i runs) parts run part are next)

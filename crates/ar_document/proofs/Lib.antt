@@ -1,0 +1,10 @@
+pub mod Documents
+mod Steps
+mod Naming
+mod Counting
+mod Templates
+mod Sampling
+mod Growing
+mod Refusing
+mod Bundling
+mod Answering

@@ -1,0 +1,148 @@
+-- Numbers of names.
+use Rattle.std.proofs.Common.{◌≡◌, ◌<◌, ◌≤◌, ℕ, suc, ◌+◌, Bool, true, false, List, [], ◌∷◌, ◌++◌, length, Option, Some, None, Result, Ok, Err, refl, sym, subst, ◌∙◌, ap, take, drop, map, get_or, arith, add-one}
+use Rattle.std.specs.Prelude.{if◌then◌else◌, option_map, is_none, is_some, IfSome, ⊤}
+use Rattle.std.specs.Str.{bytes_eq}
+use Rattle.std.proofs.lemmas.Slice.Eq.{bytes_eq-Decides}
+use Rattle.ar_manifest.specs.Arguments.{value_of, with_value}
+use Rattle.ar_manifest.proofs.Entries.{with_new_value}
+use Rattle.std.proofs.lemmas.List.{drop_all, drop_more, map-append, length-map, length-take-le}
+use Rattle.std.proofs.Math.Seq.{take-suc}
+use Rattle.ar_value.specs.Answer.{◌>>=◌, Unless}
+use Rattle.ar_document.specs.Answers.{holds_or}
+use Rattle.ar_document.specs.Document.{is_memory}
+use Rattle.ar_board.specs.declared.bundle.MetricPart.{MetricPart}
+use Rattle.ar_document.specs.Opening.{are_new, metric_view, names_of, number_of}
+use Rattle.ar_document.specs.declared.error.BundleError.{BundleError}
+use Rattle.ar_document.specs.declared.error.BundleError.TheVariants.{DoubleRun}
+use Rattle.ar_document.specs.declared.runs.Run.{Run}
+use Rattle.ar_document.proofs.Steps.{leads}
+use Rattle.ar_document.specs.Private.Naming.{AreNumbers}
+use Rattle.ar_document.specs.Private.Opened.{metric_names}
+
+-- where a name isn't among some, the next may be it
+abbrev or_next : Option ℕ → Bool → ℕ → Option ℕ
+or_next (Some number) same next = Some number
+or_next None same next = if same then Some next else None
+
+value_behind : (numbers : List (List ℕ × ℕ)) (name next : List ℕ) (number : ℕ) → value_of name (numbers ++ (next, number) ∷ []) ≡ or_next (value_of name numbers) (bytes_eq name next) number
+value_behind [] name next number = by_test (bytes_eq name next)
+  where
+    by_test : (same : Bool) → (if same then Some number else None) ≡ or_next None same number
+    by_test same = refl
+value_behind (first ∷ numbers) name next number = by_test (bytes_eq name first.0) (value_behind numbers name next number)
+  where
+    by_test : (same : Bool) → value_of name (numbers ++ (next, number) ∷ []) ≡ or_next (value_of name numbers) (bytes_eq name next) number
+        → (if same then Some first.1 else value_of name (numbers ++ (next, number) ∷ [])) ≡ or_next (if same then Some first.1 else value_of name numbers) (bytes_eq name next) number
+    by_test true behind = refl
+    by_test false behind = behind
+
+number_one_more : (found : Option ℕ) (same : Bool) (count : ℕ) → option_map suc (or_next found same count) ≡ or_next (option_map suc found) same (suc count)
+number_one_more (Some number) same count = refl
+number_one_more None true count = refl
+number_one_more None false count = refl
+
+number_behind : (names : List (List ℕ)) (name next : List ℕ) → number_of name (names ++ next ∷ []) ≡ or_next (number_of name names) (bytes_eq name next) (length names)
+number_behind [] name next = by_test (bytes_eq name next)
+  where
+    by_test : (same : Bool) → (if same then Some 0 else None) ≡ or_next None same 0
+    by_test same = refl
+number_behind (first ∷ names) name next = by_test (bytes_eq name first) (number_behind names name next)
+  where
+    by_test : (same : Bool) → number_of name (names ++ next ∷ []) ≡ or_next (number_of name names) (bytes_eq name next) (length names)
+        → (if same then Some 0 else option_map suc (number_of name (names ++ next ∷ []))) ≡ or_next (if same then Some 0 else option_map suc (number_of name names)) (bytes_eq name next) (suc (length names))
+    by_test true behind = refl
+    by_test false behind = ap (option_map suc) behind ∙ number_one_more (number_of name names) (bytes_eq name next) (length names)
+
+-- a name that is new gets the next number
+pub new_name : (names : List (List ℕ)) (numbers after : List (List ℕ × ℕ)) (name : List ℕ) (number : ℕ) → AreNumbers names numbers → value_of name numbers ≡ None → length names ≡ number
+    → after ≡ with_value numbers name number → AreNumbers (names ++ name ∷ []) after
+new_name names numbers after name number are new count pushed =
+    let last : after ≡ numbers ++ (name, number) ∷ [] = pushed ∙ with_new_value numbers name number new in
+    record { same = λ other. rw last (value_behind numbers other name number ∙ rw (are.same other, count) refl ∙ sym (number_behind names other name)) }
+
+stays : (found : Option ℕ) (same : Bool) (count : ℕ) → (same ≡ true → is_some found ≡ true) → found ≡ or_next found same count
+stays (Some number) same count old = refl
+stays None true count old = absurd (let there = old refl in cc)
+stays None false count old = refl
+
+-- a name that an earlier one is the same as has its number
+pub old_name : (names : List (List ℕ)) (numbers : List (List ℕ × ℕ)) (name : List ℕ) → AreNumbers names numbers → is_some (value_of name numbers) ≡ true → AreNumbers (names ++ name ∷ []) numbers
+old_name names numbers name are old =
+    record { same = λ other. are.same other ∙ stays (number_of other names) (bytes_eq other name) (length names) (λ same. subst (λ text. is_some (number_of text names) ≡ true) (sym ((bytes_eq-Decides other name).0 same)) (rw (are.same name) at old)) ∙ sym (number_behind names other name) }
+
+-- the numbers of no names
+pub no_names : AreNumbers [] []
+no_names = record { same = λ name. refl }
+
+later : (found : Option ℕ) (bound : ℕ) → IfSome found (λ n. n < bound) → IfSome (option_map suc found) (λ n. n < suc bound)
+later (Some n) bound inside = omega (arith, inside)
+later None bound inside = tt
+
+-- a number that is found is below the number of names
+pub number_inside : (name : List ℕ) (names : List (List ℕ)) → IfSome (number_of name names) (λ n. n < length names)
+number_inside name [] = tt
+number_inside name (first ∷ names) = by_test (bytes_eq name first) (later (number_of name names) (length names) (number_inside name names))
+  where
+    by_test : (same : Bool) → IfSome (option_map suc (number_of name names)) (λ n. n < suc (length names)) → IfSome (if same then Some 0 else option_map suc (number_of name names)) (λ n. n < suc (length names))
+    by_test true behind = omega arith
+    by_test false behind = behind
+
+pub run_inside : (runs : List Run) (name : List ℕ) (n : ℕ) → number_of name (names_of runs) ≡ Some n → n < length runs
+run_inside runs name n is =
+    let inside = number_inside name (names_of runs) in
+    let below : n < length (names_of runs) = rw is at inside in
+    rw (length-map runs (λ run. run.name)) at below
+
+-- ---- runs, one after another
+
+-- whether a run's name is new
+abbrev is_new : (names : List (List ℕ)) (run : Run) → Result ⊤ BundleError
+is_new names run = holds_or (DoubleRun (length names)) (is_none (number_of run.name names))
+
+module _ (runs : List Run) (i : ℕ) (run : Run) (inside : i < length runs) (is : run ≡ get_or runs i run) where
+  pub names_longer : names_of (take (suc i) runs) ≡ names_of (take i runs) ++ run.name ∷ []
+  names_longer = ap names_of (take-suc runs i run inside ∙ ap (λ (last : Run). take i runs ++ last ∷ []) (sym is)) ∙ map-append (λ run. run.name) (take i runs) (run ∷ [])
+
+  next : are_new (names_of (take i runs)) (names_of (drop i runs)) ≡ (is_new (names_of (take i runs)) run >>= λ new. are_new (names_of (take i runs) ++ run.name ∷ []) (names_of (drop (i + 1) runs)))
+  unfolding are_new
+  next = ap (λ rest. are_new (names_of (take i runs)) (names_of rest)) (drop_more runs i run inside ∙ ap (λ (first : Run). first ∷ drop (i + 1) runs) (sym is))
+
+  -- as many names stand before it as its number says
+  pub names_before : length (names_of (take i runs)) ≡ i
+  names_before = length-map (take i runs) (λ run. run.name) ∙ length-take-le i runs (omega (arith, inside))
+
+  numbered : is_new (names_of (take i runs)) run ≡ holds_or (DoubleRun i) (is_none (number_of run.name (names_of (take i runs))))
+  numbered = ap (λ (number : ℕ). holds_or (DoubleRun number) (is_none (number_of run.name (names_of (take i runs))))) names_before
+
+  pub next_numbers : (after : List (List ℕ × ℕ)) → AreNumbers (names_of (take i runs) ++ run.name ∷ []) after → AreNumbers (names_of (take (i + 1) runs)) after
+  next_numbers after are = subst (λ names. AreNumbers names after) (sym (ap (λ n. names_of (take n runs)) (add-one i) ∙ names_longer)) are
+
+  pub next_new : (all : Result ⊤ BundleError) → holds_or (DoubleRun i) (is_none (number_of run.name (names_of (take i runs)))) ≡ Ok tt → are_new (names_of (take i runs)) (names_of (drop i runs)) ≡ all → are_new (names_of (take (i + 1) runs)) (names_of (drop (i + 1) runs)) ≡ all
+  next_new all new so_far =
+      ap (λ names. are_new names (names_of (drop (i + 1) runs))) (ap (λ n. names_of (take n runs)) (add-one i) ∙ names_longer)
+      ∙ sym (ap (λ answer. answer >>= λ new. are_new (names_of (take i runs) ++ run.name ∷ []) (names_of (drop (i + 1) runs))) (numbered ∙ new))
+      ∙ sym next ∙ so_far
+
+  pub not_new : (all : Result ⊤ BundleError) (refusal : BundleError) → Unless (is_memory refusal) (holds_or (DoubleRun i) (is_none (number_of run.name (names_of (take i runs)))) ≡ Err refusal) → are_new (names_of (take i runs)) (names_of (drop i runs)) ≡ all → Unless (is_memory refusal) (all ≡ Err refusal)
+  not_new all refusal old so_far =
+      leads (is_memory refusal) (λ refused. sym so_far ∙ next ∙ ap (λ answer. answer >>= λ new. are_new (names_of (take i runs) ++ run.name ∷ []) (names_of (drop (i + 1) runs))) (numbered ∙ refused)) old
+
+pub all_new : (runs : List Run) (i : ℕ) (all : Result ⊤ BundleError) → length runs ≤ i → are_new (names_of (take i runs)) (names_of (drop i runs)) ≡ all → all ≡ Ok tt
+unfolding are_new
+all_new runs i all past so_far = sym so_far ∙ ap (λ rest. are_new (names_of (take i runs)) (names_of rest)) (drop_all i runs past)
+
+-- ---- metrics, one after another
+
+module _ (metrics : List MetricPart) (i : ℕ) (metric : MetricPart) (inside : i < length metrics) (is : metric ≡ get_or metrics i metric) where
+  metrics_longer : metric_names (map metric_view (take (i + 1) metrics)) ≡ metric_names (map metric_view (take i metrics)) ++ metric.name ∷ []
+  metrics_longer =
+      ap (λ n. metric_names (map metric_view (take n metrics))) (add-one i)
+      ∙ ap (λ some. metric_names (map metric_view some)) (take-suc metrics i metric inside ∙ ap (λ (last : MetricPart). take i metrics ++ last ∷ []) (sym is))
+      ∙ ap metric_names (map-append metric_view (take i metrics) (metric ∷ []))
+      ∙ map-append (λ metric. metric.name) (map metric_view (take i metrics)) (metric_view metric ∷ [])
+
+  pub metrics_before : length (metric_names (map metric_view (take i metrics))) ≡ i
+  metrics_before = length-map (map metric_view (take i metrics)) (λ metric. metric.name) ∙ length-map (take i metrics) metric_view ∙ length-take-le i metrics (omega (arith, inside))
+
+  pub next_metric : (after : List (List ℕ × ℕ)) → AreNumbers (metric_names (map metric_view (take i metrics)) ++ metric.name ∷ []) after → AreNumbers (metric_names (map metric_view (take (i + 1) metrics))) after
+  next_metric after are = subst (λ names. AreNumbers names after) (sym metrics_longer) are

@@ -1,0 +1,30 @@
+use Rattle.std.proofs.Common.{◌∙◌, map, arith}
+use Rattle.std.proofs.lemmas.List.{length-map}
+use Rattle.std.proofs.lemmas.Result.{err_from_is_err_and}
+use Rattle.serde_json.specs.View.{view}
+use Rattle.ar_document.specs.Entries.{entry_in, entry_view}
+use Rattle.ar_document.specs.Private.Opened.{opened_view}
+use Rattle.ar_document.proofs.Growing.{one_more}
+use Rattle.ar_document.proofs.Steps.{step_end, step_fault, step_more}
+use Rattle.ar_document.proofs.entries.entries_of.Goals as goal
+
+pub returns-in_err-entry-clause-exact : goal.returns-in_err-entry-clause-exact
+returns-in_err-entry-clause-exact c =
+    let error = err_from_is_err_and c.from_residual-in_err-entry.result c.from_residual-in_err-entry.ensures.1 in
+    let step = entry_in (opened_view c.args.opened.now) in
+    let refused = c.in_err-entry.ensures.exact (map entry_view c.loop-number.entries.items) (length-map c.loop-number.entries.items entry_view ∙ c.loop-number.invariant.each) in
+    rw (error.1, error.2)
+    (step_fault (λ json. view json) entry_view step c.args.items.now c.loop-number.number c.loop-number.entries.items _ c.index-items-number.result c.in_err-entry.field-0.0 c.loop-number-test.true c.index-items-number.is refused c.loop-number.invariant.made)
+
+pub loop-number-preserved : goal.loop-number-preserved
+loop-number-preserved c =
+    let step = entry_in (opened_view c.args.opened.now) in
+    let makes = c.in_ok-entry.ensures.exact (map entry_view c.loop-number.entries.items) (length-map c.loop-number.entries.items entry_view ∙ c.loop-number.invariant.each) in
+    record {
+      made = step_more (λ json. view json) entry_view step c.args.items.now c.loop-number.number c.loop-number.entries.items _ c.index-items-number.result c.in_ok-entry.entry c.push.new.self.items c.loop-number-test.true c.index-items-number.is makes c.in_ok-push.ensures.items c.loop-number.invariant.made;
+      each = omega (arith, c.in_ok-push.ensures.len, c.loop-number.invariant.each);
+      entries = rw c.in_ok-push.ensures.items (one_more _ c.loop-number.entries.items c.in_ok-entry.entry c.loop-number.invariant.entries c.in_ok-entry.ensures.entry);
+    }
+
+pub returns-clause-exact : goal.returns-clause-exact
+returns-clause-exact c = step_end (λ json. view json) entry_view (entry_in (opened_view c.args.opened.now)) c.args.items.now c.loop-number.number c.loop-number.entries.items _ c.loop-number-test.false c.loop-number.invariant.made

@@ -1,0 +1,59 @@
+-- The bundle of a document, or why it is none: the first fault, in the order in which its parts stand here.
+use Rattle.std.specs.Prelude.{◌≡◌, ℕ, Bool, true, false, List, map, Result, Ok, Err}
+use Rattle.serde_json.specs.Data.{Data}
+use Rattle.ar_board.specs.Bundle.{Bundle}
+use Rattle.ar_board.specs.declared.bundle.RunPart.{RunPart}
+use Rattle.ar_document.specs.Entries.{entries_in, entry_view}
+use Rattle.ar_document.specs.Json.{json_in}
+use Rattle.ar_document.specs.Opening.{Opened, metric_view, opened_of}
+use Rattle.ar_document.specs.Runs.{AreParts, RefusesRuns}
+use Rattle.ar_document.specs.declared.error.BundleError.{BundleError}
+use Rattle.ar_document.specs.declared.error.BundleError.TheVariants as errors
+use Rattle.ar_document.specs.declared.json.JsonError.{JsonError}
+use Rattle.ar_document.specs.declared.json.JsonError.TheVariants as json_errors
+
+-- this is the bundle of a document: its template's metrics, each run's part, and what its entries tell
+pub record IsBundleOf (document : Data) (bundle : Bundle) : Type 0 where
+  pub opened : Opened
+  pub opens : opened_of document ≡ Ok opened
+  pub metrics : map metric_view bundle.metrics ≡ opened.metrics
+  pub runs : AreParts opened opened.runs bundle.runs
+  pub entries : entries_in opened document ≡ Ok (map entry_view bundle.entries)
+
+-- this is the first fault of a document
+pub data IsFaultOf (document : Data) (error : BundleError) : Type 0 where
+  -- of what stands before its runs are looked at one by one
+  of_opening : opened_of document ≡ Err error → IsFaultOf document error
+  -- of a run
+  of_run : (opened : Opened) → opened_of document ≡ Ok opened → RefusesRuns opened error → IsFaultOf document error
+  -- of an entry, where all runs have their parts
+  of_entry : (opened : Opened) → opened_of document ≡ Ok opened → (parts : List RunPart) → AreParts opened opened.runs parts
+      → entries_in opened document ≡ Err error → IsFaultOf document error
+
+abbrev pub Reads : Data → Result Bundle BundleError → Type 0
+Reads document (Ok bundle) = IsBundleOf document bundle
+Reads document (Err error) = IsFaultOf document error
+
+-- faults of JSON, as they are answered
+abbrev pub of_json : JsonError → BundleError
+of_json json_errors.TooLarge = errors.TooLarge
+of_json json_errors.Utf8OrJson = errors.Utf8OrJson
+of_json json_errors.OutOfMemory = errors.OutOfMemory
+
+abbrev pub Follows : Result Data JsonError → Result Bundle BundleError → Type 0
+Follows (Ok document) answer = Reads document answer
+Follows (Err error) answer = answer ≡ Err (of_json error)
+
+-- what is read of an input: its bundle, or its first fault
+pub record ReadsInput (input : List ℕ) (answer : Result Bundle BundleError) : Type 0 where
+  pub follows : Follows (json_in input) answer
+
+-- what a function answered is what is defined, unless memory ran out
+abbrev pub UnlessMemory : Result Bundle BundleError → (Result Bundle BundleError → Type 0) → Type 0
+UnlessMemory (Ok bundle) P = P (Ok bundle)
+UnlessMemory (Err errors.OutOfMemory) P = Unit {0}
+UnlessMemory (Err error) P = P (Err error)
+
+abbrev pub is_memory : BundleError → Bool
+is_memory errors.OutOfMemory = true
+is_memory error = false

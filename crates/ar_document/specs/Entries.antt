@@ -1,0 +1,104 @@
+-- What the measurements of a document are: entries, each of which tells what happened to a run.
+use Rattle.std.specs.Prelude.{ℕ, nat_lt, Bool, false, if◌then◌else◌, List, [], length, map, codes, slice_get, Option, Some, None, option_and_then, Result, Ok, Err}
+use Rattle.serde_json.specs.Data.{Data, boolean}
+use Rattle.serde_json.specs.Find.{get, as_str}
+use Rattle.ar_value.specs.Answer.{◌>>=◌}
+use Rattle.ar_value.specs.Reading.{read}
+use Rattle.ar_value.specs.Shape.{Shape}
+use Rattle.ar_value.specs.Value.{Value}
+use Rattle.ar_value.specs.declared.value_reading.ShapeFault.{ShapeFault}
+use Rattle.ar_manifest.specs.Json.{list_of, member}
+use Rattle.ar_judge.specs.Verdict.{Sample, measured, misfit, provider, sample_view}
+use Rattle.ar_board.specs.Bundle.{most_events}
+use Rattle.ar_board.specs.declared.bundle.EventPart.{EventPart}
+use Rattle.ar_board.specs.declared.bundle.What as parts
+use Rattle.ar_board.specs.declared.bundle.What.TheVariants as whats
+use Rattle.ar_document.specs.Answers.{there_or, each_behind}
+use Rattle.ar_document.specs.Opening.{Opened, names_of, number_of}
+use Rattle.ar_document.specs.declared.error.BundleError.{BundleError}
+use Rattle.ar_document.specs.declared.error.BundleError.TheVariants.{TooManyMeasurements, BadEntry, UnknownRun, UnknownMetric}
+
+-- what happened to a run: a measurement of the metric with a number, or a stop
+pub data What : Type 0 where
+  measure : ℕ → Sample → What
+  stop : What
+
+pub record Entry : Type 0 where
+  pub run : ℕ
+  pub what : What
+
+abbrev pub entry_of : ℕ → What → Entry
+entry_of run what = record { run = run; what = what }
+
+abbrev pub what_view : parts.What → What
+what_view (whats.Measure metric sample) = measure metric (sample_view sample)
+what_view whats.Stop = stop
+
+abbrev pub entry_view : EventPart → Entry
+entry_view part = entry_of part.run (what_view part.what)
+
+-- ---- one entry
+
+-- a member that is a text
+abbrev pub text_of : List ℕ → Data → Option (List ℕ)
+text_of name item = option_and_then as_str (get name item)
+
+abbrev pub is_true : Option Data → Bool
+is_true (Some (boolean truth)) = truth
+is_true found = false
+
+-- the value that was measured, or nothing where the provider failed: just one of the two is there, of any value
+abbrev pub given : (value error : Option Data) → Option (Option Data)
+given (Some value) None = Some (Some value)
+given None (Some error) = Some None
+given value error = None
+
+abbrev pub sample_by : Result Value ShapeFault → Sample
+sample_by (Ok value) = measured value
+sample_by (Err fault) = misfit fault
+
+-- the sample of what was given, under the shape of its metric
+abbrev pub sample_of : Shape → Option Data → Sample
+sample_of shape (Some json) = sample_by (read shape json)
+sample_of shape None = provider
+
+abbrev pub stop_of : Opened → (number : ℕ) → (run : List ℕ) → Result Entry BundleError
+stop_of opened number name = do
+  run ← there_or (UnknownRun number) (number_of name (names_of opened.runs))
+  Ok (entry_of run stop)
+
+abbrev pub measured_of : Opened → (number run : ℕ) → (metric : List ℕ) → Option Data → Result Entry BundleError
+measured_of opened number run name found = do
+  metric ← there_or (UnknownMetric number) (number_of name (map (λ metric. metric.name) opened.metrics))
+  part ← there_or (UnknownMetric number) (slice_get opened.metrics metric)
+  Ok (entry_of run (measure metric (sample_of part.shape found)))
+
+-- a measurement names its metric, and has a value or an error
+abbrev pub measurement_of : Opened → (number : ℕ) → (run : List ℕ) → Data → Result Entry BundleError
+measurement_of opened number name item = do
+  metric ← there_or (BadEntry number) (text_of (codes "metric") item)
+  found ← there_or (BadEntry number) (given (get (codes "value") item) (get (codes "error") item))
+  run ← there_or (UnknownRun number) (number_of name (names_of opened.runs))
+  measured_of opened number run metric found
+
+-- an entry behind earlier ones: it names its run, and is a stop or a measurement
+unfoldable pub entry_in : Opened → (earlier : List Entry) → Data → Result Entry BundleError
+entry_in opened earlier item = do
+  name ← there_or (BadEntry (length earlier)) (text_of (codes "run") item)
+  if is_true (get (codes "stop") item) then stop_of opened (length earlier) name else measurement_of opened (length earlier) name item
+
+-- ---- all entries
+
+-- measurements are a list, if they are there
+abbrev pub listed_entries : Option Data → Result (List Data) BundleError
+listed_entries None = Ok []
+listed_entries (Some json) = there_or (BadEntry 0) (list_of json)
+
+abbrev pub few_entries : List Data → Result (List Data) BundleError
+few_entries items = if nat_lt most_events (length items) then Err TooManyMeasurements else Ok items
+
+abbrev pub entry_items : Data → Result (List Data) BundleError
+entry_items document = listed_entries (member (codes "measurements") document) >>= few_entries
+
+unfoldable pub entries_in : Opened → Data → Result (List Entry) BundleError
+entries_in opened document = entry_items document >>= each_behind (entry_in opened) []

@@ -1,0 +1,43 @@
+//! Bundles of documents.
+
+ghost use Rattle.std.specs.Prelude.{◌≡◌, ◌<◌, Err, length};
+ghost use Rattle.serde_json.specs.View.{view};
+ghost use Rattle.ar_document.specs.Document.{Reads, ReadsInput, UnlessMemory};
+ghost use Rattle.ar_document.specs.Json.{most_bytes};
+ghost use Rattle.ar_document.specs.declared.error.BundleError.TheVariants.{TooLarge};
+
+use crate::entries::read_entries;
+use crate::error::BundleError;
+use crate::json::read_json;
+use crate::opening::open;
+use crate::parts::parts_of;
+use ar_board::Bundle;
+use serde_json::Value as Json;
+use std::alloc::Global;
+
+/// The bundle of a JSON document.
+fn bundle_of(alloc: Global, document: &Json) -> Result<Bundle, BundleError>
+    ensures { UnlessMemory result (Reads (view document.now)) }
+{
+    let opened = open(alloc, document)?;
+    let parts = parts_of(alloc, &opened)?;
+    let entries = read_entries(alloc, &opened, document)?;
+    Ok(Bundle::of_parts(opened.metrics, parts, entries))
+}
+
+/// The bundle of a document: one JSON value with a template `manifest`, `shapes` by the names of its
+/// metrics, `runs`, and `measurements`.
+///
+/// # Errors
+///
+/// The first fault that stands in the input, in the order of `BundleError`; of runs, one after
+/// another, and of entries, one after another.
+pub fn read_bundle(alloc: Global, input: &[u8]) -> Result<Bundle, BundleError>
+    ensures exact { UnlessMemory result (ReadsInput input.now) }
+
+    // An input that is too large is refused for that alone.
+    ensures too_large { most_bytes < length input.now → result ≡ Err TooLarge }
+{
+    let document = read_json(alloc, input)?;
+    bundle_of(alloc, &document)
+}

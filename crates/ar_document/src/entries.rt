@@ -1,0 +1,240 @@
+//! Entries of a document: what happened to its runs.
+
+ghost use Rattle.std.specs.Prelude.{◌≡◌, ◌<◌, ◌≤◌, ℕ, List, [], IfErr, IfOk, false, length, map, option_map};
+ghost use Rattle.std.specs.List.{AllByRecursion};
+ghost use Rattle.serde_json.specs.Find.{get};
+ghost use Rattle.serde_json.specs.View.{view};
+ghost use Rattle.ar_value.specs.Answer.{Gives};
+ghost use Rattle.ar_value.specs.View.{shape_view};
+ghost use Rattle.ar_manifest.specs.Json.{unless_null};
+ghost use Rattle.ar_value.specs.Reading.{is_memory as is_fault_of_memory};
+ghost use Rattle.ar_judge.specs.Verdict.{misfit, sample_view};
+ghost use Rattle.ar_board.specs.Bundle.{IsEntry, SampleSuits, most_events};
+ghost use Rattle.ar_document.specs.Answers.{each_behind, there_or};
+ghost use Rattle.ar_document.specs.Document.{is_memory};
+ghost use Rattle.ar_document.specs.Entries.{Entry, entries_in, entry_in, entry_items, entry_view, given, is_true, listed_entries, measured_of, measurement_of, sample_of, stop_of, text_of};
+ghost use Rattle.ar_document.specs.Opening.{names_of, number_of};
+ghost use Rattle.ar_document.specs.Private.Naming.{AreNumbers};
+ghost use Rattle.ar_document.specs.Private.Opened.{IsOpened, opened_view};
+ghost use Rattle.ar_document.specs.declared.error.BundleError.TheVariants.{OutOfMemory, UnknownRun};
+
+use crate::error::BundleError;
+use crate::json::list_of;
+use crate::names::Numbers;
+use crate::opening::Opened;
+use ar_board::{EventPart, What};
+use ar_judge::Sample;
+use ar_value::shape::Shape;
+use ar_value::value_reading::{ShapeFault, read_value};
+use serde_json::Value as Json;
+use std::alloc::Global;
+
+/// How many entries a document may have.
+const MOST_ENTRIES: usize = 100_000;
+
+/// The number of a name.
+fn number_of(numbers: &Numbers, name: &str) -> Option<usize>
+    ensures { (names : List (List ℕ)) → AreNumbers names numbers.now → result ≡ number_of name.now names }
+{
+    numbers.get(name).copied()
+}
+
+/// A member that is a text.
+fn text_of<'a>(item: &'a Json, name: &str) -> Option<&'a str>
+    ensures { option_map (λ text. text.now) result ≡ text_of name.now (view item.now) }
+{
+    item.get(name)?.as_str()
+}
+
+fn is_true(found: Option<&Json>) -> bool
+    ensures { result ≡ is_true (option_map (λ json. view json.now) found.entry) }
+{
+    match found {
+        Some(Json::Bool(truth)) => *truth,
+        _ => false,
+    }
+}
+
+/// The value that was measured, or nothing where the provider failed.
+fn given<'a>(value: Option<&'a Json>, error: Option<&Json>) -> Option<Option<&'a Json>>
+    ensures { option_map (λ found. option_map (λ json. view json.now) found) result
+        ≡ given (option_map (λ json. view json.now) value.entry) (option_map (λ json. view json.now) error.entry) }
+{
+    match (value, error) {
+        (Some(value), None) => Some(Some(value)),
+        (None, Some(_)) => Some(None),
+        _ => None,
+    }
+}
+
+/// A misfit, unless it is want of memory.
+fn misfit_of(fault: ShapeFault) -> Result<Sample, BundleError>
+    ensures misfit { IfOk result (λ sample. (sample_view sample ≡ misfit fault) × (is_fault_of_memory fault ≡ false)) }
+    ensures memory { IfErr result (λ e. e ≡ OutOfMemory) }
+{
+    match fault {
+        ShapeFault::OutOfMemory => Err(BundleError::OutOfMemory),
+        fault => Ok(Sample::Misfit(fault)),
+    }
+}
+
+/// The sample of what was given, under the shape of its metric.
+#[tactic(auto, using(crate::proofs::Sampling::misfit_told, crate::proofs::Sampling::misfit_suits))]
+fn sample_of(alloc: Global, shape: &Shape, found: Option<&Json>) -> Result<Sample, BundleError>
+    ensures exact { IfOk result (λ sample. sample_view sample ≡ sample_of (shape_view shape.now) (option_map (λ json. view json.now) found.entry)) }
+    ensures suits { IfOk result (λ sample. SampleSuits (shape_view shape.now) (sample_view sample)) }
+    ensures memory { IfErr result (λ e. e ≡ OutOfMemory) }
+{
+    let Some(json) = found else {
+        return Ok(Sample::Provider);
+    };
+    match read_value(alloc, json, shape) {
+        Ok(value) => Ok(Sample::Measured(value)),
+        Err(fault) => misfit_of(fault),
+    }
+}
+
+/// The number of the run with a name, which the entry with a number tells of.
+#[tactic(auto, using(crate::proofs::Naming::run_inside))]
+fn run_number(opened: &Opened, number: usize, name: &str) -> Result<usize, BundleError>
+    requires { IsOpened opened.now }
+    ensures exact { Gives (λ _. false) (λ run. run) result (there_or (UnknownRun number) (number_of name.now (names_of opened.now.runs.items))) }
+    ensures inside { IfOk result (λ run. run < length opened.now.runs.items) }
+{
+    number_of(&opened.run_numbers, name).ok_or(BundleError::UnknownRun(number))
+}
+
+/// A stop of the run with a name.
+fn stop_of(opened: &Opened, number: usize, name: &str) -> Result<EventPart, BundleError>
+    requires { IsOpened opened.now }
+    ensures exact { Gives (λ _. false) entry_view result (stop_of (opened_view opened.now) number name.now) }
+    ensures entry { IfOk result (IsEntry opened.now.metrics.items (length opened.now.runs.items)) }
+{
+    let run = run_number(opened, number, name)?;
+    Ok(EventPart {
+        run,
+        what: What::Stop,
+    })
+}
+
+/// A measurement of the metric with a name.
+fn measured_of(
+    alloc: Global,
+    opened: &Opened,
+    number: usize,
+    run: usize,
+    name: &str,
+    found: Option<&Json>,
+) -> Result<EventPart, BundleError>
+    requires opened { IsOpened opened.now }
+    requires run { run < length opened.now.runs.items }
+    ensures exact { Gives is_memory entry_view result
+        (measured_of (opened_view opened.now) number run name.now (option_map (λ json. view json.now) found.entry)) }
+    ensures entry { IfOk result (IsEntry opened.now.metrics.items (length opened.now.runs.items)) }
+{
+    let metric = number_of(&opened.metric_numbers, name).ok_or(BundleError::UnknownMetric(number))?;
+    let part = opened
+        .metrics
+        .get(metric)
+        .ok_or(BundleError::UnknownMetric(number))?;
+    let sample = sample_of(alloc, &part.shape, found)?;
+    Ok(EventPart {
+        run,
+        what: What::Measure(metric, sample),
+    })
+}
+
+/// A measurement, of the run with a name.
+fn measurement_of(
+    alloc: Global,
+    opened: &Opened,
+    number: usize,
+    name: &str,
+    item: &Json,
+) -> Result<EventPart, BundleError>
+    requires { IsOpened opened.now }
+    ensures exact { Gives is_memory entry_view result (measurement_of (opened_view opened.now) number name.now (view item.now)) }
+    ensures entry { IfOk result (IsEntry opened.now.metrics.items (length opened.now.runs.items)) }
+{
+    let metric = text_of(item, "metric").ok_or(BundleError::BadEntry(number))?;
+    let found = given(item.get("value"), item.get("error")).ok_or(BundleError::BadEntry(number))?;
+    let run = run_number(opened, number, name)?;
+    measured_of(alloc, opened, number, run, metric, found)
+}
+
+/// The entry with a number.
+#[tactic(auto, unfolding(crate::specs::Entries::entry_in))]
+fn entry_of(
+    alloc: Global,
+    opened: &Opened,
+    number: usize,
+    item: &Json,
+) -> Result<EventPart, BundleError>
+    requires { IsOpened opened.now }
+    ensures exact { (earlier : List Entry) → length earlier ≡ number
+        → Gives is_memory entry_view result (entry_in (opened_view opened.now) earlier (view item.now)) }
+    ensures entry { IfOk result (IsEntry opened.now.metrics.items (length opened.now.runs.items)) }
+{
+    let name = text_of(item, "run").ok_or(BundleError::BadEntry(number))?;
+    if is_true(item.get("stop")) {
+        stop_of(opened, number, name)
+    } else {
+        measurement_of(alloc, opened, number, name, item)
+    }
+}
+
+/// The items of a list that may be missing.
+fn listed_entries(found: Option<&Json>) -> Result<&[Json], BundleError>
+    ensures { Gives (λ _. false) (λ items. map (λ json. view json) items.now) result
+        (listed_entries (unless_null (option_map (λ json. view json.now) found.entry))) }
+{
+    match found {
+        None | Some(Json::Null) => Ok(&[]),
+        Some(json) => list_of(json).ok_or(BundleError::BadEntry(0)),
+    }
+}
+
+/// The items of `measurements`, at most 100,000 of them.
+#[tactic(auto, using(crate::proofs::Counting::many_entries, crate::proofs::Counting::few_entries_are))]
+fn entry_items(document: &Json) -> Result<&[Json], BundleError>
+    ensures exact { Gives (λ _. false) (λ items. map (λ json. view json) items.now) result (entry_items (view document.now)) }
+    ensures few { IfOk result (λ items. length items.now ≤ most_events) }
+{
+    let items = listed_entries(document.get("measurements"))?;
+    if items.len() > MOST_ENTRIES {
+        return Err(BundleError::TooManyMeasurements);
+    }
+    Ok(items)
+}
+
+/// The entries of JSON values.
+fn entries_of(alloc: Global, opened: &Opened, items: &[Json]) -> Result<Vec<EventPart>, BundleError>
+    requires { IsOpened opened.now }
+    ensures exact { Gives is_memory (λ entries. map entry_view entries.items) result
+        (each_behind (entry_in (opened_view opened.now)) [] (map (λ json. view json) items.now)) }
+    ensures each { IfOk result (λ entries. length entries.items ≡ length items.now) }
+    ensures entries { IfOk result (λ entries. AllByRecursion (IsEntry opened.now.metrics.items (length opened.now.runs.items)) entries.items) }
+{
+    let mut entries = Vec::with_capacity(alloc, items.len())?;
+    for (number, item) in items.iter().enumerate() {
+        let entry = entry_of(alloc, opened, number, item)?;
+        entries.push(entry)?;
+    }
+    Ok(entries)
+}
+
+/// The entries of a document.
+#[tactic(auto, unfolding(crate::specs::Entries::entries_in))]
+pub(crate) fn read_entries(
+    alloc: Global,
+    opened: &Opened,
+    document: &Json,
+) -> Result<Vec<EventPart>, BundleError>
+    requires { IsOpened opened.now }
+    ensures exact { Gives is_memory (λ entries. map entry_view entries.items) result (entries_in (opened_view opened.now) (view document.now)) }
+    ensures few { IfOk result (λ entries. length entries.items ≤ most_events) }
+    ensures entries { IfOk result (λ entries. AllByRecursion (IsEntry opened.now.metrics.items (length opened.now.runs.items)) entries.items) }
+{
+    let items = entry_items(document)?;
+    entries_of(alloc, opened, items)
+}

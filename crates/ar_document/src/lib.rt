@@ -1,0 +1,27 @@
+//! Documents of the program, read as bundles.
+//!
+//! [`read_bundle`] takes the bytes of one JSON document with a template `manifest`, the `shapes` of
+//! its metrics, `runs` and `measurements`, and answers the bundle that `specs/Document` defines, or
+//! the first fault that stands in the document: its parts are looked at in their order, its runs one
+//! after another, and so are its entries. Only want of memory can keep it from its answer. Names of
+//! runs and metrics are found by a map.
+//!
+//! - [`bundle`]: bundles of documents; [`error`]: why a document is none
+//! - [`json`]: JSON documents of limited size
+//! - `opening`: the template, its metrics and their shapes; [`runs`]: runs as they are written;
+//!   `names`: numbers by name
+//! - `parts`: a judge and limits for each run and metric; `entries`: what happened
+#![tactic(auto)]
+
+pub mod bundle;
+mod entries;
+pub mod error;
+pub mod json;
+mod names;
+mod opening;
+mod parts;
+pub mod runs;
+
+pub use bundle::read_bundle;
+pub use error::BundleError;
+pub use json::{JsonError, read_json};

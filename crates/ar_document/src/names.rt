@@ -1,0 +1,30 @@
+//! Numbers by name.
+
+ghost use Rattle.std.specs.Prelude.{◌≡◌, ◌++◌, ◌∷◌, [], ℕ, List, IfOk, OnOk, length, is_none};
+ghost use Rattle.ar_document.specs.Opening.{number_of};
+ghost use Rattle.ar_document.specs.Private.Naming.{AreNumbers};
+
+use ar_manifest::Arguments;
+use std::alloc::{AllocError, Global};
+
+/// Names with their numbers, which are found without looking at one name after another.
+pub(crate) type Numbers = Arguments<usize>;
+
+/// Gives the next name its number, unless an earlier one is the same, and tells whether it is new.
+#[tactic(auto, using(crate::proofs::Naming::new_name, crate::proofs::Naming::old_name))]
+pub(crate) fn add_name(
+    alloc: Global,
+    numbers: &mut Numbers,
+    name: &str,
+    number: usize,
+) -> Result<bool, AllocError>
+    ensures new { (names : List (List ℕ)) → AreNumbers names numbers.old → IfOk result (λ new. new ≡ is_none (number_of name.now names)) }
+    ensures numbers { (names : List (List ℕ)) → AreNumbers names numbers.old → length names ≡ number
+        → OnOk result (AreNumbers (names ++ name.now ∷ []) numbers.new) }
+{
+    if numbers.get(name).is_some() {
+        return Ok(false);
+    }
+    numbers.insert(alloc, name, number)?;
+    Ok(true)
+}

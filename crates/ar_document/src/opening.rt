@@ -1,0 +1,133 @@
+//! What a document has before its runs are looked at one by one.
+
+ghost use Rattle.std.specs.Prelude.{◌≡◌, IfOk, List, length, map, option_and_then, option_map};
+ghost use Rattle.serde_json.specs.Find.{get};
+ghost use Rattle.serde_json.specs.View.{view};
+ghost use Rattle.ar_value.specs.Answer.{Gives};
+ghost use Rattle.ar_value.specs.Declaration.{shape_of as declared_shape};
+ghost use Rattle.ar_value.specs.View.{shape_view};
+ghost use Rattle.ar_judge.specs.Condition.{refused_as};
+ghost use Rattle.ar_document.specs.Document.{is_memory};
+ghost use Rattle.ar_document.specs.Opening.{Metric as Named, metric_view, metrics_in, opened_of, template_in, with_shape};
+ghost use Rattle.ar_document.specs.declared.error.BundleError.TheVariants.{Shapes};
+ghost use Rattle.ar_document.specs.Private.Naming.{AreNumbers};
+ghost use Rattle.ar_document.specs.Private.Opened.{IsOpened, metric_names, opened_view};
+
+use crate::error::BundleError;
+use crate::names::{Numbers, add_name};
+use crate::runs::{Run, read_runs};
+use ar_board::MetricPart;
+use ar_manifest::{ManifestError, Metric, Template};
+use ar_value::shape::Shape;
+use ar_value::shape_reading::{ShapeError, read_shape};
+use ar_value::text::Text;
+use serde_json::Value as Json;
+use std::alloc::{AllocError, Global};
+
+/// A document's template, its metrics with their shapes, its runs as they are written, and the
+/// numbers of metrics and runs by their names.
+#[derive(Debug, Drop)]
+pub(crate) struct Opened {
+    pub template: Template,
+    pub metrics: Vec<MetricPart>,
+    pub runs: Vec<Run>,
+    pub run_numbers: Numbers,
+    pub metric_numbers: Numbers,
+}
+
+/// The template of a document.
+fn template_of(alloc: Global, document: &Json) -> Result<Template, BundleError>
+    ensures { Gives is_memory (λ template. template) result (template_in (view document.now)) }
+{
+    let manifest = document.get("manifest").unwrap_or(&Json::Null);
+    match Template::read(alloc, manifest) {
+        Ok(template) => Ok(template),
+        Err(ManifestError::OutOfMemory) => Err(BundleError::OutOfMemory),
+        Err(error) => Err(BundleError::Manifest(error)),
+    }
+}
+
+/// The shape that a JSON value declares for the metric with a number.
+fn shape_of(alloc: Global, declared: &Json, number: usize) -> Result<Shape, BundleError>
+    ensures { Gives is_memory shape_view result (refused_as (Shapes number) (declared_shape (view declared.now))) }
+{
+    match read_shape(alloc, declared) {
+        Ok(shape) => Ok(shape),
+        Err(ShapeError::OutOfMemory) => Err(BundleError::OutOfMemory),
+        Err(error) => Err(BundleError::Shapes(number, error)),
+    }
+}
+
+/// What is declared for a name.
+fn declared<'a>(shapes: Option<&'a Json>, name: &str) -> Option<&'a Json>
+    ensures { option_map (λ json. view json.now) result ≡ option_and_then (get name.now) (option_map (λ json. view json.now) shapes.entry) }
+{
+    shapes?.get(name)
+}
+
+/// A metric with the shape that is declared for it.
+fn metric_of(
+    alloc: Global,
+    shapes: Option<&Json>,
+    metric: &Metric,
+    number: usize,
+) -> Result<MetricPart, BundleError>
+    ensures { (earlier : List Named) → length earlier ≡ number
+        → Gives is_memory metric_view result (with_shape (option_map (λ json. view json.now) shapes.entry) earlier metric.now) }
+{
+    let name = metric.name.as_str();
+    let declared = declared(shapes, name).ok_or(BundleError::ShapeMissing(number))?;
+    let shape = shape_of(alloc, declared, number)?;
+    Ok(MetricPart {
+        name: Text::of(alloc, name)?,
+        shape,
+    })
+}
+
+/// The metrics of a template with the shapes that are declared for them.
+fn metrics_of(
+    alloc: Global,
+    shapes: Option<&Json>,
+    metrics: &[Metric],
+) -> Result<Vec<MetricPart>, BundleError>
+    ensures exact { Gives is_memory (λ parts. map metric_view parts.items) result
+        (metrics_in (option_map (λ json. view json.now) shapes.entry) metrics.now) }
+    ensures each { IfOk result (λ parts. length parts.items ≡ length metrics.now) }
+{
+    let mut parts = Vec::with_capacity(alloc, metrics.len())?;
+    for (number, metric) in metrics.iter().enumerate() {
+        let part = metric_of(alloc, shapes, metric, number)?;
+        parts.push(part)?;
+    }
+    Ok(parts)
+}
+
+/// The numbers of metrics by their names.
+fn numbers_of(alloc: Global, metrics: &[MetricPart]) -> Result<Numbers, AllocError>
+    ensures { IfOk result (AreNumbers (metric_names (map metric_view metrics.now))) }
+{
+    let mut numbers = Numbers::new(alloc);
+    for (number, metric) in metrics.iter().enumerate() {
+        add_name(alloc, &mut numbers, metric.name.as_str(), number)?;
+    }
+    Ok(numbers)
+}
+
+/// A document's template, metrics and runs.
+#[tactic(auto, using(crate::proofs::Templates::few_metrics), unfolding(crate::specs::Opening::opened_of))]
+pub(crate) fn open(alloc: Global, document: &Json) -> Result<Opened, BundleError>
+    ensures exact { Gives is_memory opened_view result (opened_of (view document.now)) }
+    ensures opened { IfOk result IsOpened }
+{
+    let template = template_of(alloc, document)?;
+    let metrics = metrics_of(alloc, document.get("shapes"), template.metrics.as_slice())?;
+    let (runs, run_numbers) = read_runs(alloc, document)?;
+    let metric_numbers = numbers_of(alloc, &metrics)?;
+    Ok(Opened {
+        template,
+        metrics,
+        runs,
+        run_numbers,
+        metric_numbers,
+    })
+}

@@ -1,0 +1,127 @@
+//! Parts of the bundle for the runs of a document.
+
+ghost use Rattle.std.specs.Prelude.{◌≡◌, IfErr, IfOk, length, map, take};
+ghost use Rattle.std.specs.List.{AllByRecursion};
+ghost use Rattle.ar_limits.specs.Metric.{HasPositiveCounts};
+ghost use Rattle.ar_judge.specs.Verdict.{IsJudge};
+ghost use Rattle.ar_manifest.specs.Bound.{bound_of};
+ghost use Rattle.ar_board.specs.Bundle.{IsRun, JudgesEach};
+ghost use Rattle.ar_value.specs.Answer.{Gives};
+ghost use Rattle.ar_value.specs.View.{shape_view};
+ghost use Rattle.ar_judge.specs.Condition.{refused_as};
+ghost use Rattle.ar_document.specs.Document.{is_memory};
+ghost use Rattle.ar_document.specs.Opening.{metric_view};
+ghost use Rattle.ar_document.specs.Runs.{AreJudges, AreParts, IsPart, RefusesRun, RefusesRuns, limits_of};
+ghost use Rattle.ar_document.specs.Private.Opened.{IsOpened, opened_view};
+ghost use Rattle.ar_document.specs.Private.Parts.{IfRefused, RefusesJudge, RefusesJudges};
+ghost use Rattle.ar_document.specs.declared.error.BundleError.TheVariants.{Bind};
+
+use crate::error::BundleError;
+use crate::opening::Opened;
+use crate::runs::Run;
+use ar_board::{Judges, MetricPart, RunLimits, RunPart};
+use ar_judge::{BuildError, Judge};
+use ar_limits::Limits;
+use ar_manifest::{Bound, BoundMetric, ManifestError, Template};
+use ar_value::text::Text;
+use std::alloc::{AllocError, Global};
+
+/// The template, bound to the arguments of the run with a number.
+fn bound(alloc: Global, template: &Template, run: &Run, number: usize) -> Result<Bound, BundleError>
+    ensures { Gives is_memory (λ bound. bound) result (refused_as (Bind number) (bound_of template.now run.now.own)) }
+{
+    match template.bind(alloc, &run.own) {
+        Ok(bound) => Ok(bound),
+        Err(ManifestError::OutOfMemory) => Err(BundleError::OutOfMemory),
+        Err(error) => Err(BundleError::Bind(number, error)),
+    }
+}
+
+/// The judge of a metric, whose number and whose run's number are told where there is none.
+fn judge_of(
+    alloc: Global,
+    run: usize,
+    number: usize,
+    metric: &MetricPart,
+    bound: &BoundMetric,
+) -> Result<Judge, BundleError>
+    ensures built { IfOk result (IsJudge (shape_view metric.now.shape) bound.now.success_condition bound.now.failure_condition) }
+    ensures refused { IfRefused result (RefusesJudge run number metric.now bound.now) }
+{
+    match Judge::build(alloc, bound, &metric.shape) {
+        Ok(judge) => Ok(judge),
+        Err(BuildError::OutOfMemory) => Err(BundleError::OutOfMemory),
+        Err(error) => Err(BundleError::Build(run, number, error)),
+    }
+}
+
+/// A judge for each metric.
+fn judges_of(
+    alloc: Global,
+    run: usize,
+    metrics: &[MetricPart],
+    bound: &[BoundMetric],
+) -> Result<Judges, BundleError>
+    requires { length bound.now ≡ length metrics.now }
+    ensures built { IfOk result (AreJudges (map metric_view metrics.now) bound.now) }
+    ensures refused { IfRefused result (RefusesJudges run metrics.now bound.now) }
+{
+    let mut judges = Vec::with_capacity(alloc, metrics.len())?;
+    for (number, metric) in metrics.iter().enumerate() {
+        let judge = judge_of(alloc, run, number, metric, &bound[number])?;
+        judges.push(judge)?;
+    }
+    Ok(Judges::from(judges))
+}
+
+fn limits_of(metric: &BoundMetric) -> Limits
+    ensures { result ≡ limits_of metric.now }
+{
+    Limits {
+        failure: metric.failure_limit,
+        inconclusive: metric.inconclusive_limit,
+        consecutive_error: metric.consecutive_error_limit,
+        count: metric.count,
+    }
+}
+
+/// Limits for each metric.
+fn all_limits(alloc: Global, bound: &[BoundMetric]) -> Result<RunLimits, AllocError>
+    ensures { IfOk result (λ limits. limits ≡ map limits_of bound.now) }
+{
+    let mut limits = Vec::with_capacity(alloc, bound.len())?;
+    for metric in bound {
+        limits.push(limits_of(metric))?;
+    }
+    Ok(RunLimits::from(limits))
+}
+
+/// The part of the run with a number.
+fn part_of(alloc: Global, opened: &Opened, run: &Run, number: usize) -> Result<RunPart, BundleError>
+    requires { IsOpened opened.now }
+    ensures part { IfOk result (IsPart (opened_view opened.now) run.now) }
+    ensures refused { IfRefused result (RefusesRun (opened_view opened.now) number run.now) }
+{
+    let bound = bound(alloc, &opened.template, run, number)?;
+    let judges = judges_of(alloc, number, &opened.metrics, bound.metrics())?;
+    let limits = all_limits(alloc, bound.metrics())?;
+    Ok(RunPart {
+        name: Text::of(alloc, run.name.as_str())?,
+        judges,
+        limits,
+    })
+}
+
+/// The parts of all runs.
+pub(crate) fn parts_of(alloc: Global, opened: &Opened) -> Result<Vec<RunPart>, BundleError>
+    requires { IsOpened opened.now }
+    ensures parts { IfOk result (λ parts. AreParts (opened_view opened.now) opened.now.runs.items parts.items) }
+    ensures refused { IfRefused result (RefusesRuns (opened_view opened.now)) }
+{
+    let mut parts = Vec::with_capacity(alloc, opened.runs.len())?;
+    for (number, run) in opened.runs.iter().enumerate() {
+        let part = part_of(alloc, opened, run, number)?;
+        parts.push(part)?;
+    }
+    Ok(parts)
+}

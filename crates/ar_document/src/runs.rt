@@ -1,0 +1,141 @@
+//! Runs as a document writes them.
+
+ghost use Rattle.std.specs.Prelude.{◌≡◌, ◌≤◌, ◌++◌, ◌∷◌, ℕ, List, [], IfOk, OnOk, false, is_none, length, map, option_map};
+ghost use Rattle.serde_json.specs.View.{members_view, view};
+ghost use Rattle.ar_value.specs.Answer.{Gives};
+ghost use Rattle.ar_board.specs.Bundle.{most_runs};
+ghost use Rattle.ar_document.specs.Answers.{each_behind, holds_or};
+ghost use Rattle.ar_document.specs.Document.{is_memory};
+ghost use Rattle.ar_document.specs.Opening.{are_new, names_of, number_of, own_arguments, run_items, run_of, runs_in, texts_by_name};
+ghost use Rattle.ar_document.specs.Private.Naming.{AreNumbers};
+ghost use Rattle.ar_document.specs.declared.error.BundleError.TheVariants.{DoubleRun};
+
+use crate::error::BundleError;
+use crate::json::list_of;
+use crate::names::{Numbers, add_name};
+use ar_manifest::{Args, Text as Argument};
+use ar_value::text::Text;
+use serde_json::{Map, Value as Json};
+use std::alloc::Global;
+
+/// How many runs a document may have.
+const MOST_RUNS: usize = 64;
+
+/// A run as a document writes it.
+#[derive(Debug, Drop)]
+pub struct Run {
+    pub name: Text,
+    /// Its own arguments, which go before the template's.
+    pub own: Args,
+}
+
+/// Texts by name.
+fn texts_by_name(alloc: Global, members: &Map<String, Json>) -> Result<Args, BundleError>
+    ensures { Gives is_memory (λ own. own) result (texts_by_name [] (members_view members.now.entries)) }
+{
+    let mut own = Args::new(alloc);
+    for (name, json) in members.iter() {
+        let Json::String(text) = json else {
+            return Err(BundleError::Runs);
+        };
+        own.insert(alloc, name.as_str(), Argument::copied(alloc, text)?)?;
+    }
+    Ok(own)
+}
+
+/// A run's own arguments.
+fn own_arguments(alloc: Global, found: Option<&Json>) -> Result<Args, BundleError>
+    ensures { Gives is_memory (λ own. own) result (own_arguments (option_map (λ json. view json.now) found.entry)) }
+{
+    match found {
+        None | Some(Json::Null) => Ok(Args::new(alloc)),
+        Some(Json::Object(members)) => texts_by_name(alloc, members),
+        Some(_) => Err(BundleError::Runs),
+    }
+}
+
+fn run_of(alloc: Global, item: &Json) -> Result<Run, BundleError>
+    ensures { Gives is_memory (λ run. run) result (run_of (view item.now)) }
+{
+    let name = item
+        .get("name")
+        .and_then(Json::as_str)
+        .ok_or(BundleError::Runs)?;
+    let own = own_arguments(alloc, item.get("args"))?;
+    Ok(Run {
+        name: Text::of(alloc, name)?,
+        own,
+    })
+}
+
+/// The items of `runs`, 1 to 64 of them.
+#[tactic(auto, using(crate::proofs::Counting::many_runs, crate::proofs::Counting::some_runs))]
+fn run_items(document: &Json) -> Result<&[Json], BundleError>
+    ensures exact { Gives (λ _. false) (λ items. map (λ json. view json) items.now) result (run_items (view document.now)) }
+    ensures few { IfOk result (λ items. length items.now ≤ most_runs) }
+{
+    let items = document
+        .get("runs")
+        .and_then(list_of)
+        .ok_or(BundleError::Runs)?;
+    if items.is_empty() || items.len() > MOST_RUNS {
+        return Err(BundleError::Runs);
+    }
+    Ok(items)
+}
+
+/// The runs of a document, whose names may still be the same.
+#[tactic(auto, using(crate::proofs::Steps::step_more, crate::proofs::Steps::step_fault, crate::proofs::Steps::step_end))]
+fn runs_of(alloc: Global, items: &[Json]) -> Result<Vec<Run>, BundleError>
+    ensures exact { Gives is_memory (λ runs. runs.items) result (each_behind (λ earlier. run_of) [] (map (λ json. view json) items.now)) }
+    ensures each { IfOk result (λ runs. length runs.items ≡ length items.now) }
+{
+    let mut runs = Vec::with_capacity(alloc, items.len())?;
+    for item in items {
+        runs.push(run_of(alloc, item)?)?;
+    }
+    Ok(runs)
+}
+
+/// Gives a run's name the next number.
+fn add_run(
+    alloc: Global,
+    numbers: &mut Numbers,
+    run: &Run,
+    number: usize,
+) -> Result<(), BundleError>
+    ensures new { (names : List (List ℕ)) → AreNumbers names numbers.old → length names ≡ number
+        → Gives is_memory (λ _. tt) result (holds_or (DoubleRun number) (is_none (number_of run.now.name names))) }
+    ensures numbers { (names : List (List ℕ)) → AreNumbers names numbers.old → length names ≡ number
+        → OnOk result (AreNumbers (names ++ run.now.name ∷ []) numbers.new) }
+{
+    if add_name(alloc, numbers, run.name.as_str(), number)? {
+        Ok(())
+    } else {
+        Err(BundleError::DoubleRun(number))
+    }
+}
+
+/// The numbers of runs by their names, each of which is new.
+fn numbers_of(alloc: Global, runs: &[Run]) -> Result<Numbers, BundleError>
+    ensures new { Gives is_memory (λ _. tt) result (are_new [] (names_of runs.now)) }
+    ensures numbers { IfOk result (AreNumbers (names_of runs.now)) }
+{
+    let mut numbers = Numbers::new(alloc);
+    for (number, run) in runs.iter().enumerate() {
+        add_run(alloc, &mut numbers, run, number)?;
+    }
+    Ok(numbers)
+}
+
+/// The runs of a document, each of a name of its own, and their numbers by these.
+pub(crate) fn read_runs(alloc: Global, document: &Json) -> Result<(Vec<Run>, Numbers), BundleError>
+    ensures exact { Gives is_memory (λ read. read.0.items) result (runs_in (view document.now)) }
+    ensures few { IfOk result (λ read. length read.0.items ≤ most_runs) }
+    ensures numbers { IfOk result (λ read. AreNumbers (names_of read.0.items) read.1) }
+{
+    let items = run_items(document)?;
+    let runs = runs_of(alloc, items)?;
+    let numbers = numbers_of(alloc, &runs)?;
+    Ok((runs, numbers))
+}
