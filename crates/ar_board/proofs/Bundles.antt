@@ -1,6 +1,6 @@
 -- What stands at a number of a bundle.
 use Rattle.std.proofs.Common.{◌≡◌, ◌<◌, ℕ, zero, suc, List, [], ◌∷◌, length, Option, Some, None, refl, sym, subst, arith, true}
-use Rattle.std.specs.Prelude.{slice_get, slice_index_or}
+use Rattle.std.specs.Prelude.{IfSome, slice_get, slice_index_or}
 use Rattle.std.specs.List.{AllByRecursion}
 use Rattle.std.proofs.lemmas.Option.{slice_get_read, slice_get_within}
 use Rattle.ar_value.specs.Fits.{fits}
@@ -8,7 +8,7 @@ use Rattle.ar_value.specs.Shape.{Shape}
 use Rattle.ar_value.specs.Value.{Value}
 use Rattle.ar_value.specs.View.{shape_view}
 use Rattle.ar_judge.specs.Condition.{Condition}
-use Rattle.ar_judge.specs.Verdict.{FitsEach, Judge, Sample, Suits, measured, misfit, provider, sample_view}
+use Rattle.ar_judge.specs.Verdict.{FitsEach, Judge, RunsNothing, Sample, Suits, measured, misfit, provider, sample_view}
 use Rattle.ar_judge.specs.declared.sample.Sample.{Sample as Declared}
 use Rattle.ar_board.specs.Bundle.{Bundle, CanHappen, IsBundle, IsEntry, IsOfShape, IsRun, JudgesEach, JudgesShape, SampleSuits, SuitsMetric, judge_at, run_of}
 use Rattle.ar_board.specs.declared.bundle.EventPart.{EventPart}
@@ -39,18 +39,6 @@ judge_of_metric [] judges metric part each there = absurd cc
 judge_of_metric (first ∷ metrics) [] metric part each there = absurd each
 judge_of_metric (first ∷ metrics) (judge ∷ judges) zero part each there = let same : first ≡ part = cc in (judge, refl, subst (λ part. JudgesShape (shape_view part.shape) judge) same each.0)
 judge_of_metric (first ∷ metrics) (judge ∷ judges) (suc metric) part each there = judge_of_metric metrics judges metric part each.1 there
-
--- a measurement has a judge, which takes its sample
-pub record HasJudge (bundle : Bundle) (run metric : ℕ) (sample : Sample) : Type 0 where
-  pub judge : Judge
-  pub is : judge_at bundle run metric ≡ Some judge
-  pub suits : Suits judge sample
-
-pub has_judge : (bundle : Bundle) (run : ℕ) (part : RunPart) (metric : ℕ) (sample : Sample) → IsBundle bundle → slice_get bundle.runs run ≡ Some part → SuitsMetric bundle.metrics metric sample → HasJudge bundle run metric sample
-has_judge bundle run part metric sample is there suits =
-    let of_run = of_each (IsRun bundle.metrics) bundle.runs run part is.runs there in
-    let found = judge_of_metric bundle.metrics part.judges metric suits.part of_run.judges suits.there in
-    record { judge = found.0; is = rw (there, found.1) refl; suits = sample_suits (shape_view suits.part.shape) found.0 sample found.2 suits.suits }
 
 -- the entry that was read at a number
 pub entry_there : (bundle : Bundle) (number : ℕ) (entry : EventPart) → number < length bundle.entries → entry ≡ slice_index_or bundle.entries number entry → slice_get bundle.entries number ≡ Some entry
@@ -88,8 +76,9 @@ run_there bundle number entry is below read = (entry_is bundle number entry is b
 pub measure_suits : (bundle : Bundle) (number : ℕ) (entry : EventPart) (metric : ℕ) (sample : Declared) → IsBundle bundle → number < length bundle.entries → entry ≡ slice_index_or bundle.entries number entry → entry.what ≡ Measure metric sample → SuitsMetric bundle.metrics metric (sample_view sample)
 measure_suits bundle number entry metric sample is below read same = subst (λ what. CanHappen bundle.metrics what) same (entry_is bundle number entry is below read).what
 
-pub judge_of_reads : (bundle : Bundle) (run : ℕ) (part : RunPart) (metric : ℕ) (sample : Sample) (judge : Judge) → Reads bundle run part metric sample → judge ≡ slice_index_or part.judges metric judge → (judge_at bundle run metric ≡ Some judge) × Suits judge sample
-judge_of_reads bundle run part metric sample judge reads read = reads.is judge read
+-- the judge that was read runs no condition, where the sample needs no run
+pub reads_nothing : (bundle : Bundle) (run : ℕ) (part : RunPart) (metric : ℕ) (sample : Sample) (judge : Judge) → Reads bundle run part metric sample → judge ≡ slice_index_or part.judges metric judge → IfSome (judge_at bundle run metric) (λ judge. RunsNothing judge sample) → RunsNothing judge sample
+reads_nothing bundle run part metric sample judge reads read nothing = subst (λ found. IfSome found (λ judge. RunsNothing judge sample)) (reads.is judge read).0 nothing
 
 pub entry_at : {A : Type 0} (xs : List A) (place : ℕ) → place < length xs → (x : A) × (slice_get xs place ≡ Some x)
 entry_at [] place inside = absurd (omega arith)

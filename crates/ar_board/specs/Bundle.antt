@@ -1,12 +1,12 @@
 -- A bundle: a template's metrics, its runs, and what happened to them, numbered from 0.
-use Rattle.std.specs.Prelude.{◌≡◌, ◌≢◌, ◌<◌, ◌≤◌, ℕ, true, List, [], ◌∷◌, length, slice_get, Option, Some, None, option_and_then, option_map}
+use Rattle.std.specs.Prelude.{◌≡◌, ◌≢◌, ◌<◌, ◌≤◌, ℕ, true, List, [], ◌∷◌, length, slice_get, Option, Some, None, IfSome, option_and_then, option_map}
 use Rattle.std.specs.List.{AllByRecursion, filter_map}
 use Rattle.ar_value.specs.Fits.{fits}
 use Rattle.ar_value.specs.Shape.{Shape}
 use Rattle.ar_value.specs.View.{shape_view}
 use Rattle.ar_value.specs.declared.value_reading.ShapeFault.TheVariants as shape_fault
 use Rattle.ar_judge.specs.Condition.{Condition}
-use Rattle.ar_judge.specs.Verdict.{Judge, Sample, measured, misfit, provider, sample_view, verdict}
+use Rattle.ar_judge.specs.Verdict.{Judge, RunsNothing, Sample, measured, misfit, provider, sample_view, verdict}
 use Rattle.ar_judge.specs.declared.verdict.Verdict.{Verdict}
 use Rattle.ar_judge.specs.declared.verdict.Verdict.TheVariants.{Successful, Failed, Inconclusive, Error}
 use Rattle.ar_limits.specs.Metric.{HasPositiveCounts}
@@ -101,6 +101,15 @@ found_of bundle run Stop = Some finding.Stop
 -- the finding of a number
 abbrev pub found : Bundle → (number : ℕ) → Option Finding
 found bundle number = option_and_then (λ entry. found_of bundle entry.run entry.what) (slice_get bundle.entries number)
+
+-- no condition is run for what happens: it is a stop, or its judge runs none on its sample
+abbrev pub NeedsNoCondition : Bundle → (run : ℕ) → What → Type 0
+NeedsNoCondition bundle run (Measure metric sample) = IfSome (judge_at bundle run metric) (λ judge. RunsNothing judge (sample_view sample))
+NeedsNoCondition bundle run Stop = Unit {0}
+
+-- nor for the finding of a number
+abbrev pub FoundWithoutCondition : Bundle → (number : ℕ) → Type 0
+FoundWithoutCondition bundle number = IfSome (slice_get bundle.entries number) (λ entry. NeedsNoCondition bundle entry.run entry.what)
 
 -- ---- what happens to runs
 

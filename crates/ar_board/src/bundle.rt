@@ -1,8 +1,8 @@
 //! Bundles and their parts.
 
-ghost use Rattle.std.specs.Prelude.{◌≡◌, ◌<◌, IfOk, Some, length};
+ghost use Rattle.std.specs.Prelude.{◌≡◌, ◌<◌, IfOk, IsOk, Some, length};
 ghost use Rattle.ar_limits.specs.Replay.{IsOfMetricBelow};
-ghost use Rattle.ar_board.specs.Bundle.{IsBundle, SuitsMetric, bundle_of, found, found_of, happened, run_of};
+ghost use Rattle.ar_board.specs.Bundle.{FoundWithoutCondition, IsBundle, NeedsNoCondition, SuitsMetric, bundle_of, found, found_of, happened, run_of};
 ghost use Rattle.ar_board.specs.declared.bundle.What.TheVariants as What;
 ghost use Rattle.ar_judge.specs.Verdict.{sample_view};
 
@@ -202,7 +202,9 @@ impl Bundle {
     #[tactic(auto, using(crate::proofs::Bundles::entry_there, crate::proofs::Bundles::measure_suits, crate::proofs::Bundles::run_there))]
     pub fn finding(&self, alloc: Global, number: u64) -> Result<Finding, AllocError>
         requires { number < length self.now.entries }
-        ensures { IfOk result (λ finding. found self.now number ≡ Some finding) }
+        ensures exact { IfOk result (λ finding. found self.now number ≡ Some finding) }
+        // Where no condition is run, want of memory is never answered.
+        ensures without_memory { FoundWithoutCondition self.now number → IsOk result }
     {
         let entry = &self.entries[number as usize];
         match &entry.what {
@@ -222,7 +224,8 @@ impl Bundle {
     ) -> Result<Finding, AllocError>
         requires run { run < length self.now.runs }
         requires suits { SuitsMetric self.now.metrics metric (sample_view sample.now) }
-        ensures { IfOk result (λ finding. found_of self.now run (What.Measure metric sample.now) ≡ Some finding) }
+        ensures exact { IfOk result (λ finding. found_of self.now run (What.Measure metric sample.now) ≡ Some finding) }
+        ensures without_memory { NeedsNoCondition self.now run (What.Measure metric sample.now) → IsOk result }
     {
         let judges = self.runs[run].judges.as_slice();
         Ok(Finding::Judged(judges[metric].judge(alloc, sample)?))

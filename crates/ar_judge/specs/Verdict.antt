@@ -71,6 +71,12 @@ Suits judge provider = Unit {0}
 Suits judge (misfit fault) = fault ≢ shape_fault.OutOfMemory
 Suits judge (measured value) = FitsEach value judge.success × FitsEach value judge.failure
 
+-- no condition is run on the sample: nothing was measured, or there is no condition
+abbrev pub RunsNothing : Judge → Sample → Type 0
+RunsNothing judge provider = Unit {0}
+RunsNothing judge (misfit fault) = Unit {0}
+RunsNothing judge (measured value) = (judge.success ≡ None) × (judge.failure ≡ None)
+
 -- ---- judges of texts
 
 -- the condition of a text, where there is one
@@ -78,6 +84,10 @@ abbrev pub AreBuilt : Shape → Option (List ℕ) → Option Condition → Type 
 AreBuilt shape (Some text) (Some condition) = IsBuilt shape text condition
 AreBuilt shape None None = Unit {0}
 AreBuilt shape text condition = ⊥
+
+-- a metric has neither text
+abbrev pub HasNoText : (success failure : Option (List ℕ)) → Type 0
+HasNoText success failure = (success ≡ None) × (failure ≡ None)
 
 -- the judge of a metric's texts under a shape
 pub record IsJudge (shape : Shape) (success failure : Option (List ℕ)) (judge : Judge) : Type 0 where

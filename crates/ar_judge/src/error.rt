@@ -17,7 +17,7 @@ pub enum BuildCause {
     /// It has no kinds where `result` is of the declared shape.
     #[error(", {0}")]
     Kinds(TypeError),
-    /// It has no code.
+    /// Its code would have too many operations.
     #[error(": {0}")]
     Compiler(CompileError),
     /// The verifier refuses its code at an operation, counted from 0.

@@ -1,8 +1,8 @@
 //! The conditions of a metric.
 
-ghost use Rattle.std.specs.Prelude.{◌≡◌, IfErr, IfOk, option_and_then, option_map};
+ghost use Rattle.std.specs.Prelude.{◌≡◌, IfErr, IfOk, IsOk, None, option_and_then, option_map};
 ghost use Rattle.ar_value.specs.View.{shape_view, value_view};
-ghost use Rattle.ar_judge.specs.Verdict.{FitsEach, IsJudge, RefusesTexts, Suits, said_of, sample_view, verdict, verdict_by};
+ghost use Rattle.ar_judge.specs.Verdict.{FitsEach, HasNoText, IsJudge, RefusesTexts, RunsNothing, Suits, said_of, sample_view, verdict, verdict_by};
 ghost use Rattle.ar_judge.specs.Private.Building.{BuildsEach, failure_refused, success_refused};
 
 use crate::condition::Condition;
@@ -48,6 +48,8 @@ impl Judge {
     pub fn build(alloc: Global, metric: &BoundMetric, shape: &Shape) -> Result<Judge, BuildError>
         ensures built { IfOk result (IsJudge (shape_view shape.now) metric.now.success_condition metric.now.failure_condition) }
         ensures refused { IfErr result (RefusesTexts (shape_view shape.now) metric.now.success_condition metric.now.failure_condition) }
+        // Where there is no text, want of memory is never answered.
+        ensures without_memory { HasNoText metric.now.success_condition metric.now.failure_condition → IsOk result }
     {
         let success = built(alloc, &metric.success_condition, shape).map_err(success_refused)?;
         let failure = built(alloc, &metric.failure_condition, shape).map_err(failure_refused)?;
@@ -68,15 +70,17 @@ impl Judge {
         self.failure.as_ref().map(Condition::verified)
     }
 
-    /// The verdict of a sample, whose value, if it has one, fits the shape that the conditions are
-    /// for. A misfit is never want of memory.
+    /// The verdict of a sample. Its value, if it has one, must fit the shape that the conditions are
+    /// for, and its misfit, if it has one, must not be want of memory.
     ///
     /// # Errors
     ///
     /// Want of memory alone, which runs of conditions take for their operands.
     pub fn judge(&self, alloc: Global, sample: &Sample) -> Result<Verdict, AllocError>
         requires { Suits self.now (sample_view sample.now) }
-        ensures { IfOk result (λ found. found ≡ verdict self.now (sample_view sample.now)) }
+        ensures exact { IfOk result (λ found. found ≡ verdict self.now (sample_view sample.now)) }
+        // Where no condition is run, want of memory is never answered.
+        ensures without_memory { RunsNothing self.now (sample_view sample.now) → IsOk result }
     {
         match sample {
             Sample::Provider => Ok(Verdict::Error(Cause::Provider)),
@@ -95,7 +99,8 @@ impl Judge {
 
 /// The condition of a text, where there is one.
 fn built(alloc: Global, text: &Option<Text>, shape: &Shape) -> Result<Option<Condition>, BuildCause>
-    ensures { BuildsEach (shape_view shape.now) text.now result }
+    ensures built { BuildsEach (shape_view shape.now) text.now result }
+    ensures without_memory { text.now ≡ None → IsOk result }
 {
     match text {
         Some(text) => Ok(Some(Condition::build(alloc, text.as_str(), shape.copy(alloc)?)?)),
@@ -128,7 +133,8 @@ fn said(
     value: &Value,
 ) -> Result<Option<Answer>, AllocError>
     requires { FitsEach (value_view value.now) condition.now }
-    ensures { IfOk result (λ said. said ≡ option_and_then (said_of (value_view value.now)) condition.now) }
+    ensures said { IfOk result (λ said. said ≡ option_and_then (said_of (value_view value.now)) condition.now) }
+    ensures without_memory { condition.now ≡ None → IsOk result }
 {
     match condition {
         Some(condition) => Ok(Some(condition.answer(alloc, value)?)),

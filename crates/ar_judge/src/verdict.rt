@@ -8,7 +8,7 @@ use ar_value::value_reading::ShapeFault;
 pub enum Verdict {
     Successful,
     Failed,
-    /// Neither condition is true.
+    /// Both conditions are there, and neither is true.
     Inconclusive,
     /// There is no answer, for this cause.
     Error(Cause),

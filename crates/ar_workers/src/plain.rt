@@ -1,6 +1,6 @@
 //! The plain run.
 
-ghost use Rattle.std.specs.Prelude.{◌≡◌, ◌<◌, ◌+◌, IfOk, OnOk, length};
+ghost use Rattle.std.specs.Prelude.{◌<◌, ◌+◌, IfOk, OnOk, length};
 ghost use Rattle.ar_board.specs.Bundle.{IsBundle};
 ghost use Rattle.ar_board.specs.Lawful.{AllRise, AreLawful};
 ghost use Rattle.ar_workers.specs.Private.Growing.{AreGrown};
