@@ -5,7 +5,8 @@ use Rattle.std.specs.List.{AllByRecursion}
 use Rattle.std.proofs.lemmas.Bool.Decides.{nat_tests}
 use Rattle.std.proofs.lemmas.List.{append_assoc}
 use Rattle.std.proofs.lemmas.Option.{slice_get_read, slice_get_within}
-use Rattle.ar_limits.specs.Run.{effects}
+use Rattle.ar_limits.specs.Run.{effects, run_phase}
+use Rattle.ar_limits.specs.declared.phase.Phase.{Phase}
 use Rattle.ar_board.proofs.Bundles.{of_each}
 use Rattle.ar_board.specs.Bundle.{Bundle, IsBundle, IsRun, events_of, most_events}
 use Rattle.ar_board.specs.Lawful.{AreHistories, AreLawful, IsFound, IsHistory, numbers_of, times, times_in}
@@ -13,7 +14,7 @@ use Rattle.ar_board.specs.declared.bundle.EventPart.{EventPart}
 use Rattle.ar_board.specs.declared.bundle.RunPart.{RunPart}
 use Rattle.ar_board.specs.declared.history.Entry.{Entry}
 use Rattle.ar_report.specs.Private.Entries.{AreFound}
-use Rattle.ar_report.specs.Report.{AtMostOnce, CanBeReported, run_text, run_texts}
+use Rattle.ar_report.specs.Report.{AtMostOnce, CanBeReported, phases_of, run_text, run_texts}
 use Rattle.ar_report.proofs.Lines.{none_left, rest_at}
 
 -- ---- one run after another
@@ -33,6 +34,24 @@ pub no_run : (bundle : Bundle) (runs : List RunPart) (histories : List (List Ent
 no_run bundle runs histories place written total past so_far =
     let none : run_texts bundle (drop place runs) (map numbers_of (drop place histories)) ≡ [] = ap (λ runs. run_texts bundle runs (map numbers_of (drop place histories))) (none_left runs place past) in
     sym (append-nil written) ∙ (ap (λ lines. written ++ lines) (sym none) ∙ so_far)
+
+-- ---- one phase after another
+
+pub next_phase : (bundle : Bundle) (runs : List RunPart) (histories : List (List Entry)) (place : ℕ) (run : RunPart) (history : List Entry) (found total : List Phase) (phase : Phase) → place < length runs → run ≡ slice_index_or runs place run → place < length histories → history ≡ slice_index_or histories place history
+    → phase ≡ run_phase run.limits (events_of bundle (numbers_of history)) → found ++ phases_of bundle (drop place runs) (map numbers_of (drop place histories)) ≡ total → (found ++ phase ∷ []) ++ phases_of bundle (drop (place + 1) runs) (map numbers_of (drop (place + 1) histories)) ≡ total
+next_phase bundle runs histories place run history found total phase inside read history_inside history_read is so_far =
+    let there = slice_get_read runs (length runs) place run refl inside read in
+    let history_there = slice_get_read histories (length histories) place history refl history_inside history_read in
+    let rest : phases_of bundle (drop place runs) (map numbers_of (drop place histories)) ≡ phase ∷ phases_of bundle (drop (suc place) runs) (map numbers_of (drop (suc place) histories)) =
+    rw (rest_at runs place run there, rest_at histories place history history_there, is) refl in
+    let next : place + 1 ≡ suc place = omega arith in
+    subst (λ after. (found ++ phase ∷ []) ++ phases_of bundle (drop after runs) (map numbers_of (drop after histories)) ≡ total) (sym next)
+    (append_assoc found (phase ∷ []) (phases_of bundle (drop (suc place) runs) (map numbers_of (drop (suc place) histories))) ∙ (ap (λ phases. found ++ phases) (sym rest) ∙ so_far))
+
+pub no_phase : (bundle : Bundle) (runs : List RunPart) (histories : List (List Entry)) (place : ℕ) (found total : List Phase) → length runs ≤ place → found ++ phases_of bundle (drop place runs) (map numbers_of (drop place histories)) ≡ total → found ≡ total
+no_phase bundle runs histories place found total past so_far =
+    let none : phases_of bundle (drop place runs) (map numbers_of (drop place histories)) ≡ [] = ap (λ runs. phases_of bundle runs (map numbers_of (drop place histories))) (none_left runs place past) in
+    sym (append-nil found) ∙ (ap (λ phases. found ++ phases) (sym none) ∙ so_far)
 
 -- ---- numbers below one, each at most once, are no more than it
 

@@ -9,10 +9,7 @@ use Rattle.ar_board.specs.Bundle.{IsRun, JudgesEach}
 use Rattle.ar_board.specs.declared.bundle.MetricPart.{MetricPart}
 use Rattle.ar_board.specs.declared.bundle.RunPart.{RunPart}
 use Rattle.ar_report.specs.Check.{judge_text, judges_text, runs_text}
-use Rattle.ar_report.proofs.Lines.{none_left, rest_at, two}
-
-pub named : (before first after a b : List ℕ) → first ≡ before ++ a → after ≡ first ++ b → after ≡ before ++ (a ++ b)
-named = two
+use Rattle.ar_report.proofs.Lines.{none_left, rest_at}
 
 same_length : (metrics : List MetricPart) (judges : List Judge) → JudgesEach metrics judges → length judges ≡ length metrics
 same_length [] [] each = refl

@@ -14,7 +14,7 @@ use Rattle.ar_report.specs.Report.{counted}
 unfoldable pub condition_name : (run metric which : List ℕ) → List ℕ
 condition_name run metric which = codes "run " ++ (run ++ (codes " metric " ++ (metric ++ (codes " " ++ which))))
 
--- the texts of a run's conditions, metric by metric, success before failure
+-- a condition's name and its text behind it, where there is one
 abbrev pub condition_text : (Verified → List ℕ) → (name : List ℕ) → Option Verified → List ℕ
 condition_text text name (Some verified) = name ++ text verified
 condition_text text name None = []
@@ -22,10 +22,12 @@ condition_text text name None = []
 abbrev pub verified_of : Option Condition → Option Verified
 verified_of condition = option_map (λ condition. condition.verified) condition
 
+-- the texts of a metric's conditions, success before failure
 abbrev pub judge_text : (Verified → List ℕ) → (run metric : List ℕ) → Judge → List ℕ
 judge_text text run metric judge =
     condition_text text (condition_name run metric (codes "success")) (verified_of judge.success) ++ condition_text text (condition_name run metric (codes "failure")) (verified_of judge.failure)
 
+-- the texts of a run's conditions, metric by metric
 abbrev pub judges_text : (Verified → List ℕ) → (run : List ℕ) → List MetricPart → List Judge → List ℕ
 judges_text text run (metric ∷ metrics) (judge ∷ judges) = judge_text text run metric.name judge ++ judges_text text run metrics judges
 judges_text text run metrics judges = []

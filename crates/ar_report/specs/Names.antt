@@ -27,6 +27,7 @@ fault_name NilOperand = codes "NilOperand"
 fault_name Overflow = codes "Overflow"
 fault_name DivisionByZero = codes "DivisionByZero"
 
+-- a bundle has no misfit that is want of memory, so that no report prints the last name
 abbrev pub misfit_name : ShapeFault → List ℕ
 misfit_name WrongKind = codes "WrongKind"
 misfit_name FloatNumber = codes "FloatNumber"

@@ -1,8 +1,7 @@
 -- The text of a report: a function of a bundle and of one list of its numbers for each run. Phases, counts and effects
 -- are those of the list of events that the numbers are.
-use Rattle.std.specs.Prelude.{ℕ, List, [], ◌∷◌, ◌++◌, codes, decimal, slice_get, option_and_then, option_map, unwrap_or}
+use Rattle.std.specs.Prelude.{◌≤◌, ℕ, List, [], ◌∷◌, ◌++◌, codes, decimal, slice_get, option_and_then, option_map, unwrap_or}
 use Rattle.std.specs.List.{AllByRecursion}
-use Rattle.std.specs.Prelude.{◌≤◌}
 use Rattle.ar_limits.specs.Run.{effects, metric_counts, metric_phases, run_phase}
 use Rattle.ar_limits.specs.declared.counts.Counts.{Counts}
 use Rattle.ar_limits.specs.declared.event.Effect.{Effect}
@@ -41,7 +40,8 @@ metric_lines metrics phases counts = []
 abbrev pub name_at : List MetricPart → (metric : ℕ) → List ℕ
 name_at metrics metric = unwrap_or (option_map (λ part. part.name) (slice_get metrics metric)) []
 
--- what came of an entry: the metric and the verdict, or that it is a stop
+-- what came of an entry: a measurement's metric and verdict, or that it is a stop. The last line is for stops: by
+-- `found_of` a measurement is never found to be a stop, nor a stop to be judged.
 abbrev pub finding_text : List MetricPart → What → Finding → List ℕ
 finding_text metrics (Measure metric sample) (Judged verdict) = name_at metrics metric ++ (codes " " ++ verdict_text verdict)
 finding_text metrics what said = codes "stop"
@@ -74,6 +74,16 @@ run_texts bundle runs numbers = []
 
 abbrev pub report : Bundle → List (List ℕ) → List ℕ
 report bundle numbers = run_texts bundle bundle.runs numbers
+
+-- ---- the phases of runs
+
+-- the phase of each run by the events that its numbers are
+abbrev pub phases_of : Bundle → List RunPart → List (List ℕ) → List Phase
+phases_of bundle (run ∷ runs) (numbers ∷ others) = run_phase run.limits (events_of bundle numbers) ∷ phases_of bundle runs others
+phases_of bundle runs numbers = []
+
+abbrev pub run_phases : Bundle → List (List ℕ) → List Phase
+run_phases bundle numbers = phases_of bundle bundle.runs numbers
 
 -- ---- what can be reported
 

@@ -67,7 +67,7 @@ fn put_name(out: &mut String, run: &str, metric: &str, which: &str) -> Result<()
 }
 
 /// A condition's name and what is shown of it, where there is one.
-#[tactic(auto, using(crate::proofs::Shown::named))]
+#[tactic(auto, using(crate::proofs::Lines::two))]
 fn put_condition(
     alloc: Global,
     out: &mut String,
@@ -78,7 +78,8 @@ fn put_condition(
     verified: Option<&Verified>,
 ) -> Result<(), AllocError>
     ensures { OnOk result (string_bytes out.new ≡ string_bytes out.old
-        ++ condition_text (shown_text shown) (condition_name run.now metric.now which.now) (option_map (λ verified. verified.now) verified.entry)) }
+        ++ condition_text (shown_text shown) (condition_name run.now metric.now which.now)
+        (option_map (λ verified. verified.now) verified.entry)) }
 {
     let Some(verified) = verified else {
         return Ok(());
@@ -114,7 +115,8 @@ fn put_judges(
     run: &RunPart,
 ) -> Result<(), AllocError>
     requires { IsRun metrics.now run.now }
-    ensures { OnOk result (string_bytes out.new ≡ string_bytes out.old ++ judges_text (shown_text shown) run.now.name metrics.now run.now.judges) }
+    ensures { OnOk result (string_bytes out.new ≡ string_bytes out.old
+        ++ judges_text (shown_text shown) run.now.name metrics.now run.now.judges) }
 {
     let judges = run.judges.as_slice();
     for (number, metric) in metrics.iter().enumerate() {

@@ -1,13 +1,14 @@
-//! Texts for people and pipelines: reports of runs, and what is known of conditions before any run.
+//! Reports for people and pipelines: of runs, and of what is known of conditions before any run.
 //!
 //! [`report`] prints the histories of a bundle's runs: the phase of each run, the phase and counts of
 //! each metric, and each event with its verdict and effect. The text is the function of the
-//! histories' numbers that `specs/Report` defines, whatever order these are in. [`check_text`] prints
-//! the bounds of each condition, and [`list_text`] its code (`specs/Check`).
+//! histories' numbers that `specs/Report` defines, whatever order these are in. [`run_phases`] answers
+//! the phases of the runs. [`check_text`] prints the bounds of each condition, and [`list_text`] its
+//! code (`specs/Check`).
 //!
 //! - `conditions`: the lines of conditions
 //! - `names`: phases, faults, verdicts and effects as they are printed
-//! - `reports`: the lines of a report
+//! - `reports`: the lines of a report, and the phases of runs
 //! - [`laws`]: what can be reported
 #![tactic(auto)]
 
@@ -18,4 +19,4 @@ mod reports;
 
 pub use conditions::{check_text, list_text};
 pub use names::{fault_name, phase_name};
-pub use reports::report;
+pub use reports::{report, run_phases};

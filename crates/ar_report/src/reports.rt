@@ -1,4 +1,4 @@
-//! The lines of a report.
+//! The lines of a report, and the phases of runs.
 
 ghost use Rattle.std.specs.Prelude.{◌≡◌, ◌≤◌, ◌++◌, IfOk, OnOk, Some, codes, decimal, length, map, string_bytes};
 ghost use Rattle.ar_limits.specs.Replay.{Replays};
@@ -7,7 +7,7 @@ ghost use Rattle.ar_limits.specs.Run.{effects};
 ghost use Rattle.ar_report.specs.Private.Entries.{AreFound, entry_lines};
 ghost use Rattle.ar_board.specs.Lawful.{numbers_of};
 ghost use Rattle.ar_report.specs.Names.{effect_text};
-ghost use Rattle.ar_report.specs.Report.{CanBeReported, counted, counts_text, errors_text, event_line, finding_text, name_at, metric_line, metric_lines, report, run_line, run_text};
+ghost use Rattle.ar_report.specs.Report.{CanBeReported, counted, counts_text, errors_text, event_line, finding_text, name_at, metric_line, metric_lines, report, run_line, run_phases, run_text};
 
 use crate::names::{phase_name, put_effect, put_verdict};
 use ar_board::{Bundle, Entry, Finding, Histories, MetricPart, RunPart, What};
@@ -217,4 +217,28 @@ pub fn report(alloc: Global, bundle: &Bundle, histories: &Histories) -> Result<S
         put_run(alloc, &mut out, bundle, run, histories[number].entries())?;
     }
     Ok(out)
+}
+
+/// The phase of each of a bundle's runs, in their order, by their histories, as [`report`] takes them:
+/// that of the run's line in the report.
+///
+/// # Errors
+///
+/// Want of memory alone.
+#[tactic(auto, using(crate::proofs::Runs::has_history, crate::proofs::Runs::next_phase, crate::proofs::Runs::no_phase, crate::proofs::Runs::run_is_run))]
+pub fn run_phases(
+    alloc: Global,
+    bundle: &Bundle,
+    histories: &Histories,
+) -> Result<Vec<Phase>, AllocError>
+    requires { CanBeReported bundle.now histories.now }
+    ensures { IfOk result (λ phases. phases.items ≡ run_phases bundle.now (map numbers_of histories.now)) }
+{
+    let mut phases = Vec::new(alloc);
+    let histories = histories.runs();
+    for (number, run) in bundle.runs().iter().enumerate() {
+        let history = histories[number].entries();
+        phases.push(replayed(alloc, bundle, run, history)?.phase())?;
+    }
+    Ok(phases)
 }
