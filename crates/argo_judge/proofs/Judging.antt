@@ -1,9 +1,7 @@
 -- What a condition comes to on what was read.
-use Rattle.std.proofs.Common.{◌≡◌, ◌≤◌, ℕ, Bool, true, false, List, Option, Some, None, Result, Ok, Err, refl, sym, ap, subst, ◌∙◌, arith}
-use Rattle.std.specs.Prelude.{IfSome, length, nat_lt}
-use Rattle.std.proofs.lemmas.Bool.Decides.{nat_tests}
+use Rattle.std.proofs.Common.{◌≡◌, ℕ, Bool, List, Some, Result, Ok, Err, refl, subst}
 use Rattle.serde_json.specs.Data.{Data}
-use Rattle.ar_value.specs.Answer.{◌>>=◌, Unless}
+use Rattle.ar_value.specs.Answer.{Unless}
 use Rattle.ar_value.specs.Reading.{is_memory, read}
 use Rattle.ar_value.specs.Shape.{Shape}
 use Rattle.ar_value.specs.Value.{Value}
@@ -14,8 +12,10 @@ use Rattle.ar_value.specs.declared.value_reading.ShapeFault.TheVariants as shape
 use Rattle.ar_judge.specs.Condition.{Condition, IsBuilt, IsRefused, said}
 use Rattle.ar_judge.specs.declared.error.BuildCause.{BuildCause}
 use Rattle.ar_judge.specs.declared.error.BuildCause.TheVariants as causes
-use Rattle.argo_judge.specs.Input.{most_bytes}
-use Rattle.argo_judge.specs.Evaluation.{Evaluates, Follows, IsRunnable, Judges, UnlessMemory, document_of, given, meant, of_build, of_misfit, prepared, prepared_input}
+use Rattle.ar_document.specs.Json.{is_memory as is_json_memory, json_in}
+use Rattle.ar_document.specs.declared.json.JsonError.{JsonError}
+use Rattle.ar_document.specs.declared.json.JsonError.TheVariants as json_error
+use Rattle.argo_judge.specs.Evaluation.{Evaluates, Follows, Answers, UnlessMemory, given, of_build, of_json, of_misfit, prepared, prepared_input}
 use Rattle.argo_judge.specs.Serving.{of_eval}
 use Rattle.argo_judge.specs.declared.serve.Refusal.TheVariants.{Eval}
 use Rattle.argo_judge.specs.declared.serve.ServeError.TheVariants.{Refused}
@@ -23,7 +23,7 @@ use Rattle.argo_judge.specs.declared.eval.EvalError.{EvalError}
 use Rattle.argo_judge.specs.declared.eval.EvalError.TheVariants.{OutOfMemory}
 
 -- a text that is no condition that can be run is refused for its cause
-pub not_built : (text : List ℕ) (shape : Shape) (measured : Data) (cause : BuildCause) → IsRefused shape text cause → UnlessMemory (Err (of_build cause)) (Judges (given text shape measured))
+pub not_built : (text : List ℕ) (shape : Shape) (measured : Data) (cause : BuildCause) → IsRefused shape text cause → UnlessMemory (Err (of_build cause)) (Answers (given text shape measured))
 not_built text shape measured causes.OutOfMemory refused = tt
 not_built text shape measured (causes.Grammar error) refused = refused
 not_built text shape measured (causes.Kinds error) refused = refused
@@ -35,7 +35,7 @@ said_as shape text condition value answer built says = subst (λ text. said shap
 
 -- a condition that is run on what was read answers what is meant
 pub answered : (text : List ℕ) (shape : Shape) (measured : Data) (condition : Condition) (value : Value) (answer : Result Bool Fault) → IsBuilt shape text condition → read (shape_view condition.verified.shape) measured ≡ Ok value → said (shape_view condition.verified.shape) condition.text value ≡ Some answer
-    → Judges (given text shape measured) (Ok answer)
+    → Answers (given text shape measured) (Ok answer)
 answered text shape measured condition value answer built is_read says =
     let read_shape : read shape measured ≡ Ok value = rw built.shape_is at is_read in
     let said_shape = said_as shape text condition value answer built says in
@@ -43,30 +43,27 @@ answered text shape measured condition value answer built is_read says =
 
 -- a misfit of what was measured is told, where the condition can be run
 pub misfit_told : (text : List ℕ) (shape : Shape) (measured : Data) (condition : Condition) (fault : ShapeFault) → IsBuilt shape text condition → Unless (is_memory fault) (read (shape_view condition.verified.shape) measured ≡ Err fault)
-    → UnlessMemory (Err (of_misfit fault)) (Judges (given text shape measured))
+    → UnlessMemory (Err (of_misfit fault)) (Answers (given text shape measured))
 misfit_told text shape measured condition shape_fault.OutOfMemory built told = tt
 misfit_told text shape measured condition fault built told =
     let unread : read shape measured ≡ Err fault = rw built.shape_is at told in
     (record { condition = condition; built = built }, rw unread refl)
 
 -- an answer for a document is one for the input that it is
-pub of_document : (input : List ℕ) (document : Data) (answer : Result (Result Bool Fault) EvalError) → nat_lt most_bytes (length input) ≡ false → document_of input ≡ Some document → UnlessMemory answer (Follows (prepared document)) → UnlessMemory answer (Evaluates input)
+pub of_document : (input : List ℕ) (document : Data) (answer : Result (Result Bool Fault) EvalError) → json_in input ≡ Ok document → UnlessMemory answer (Follows (prepared document)) → UnlessMemory answer (Evaluates input)
 unfolding prepared_input
-of_document input document (Ok said) small is h = record { follows = rw (small, is) h }
-of_document input document (Err OutOfMemory) small is h = tt
-of_document input document (Err fault) small is h = record { follows = rw (small, is) h }
+of_document input document (Ok said) is h = record { follows = rw is h }
+of_document input document (Err OutOfMemory) is h = tt
+of_document input document (Err fault) is h = record { follows = rw is h }
 
--- a refusal of what was read is one of the input
-pub refusal_of : (input bytes : List ℕ) (error : EvalError) (fault : EvalError) → ((answer : Result (Result Bool Fault) EvalError) → Evaluates bytes answer → Evaluates input answer) → UnlessMemory (Err error) (Evaluates bytes) → Refused (Eval fault) ≡ of_eval error
-    → Evaluates input (Err fault)
-refusal_of input bytes OutOfMemory fault further told same = absurd cc
-refusal_of input bytes error fault further told same = let is : error ≡ fault = cc in further (Err fault) (subst (λ error. Evaluates bytes (Err error)) is told)
+-- an input that is no document is refused for that
+pub of_no_document : (input : List ℕ) (error : JsonError) → Unless (is_json_memory error) (json_in input ≡ Err error) → UnlessMemory (Err (of_json error)) (Evaluates input)
+unfolding prepared_input
+of_no_document input json_error.OutOfMemory none = tt
+of_no_document input json_error.TooLarge none = record { follows = rw none refl }
+of_no_document input json_error.Utf8OrJson none = record { follows = rw none refl }
 
--- a refusal of all that is known of an input
-pub refusals : (known : Option (List ℕ)) (bytes : List ℕ) (error : EvalError) (fault : EvalError) → IfSome known (λ input. (answer : Result (Result Bool Fault) EvalError) → Evaluates bytes answer → Evaluates input answer) → UnlessMemory (Err error) (Evaluates bytes)
-    → Refused (Eval fault) ≡ of_eval error → IfSome known (λ input. Evaluates input (Err fault))
-refusals (Some input) bytes error fault further told same = refusal_of input bytes error fault further told same
-refusals None bytes error fault further told same = tt
-
-pub no_large : (input : List ℕ) → length input ≤ most_bytes → nat_lt most_bytes (length input) ≡ false
-no_large input small = grind (arith, nat_tests)
+-- a refusal that isn't want of memory is that of the input
+pub refusal_of : (input : List ℕ) (error fault : EvalError) → UnlessMemory (Err error) (Evaluates input) → Refused (Eval fault) ≡ of_eval error → Evaluates input (Err fault)
+refusal_of input OutOfMemory fault told same = absurd cc
+refusal_of input error fault told same = let is : error ≡ fault = cc in subst (λ error. Evaluates input (Err error)) is told

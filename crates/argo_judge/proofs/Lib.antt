@@ -1,3 +1,4 @@
 pub mod Documents
 pub mod Judging
+pub mod Reporting
 mod Facts

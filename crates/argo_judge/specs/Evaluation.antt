@@ -1,8 +1,6 @@
--- What `eval` writes: a function of the JSON document that it reads.
-use Rattle.std.specs.Prelude.{◌≡◌, ◌<◌, ◌≤◌, ℕ, nat_lt, if◌then◌else◌, Bool, true, false, List, [], ◌∷◌, ◌++◌, length, codes, Option, Some, None, option_and_then, Result, Ok, Err}
-use Rattle.std.specs.Str.{is_utf8}
+-- What `eval` writes for an input: a relation, since a condition's verified code is one.
+use Rattle.std.specs.Prelude.{◌≡◌, ℕ, Bool, true, false, List, ◌++◌, codes, Option, Some, None, option_and_then, Result, Ok, Err}
 use Rattle.serde_json.specs.Data.{Data}
-use Rattle.serde_json.specs.Read.{read as read_text}
 use Rattle.serde_json.specs.Find.{get, as_str}
 use Rattle.ar_value.specs.Answer.{◌>>=◌}
 use Rattle.ar_value.specs.Declaration.{shape_of}
@@ -16,8 +14,10 @@ use Rattle.ar_judge.specs.Condition.{Condition, IsBuilt, IsRefused, refused_as, 
 use Rattle.ar_judge.specs.declared.error.BuildCause.{BuildCause}
 use Rattle.ar_judge.specs.declared.error.BuildCause.TheVariants as causes
 use Rattle.ar_value.specs.declared.fault.Fault.{Fault}
-use Rattle.ar_value.specs.declared.fault.Fault.TheVariants.{IndexOutOfRange, NilOperand, Overflow, DivisionByZero}
-use Rattle.argo_judge.specs.Input.{most_bytes}
+use Rattle.ar_report.specs.Names.{fault_name}
+use Rattle.ar_document.specs.Json.{json_in}
+use Rattle.ar_document.specs.declared.json.JsonError.{JsonError}
+use Rattle.ar_document.specs.declared.json.JsonError.TheVariants as json_error
 use Rattle.argo_judge.specs.declared.eval.EvalError.{EvalError}
 use Rattle.argo_judge.specs.declared.eval.EvalError.TheVariants.{TooLarge, Utf8OrJson, BadDocument, Shape as BadShape, Grammar, Kinds, Compiler, Verifier, Misfit, OutOfMemory}
 
@@ -55,16 +55,14 @@ meant given = do
   value ← refused_as Misfit (read given.shape given.measured)
   Ok (said given.shape given.text value)
 
--- the JSON value (RFC 8259) whose text in UTF-8 an input is
-abbrev pub document_of : List ℕ → Option Data
-document_of input = if is_utf8 input then read_text input else None
-
-abbrev pub prepared_document : Option Data → Result Prepared EvalError
-prepared_document None = Err Utf8OrJson
-prepared_document (Some document) = prepared document
+-- faults of JSON, as they are answered
+abbrev pub of_json : JsonError → EvalError
+of_json json_error.TooLarge = TooLarge
+of_json json_error.Utf8OrJson = Utf8OrJson
+of_json json_error.OutOfMemory = OutOfMemory
 
 unfoldable pub prepared_input : List ℕ → Result Prepared EvalError
-prepared_input input = if nat_lt most_bytes (length input) then Err TooLarge else prepared_document (document_of input)
+prepared_input input = refused_as of_json (json_in input) >>= prepared
 
 -- the text is a condition that can be run
 pub record IsRunnable (given : Prepared) : Type 0 where
@@ -72,33 +70,27 @@ pub record IsRunnable (given : Prepared) : Type 0 where
   pub built : IsBuilt given.shape given.text condition
 
 -- what is answered: why the text is no condition that can be run, or else what it says of the value
-abbrev pub Judges : Prepared → Result (Result Bool Fault) EvalError → Type 0
-Judges given (Err (Grammar error)) = IsRefused given.shape given.text (causes.Grammar error)
-Judges given (Err (Kinds error)) = IsRefused given.shape given.text (causes.Kinds error)
-Judges given (Err (Compiler error)) = IsRefused given.shape given.text (causes.Compiler error)
-Judges given (Err (Verifier place reason)) = IsRefused given.shape given.text (causes.Verifier place reason)
-Judges given (Err error) = IsRunnable given × (meant given ≡ Err error)
-Judges given (Ok answer) = IsRunnable given × (meant given ≡ Ok (Some answer))
+abbrev pub Answers : Prepared → Result (Result Bool Fault) EvalError → Type 0
+Answers given (Err (Grammar error)) = IsRefused given.shape given.text (causes.Grammar error)
+Answers given (Err (Kinds error)) = IsRefused given.shape given.text (causes.Kinds error)
+Answers given (Err (Compiler error)) = IsRefused given.shape given.text (causes.Compiler error)
+Answers given (Err (Verifier place reason)) = IsRefused given.shape given.text (causes.Verifier place reason)
+Answers given (Err error) = IsRunnable given × (meant given ≡ Err error)
+Answers given (Ok answer) = IsRunnable given × (meant given ≡ Ok (Some answer))
 
 abbrev pub Follows : Result Prepared EvalError → Result (Result Bool Fault) EvalError → Type 0
-Follows (Ok given) answer = Judges given answer
+Follows (Ok given) answer = Answers given answer
 Follows (Err fault) answer = answer ≡ Err fault
 
 -- what an input's condition says of its value, or the first fault that stands in the input
 pub record Evaluates (input : List ℕ) (answer : Result (Result Bool Fault) EvalError) : Type 0 where
   pub follows : Follows (prepared_input input) answer
 
-abbrev pub name_of : Fault → List ℕ
-name_of IndexOutOfRange = codes "IndexOutOfRange"
-name_of NilOperand = codes "NilOperand"
-name_of Overflow = codes "Overflow"
-name_of DivisionByZero = codes "DivisionByZero"
-
 -- the line that is written: a truth value, or a fault by its name, and a line feed
 abbrev pub line_of : Result Bool Fault → List ℕ
-line_of (Ok true) = codes "true" ++ 10 ∷ []
-line_of (Ok false) = codes "false" ++ 10 ∷ []
-line_of (Err fault) = codes "fault " ++ name_of fault ++ 10 ∷ []
+line_of (Ok true) = codes "true\n"
+line_of (Ok false) = codes "false\n"
+line_of (Err fault) = codes "fault " ++ (fault_name fault ++ codes "\n")
 
 -- a line is written for an input
 pub record Writes (input line : List ℕ) : Type 0 where

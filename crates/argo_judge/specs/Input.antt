@@ -1,10 +1,7 @@
 -- Reading a whole input, up to a limit.
 use Rattle.std.specs.Prelude.{ℕ, ◌≤◌, List, length, Option}
 use Rattle.std.specs.Io.KnownBytes.{Consumes, IsAtEnd}
-
--- how many bytes a document may have
-abbrev pub most_bytes : ℕ
-most_bytes = 16777216
+use Rattle.ar_document.specs.Json.{most_bytes}
 
 -- the bytes were read from the front of those known, and all of them unless they are too many
 pub record ReadsInput (before after : Option (List ℕ)) (bytes : List ℕ) : Type 0 where

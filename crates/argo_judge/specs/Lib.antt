@@ -1,3 +1,4 @@
+pub mod Private
 pub mod Device
 pub mod Input
 pub mod Evaluation

@@ -2,22 +2,42 @@
 
 use crate::serve::Command;
 use clap::error::ErrorKind;
+use clap::{Arg, ArgAction, ArgMatches};
 use std::alloc::{AllocError, Global};
 use thiserror::Error;
 
 const HELP: &str =
-    "Reads one JSON document from standard input and writes the answer to standard output.
-A fault is one line on standard error.
+    "Each command reads one JSON document from standard input and writes its answer to standard output.
+A fault is one line on standard error: where it stands, its name, and what was expected.
 
-Exit status: 0 answered, 2 command line or input refused, 3 out of memory, 4 a read or write failed.
+  eval   tries one condition on one value, before it goes into a template
+  check  checks a whole document, and tells what each condition may cost at most
+  list   checks a whole document, and lists the code of each condition
+  run    judges a document's measurements, and reports the phase of each run
 
-Example:
-  echo '{\"condition\":\"result >= 0.95\",\"shape\":\"decimal\",\"value\":\"0.9523\"}' | argo_judge eval";
+A document for check, list and run has a template, the shapes of its metrics' measured values, runs
+and measurements; `argo_judge run --help` shows one.
+
+Exit status:
+  0  the command was carried out
+  1  run: a run is Failed, Error or Inconclusive
+  2  the command line or the input is refused
+  3  out of memory
+  4  a read or a write failed
+
+Examples:
+  echo '{\"condition\":\"result >= 0.95\",\"shape\":\"decimal\",\"value\":\"0.9523\"}' | argo_judge eval
+  argo_judge check < document.json
+  kubectl get analysistemplate success-rate -o json |
+    jq '{manifest: ., shapes: {\"success-rate\": {list: \"decimal\", max: 10}}, runs: [{name: \"canary-1\"}],
+         measurements: [{run: \"canary-1\", metric: \"success-rate\", value: [\"0.97\"]}]}' |
+    argo_judge run --plain";
 
 const EVAL_HELP: &str = "Standard input is {\"condition\":TEXT,\"shape\":SHAPE,\"value\":VALUE}.
   condition  as a successCondition or failureCondition of Argo Rollouts: `result`, literals,
              fields, indices, + - * / %, == != < <= > >=, in, not in, and, or, not, ? :, lists,
-             len, isNil, default, all, any, count, filter
+             len, isNil, default, all, any, count, filter; {{args.x}} is no part of it: arguments
+             are bound in a template (argo_judge run --help)
   shape      \"bool\", \"whole\", \"decimal\", \"text\", {\"list\":SHAPE,\"max\":NUMBER},
              {\"record\":{NAME:SHAPE,..}} or {\"optional\":SHAPE}
   value      JSON of that shape; a decimal is a text, as \"0.9523\", or a whole number
@@ -27,6 +47,87 @@ DivisionByZero.
 Examples:
   echo '{\"condition\":\"result >= 0.95\",\"shape\":\"decimal\",\"value\":\"0.9523\"}' | argo_judge eval
   echo '{\"condition\":\"all(result, # < 500)\",\"shape\":{\"list\":\"whole\",\"max\":10},\"value\":[437,512]}' | argo_judge eval";
+
+/// The help of `check`, `list` and `run`: the document that they read, and what they make of it.
+macro_rules! document_help {
+    ($answer:literal) => {
+        concat!(
+            "Standard input is one JSON document:
+
+  {
+    \"manifest\": {
+      \"apiVersion\": \"argoproj.io/v1alpha1\", \"kind\": \"AnalysisTemplate\", \"metadata\": {\"name\": \"success-rate\"},
+      \"spec\": {
+        \"args\": [{\"name\": \"threshold\", \"value\": \"0.95\"}],
+        \"metrics\": [{\"name\": \"success-rate\", \"interval\": \"1m\", \"count\": 3,
+                     \"successCondition\": \"result[0] >= {{args.threshold}}\"}]}},
+    \"shapes\": {\"success-rate\": {\"list\": \"decimal\", \"max\": 10}},
+    \"runs\": [{\"name\": \"canary-1\"}, {\"name\": \"canary-2\", \"args\": {\"threshold\": \"0.99\"}}],
+    \"measurements\": [
+      {\"run\": \"canary-1\", \"metric\": \"success-rate\", \"value\": [\"0.97\"]},
+      {\"run\": \"canary-2\", \"metric\": \"success-rate\", \"value\": [\"0.97\"]},
+      {\"run\": \"canary-1\", \"stop\": true}
+    ]
+  }
+
+  manifest      the AnalysisTemplate, as `kubectl get analysistemplate NAME -o json` prints it
+  shapes        for each metric, by its name, the shape of what is measured (argo_judge eval --help)
+  runs          1 to 64 runs of the template, each with a name of its own; `args` go before the
+                template's arguments and may be missing
+  measurements  what happened, in this order; may be missing. Each has a `run` and either
+                \"stop\":true or a `metric` and one of `value` and `error`: what was measured, or
+                anything where the provider failed. A decimal is a text, as \"0.97\", or a whole number
+Members that aren't named here are ignored.
+
+",
+            $answer
+        )
+    };
+}
+
+const CHECK_HELP: &str = document_help!(
+    "Standard output has a line for each condition of each run, its arguments put in: how many
+operations its code has, how many operands it holds at once at most, and what it costs at most:
+
+  run canary-1 metric success-rate success operations=6 depth=2 budget=6
+  run canary-2 metric success-rate success operations=6 depth=2 budget=6"
+);
+
+const LIST_HELP: &str = document_help!(
+    "Standard output has the code of each condition of each run, its arguments put in, an operation
+a line; decimals are in millionths:
+
+  run canary-1 metric success-rate success
+  0 LoadResult
+  1 PushWhole 0
+  2 Index
+  3 PushDecimal 950000
+  4 GeD
+  5 Return
+  run canary-2 metric success-rate success
+  0 LoadResult
+  1 PushWhole 0
+  2 Index
+  3 PushDecimal 990000
+  4 GeD
+  5 Return"
+);
+
+const RUN_HELP: &str = document_help!(
+    "Standard output has for each run its phase, then each metric with its phase and counts, then
+what happened to it, by its number in `measurements`, from 0:
+
+  run canary-1 Successful
+  metric success-rate Successful successful=1 failed=0 inconclusive=0 error=0 consecutiveError=0
+  event 0 success-rate Successful applied
+  event 2 stop closed Successful
+  run canary-2 Failed
+  metric success-rate Failed successful=0 failed=1 inconclusive=0 error=0 consecutiveError=0
+  event 1 success-rate Failed closed Failed
+
+A phase is Pending, Running, Successful, Failed, Error or Inconclusive. The exit status is 1 where a
+run is Failed, Error or Inconclusive, as it is here."
+);
 
 /// What a command line asks for.
 #[derive(Debug, Drop)]
@@ -39,8 +140,13 @@ pub enum Request {
 /// Why a command line asks for nothing.
 #[derive(Clone, Copy, Debug, PartialEq, Eq, Error)]
 pub enum UsageError {
-    #[error("command line: Words: expected `eval`, --help or --version")]
+    #[error("command line: Words: expected `eval`, `check`, `list` or `run --plain`, with the document on standard input, or --help")]
     Words,
+    #[error("command line, --workers: Workers: expected a whole number from 1 to 16")]
+    Workers,
+    /// It asks for a run with workers.
+    #[error("command line, run: OnlyPlain: runs with several workers aren't there yet; expected `run --plain`, which has none")]
+    OnlyPlain,
     #[error("out of memory")]
     OutOfMemory,
 }
@@ -60,10 +166,11 @@ impl From<AllocError> for UsageError {
 ///
 /// # Errors
 ///
-/// `Words` where they are no command line of the program's.
+/// `Words` where they are no command line of the program's, then `Workers` where the number of
+/// workers is none from 1 to 16, then `OnlyPlain` for a run without `--plain`.
 pub(crate) fn request_of(alloc: Global, words: &[String]) -> Result<Request, UsageError> {
     match application(alloc)?.try_get_matches_from(words) {
-        Ok(_) => Ok(Request::Run(Command::Eval)),
+        Ok(matches) => Ok(Request::Run(command_of(&matches)?)),
         Err(error) => match error.kind() {
             ErrorKind::DisplayHelp | ErrorKind::DisplayVersion => {
                 Ok(Request::Show(format!(in alloc; "{error}")?))
@@ -74,15 +181,84 @@ pub(crate) fn request_of(alloc: Global, words: &[String]) -> Result<Request, Usa
     }
 }
 
+fn command_of(matches: &ArgMatches<'_>) -> Result<Command, UsageError> {
+    match matches.subcommand() {
+        Some(("eval", _)) => Ok(Command::Eval),
+        Some(("check", _)) => Ok(Command::Check),
+        Some(("list", _)) => Ok(Command::List),
+        Some(("run", run)) => run_of(run),
+        _ => Err(UsageError::Words),
+    }
+}
+
+/// What `run` asks for. A run without workers has no use for their number, which is checked all
+/// the same.
+fn run_of(matches: &ArgMatches<'_>) -> Result<Command, UsageError> {
+    if let Some(number) = matches.get_str("workers")
+        && !is_number_of_workers(number)
+    {
+        return Err(UsageError::Workers);
+    }
+    if matches.get_flag("plain") {
+        Ok(Command::Plain)
+    } else {
+        Err(UsageError::OnlyPlain)
+    }
+}
+
+fn is_number_of_workers(text: &str) -> bool {
+    matches!(text.parse::<u64>(), Ok(1..=16))
+}
+
 fn application<'a>(alloc: Global) -> Result<clap::Command<'a>, AllocError> {
-    let eval = clap::Command::new(alloc, "eval")
-        .about("Judge one condition on one value")
-        .after_help(EVAL_HELP);
     clap::Command::new(alloc, "argo_judge")
         .version("0.1.0")
         .about("Judges canary measurements by the conditions of Argo Rollouts' analysis")
         .after_help(HELP)
         .disable_help_subcommand(true)
         .subcommand_required(true)
-        .subcommand(eval)
+        .subcommand(subcommand(alloc, "eval", "Judge one condition on one value", EVAL_HELP))?
+        .subcommand(subcommand(
+            alloc,
+            "check",
+            "Check a document, and tell what its conditions cost at most",
+            CHECK_HELP,
+        ))?
+        .subcommand(subcommand(
+            alloc,
+            "list",
+            "Check a document, and list the code of its conditions",
+            LIST_HELP,
+        ))?
+        .subcommand(run(alloc)?)
+}
+
+fn subcommand<'a>(
+    alloc: Global,
+    name: &'a str,
+    about: &'a str,
+    help: &'a str,
+) -> clap::Command<'a> {
+    clap::Command::new(alloc, name)
+        .about(about)
+        .after_help(help)
+}
+
+fn run<'a>(alloc: Global) -> Result<clap::Command<'a>, AllocError> {
+    let workers = Arg::new(alloc, "workers")
+        .long("workers")
+        .value_name("N")
+        .help("How many workers judge, 1 to 16; without a meaning beside --plain");
+    let plain = Arg::new(alloc, "plain")
+        .long("plain")
+        .action(ArgAction::SetTrue)
+        .help("Judge without workers, one measurement after another");
+    subcommand(
+        alloc,
+        "run",
+        "Judge a document's measurements, and report its runs",
+        RUN_HELP,
+    )
+    .arg(workers)?
+    .arg(plain)
 }

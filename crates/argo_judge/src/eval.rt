@@ -3,16 +3,16 @@
 ghost use Rattle.std.specs.Prelude.{◌≡◌, ◌<◌, Err, List, false, length, ℕ};
 ghost use Rattle.serde_json.specs.View.{view};
 ghost use Rattle.ar_value.specs.Answer as answer;
-ghost use Rattle.argo_judge.specs.Evaluation.{Evaluates, Follows, Judges, UnlessMemory, given, parts_of, prepared};
+ghost use Rattle.argo_judge.specs.Evaluation.{Answers, Evaluates, Follows, UnlessMemory, given, parts_of, prepared};
 ghost use Rattle.ar_value.specs.Shape.{Shape as Declared};
 ghost use Rattle.ar_value.specs.View.{shape_view};
 ghost use Rattle.ar_judge.specs.Condition.{IsBuilt};
-ghost use Rattle.argo_judge.specs.Input.{most_bytes};
+ghost use Rattle.ar_document.specs.Json.{most_bytes};
 ghost use Rattle.argo_judge.specs.declared.eval.EvalError.TheVariants.{TooLarge};
 
-use crate::input::MOST_INPUT_BYTES;
 use ar_check::TypeError;
 use ar_compile::CompileError;
+use ar_document::{JsonError, read_json};
 use ar_judge::{BuildCause, Condition};
 use ar_machine::Answer;
 use ar_syntax::SyntaxError;
@@ -106,27 +106,36 @@ impl From<AllocError> for EvalError {
     }
 }
 
+impl From<JsonError> for EvalError {
+    ghost use Rattle.std.specs.Prelude.{◌≡◌};
+    ghost use Rattle.argo_judge.specs.Evaluation.{of_json};
+
+    ghost from_gives = { λ error e. e ≡ of_json error };
+
+    fn from(error: JsonError) -> EvalError {
+        match error {
+            JsonError::TooLarge => EvalError::TooLarge,
+            JsonError::Utf8OrJson => EvalError::Utf8OrJson,
+            JsonError::OutOfMemory => EvalError::OutOfMemory,
+        }
+    }
+}
+
 /// What the condition of a JSON document says of its value: the document is an object with a text
 /// `condition`, a `shape` and a `value`.
 ///
 /// # Errors
 ///
 /// The first fault that stands in the input, in the order of `EvalError`.
-#[tactic(auto, using(crate::proofs::Documents::json, crate::proofs::Documents::no_json, crate::proofs::Judging::of_document), unfolding(crate::specs::Evaluation::prepared_input))]
+#[tactic(auto, using(crate::proofs::Judging::of_document, crate::proofs::Judging::of_no_document))]
 pub fn evaluate(alloc: Global, input: &[u8]) -> Result<Answer, EvalError>
     ensures exact { UnlessMemory result (Evaluates input.now) }
 
     // An input that is too large is refused for that alone.
     ensures too_large { most_bytes < length input.now → result ≡ Err TooLarge }
 {
-    if input.len() > MOST_INPUT_BYTES {
-        return Err(EvalError::TooLarge);
-    }
-    match Json::from_slice(alloc, input) {
-        Ok(document) => judge(alloc, &document),
-        Err(error) if error.is_memory() => Err(EvalError::OutOfMemory),
-        Err(_) => Err(EvalError::Utf8OrJson),
-    }
+    let document = read_json(alloc, input)?;
+    judge(alloc, &document)
 }
 
 /// What the condition of a document says of its value.
@@ -142,7 +151,7 @@ fn judge(alloc: Global, document: &Json) -> Result<Answer, EvalError>
 /// What a condition's text says of what was measured.
 #[tactic(auto, using(crate::proofs::Judging::not_built))]
 fn judge_text(alloc: Global, text: &str, shape: Shape, measured: &Json) -> Result<Answer, EvalError>
-    ensures { UnlessMemory result (Judges (given text.now (shape_view shape) (view measured.now))) }
+    ensures { UnlessMemory result (Answers (given text.now (shape_view shape) (view measured.now))) }
 {
     let condition = Condition::build(alloc, text, shape)?;
     answer(alloc, &condition, measured)
@@ -152,7 +161,7 @@ fn judge_text(alloc: Global, text: &str, shape: Shape, measured: &Json) -> Resul
 #[tactic(auto, using(crate::proofs::Judging::answered))]
 fn answer(alloc: Global, condition: &Condition, measured: &Json) -> Result<Answer, EvalError>
     ensures { (text : List ℕ) (shape : Declared) → IsBuilt shape text condition.now
-        → UnlessMemory result (Judges (given text shape (view measured.now))) }
+        → UnlessMemory result (Answers (given text shape (view measured.now))) }
 {
     let value = read_value(alloc, measured, condition.verified().shape())?;
     Ok(condition.answer(alloc, &value)?)

@@ -4,16 +4,14 @@ ghost use Rattle.std.specs.Prelude.{◌≡◌, false, true, IfOk, length};
 ghost use Rattle.argo_judge.specs.Input.{ReadsInput};
 
 use crate::device::Source;
+use ar_document::json::MOST_BYTES;
 use std::alloc::{AllocError, Global};
-
-/// How many bytes a document may have.
-pub const MOST_INPUT_BYTES: usize = 16_777_216;
 
 /// How many bytes one read asks for.
 const CHUNK: usize = 65_536;
 
 /// Each turn but the last reads a byte or more, and the first byte too many ends the loop.
-const TURNS: usize = MOST_INPUT_BYTES + 2;
+const TURNS: usize = MOST_BYTES + 2;
 
 /// Why an input can't be had.
 #[derive(Debug, Drop)]
@@ -54,7 +52,7 @@ pub fn read_input<R: Source>(alloc: Global, source: &mut R) -> Result<Vec<u8>, I
             return Ok(bytes);
         }
         bytes.extend_from_slice(&chunk[..count])?;
-        if bytes.len() > MOST_INPUT_BYTES {
+        if bytes.len() > MOST_BYTES {
             return Ok(bytes);
         }
     }

@@ -14,24 +14,31 @@
 //! - `device`: readers and writers that remember whether they failed
 //! - `status`: exit statuses
 //! - `command_line`: the command line, read with `clap`
+//! - `kept`: a reader that keeps what was read
+//! - `words`: the words of a refusal, with names of the document that was read
 #![tactic(auto)]
 
+mod answer;
 mod command_line;
 pub mod device;
 pub mod eval;
 pub mod input;
+mod kept;
 pub mod serve;
 pub mod status;
 #[cfg(test)]
 mod tests;
+mod words;
 
 use command_line::{Request, UsageError, request_of};
 use device::Device;
-use serve::{Command, ServeError, serve_plain};
+use kept::Kept;
+use serve::{Command, Refusal, ServeError, serve_plain};
 use std::alloc::AllocError;
 use std::process::ExitCode;
 use std::rt::Env;
 use std::{env, io};
+use words::refusal_text;
 
 fn main(rt: HostRuntime) -> ExitCode {
     ExitCode::from(run(&rt))
@@ -43,15 +50,14 @@ fn run<R: Env + AllocGlobal + Input + Print + Eprint>(rt: &R) -> u8 {
         Ok(Request::Run(command)) => carry_out(rt, command),
         Ok(Request::Show(text)) => match rt.print(text) {
             Ok(()) => status::GOOD,
-            Err(error) => {
-                tell(rt, ServeError::Write, Some(&error));
-                status::DEVICE
-            }
+            Err(error) => { end(rt, ServeError::Write, Some(&error)) }
         },
         Err(error) => {
             let _ = eprintln!(rt; "argo_judge: {error}");
             match error {
-                UsageError::Words => status::REFUSED,
+                UsageError::Words | UsageError::Workers | UsageError::OnlyPlain => {
+                    status::REFUSED
+                }
                 UsageError::OutOfMemory => status::OUT_OF_MEMORY,
             }
         }
@@ -75,16 +81,34 @@ fn request<R: Env + AllocGlobal>(rt: &R) -> Result<Request, UsageError> {
 
 /// Carries a command out on the standard streams, and tells of a fault in one line.
 fn carry_out<R: AllocGlobal + Input + Print + Eprint>(rt: &R, command: Command) -> u8 {
-    let mut reader = Device::new(rt.reader());
+    let mut reader = Kept::new(rt.alloc(), Device::new(rt.reader()));
     let mut writer = Device::new(io::writer(rt));
     let outcome = serve_plain(rt.alloc(), command, &mut reader, &mut writer);
     match outcome {
-        Ok(_) => {}
-        Err(ServeError::Read) => tell(rt, ServeError::Read, reader.fault()),
-        Err(ServeError::Write) => tell(rt, ServeError::Write, writer.fault()),
-        Err(error) => tell(rt, error, None),
+        Ok(_) => status::status_of(&outcome),
+        Err(ServeError::Refused(refusal)) => refuse(rt, reader.bytes(), refusal),
+        Err(ServeError::Read) if reader.wants_memory() => end(rt, ServeError::OutOfMemory, None),
+        Err(ServeError::Read) => end(rt, ServeError::Read, reader.source().fault()),
+        Err(ServeError::Write) => end(rt, ServeError::Write, writer.fault()),
+        Err(ServeError::OutOfMemory) => end(rt, ServeError::OutOfMemory, None),
     }
-    status::status_of(&outcome)
+}
+
+/// Tells of a refused input in one line.
+fn refuse<R: AllocGlobal + Eprint>(rt: &R, input: &[u8], refusal: Refusal) -> u8 {
+    match refusal_text(rt.alloc(), input, &refusal) {
+        Ok(text) => {
+            let _ = eprintln!(rt; "argo_judge: {text}");
+            status::REFUSED
+        }
+        Err(_) => end(rt, ServeError::OutOfMemory, None),
+    }
+}
+
+/// Tells of a fault, and answers its exit status.
+fn end<R: Eprint>(rt: &R, error: ServeError, cause: Option<&io::Error>) -> u8 {
+    tell(rt, error, cause);
+    status::status_of(&Err(error))
 }
 
 /// Tells of a fault in one line, with what the system says of it.

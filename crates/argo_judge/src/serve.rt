@@ -1,15 +1,15 @@
 //! A command, carried out from the bytes read to the bytes written.
 
-ghost use Rattle.std.specs.Prelude.{◌≡◌, ◌≢◌, ℕ, List, false, true, Ok, Err, Result, IfOk, IfErr, IfSome, OnOk};
+ghost use Rattle.std.specs.Prelude.{◌≡◌, ◌≢◌, ℕ, List, false, true, Err, IfOk, IfErr, IfSome};
 ghost use Rattle.std.specs.Io.KnownBytes.{Appends};
-ghost use Rattle.argo_judge.specs.Evaluation.{Evaluates, Writes, line_of};
+ghost use Rattle.argo_judge.specs.Serving.{Refuses, Says};
 
+use crate::answer::answer;
 use crate::device::{Sink, Source};
-use crate::eval::{EvalError, evaluate};
+use crate::eval::EvalError;
 use crate::input::{InputError, read_input};
-use ar_machine::Answer;
-use ar_value::fault::Fault;
-use std::alloc::Global;
+use ar_document::BundleError;
+use std::alloc::{AllocError, Global};
 use thiserror::Error;
 
 /// What the program can be asked to do.
@@ -17,13 +17,19 @@ use thiserror::Error;
 pub enum Command {
     /// Judge one condition on one value.
     Eval,
+    /// Tell the bounds of each condition of a bundle.
+    Check,
+    /// List the code of each condition of a bundle.
+    List,
+    /// Run a bundle in one thread, and report its runs.
+    Plain,
 }
 
 /// How a command ended.
 #[derive(Clone, Copy, Debug, PartialEq, Eq)]
 pub enum Closing {
     Good,
-    /// A run is reported as Failed, Error or Inconclusive. `eval` reports no run.
+    /// A run is reported as Failed, Error or Inconclusive.
     Bad,
 }
 
@@ -32,6 +38,8 @@ pub enum Closing {
 pub enum Refusal {
     #[error("{0}")]
     Eval(EvalError),
+    #[error("{0}")]
+    Bundle(BundleError),
 }
 
 /// Why a command wasn't carried out.
@@ -75,6 +83,31 @@ impl From<EvalError> for ServeError {
     }
 }
 
+impl From<BundleError> for ServeError {
+    ghost use Rattle.std.specs.Prelude.{◌≡◌};
+    ghost use Rattle.argo_judge.specs.Serving.{of_bundle};
+
+    ghost from_gives = { λ bundle e. e ≡ of_bundle bundle };
+
+    fn from(error: BundleError) -> ServeError {
+        match error {
+            BundleError::OutOfMemory => ServeError::OutOfMemory,
+            error => ServeError::Refused(Refusal::Bundle(error)),
+        }
+    }
+}
+
+impl From<AllocError> for ServeError {
+    ghost use Rattle.std.specs.Prelude.{◌≡◌};
+    ghost use Rattle.argo_judge.specs.declared.serve.ServeError.TheVariants.{OutOfMemory};
+
+    ghost from_gives = { λ _ e. e ≡ OutOfMemory };
+
+    fn from(_error: AllocError) -> ServeError {
+        ServeError::OutOfMemory
+    }
+}
+
 /// Reads a document, carries the command out on it, and writes the answer. A refused document,
 /// or want of memory, has nothing written.
 ///
@@ -82,7 +115,7 @@ impl From<EvalError> for ServeError {
 ///
 /// `Read` and `Write` where the reader or the writer failed, `Refused` for the first fault of the
 /// document.
-#[tactic(auto, using(crate::proofs::Documents::read_whole))]
+#[tactic(auto, using(crate::proofs::Documents::said_of_whole, crate::proofs::Documents::refused_of_whole))]
 pub fn serve_plain<R: Source, W: Sink>(
     alloc: Global,
     command: Command,
@@ -92,41 +125,23 @@ pub fn serve_plain<R: Source, W: Sink>(
     requires reader_works { R.has_failed reader.old ≡ false }
     requires writer_works { W.has_failed writer.old ≡ false }
 
-    // What is written is the line of what was read.
-    ensures written { OnOk result (IfSome (R.remaining reader.old)
-        (λ input. (line : List ℕ) × Writes input line × Appends (W.contents writer.old) (W.contents writer.new) line)) }
-    ensures closing { IfOk result (λ closing. closing ≡ Closing.Good) }
+    // What is written is what the command says of what was read; and so it closes.
+    ensures written { IfOk result (λ closing. IfSome (R.remaining reader.old)
+        (λ input. (text : List ℕ) × Says command input text closing × Appends (W.contents writer.old) (W.contents writer.new) text)) }
 
     // A refusal is the first fault of what was read.
-    ensures refused { (fault : EvalError) → result ≡ Err (ServeError.Refused (Refusal.Eval fault))
-        → IfSome (R.remaining reader.old) (λ input. Evaluates input (Err fault)) }
+    ensures refused { (refusal : Refusal) → result ≡ Err (ServeError.Refused refusal)
+        → IfSome (R.remaining reader.old) (λ input. Refuses command input refusal) }
     ensures read { result ≡ Err ServeError.Read → R.has_failed reader.new ≡ true }
     ensures write { result ≡ Err ServeError.Write → W.has_failed writer.new ≡ true }
 
     // Only a failed write leaves anything written.
     ensures silent { IfErr result (λ e. e ≢ ServeError.Write → writer.new ≡ writer.old) }
 {
-    match command {
-        Command::Eval => {
-            let input = read_input(alloc, reader)?;
-            let answer = evaluate(alloc, &input)?;
-            match writer.write_all(line(answer)) {
-                Ok(()) => Ok(Closing::Good),
-                Err(_) => Err(ServeError::Write),
-            }
-        }
-    }
-}
-
-fn line(answer: Answer) -> &'static [u8]
-    ensures { result.now ≡ line_of answer }
-{
-    match answer {
-        Ok(true) => b"true\n",
-        Ok(false) => b"false\n",
-        Err(Fault::IndexOutOfRange) => b"fault IndexOutOfRange\n",
-        Err(Fault::NilOperand) => b"fault NilOperand\n",
-        Err(Fault::Overflow) => b"fault Overflow\n",
-        Err(Fault::DivisionByZero) => b"fault DivisionByZero\n",
+    let input = read_input(alloc, reader)?;
+    let said = answer(alloc, command, &input)?;
+    match writer.write_all(said.text.as_bytes()) {
+        Ok(()) => Ok(said.closing),
+        Err(_) => Err(ServeError::Write),
     }
 }

@@ -3,12 +3,18 @@
 use crate::command_line::{Request, UsageError, request_of};
 use crate::device::{Device, DeviceFault, Source};
 use crate::eval::EvalError;
+use crate::kept::Kept;
 use crate::serve::{Closing, Command, Refusal, ServeError, serve_plain};
+use crate::words::refusal_text;
 use ar_check::error::TypeError;
+use ar_compile::CompileError;
+use ar_document::BundleError;
+use ar_judge::{BuildCause, BuildError};
+use ar_manifest::ManifestError;
 use ar_syntax::error::SyntaxError;
 use ar_value::shape_reading::ShapeError;
 use ar_value::value_reading::ShapeFault;
-use std::alloc::Global;
+use std::alloc::{AllocError, Global};
 use std::io::Read;
 use std::test::Fail;
 
@@ -383,40 +389,336 @@ fn refusal_texts(rt: HostRuntime) -> Result<(), Fail> {
 /// What command lines ask for.
 #[test]
 fn command_lines(rt: HostRuntime) -> Result<(), Fail> {
-    assert!(rt;
-        matches!(
-            request(rt.alloc(), &["eval"])?,
-            Ok(Request::Run(Command::Eval))
-        )
+    let rows: [(&str, Result<Command, UsageError>); 29] = [
+        ("eval", Ok(Command::Eval)),
+        ("check", Ok(Command::Check)),
+        ("list", Ok(Command::List)),
+        ("run --plain", Ok(Command::Plain)),
+        ("run --plain --workers 1", Ok(Command::Plain)),
+        ("run --workers 16 --plain", Ok(Command::Plain)),
+        ("run --workers=+4 --plain", Ok(Command::Plain)),
+        ("run --workers 004 --plain", Ok(Command::Plain)),
+        ("run", Err(UsageError::OnlyPlain)),
+        ("run --workers 4", Err(UsageError::OnlyPlain)),
+        ("run --workers 17", Err(UsageError::Workers)),
+        ("run --workers 0 --plain", Err(UsageError::Workers)),
+        ("run --workers 17 --plain", Err(UsageError::Workers)),
+        ("run --workers=-1 --plain", Err(UsageError::Workers)),
+        ("run --workers 0x4 --plain", Err(UsageError::Workers)),
+        ("run --workers 4.0 --plain", Err(UsageError::Workers)),
+        (
+            "run --workers 18446744073709551617 --plain",
+            Err(UsageError::Workers),
+        ),
+        ("run --plain --plain", Err(UsageError::Words)),
+        (
+            "run --workers 2 --workers 2 --plain",
+            Err(UsageError::Words),
+        ),
+        ("run --plain --workers", Err(UsageError::Words)),
+        ("run --plain=true", Err(UsageError::Words)),
+        ("run --plain document.json", Err(UsageError::Words)),
+        ("--plain run", Err(UsageError::Words)),
+        ("eval now", Err(UsageError::Words)),
+        ("eval --workers 2", Err(UsageError::Words)),
+        ("check --plain", Err(UsageError::Words)),
+        ("list run --plain", Err(UsageError::Words)),
+        ("help", Err(UsageError::Words)),
+        ("", Err(UsageError::Words)),
+    ];
+    for (line, expected) in rows {
+        let is_expected = match request(rt.alloc(), line)? {
+            Ok(Request::Run(command)) => expected == Ok(command),
+            Ok(Request::Show(_)) => false,
+            Err(error) => expected == Err(error),
+        };
+        assert!(rt; is_expected, "{line}");
+    }
+    Ok(())
+}
+
+/// What is asked for in place of a command.
+#[test]
+fn shown(rt: HostRuntime) -> Result<(), Fail> {
+    for line in [
+        "--help",
+        "--version",
+        "-h",
+        "eval --help",
+        "check --help",
+        "list --help",
+        "run --help",
+    ] {
+        assert!(rt;
+            matches!(request(rt.alloc(), line)?, Ok(Request::Show(_))),
+            "{line}"
+        );
+    }
+    Ok(())
+}
+
+/// What the words of a line behind the program's name ask for.
+fn request(alloc: Global, line: &str) -> Result<Result<Request, UsageError>, AllocError> {
+    let mut all = Vec::new(alloc);
+    all.push("argo_judge".to_string(alloc)?)?;
+    for word in line.split_ascii_whitespace() {
+        all.push(word.to_string(alloc)?)?;
+    }
+    Ok(request_of(alloc, all.as_slice()))
+}
+
+/// A document whose refusals have names.
+const NAMED: &str = r#"{"manifest":{"spec":{
+"args":[{"name":"service"},{"name":"threshold","value":7}],
+"metrics":[{"name":"success-rate"},{"name":"error-rate","consecutiveSuccessLimit":1},{}]}},
+"runs":[{"name":"r0"},{"name":"canary-2"},{"name":"r0"}],
+"measurements":[{"run":"x"},{"run":"r0","metric":"sucess-rate"},{}]}"#;
+
+/// Refusals with the line that they have beside the document `NAMED`.
+#[test]
+fn refusals_with_names(rt: HostRuntime) -> Result<(), Fail> {
+    let rows = [
+        (
+            BundleError::TooLarge,
+            "document: TooLarge: expected at most 16777216 bytes",
+        ),
+        (
+            BundleError::Manifest(ManifestError::WrongKind),
+            "manifest: WrongKind: expected `kind` \"AnalysisTemplate\"",
+        ),
+        (
+            BundleError::Manifest(ManifestError::BadArgs(1)),
+            "manifest: argument 1 \"threshold\": BadArgs: expected a list, and of argument 1 a text `name` of its own and no `value` but a text",
+        ),
+        (
+            BundleError::Manifest(ManifestError::MetricNameMissing(2)),
+            "manifest: metric 2: MetricNameMissing: expected a text `name`",
+        ),
+        (
+            BundleError::Manifest(ManifestError::DoubleMetric(1)),
+            "manifest: metric 1 \"error-rate\": DoubleMetric: expected a name that no earlier metric has",
+        ),
+        (
+            BundleError::Manifest(ManifestError::BadField(0)),
+            "manifest: metric 0 \"success-rate\": BadField: expected texts for conditions and `interval`, numbers or texts for limits",
+        ),
+        (
+            BundleError::Manifest(ManifestError::Unsupported(1)),
+            "manifest: metric 1 \"error-rate\": Unsupported: expected no `consecutiveSuccessLimit` of metric 1, and no `dryRun` but an empty list",
+        ),
+        (
+            BundleError::Manifest(ManifestError::Unsupported(0)),
+            "manifest: spec: Unsupported: expected no `consecutiveSuccessLimit` of metric 0, and no `dryRun` but an empty list",
+        ),
+        (
+            BundleError::ShapeMissing(1),
+            "shapes: metric 1 \"error-rate\": ShapeMissing: expected a shape in `shapes` for each metric, by its name",
+        ),
+        (
+            BundleError::Shapes(0, ShapeError::TooDeep),
+            "shapes: metric 0 \"success-rate\": TooDeep: a shape has at most 16 levels",
+        ),
+        (
+            BundleError::Runs,
+            "runs: Runs: expected a list of 1 to 64 runs, each with a text `name` and no `args` but texts by name",
+        ),
+        (
+            BundleError::DoubleRun(2),
+            "runs[2]: DoubleRun: an earlier run has the name \"r0\", too",
+        ),
+        (
+            BundleError::Bind(1, ManifestError::UnknownArg(0)),
+            "run 1 \"canary-2\", metric 0 \"success-rate\": UnknownArg: expected {{args.NAME}} with a name of `spec.args`",
+        ),
+        (
+            BundleError::Build(
+                0,
+                1,
+                BuildError::Success(BuildCause::Grammar(SyntaxError::UnknownName(10))),
+            ),
+            "run 0 \"r0\", metric 1 \"error-rate\", successCondition, byte 10: UnknownName: no word of the language, as `result` is, and no name behind a point",
+        ),
+        (
+            BundleError::Build(
+                1,
+                0,
+                BuildError::Failure(BuildCause::Compiler(CompileError::TooManyOps)),
+            ),
+            "run 1 \"canary-2\", metric 0 \"success-rate\", failureCondition: TooManyOps: expected a condition of at most 4096 operations; split it, or nest fewer calls and operators",
+        ),
+        (
+            BundleError::TooManyMeasurements,
+            "measurements: TooManyMeasurements: expected at most 100000 entries",
+        ),
+        (
+            BundleError::BadEntry(2),
+            "measurements[2]: BadEntry: expected a text `run`, and `\"stop\":true` or a text `metric` and just one of `value` and `error`",
+        ),
+        (
+            BundleError::UnknownRun(0),
+            "measurements[0].run: UnknownRun: no run has the name \"x\"; runs are \"r0\", \"canary-2\", \"r0\"",
+        ),
+        (
+            BundleError::UnknownMetric(1),
+            "measurements[1].metric: UnknownMetric: no metric has the name \"sucess-rate\"; metrics are \"success-rate\", \"error-rate\"",
+        ),
+    ];
+    for (error, expected) in rows {
+        let refusal = Refusal::Bundle(error);
+        let text = refusal_text(rt.alloc(), NAMED.as_bytes(), &refusal)?;
+        assert_eq!(rt; text.as_str(), expected);
+    }
+    Ok(())
+}
+
+/// Refusals beside documents in which what they name isn't there.
+#[test]
+fn refusals_without_names(rt: HostRuntime) -> Result<(), Fail> {
+    let bind = BundleError::Bind(1, ManifestError::NoValue(0));
+    let no_value =
+        "run 1, metric 0: NoValue: expected a value for the argument, from the run or the template";
+    let rows = [
+        ("", bind, no_value),
+        ("{\"runs\":[", bind, no_value),
+        ("7", bind, no_value),
+        (
+            "{\"runs\":[{},{\"name\":7}],\"manifest\":[]}",
+            bind,
+            no_value,
+        ),
+        (
+            "{\"manifest\":{\"spec\":{\"args\":7}}}",
+            BundleError::Manifest(ManifestError::BadArgs(0)),
+            "manifest: spec.args: BadArgs: expected a list, and of argument 0 a text `name` of its own and no `value` but a text",
+        ),
+        (
+            "{\"apiVersion\":\"argoproj.io/v1alpha1\"}",
+            BundleError::Manifest(ManifestError::WrongVersion),
+            "manifest: WrongVersion: expected `apiVersion` \"argoproj.io/v1alpha1\"; the document has no member `manifest`, into which the template goes",
+        ),
+        (
+            "{}",
+            BundleError::UnknownRun(3),
+            "measurements[3].run: UnknownRun: no run has the name",
+        ),
+        (
+            "{\"runs\":[],\n",
+            BundleError::Utf8OrJson,
+            "document: Utf8OrJson: expected one JSON value in UTF-8; the text ends too early",
+        ),
+        (
+            "{\"runs\":[],\n\"shapes\" }",
+            BundleError::Utf8OrJson,
+            "document: Utf8OrJson: expected one JSON value in UTF-8; the fault is at line 2, column 10",
+        ),
+    ];
+    for (document, error, expected) in rows {
+        let refusal = Refusal::Bundle(error);
+        let text = refusal_text(rt.alloc(), document.as_bytes(), &refusal)?;
+        assert_eq!(rt; text.as_str(), expected, "{document}");
+    }
+    Ok(())
+}
+
+/// Names that don't fit a line as they are.
+#[test]
+fn names_in_a_line(rt: HostRuntime) -> Result<(), Fail> {
+    let fits = "x".repeat(rt.alloc(), 64)?;
+    let rows = [
+        (r#"a\"b\\c\n\r\t"#, r#""a\"b\\c\n\r\t""#),
+        (
+            r"\u001b[2J\u0085\u2028\u202e",
+            r#""\u001b[2J\u0085\u2028\u202e""#,
+        ),
+        ("caf\u{e9} \u{1f426}", "\"caf\u{e9} \u{1f426}\""),
+        ("", "\"\""),
+    ];
+    for (name, expected) in rows {
+        assert_eq!(rt;
+            double_run(rt.alloc(), name)?.as_str(),
+            double_run_line(rt.alloc(), expected)?.as_str()
+        );
+    }
+    let text = double_run(rt.alloc(), &fits)?;
+    let expected = format!(in rt.alloc(); "\"{fits}\"")?;
+    assert_eq!(rt;
+        text.as_str(),
+        double_run_line(rt.alloc(), &expected)?.as_str()
     );
-    assert!(rt; matches!(request(rt.alloc(), &["--help"])?, Ok(Request::Show(_))));
-    assert!(rt; matches!(request(rt.alloc(), &["--version"])?, Ok(Request::Show(_))));
-    assert!(rt; matches!(request(rt.alloc(), &[])?, Err(UsageError::Words)));
-    assert!(rt; matches!(request(rt.alloc(), &["run"])?, Err(UsageError::Words)));
-    assert!(rt; matches!(request(rt.alloc(), &["help"])?, Err(UsageError::Words)));
-    assert!(rt;
-        matches!(
-            request(rt.alloc(), &["eval", "now"])?,
-            Err(UsageError::Words)
-        )
-    );
-    assert!(rt;
-        matches!(
-            request(rt.alloc(), &["eval", "--workers", "2"])?,
-            Err(UsageError::Words)
-        )
+    let longer = format!(in rt.alloc(); "{fits}y")?;
+    let text = double_run(rt.alloc(), &longer)?;
+    let expected = format!(in rt.alloc(); "\"{fits}\"..")?;
+    assert_eq!(rt;
+        text.as_str(),
+        double_run_line(rt.alloc(), &expected)?.as_str()
     );
     Ok(())
 }
 
-fn request(
-    alloc: Global,
-    words: &[&str],
-) -> Result<Result<Request, UsageError>, std::alloc::AllocError> {
-    let mut all = Vec::new(alloc);
-    all.push("argo_judge".to_string(alloc)?)?;
-    for word in words {
-        all.push(word.to_string(alloc)?)?;
+/// The text of a second run's refusal whose name is written so in the document.
+fn double_run(alloc: Global, name: &str) -> Result<String, AllocError> {
+    let document = format!(in alloc; "{{\"runs\":[{{}},{{\"name\":\"{name}\"}}]}}")?;
+    refusal_text(
+        alloc,
+        document.as_bytes(),
+        &Refusal::Bundle(BundleError::DoubleRun(1)),
+    )
+}
+
+fn double_run_line(alloc: Global, name: &str) -> Result<String, AllocError> {
+    format!(in alloc; "runs[1]: DoubleRun: an earlier run has the name {name}, too")
+}
+
+/// Of many names the first eight are listed.
+#[test]
+fn many_names(rt: HostRuntime) -> Result<(), Fail> {
+    let entries = r#""measurements":[{"run":"z"}]"#;
+    let eight =
+        r#"{"name":"a"},{"name":"b"},{"name":"c"},{"name":"d"},{"name":"e"},{"name":"f"},{"name":"g"},{"name":"h"}"#;
+    let listed =
+        "measurements[0].run: UnknownRun: no run has the name \"z\"; runs are \"a\", \"b\", \"c\", \"d\", \"e\", \"f\", \"g\", \"h\"";
+    for (further, more) in [
+        ("", ""),
+        (",{\"name\":\"i\"}", " and 1 more"),
+        (",{\"name\":\"i\"},{\"name\":\"j\"}", " and 2 more"),
+    ] {
+        let document = format!(in rt.alloc(); "{{\"runs\":[{eight}{further}],{entries}}}")?;
+        let refusal = Refusal::Bundle(BundleError::UnknownRun(0));
+        let text = refusal_text(rt.alloc(), document.as_bytes(), &refusal)?;
+        let expected = format!(in rt.alloc(); "{listed}{more}")?;
+        assert_eq!(rt; text.as_str(), expected.as_str());
     }
-    Ok(request_of(alloc, all.as_slice()))
+    Ok(())
+}
+
+/// What is said of arguments where a condition of `eval` names some.
+#[test]
+fn arguments_in_eval(rt: HostRuntime) -> Result<(), Fail> {
+    let hint = "; arguments as {{args.NAME}} are bound in a template, by check, list and run";
+    let refused = EvalError::Grammar(SyntaxError::UnknownName(2));
+    let misfit = EvalError::Misfit(ShapeFault::WrongKind);
+    for (condition, error, expected) in [
+        ("{{args.x}} < 1", refused, hint),
+        ("{ {args.x}} < 1", refused, ""),
+        ("\\\"{{\\\" == result", misfit, ""),
+    ] {
+        let document = format!(in rt.alloc(); "{{\"condition\":\"{condition}\"}}")?;
+        let text = refusal_text(rt.alloc(), document.as_bytes(), &Refusal::Eval(error))?;
+        let expected = format!(in rt.alloc(); "{error}{expected}")?;
+        assert_eq!(rt; text.as_str(), expected.as_str());
+    }
+    Ok(())
+}
+
+/// A source that keeps what was read has read it all once a document is answered.
+#[test]
+fn kept_input(rt: HostRuntime) {
+    let document = r#"{"condition":"result>1","shape":"whole","value":2}"#;
+    let mut output = Vec::new(rt.alloc());
+    let mut reader = Kept::new(rt.alloc(), Device::new(document.as_bytes()));
+    let mut writer = Device::new(&mut output);
+    let outcome = serve_plain(rt.alloc(), Command::Eval, &mut reader, &mut writer);
+    assert_eq!(rt; outcome, Ok(Closing::Good));
+    assert_eq!(rt; reader.bytes(), document.as_bytes());
+    assert!(rt; !reader.failed() && !reader.wants_memory());
 }

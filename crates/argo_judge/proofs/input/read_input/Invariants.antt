@@ -1,6 +1,6 @@
 use Rattle.std.proofs.Common.{◌≡◌, ◌≤◌, false, length}
 use Rattle.std.specs.Io.KnownBytes.{Consumes}
-use Rattle.argo_judge.specs.Input.{most_bytes}
+use Rattle.ar_document.specs.Json.{most_bytes}
 use Rattle.argo_judge.proofs.input.read_input.Given as goal
 
 -- what was read so far was consumed, with a byte or more in each turn
