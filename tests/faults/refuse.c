@@ -1,6 +1,9 @@
 /* Preloaded, it refuses one growth of memory: the call of malloc's family whose number, counted
    from 1, stands in REFUSE_CALL. It says so by a byte to file descriptor 9. The calls that the C
-   library makes before this one is set up are not counted. */
+   library makes before this one is set up are not counted.
+
+   Of standard output it takes so many bytes as stand in TAKE_BYTES, if that is there; then writes
+   fail as on a full disk. */
 #define _GNU_SOURCE
 #include <dlfcn.h>
 #include <errno.h>
@@ -10,6 +13,8 @@
 
 static long refused, calls;
 static int counting;
+static long left = -1;
+static ssize_t (*next_write)(int, const void *, size_t);
 static void *(*next_malloc)(size_t);
 static void *(*next_realloc)(void *, size_t);
 static void *(*next_aligned_alloc)(size_t, size_t);
@@ -18,6 +23,9 @@ static int (*next_posix_memalign)(void **, size_t, size_t);
 __attribute__((constructor)) static void start(void)
 {
     const char *number = getenv("REFUSE_CALL");
+    const char *bytes = getenv("TAKE_BYTES");
+    next_write = dlsym(RTLD_NEXT, "write");
+    left = bytes ? atol(bytes) : -1;
     next_malloc = dlsym(RTLD_NEXT, "malloc");
     next_realloc = dlsym(RTLD_NEXT, "realloc");
     next_aligned_alloc = dlsym(RTLD_NEXT, "aligned_alloc");
@@ -33,6 +41,22 @@ static int is_refused(void)
     ssize_t told = write(9, "r", 1);
     (void)told;
     return 1;
+}
+
+ssize_t write(int file, const void *bytes, size_t count)
+{
+    if (!next_write)
+        next_write = dlsym(RTLD_NEXT, "write");
+    if (file != 1 || left < 0)
+        return next_write(file, bytes, count);
+    if (left == 0) {
+        errno = ENOSPC;
+        return -1;
+    }
+    ssize_t taken = next_write(file, bytes, count < (size_t)left ? count : (size_t)left);
+    if (taken > 0)
+        left -= taken;
+    return taken;
 }
 
 void *malloc(size_t size)

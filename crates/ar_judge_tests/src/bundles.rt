@@ -1,8 +1,9 @@
 //! Bundles whose metrics are alike, and so are their runs.
 
-ghost use Rattle.std.specs.Prelude.{◌≡◌, ◌≤◌, true, IfOk, length};
+ghost use Rattle.std.specs.Prelude.{◌≡◌, IfOk, length, map};
 ghost use Rattle.std.specs.List.{AllByRecursion};
-ghost use Rattle.ar_board.specs.Bundle.{CanHappen, IsEntry, IsRun, JudgesEach};
+ghost use Rattle.ar_judge_tests.specs.Turns.{in_turn};
+ghost use Rattle.ar_board.specs.Bundle.{CanHappen, IsEntry, IsRun, JudgesEach, bundle_of};
 
 use crate::judging::{Conditions, judge_of, shape_of, value_of};
 use ar_board::{Bundle, EventPart, Judges, MetricPart, RunLimits, RunPart, What};
@@ -26,7 +27,9 @@ pub struct Plan {
 pub type Row = (usize, Option<(usize, &'static str)>);
 
 /// Metrics `m0`, `m1` and so on.
-fn metrics_of(alloc: Global, plan: &Plan) -> Result<Vec<MetricPart>, Fail> {
+fn metrics_of(alloc: Global, plan: &Plan) -> Result<Vec<MetricPart>, Fail>
+    ensures { IfOk result (λ metrics. length metrics.items ≡ plan.now.metrics) }
+{
     let mut metrics = Vec::new(alloc);
     for number in 0..plan.metrics {
         metrics.push(MetricPart {
@@ -83,7 +86,8 @@ fn run_of(
 /// Runs `r0`, `r1` and so on.
 #[tactic(auto, using(crate::proofs::Shaped::one_more))]
 fn runs_of(alloc: Global, plan: &Plan, metrics: &[MetricPart]) -> Result<Vec<RunPart>, Fail>
-    ensures { IfOk result (λ runs. AllByRecursion (IsRun metrics.now) runs.items) }
+    ensures runs { IfOk result (λ runs. AllByRecursion (IsRun metrics.now) runs.items) }
+    ensures count { IfOk result (λ runs. length runs.items ≡ plan.now.runs) }
 {
     let mut runs = Vec::new(alloc);
     for number in 0..plan.runs {
@@ -118,7 +122,8 @@ fn what_of(
 }
 
 fn entry_of(alloc: Global, metrics: &[MetricPart], runs: usize, row: Row) -> Result<EventPart, Fail>
-    ensures { IfOk result (IsEntry metrics.now runs) }
+    ensures entry { IfOk result (IsEntry metrics.now runs) }
+    ensures own { IfOk result (λ entry. entry.run ≡ row.entry.0) }
 {
     let (run, what) = row;
     if run >= runs {
@@ -135,7 +140,8 @@ fn entries_of(
     runs: usize,
     rows: &[Row],
 ) -> Result<Vec<EventPart>, Fail>
-    ensures { IfOk result (λ entries. AllByRecursion (IsEntry metrics.now runs) entries.items) }
+    ensures entries { IfOk result (λ entries. AllByRecursion (IsEntry metrics.now runs) entries.items) }
+    ensures own { IfOk result (λ entries. map (λ entry. entry.run) entries.items ≡ map (λ row. row.0) rows.now) }
 {
     let mut entries = Vec::new(alloc);
     for row in rows {
@@ -152,6 +158,7 @@ fn of_parts(
 ) -> Result<Bundle, Fail>
     requires runs { AllByRecursion (IsRun metrics.items) runs.items }
     requires entries { AllByRecursion (IsEntry metrics.items (length runs.items)) entries.items }
+    ensures { IfOk result (λ bundle. bundle ≡ bundle_of metrics.items runs.items entries.items) }
 {
     if metrics.len() > 64 || runs.len() > 64 || entries.len() > 100_000 {
         return Err(Fail::from("expected few parts"));
@@ -160,7 +167,12 @@ fn of_parts(
 }
 
 /// The bundle of a plan, to which this happens.
-pub fn bundle_of(alloc: Global, plan: &Plan, rows: &[Row]) -> Result<Bundle, Fail> {
+pub fn bundle_of(alloc: Global, plan: &Plan, rows: &[Row]) -> Result<Bundle, Fail>
+    ensures metrics { IfOk result (λ bundle. length bundle.metrics ≡ plan.now.metrics) }
+    ensures runs { IfOk result (λ bundle. length bundle.runs ≡ plan.now.runs) }
+    // An entry for each row, of its run.
+    ensures entries { IfOk result (λ bundle. map (λ entry. entry.run) bundle.entries ≡ map (λ row. row.0) rows.now) }
+{
     let metrics = metrics_of(alloc, plan)?;
     let runs = runs_of(alloc, plan, &metrics)?;
     let entries = entries_of(alloc, &metrics, runs.len(), rows)?;
@@ -173,7 +185,10 @@ pub fn rows_in_turn(
     plan: &Plan,
     count: usize,
     value: &'static str,
-) -> Result<Vec<Row>, Fail> {
+) -> Result<Vec<Row>, Fail>
+    ensures count { IfOk result (λ rows. length rows.items ≡ count) }
+    ensures runs { IfOk result (λ rows. map (λ row. row.0) rows.items ≡ in_turn plan.now.runs count) }
+{
     if plan.runs == 0 || plan.metrics == 0 {
         return Err(Fail::from("expected runs and metrics"));
     }

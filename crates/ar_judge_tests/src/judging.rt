@@ -20,19 +20,19 @@ pub struct Conditions {
 }
 
 /// A success condition alone.
-pub fn success(text: &'static str) -> Conditions {
+pub(crate) fn success(text: &'static str) -> Conditions {
     Conditions {
         success: Some(text),
         failure: None,
     }
 }
 
-pub fn shape_of(alloc: Global, text: &str) -> Result<Shape, Fail> {
+pub(crate) fn shape_of(alloc: Global, text: &str) -> Result<Shape, Fail> {
     let json = Json::from_str(alloc, text)?;
     Ok(read_shape(alloc, &json)?)
 }
 
-pub fn value_of(alloc: Global, shape: &Shape, text: &str) -> Result<Value, Fail>
+pub(crate) fn value_of(alloc: Global, shape: &Shape, text: &str) -> Result<Value, Fail>
     ensures { IfOk result (λ value. fits (value_view value) (shape_view shape.now) ≡ true) }
 {
     let json = Json::from_str(alloc, text)?;
@@ -47,7 +47,7 @@ fn text_of(alloc: Global, text: Option<&str>) -> Result<Option<Text>, AllocError
 }
 
 /// A metric with these conditions and with the limits that a template gives where it names none.
-pub fn metric(
+pub(crate) fn metric(
     alloc: Global,
     success: Option<&str>,
     failure: Option<&str>,
@@ -65,7 +65,7 @@ pub fn metric(
 
 /// The judge of these conditions under a shape.
 #[tactic(auto, using(crate::proofs::Shaped::of_shape))]
-pub fn judge_of(alloc: Global, shape: &Shape, conditions: Conditions) -> Result<Judge, Fail>
+pub(crate) fn judge_of(alloc: Global, shape: &Shape, conditions: Conditions) -> Result<Judge, Fail>
     ensures { IfOk result (JudgesShape (shape_view shape.now)) }
 {
     let metric = metric(alloc, conditions.success, conditions.failure)?;
@@ -76,7 +76,7 @@ pub fn judge_of(alloc: Global, shape: &Shape, conditions: Conditions) -> Result<
 }
 
 /// Why these conditions have no judge under a shape.
-pub fn refusal_of(
+pub(crate) fn refusal_of(
     alloc: Global,
     shape: &str,
     success: Option<&str>,
@@ -92,7 +92,7 @@ pub fn refusal_of(
 
 /// The verdict on a value, read from JSON.
 #[tactic(auto, using(crate::proofs::Shaped::measured_suits))]
-pub fn verdict_on(
+pub(crate) fn verdict_on(
     alloc: Global,
     shape: &str,
     conditions: Conditions,

@@ -1,8 +1,8 @@
-//! Texts of reports, and of what is known of conditions before any run.
+//! Texts of reports, phases of runs, and texts of what is known of conditions before any run.
 
 use crate::bundles::{Plan, Row, bundle_of};
 use crate::judging::Conditions;
-use crate::reporting::reported;
+use crate::reporting::{phases_after, reported};
 use ar_limits::{Limits, Phase};
 use ar_report::{check_text, fault_name, list_text, phase_name};
 use ar_value::fault::Fault;
@@ -40,6 +40,8 @@ const POSITIVE: Plan = Plan {
     limits: THRICE,
 };
 
+const STOP_AND_FAILURE: [Row; 2] = [(0, None), (1, Some((0, "0")))];
+
 const STOPPED_AND_FAILED: &str = "\
 run r0 Successful
 metric m0 Successful successful=0 failed=0 inconclusive=0 error=0 consecutiveError=0
@@ -54,8 +56,7 @@ event 1 m0 Failed closed Failed
 #[test]
 fn a_stop_and_a_failure_are_reported(rt: HostRuntime) -> Result<(), Fail> {
     let alloc = rt.alloc();
-    let rows = [(0, None), (1, Some((0, "0")))];
-    let text = reported(alloc, &bundle_of(alloc, &POSITIVE, &rows)?)?;
+    let text = reported(alloc, &bundle_of(alloc, &POSITIVE, &STOP_AND_FAILURE)?)?;
     assert_eq!(rt; text.as_str(), STOPPED_AND_FAILED);
     Ok(())
 }
@@ -110,6 +111,8 @@ const RATE: Plan = Plan {
     limits: ONCE,
 };
 
+const TWO_RATES: [Row; 2] = [(0, Some((0, "[\"0.99\"]"))), (1, Some((0, "[\"0.96\"]")))];
+
 const TWO_SUCCESSES: &str = "\
 run r0 Successful
 metric m0 Successful successful=1 failed=0 inconclusive=0 error=0 consecutiveError=0
@@ -118,6 +121,8 @@ run r1 Successful
 metric m0 Successful successful=1 failed=0 inconclusive=0 error=0 consecutiveError=0
 event 1 m0 Successful closed Successful
 ";
+
+const NO_RATE: [Row; 1] = [(0, Some((0, "[]")))];
 
 const NOTHING_MEASURED: &str = "\
 run r0 Running
@@ -130,11 +135,34 @@ metric m0 Pending successful=0 failed=0 inconclusive=0 error=0 consecutiveError=
 #[test]
 fn rates_are_reported(rt: HostRuntime) -> Result<(), Fail> {
     let alloc = rt.alloc();
-    let rows = [(0, Some((0, "[\"0.99\"]"))), (1, Some((0, "[\"0.96\"]")))];
-    let text = reported(alloc, &bundle_of(alloc, &RATE, &rows)?)?;
+    let text = reported(alloc, &bundle_of(alloc, &RATE, &TWO_RATES)?)?;
     assert_eq!(rt; text.as_str(), TWO_SUCCESSES);
-    let text = reported(alloc, &bundle_of(alloc, &RATE, &[(0, Some((0, "[]")))])?)?;
+    let text = reported(alloc, &bundle_of(alloc, &RATE, &NO_RATE)?)?;
     assert_eq!(rt; text.as_str(), NOTHING_MEASURED);
+    Ok(())
+}
+
+/// The phases of the runs of the reports above.
+#[test]
+fn phases(rt: HostRuntime) -> Result<(), Fail> {
+    let alloc = rt.alloc();
+    let found = phases_after(alloc, &bundle_of(alloc, &POSITIVE, &STOP_AND_FAILURE)?)?;
+    assert_eq!(rt;
+        found.as_slice(),
+        [Phase::Successful, Phase::Failed].as_slice()
+    );
+    let found = phases_after(alloc, &bundle_of(alloc, &BOTH, &EACH_VERDICT)?)?;
+    assert_eq!(rt; found.as_slice(), [Phase::Successful].as_slice());
+    let found = phases_after(alloc, &bundle_of(alloc, &RATE, &TWO_RATES)?)?;
+    assert_eq!(rt;
+        found.as_slice(),
+        [Phase::Successful, Phase::Successful].as_slice()
+    );
+    let found = phases_after(alloc, &bundle_of(alloc, &RATE, &NO_RATE)?)?;
+    assert_eq!(rt;
+        found.as_slice(),
+        [Phase::Running, Phase::Pending].as_slice()
+    );
     Ok(())
 }
 
