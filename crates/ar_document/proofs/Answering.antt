@@ -8,7 +8,7 @@ use Rattle.ar_board.specs.declared.bundle.EventPart.{EventPart}
 use Rattle.ar_board.specs.declared.bundle.RunPart.{RunPart}
 use Rattle.ar_document.specs.Document.{IsFaultOf, Reads, UnlessMemory, is_memory}
 use Rattle.ar_document.specs.Private.Opened.{IsOpened, opened_view}
-use Rattle.ar_document.specs.Runs.{AreParts}
+use Rattle.ar_document.specs.Parts.{AreParts}
 use Rattle.ar_document.specs.declared.error.BundleError.{BundleError}
 use Rattle.ar_document.specs.declared.error.BundleError.TheVariants.{OutOfMemory}
 use Rattle.ar_document.specs.declared.opening.Opened.{Opened}

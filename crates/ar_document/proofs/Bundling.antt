@@ -15,7 +15,7 @@ use Rattle.ar_board.specs.declared.bundle.MetricPart.{MetricPart}
 use Rattle.ar_board.specs.declared.bundle.RunPart.{RunPart}
 use Rattle.ar_document.specs.Opening.{metric_view}
 use Rattle.ar_document.specs.Private.Opened.{opened_view}
-use Rattle.ar_document.specs.Runs.{AreJudges, AreParts, IsPart, limits_of}
+use Rattle.ar_document.specs.Parts.{AreJudges, AreParts, IsPart, limits_of}
 use Rattle.ar_document.specs.declared.opening.Opened.{Opened}
 use Rattle.ar_document.specs.declared.runs.Run.{Run}
 use Rattle.ar_document.proofs.Templates.{IsPositive, positive_counts}

@@ -8,7 +8,7 @@ use Rattle.ar_judge.specs.Verdict.{IsJudge, Judge}
 use Rattle.ar_board.specs.declared.bundle.MetricPart.{MetricPart}
 use Rattle.ar_board.specs.declared.bundle.RunPart.{RunPart}
 use Rattle.ar_document.specs.Opening.{Metric, Opened, metric_view}
-use Rattle.ar_document.specs.Runs.{AreJudges, AreParts, IsPart}
+use Rattle.ar_document.specs.Parts.{AreJudges, AreParts, IsPart}
 use Rattle.ar_document.specs.declared.runs.Run.{Run}
 
 pub one_more : {A : Type 0} (P : A → Type 0) (xs : List A) (x : A) → AllByRecursion P xs → P x → AllByRecursion P (xs ++ x ∷ [])

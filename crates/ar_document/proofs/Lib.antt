@@ -8,3 +8,4 @@ mod Growing
 mod Refusing
 mod Bundling
 mod Answering
+pub mod OneAnswer

@@ -11,7 +11,7 @@ use Rattle.ar_board.specs.declared.bundle.RunPart.{RunPart}
 use Rattle.ar_document.specs.Opening.{metric_view}
 use Rattle.ar_document.specs.Private.Opened.{opened_view}
 use Rattle.ar_document.specs.Private.Parts.{RefusesJudge, RefusesJudges}
-use Rattle.ar_document.specs.Runs.{AreJudges, AreParts, RefusesRun, RefusesRuns}
+use Rattle.ar_document.specs.Parts.{AreJudges, AreParts, RefusesRun, RefusesRuns}
 use Rattle.ar_document.specs.declared.error.BundleError.{BundleError}
 use Rattle.ar_document.specs.declared.error.BundleError.TheVariants.{Build}
 use Rattle.ar_document.specs.declared.opening.Opened.{Opened}

@@ -6,7 +6,7 @@ use Rattle.ar_board.specs.declared.bundle.RunPart.{RunPart}
 use Rattle.ar_document.specs.Entries.{entries_in, entry_view}
 use Rattle.ar_document.specs.Json.{json_in}
 use Rattle.ar_document.specs.Opening.{Opened, metric_view, opened_of}
-use Rattle.ar_document.specs.Runs.{AreParts, RefusesRuns}
+use Rattle.ar_document.specs.Parts.{AreParts, RefusesRuns}
 use Rattle.ar_document.specs.declared.error.BundleError.{BundleError}
 use Rattle.ar_document.specs.declared.error.BundleError.TheVariants as errors
 use Rattle.ar_document.specs.declared.json.JsonError.{JsonError}

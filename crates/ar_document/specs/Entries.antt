@@ -67,6 +67,7 @@ stop_of opened number name = do
   run ← there_or (UnknownRun number) (number_of name (names_of opened.runs))
   Ok (entry_of run stop)
 
+-- a measurement of a metric by its name; the number of a name that is found is that of a metric
 abbrev pub measured_of : Opened → (number run : ℕ) → (metric : List ℕ) → Option Data → Result Entry BundleError
 measured_of opened number run name found = do
   metric ← there_or (UnknownMetric number) (number_of name (map (λ metric. metric.name) opened.metrics))

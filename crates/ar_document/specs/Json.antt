@@ -11,7 +11,7 @@ use Rattle.ar_document.specs.declared.json.JsonError.TheVariants.{TooLarge, Utf8
 abbrev pub most_bytes : ℕ
 most_bytes = 16777216
 
--- the JSON value (RFC 8259) whose text in UTF-8 an input is
+-- the JSON value (RFC 8259) whose text in UTF-8 an input is: of at most 127 levels, and of equal names the last counts
 abbrev pub json_of : List ℕ → Option Data
 json_of input = if is_utf8 input then read input else None
 

@@ -2,6 +2,6 @@ pub mod Private
 pub mod Json
 pub mod Answers
 pub mod Opening
-pub mod Runs
+pub mod Parts
 pub mod Entries
 pub mod Document

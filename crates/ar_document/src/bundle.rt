@@ -30,8 +30,7 @@ fn bundle_of(alloc: Global, document: &Json) -> Result<Bundle, BundleError>
 ///
 /// # Errors
 ///
-/// The first fault that stands in the input, in the order of `BundleError`; of runs, one after
-/// another, and of entries, one after another.
+/// The first fault that stands in the input, in the order that `BundleError` states.
 pub fn read_bundle(alloc: Global, input: &[u8]) -> Result<Bundle, BundleError>
     ensures exact { UnlessMemory result (ReadsInput input.now) }
 

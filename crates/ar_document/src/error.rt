@@ -7,8 +7,9 @@ use ar_value::shape_reading::ShapeError;
 use std::alloc::{AllocError, AllocFailed};
 use thiserror::Error;
 
-/// Why an input is no bundle, in the order in which it is looked at. Numbers of metrics, runs and
-/// entries count from 0.
+/// Why an input is no bundle, in the order in which it is looked at; but `ShapeMissing` and `Shapes`
+/// go metric by metric, `Bind` and `Build` run by run, and the last three entry by entry, of which
+/// `BadEntry` goes before the names. Numbers of metrics, runs and entries count from 0.
 #[derive(Clone, Copy, Debug, PartialEq, Eq, Error)]
 pub enum BundleError {
     /// It has more than 16,777,216 bytes.
@@ -43,7 +44,7 @@ pub enum BundleError {
     TooManyMeasurements,
     /// The entry is neither a stop of a run nor a measurement of a metric; or `measurements` is no
     /// list, and the number is 0.
-    #[error("measurements[{0}]: BadEntry: expected a text `run`, and `\"stop\":true` or a text `metric` and just one of `value` and `error`")]
+    #[error("measurements[{0}]: BadEntry: expected a list of entries, each with a text `run`, and `\"stop\":true` or a text `metric` and just one of `value` and `error`")]
     BadEntry(usize),
     /// No run has the name.
     #[error("measurements[{0}].run: UnknownRun: no run has the name")]

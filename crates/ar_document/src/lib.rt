@@ -11,12 +11,14 @@
 //! - `opening`: the template, its metrics and their shapes; [`runs`]: runs as they are written;
 //!   `names`: numbers by name
 //! - `parts`: a judge and limits for each run and metric; `entries`: what happened
+//! - [`laws`]: that an input comes to one thing
 #![tactic(auto)]
 
 pub mod bundle;
 mod entries;
 pub mod error;
 pub mod json;
+pub mod laws;
 mod names;
 mod opening;
 mod parts;

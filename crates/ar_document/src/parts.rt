@@ -11,7 +11,7 @@ ghost use Rattle.ar_value.specs.View.{shape_view};
 ghost use Rattle.ar_judge.specs.Condition.{refused_as};
 ghost use Rattle.ar_document.specs.Document.{is_memory};
 ghost use Rattle.ar_document.specs.Opening.{metric_view};
-ghost use Rattle.ar_document.specs.Runs.{AreJudges, AreParts, IsPart, RefusesRun, RefusesRuns, limits_of};
+ghost use Rattle.ar_document.specs.Parts.{AreJudges, AreParts, IsPart, RefusesRun, RefusesRuns, limits_of};
 ghost use Rattle.ar_document.specs.Private.Opened.{IsOpened, opened_view};
 ghost use Rattle.ar_document.specs.Private.Parts.{IfRefused, RefusesJudge, RefusesJudges};
 ghost use Rattle.ar_document.specs.declared.error.BundleError.TheVariants.{Bind};

@@ -1,12 +1,12 @@
-//! Tests of the public calls of `ar_judge`, `ar_board`, `ar_workers`, `ar_report` and `ar_document`, which stand above
-//! them so that each is proved once. They show what no contract says: that calls succeed with ample memory, and
-//! worked rows whose expected values were worked out by hand.
+//! Tests of the public calls of `ar_judge`, `ar_board`, `ar_workers` and `ar_report`, which stand above them so that each
+//! is proved once, and reports of what `ar_document` reads. They show what no contract says: that calls succeed with ample
+//! memory, and worked rows whose expected values were worked out by hand.
 //!
 //! - [`bundles`]: bundles whose metrics are alike, and so are their runs
 //! - [`judging`]: judges of texts, and their verdicts on values that are read from JSON
 //! - `refusals`: texts that are no conditions
 //! - `verdicts`: verdicts of samples
-//! - `documents`: documents read as bundles, or refused
+//! - `documents`: documents read as bundles, and their reports
 //! - `findings`: bundles, what stands in them, and what their numbers come to
 //! - `histories`: plain runs
 //! - `reporting`, `reports`: texts of reports and of conditions, and phases of runs

@@ -15,7 +15,7 @@ use Rattle.ar_judge.specs.Condition.{refused_as}
 use Rattle.ar_document.specs.Document as bundles
 use Rattle.ar_document.specs.Json.{json_in, most_bytes}
 use Rattle.ar_document.specs.declared.error.BundleError.{BundleError}
-use Rattle.argo_judge.specs.Input.{ReadsInput}
+use Rattle.argo_judge.specs.Input.{ReadsUpToLimit}
 use Rattle.argo_judge.specs.Evaluation.{Evaluates, Follows, of_json, prepared, prepared_input}
 use Rattle.argo_judge.specs.Serving.{Refuses, Says}
 use Rattle.argo_judge.specs.declared.eval.EvalError.{EvalError}
@@ -40,7 +40,7 @@ by_size input rest bytes false small front all =
     let none : rest ≡ [] = all (grind (arith, nat_tests)) in
     ap json_in (front ∙ ap (λ more. bytes ++ more) none ∙ append-nil bytes)
 
-same_json : (known after : Option (List ℕ)) (bytes : List ℕ) → ReadsInput known after bytes → IfSome known (λ input. json_in input ≡ json_in bytes)
+same_json : (known after : Option (List ℕ)) (bytes : List ℕ) → ReadsUpToLimit known after bytes → IfSome known (λ input. json_in input ≡ json_in bytes)
 same_json None after bytes reads = tt
 same_json (Some input) None bytes reads = absurd reads.front
 same_json (Some input) (Some rest) bytes reads = by_size input rest bytes (nat_lt most_bytes (length bytes)) refl reads.front reads.whole
@@ -75,17 +75,17 @@ of_known : (P : List ℕ → Type 0) (bytes : List ℕ) (known : Option (List �
 of_known P bytes None same says = tt
 of_known P bytes (Some input) same says = says input same
 
-pub said_of_whole : (known after : Option (List ℕ)) (bytes : List ℕ) (command : Command) (text : List ℕ) (closing : Closing) → ReadsInput known after bytes → Says command bytes text closing → IfSome known (λ input. Says command input text closing)
+pub said_of_whole : (known after : Option (List ℕ)) (bytes : List ℕ) (command : Command) (text : List ℕ) (closing : Closing) → ReadsUpToLimit known after bytes → Says command bytes text closing → IfSome known (λ input. Says command input text closing)
 said_of_whole known after bytes command text closing reads says = of_known (λ input. Says command input text closing) bytes known (same_json known after bytes reads) (λ input same. says_too input bytes same command text closing says)
 
-pub refused_of_whole : (known after : Option (List ℕ)) (bytes : List ℕ) (command : Command) (refusal : Refusal) → ReadsInput known after bytes → Refuses command bytes refusal → IfSome known (λ input. Refuses command input refusal)
+pub refused_of_whole : (known after : Option (List ℕ)) (bytes : List ℕ) (command : Command) (refusal : Refusal) → ReadsUpToLimit known after bytes → Refuses command bytes refusal → IfSome known (λ input. Refuses command input refusal)
 refused_of_whole known after bytes command refusal reads refuses = of_known (λ input. Refuses command input refusal) bytes known (same_json known after bytes reads) (λ input same. refuses_too input bytes same command refusal refuses)
 
 -- what may be want of memory under a shape is want of memory
 pub misfits : (shape : Shape) (json : Data) (fault : ShapeFault) → Unless (is_memory_under shape fault) (read shape json ≡ Err fault) → Unless (is_memory fault) (read shape json ≡ Err fault)
 misfits shape json fault h = unless_more (read shape json ≡ Err fault) (is_memory_under shape fault) (is_memory fault) (under_is_memory shape fault) h
 
-pub refused_by : (known after : Option (List ℕ)) (bytes : List ℕ) (command : Command) (error : ServeError) (refusal : Refusal) → ReadsInput known after bytes → IfRefused {A = Bool} (Err error) (Refuses command bytes) → error ≡ Refused refusal → IfSome known (λ input. Refuses command input refusal)
+pub refused_by : (known after : Option (List ℕ)) (bytes : List ℕ) (command : Command) (error : ServeError) (refusal : Refusal) → ReadsUpToLimit known after bytes → IfRefused {A = Bool} (Err error) (Refuses command bytes) → error ≡ Refused refusal → IfSome known (λ input. Refuses command input refusal)
 refused_by known after bytes command (Refused own) refusal reads refuses same = let is : own ≡ refusal = cc in refused_of_whole known after bytes command refusal reads (subst (Refuses command bytes) is refuses)
 refused_by known after bytes command OutOfMemory refusal reads refuses same = absurd cc
 refused_by known after bytes command Read refusal reads refuses same = absurd refuses
@@ -95,6 +95,6 @@ with_text : (known : Option (List ℕ)) (command : Command) (text : List ℕ) (c
 with_text None command text closing P says goes = tt
 with_text (Some input) command text closing P says goes = (text, says, goes)
 
-pub written_of_whole : (known after : Option (List ℕ)) (bytes : List ℕ) (command : Command) (text : List ℕ) (closing : Closing) (before contents : Option (List ℕ)) → ReadsInput known after bytes → Says command bytes text closing → Appends before contents text
+pub written_of_whole : (known after : Option (List ℕ)) (bytes : List ℕ) (command : Command) (text : List ℕ) (closing : Closing) (before contents : Option (List ℕ)) → ReadsUpToLimit known after bytes → Says command bytes text closing → Appends before contents text
     → IfSome known (λ input. (text : List ℕ) × Says command input text closing × Appends before contents text)
 written_of_whole known after bytes command text closing before contents reads says goes = with_text known command text closing (Appends before contents) (said_of_whole known after bytes command text closing reads says) goes

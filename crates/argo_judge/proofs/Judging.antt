@@ -15,7 +15,7 @@ use Rattle.ar_judge.specs.declared.error.BuildCause.TheVariants as causes
 use Rattle.ar_document.specs.Json.{is_memory as is_json_memory, json_in}
 use Rattle.ar_document.specs.declared.json.JsonError.{JsonError}
 use Rattle.ar_document.specs.declared.json.JsonError.TheVariants as json_error
-use Rattle.argo_judge.specs.Evaluation.{Evaluates, Follows, Answers, UnlessMemory, given, of_build, of_json, of_misfit, prepared, prepared_input}
+use Rattle.argo_judge.specs.Evaluation.{Evaluates, Follows, Answers, UnlessMemory, prepared_of, of_build, of_json, of_misfit, prepared, prepared_input}
 use Rattle.argo_judge.specs.Serving.{of_eval}
 use Rattle.argo_judge.specs.declared.serve.Refusal.TheVariants.{Eval}
 use Rattle.argo_judge.specs.declared.serve.ServeError.TheVariants.{Refused}
@@ -23,7 +23,7 @@ use Rattle.argo_judge.specs.declared.eval.EvalError.{EvalError}
 use Rattle.argo_judge.specs.declared.eval.EvalError.TheVariants.{OutOfMemory}
 
 -- a text that is no condition that can be run is refused for its cause
-pub not_built : (text : List ℕ) (shape : Shape) (measured : Data) (cause : BuildCause) → IsRefused shape text cause → UnlessMemory (Err (of_build cause)) (Answers (given text shape measured))
+pub not_built : (text : List ℕ) (shape : Shape) (measured : Data) (cause : BuildCause) → IsRefused shape text cause → UnlessMemory (Err (of_build cause)) (Answers (prepared_of text shape measured))
 not_built text shape measured causes.OutOfMemory refused = tt
 not_built text shape measured (causes.Grammar error) refused = refused
 not_built text shape measured (causes.Kinds error) refused = refused
@@ -35,7 +35,7 @@ said_as shape text condition value answer built says = subst (λ text. said shap
 
 -- a condition that is run on what was read answers what is meant
 pub answered : (text : List ℕ) (shape : Shape) (measured : Data) (condition : Condition) (value : Value) (answer : Result Bool Fault) → IsBuilt shape text condition → read (shape_view condition.verified.shape) measured ≡ Ok value → said (shape_view condition.verified.shape) condition.text value ≡ Some answer
-    → Answers (given text shape measured) (Ok answer)
+    → Answers (prepared_of text shape measured) (Ok answer)
 answered text shape measured condition value answer built is_read says =
     let read_shape : read shape measured ≡ Ok value = rw built.shape_is at is_read in
     let said_shape = said_as shape text condition value answer built says in
@@ -43,7 +43,7 @@ answered text shape measured condition value answer built is_read says =
 
 -- a misfit of what was measured is told, where the condition can be run
 pub misfit_told : (text : List ℕ) (shape : Shape) (measured : Data) (condition : Condition) (fault : ShapeFault) → IsBuilt shape text condition → Unless (is_memory fault) (read (shape_view condition.verified.shape) measured ≡ Err fault)
-    → UnlessMemory (Err (of_misfit fault)) (Answers (given text shape measured))
+    → UnlessMemory (Err (of_misfit fault)) (Answers (prepared_of text shape measured))
 misfit_told text shape measured condition shape_fault.OutOfMemory built told = tt
 misfit_told text shape measured condition fault built told =
     let unread : read shape measured ≡ Err fault = rw built.shape_is at told in

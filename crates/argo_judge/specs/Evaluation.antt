@@ -15,23 +15,19 @@ use Rattle.ar_judge.specs.declared.error.BuildCause.{BuildCause}
 use Rattle.ar_judge.specs.declared.error.BuildCause.TheVariants as causes
 use Rattle.ar_value.specs.declared.fault.Fault.{Fault}
 use Rattle.ar_report.specs.Names.{fault_name}
+use Rattle.ar_document.specs.Answers.{there_or}
 use Rattle.ar_document.specs.Json.{json_in}
 use Rattle.ar_document.specs.declared.json.JsonError.{JsonError}
 use Rattle.ar_document.specs.declared.json.JsonError.TheVariants as json_error
 use Rattle.argo_judge.specs.declared.eval.EvalError.{EvalError}
 use Rattle.argo_judge.specs.declared.eval.EvalError.TheVariants.{TooLarge, Utf8OrJson, BadDocument, Shape as BadShape, Grammar, Kinds, Compiler, Verifier, Misfit, OutOfMemory}
 
--- a member that has to be there
-abbrev pub wanted : {A : Type 0} → Option A → Result A EvalError
-wanted (Some x) = Ok x
-wanted None = Err BadDocument
-
 -- a document's condition, shape and value, which all have to be there
 abbrev pub parts_of : Data → Result (List ℕ × Data × Data) EvalError
 parts_of document = do
-  text ← wanted (option_and_then as_str (get (codes "condition") document))
-  declared ← wanted (get (codes "shape") document)
-  measured ← wanted (get (codes "value") document)
+  text ← there_or BadDocument (option_and_then as_str (get (codes "condition") document))
+  declared ← there_or BadDocument (get (codes "shape") document)
+  measured ← there_or BadDocument (get (codes "value") document)
   Ok (text, declared, measured)
 
 -- a condition's text, the shape that `result` has, and what was measured
@@ -40,14 +36,14 @@ pub record Prepared : Type 0 where
   pub shape : Shape
   pub measured : Data
 
-abbrev pub given : List ℕ → Shape → Data → Prepared
-given text shape measured = record { text = text; shape = shape; measured = measured }
+abbrev pub prepared_of : List ℕ → Shape → Data → Prepared
+prepared_of text shape measured = record { text = text; shape = shape; measured = measured }
 
 unfoldable pub prepared : Data → Result Prepared EvalError
 prepared document = do
   parts ← parts_of document
   shape ← refused_as BadShape (shape_of parts.1)
-  Ok (given parts.0 shape parts.2)
+  Ok (prepared_of parts.0 shape parts.2)
 
 -- what a condition says of what was measured, which is read under the shape
 abbrev pub meant : Prepared → Result (Option (Result Bool Fault)) EvalError

@@ -4,6 +4,6 @@ use Rattle.std.specs.Io.KnownBytes.{Consumes, IsAtEnd}
 use Rattle.ar_document.specs.Json.{most_bytes}
 
 -- the bytes were read from the front of those known, and all of them unless they are too many
-pub record ReadsInput (before after : Option (List ℕ)) (bytes : List ℕ) : Type 0 where
+pub record ReadsUpToLimit (before after : Option (List ℕ)) (bytes : List ℕ) : Type 0 where
   pub front : Consumes before after bytes
   pub whole : length bytes ≤ most_bytes → IsAtEnd after

@@ -3,7 +3,7 @@
 ghost use Rattle.std.specs.Prelude.{◌≡◌, ◌<◌, Err, List, false, length, ℕ};
 ghost use Rattle.serde_json.specs.View.{view};
 ghost use Rattle.ar_value.specs.Answer as answer;
-ghost use Rattle.argo_judge.specs.Evaluation.{Answers, Evaluates, Follows, UnlessMemory, given, parts_of, prepared};
+ghost use Rattle.argo_judge.specs.Evaluation.{Answers, Evaluates, Follows, UnlessMemory, prepared_of, parts_of, prepared};
 ghost use Rattle.ar_value.specs.Shape.{Shape as Declared};
 ghost use Rattle.ar_value.specs.View.{shape_view};
 ghost use Rattle.ar_judge.specs.Condition.{IsBuilt};
@@ -151,7 +151,7 @@ fn judge(alloc: Global, document: &Json) -> Result<Answer, EvalError>
 /// What a condition's text says of what was measured.
 #[tactic(auto, using(crate::proofs::Judging::not_built))]
 fn judge_text(alloc: Global, text: &str, shape: Shape, measured: &Json) -> Result<Answer, EvalError>
-    ensures { UnlessMemory result (Answers (given text.now (shape_view shape) (view measured.now))) }
+    ensures { UnlessMemory result (Answers (prepared_of text.now (shape_view shape) (view measured.now))) }
 {
     let condition = Condition::build(alloc, text, shape)?;
     answer(alloc, &condition, measured)
@@ -161,7 +161,7 @@ fn judge_text(alloc: Global, text: &str, shape: Shape, measured: &Json) -> Resul
 #[tactic(auto, using(crate::proofs::Judging::answered))]
 fn answer(alloc: Global, condition: &Condition, measured: &Json) -> Result<Answer, EvalError>
     ensures { (text : List ℕ) (shape : Declared) → IsBuilt shape text condition.now
-        → UnlessMemory result (Answers (given text shape (view measured.now))) }
+        → UnlessMemory result (Answers (prepared_of text shape (view measured.now))) }
 {
     let value = read_value(alloc, measured, condition.verified().shape())?;
     Ok(condition.answer(alloc, &value)?)

@@ -1,7 +1,7 @@
 //! Reading a whole document.
 
 ghost use Rattle.std.specs.Prelude.{◌≡◌, false, true, IfOk, length};
-ghost use Rattle.argo_judge.specs.Input.{ReadsInput};
+ghost use Rattle.argo_judge.specs.Input.{ReadsUpToLimit};
 
 use crate::device::Source;
 use ar_document::json::MOST_BYTES;
@@ -39,7 +39,7 @@ fn zeros(alloc: Global, len: usize) -> Result<Vec<u8>, AllocError>
 /// All bytes of the source, or more than a document may have.
 pub fn read_input<R: Source>(alloc: Global, source: &mut R) -> Result<Vec<u8>, InputError>
     requires { R.has_failed source.old ≡ false }
-    ensures ok { IfOk result (λ bytes. ReadsInput (R.remaining source.old) (R.remaining source.new) bytes.items) }
+    ensures ok { IfOk result (λ bytes. ReadsUpToLimit (R.remaining source.old) (R.remaining source.new) bytes.items) }
     ensures read { result ≡ Err InputError.Read → R.has_failed source.new ≡ true }
 {
     let mut bytes = Vec::new(alloc);

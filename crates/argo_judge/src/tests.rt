@@ -470,7 +470,7 @@ fn request(alloc: Global, line: &str) -> Result<Result<Request, UsageError>, All
 /// A document whose refusals have names.
 const NAMED: &str = r#"{"manifest":{"spec":{
 "args":[{"name":"service"},{"name":"threshold","value":7}],
-"metrics":[{"name":"success-rate"},{"name":"error-rate","consecutiveSuccessLimit":1},{}]}},
+"metrics":[{"name":"success-rate","consecutiveSuccessLimit":null},{"name":"error-rate","consecutiveSuccessLimit":1},{}]}},
 "runs":[{"name":"r0"},{"name":"canary-2"},{"name":"r0"}],
 "measurements":[{"run":"x"},{"run":"r0","metric":"sucess-rate"},{}]}"#;
 
@@ -552,7 +552,7 @@ fn refusals_with_names(rt: HostRuntime) -> Result<(), Fail> {
         ),
         (
             BundleError::BadEntry(2),
-            "measurements[2]: BadEntry: expected a text `run`, and `\"stop\":true` or a text `metric` and just one of `value` and `error`",
+            "measurements[2]: BadEntry: expected a list of entries, each with a text `run`, and `\"stop\":true` or a text `metric` and just one of `value` and `error`",
         ),
         (
             BundleError::UnknownRun(0),

@@ -192,7 +192,7 @@ fn template_text(
             None => Ok(text),
         },
         ManifestError::Unsupported(number) => match item_in(metrics(document), number) {
-            Some(item) if item.get("consecutiveSuccessLimit").is_some() => {
+            Some(item) if has_success_limit(item) => {
                 with_item(alloc, &text, "spec", &Item::of("metric", number, item))
             }
             _ => Ok(text),
@@ -205,6 +205,14 @@ fn template_text(
         | ManifestError::BadLimit(number)
         | ManifestError::IntervalMissing(number) => beside_metric(alloc, document, text, number),
         _ => Ok(text),
+    }
+}
+
+/// Whether a metric has a `consecutiveSuccessLimit`; a null counts as missing.
+fn has_success_limit(metric: &Json) -> bool {
+    match metric.get("consecutiveSuccessLimit") {
+        None | Some(Json::Null) => false,
+        Some(_) => true,
     }
 }
 

@@ -8,7 +8,7 @@ use Rattle.ar_board.specs.declared.bundle.MetricPart.{MetricPart}
 use Rattle.ar_value.specs.Answer.{Unless}
 use Rattle.ar_document.specs.Document.{is_memory}
 use Rattle.ar_document.specs.Opening.{metric_view}
-use Rattle.ar_document.specs.Runs.{AreJudges}
+use Rattle.ar_document.specs.Parts.{AreJudges}
 use Rattle.ar_document.specs.declared.error.BundleError.{BundleError}
 use Rattle.ar_document.specs.declared.error.BundleError.TheVariants.{Build}
 

@@ -1,5 +1,5 @@
 use Rattle.std.proofs.Common.{◌≡◌, map, take}
-use Rattle.ar_document.specs.Runs.{limits_of}
+use Rattle.ar_document.specs.Parts.{limits_of}
 use Rattle.ar_document.proofs.parts.all_limits.Given as goal
 
 -- the limits so far

@@ -1,6 +1,6 @@
 use Rattle.std.proofs.Common.{map, take}
 use Rattle.ar_document.specs.Opening.{metric_view}
-use Rattle.ar_document.specs.Runs.{AreJudges}
+use Rattle.ar_document.specs.Parts.{AreJudges}
 use Rattle.ar_document.proofs.parts.judges_of.Given as goal
 
 -- the judges so far

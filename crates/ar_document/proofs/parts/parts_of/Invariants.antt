@@ -1,6 +1,6 @@
 use Rattle.std.proofs.Common.{take}
 use Rattle.ar_document.specs.Private.Opened.{opened_view}
-use Rattle.ar_document.specs.Runs.{AreParts}
+use Rattle.ar_document.specs.Parts.{AreParts}
 use Rattle.ar_document.proofs.parts.parts_of.Given as goal
 
 -- the parts so far

@@ -1,6 +1,6 @@
 //! Documents as large as they may be, and larger by one; and JSON documents.
 
-use super::{Answer, Document, ONE_METRIC, PLAIN, answer_to, text_of};
+use crate::document::{Answer, Document, ONE_METRIC, PLAIN, answer_to, text_of};
 use ar_document::json::MOST_BYTES;
 use ar_document::{BundleError, JsonError, read_json};
 use ar_manifest::ManifestError;

@@ -1,6 +1,6 @@
 //! Documents and what they are read as: each refusal, and which goes before which.
 
-use super::{Answer, Document, PLAIN, answer_of, answer_to};
+use crate::document::{Answer, Document, PLAIN, answer_of, answer_to};
 use ar_check::TypeError;
 use ar_document::BundleError;
 use ar_judge::{BuildCause, BuildError};
