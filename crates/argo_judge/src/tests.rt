@@ -1,19 +1,19 @@
 //! Worked rows, whose expected values were worked out by hand, and inputs that fail.
 
 use crate::command_line::{Request, UsageError, request_of};
-use crate::device::{Device, DeviceFault, Source};
-use crate::eval::EvalError;
-use crate::kept::Kept;
-use crate::serve::{Closing, Command, Refusal, ServeError, serve_plain};
 use crate::words::refusal_text;
 use ar_check::error::TypeError;
+use ar_command::{
+    Closing, Command, Device, DeviceFault, EvalError, Kept, Refusal, ServeError, Source,
+    serve_plain,
+};
 use ar_compile::CompileError;
 use ar_document::BundleError;
+use ar_json::shape_reading::ShapeError;
+use ar_json::value_reading::ShapeFault;
 use ar_judge::{BuildCause, BuildError};
 use ar_manifest::ManifestError;
 use ar_syntax::error::SyntaxError;
-use ar_value::shape_reading::ShapeError;
-use ar_value::value_reading::ShapeFault;
 use std::alloc::{AllocError, Global};
 use std::io::Read;
 use std::test::Fail;
