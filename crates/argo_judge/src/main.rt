@@ -26,8 +26,6 @@ pub mod input;
 mod kept;
 pub mod serve;
 pub mod status;
-#[cfg(test)]
-mod tests;
 mod words;
 
 use command_line::{Request, UsageError, request_of};
