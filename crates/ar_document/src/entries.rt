@@ -4,13 +4,12 @@ ghost use Rattle.std.specs.Prelude.{◌≡◌, ◌<◌, ◌≤◌, ℕ, List, []
 ghost use Rattle.std.specs.List.{AllByRecursion};
 ghost use Rattle.serde_json.specs.Find.{get};
 ghost use Rattle.serde_json.specs.View.{view};
-ghost use Rattle.ar_value.specs.Answer.{Gives};
+ghost use Rattle.ar_value.specs.Answer.{Gives, each_behind, there_or};
 ghost use Rattle.ar_value.specs.View.{shape_view};
-ghost use Rattle.ar_manifest.specs.Json.{unless_null};
-ghost use Rattle.ar_value.specs.Reading.{is_memory as is_fault_of_memory};
+ghost use Rattle.ar_json.specs.Members.{unless_null};
+ghost use Rattle.ar_json.specs.Reading.{is_memory as is_fault_of_memory};
 ghost use Rattle.ar_judge.specs.Verdict.{misfit, sample_view};
 ghost use Rattle.ar_board.specs.Bundle.{IsEntry, SampleSuits, most_events};
-ghost use Rattle.ar_document.specs.Answers.{each_behind, there_or};
 ghost use Rattle.ar_document.specs.Document.{is_memory};
 ghost use Rattle.ar_document.specs.Entries.{Entry, entries_in, entry_in, entry_items, entry_view, given, is_true, listed_entries, measured_of, measurement_of, sample_of, stop_of, text_of};
 ghost use Rattle.ar_document.specs.Opening.{names_of, number_of};
@@ -19,13 +18,13 @@ ghost use Rattle.ar_document.specs.Private.Opened.{IsOpened, opened_view};
 ghost use Rattle.ar_document.specs.declared.error.BundleError.TheVariants.{OutOfMemory, UnknownRun};
 
 use crate::error::BundleError;
-use crate::json::list_of;
 use crate::names::Numbers;
 use crate::opening::Opened;
 use ar_board::{EventPart, What};
+use ar_json::members::list_of;
+use ar_json::value_reading::{ShapeFault, read_value};
 use ar_judge::Sample;
 use ar_value::shape::Shape;
-use ar_value::value_reading::{ShapeFault, read_value};
 use serde_json::Value as Json;
 use std::alloc::Global;
 
