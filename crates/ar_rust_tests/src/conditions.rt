@@ -1,0 +1,94 @@
+//! Conditions as long, as wide and as deep as they may be.
+
+use ar_condition::tree::{Literal, Tree};
+use ar_syntax::{SyntaxError, parse, tokens};
+use std::alloc::Global;
+use std::test::Fail;
+
+/// How many bytes a condition may have.
+const MOST_BYTES: usize = 4096;
+
+/// A text literal that is a whole condition of the greatest length.
+#[test]
+fn long_text(rt: HostRuntime) -> Result<(), Fail> {
+    let alloc = rt.alloc();
+    let inside = "\\n".repeat(alloc, 2047)?;
+    let text = format!(in alloc; "\"{inside}\"")?;
+    assert_eq!(rt; text.len(), MOST_BYTES);
+    let expected = "\n".repeat(alloc, 2047)?;
+    assert!(rt;
+        matches!(
+            parse(alloc, text.as_str())?,
+            Tree::Literal { at: 0, literal: Literal::Text(ref value) } if value.as_str() == expected.as_str()
+        )
+    );
+    let longer = format!(in alloc; "{text} ")?;
+    assert_eq!(rt;
+        parse(alloc, longer.as_str()).err(),
+        Some(SyntaxError::TooLong)
+    );
+    Ok(())
+}
+
+/// A list of an item, which stands there so many times and once more.
+fn list_of(alloc: Global, item: &str, times: usize) -> Result<String, Fail> {
+    let others = format!(in alloc; "{item},")?.as_str().repeat(alloc, times)?;
+    Ok(format!(in alloc; "[{others}{item}]")?)
+}
+
+/// How many leaves a tree of lists has.
+#[cycle(leaves)]
+fn leaves(tree: &Tree) -> usize {
+    match tree {
+        Tree::List { items, .. } => all_leaves(&items.items),
+        _ => 1,
+    }
+}
+
+#[cycle(leaves)]
+fn all_leaves(trees: &[Tree]) -> usize {
+    let mut count: usize = 0;
+    for tree in trees {
+        count = count.saturating_add(leaves(tree));
+    }
+    count
+}
+
+/// A list of lists of lists, of 3,823 tokens.
+#[test]
+fn wide(rt: HostRuntime) -> Result<(), Fail> {
+    let alloc = rt.alloc();
+    let row = list_of(alloc, "1", 15)?;
+    let table = list_of(alloc, row.as_str(), 15)?;
+    let tables = list_of(alloc, table.as_str(), 6)?;
+    assert_eq!(rt; tokens(alloc, tables.as_str())?.len(), 3823);
+    let tree = parse(alloc, tables.as_str())?;
+    assert_eq!(rt; leaves(&tree), 7 * 16 * 16);
+    Ok(())
+}
+
+/// How many lists of one item stand one in another, and where the outermost begins.
+fn depth(tree: &Tree) -> usize {
+    match tree {
+        Tree::List { items, .. } => match items.items.first() {
+            Some(first) => depth(first).saturating_add(1),
+            None => 1,
+        },
+        _ => 0,
+    }
+}
+
+/// A list in a list, and so on: 63 of them with a literal in the innermost are 64 levels, the most
+/// that a condition has.
+#[test]
+fn deep(rt: HostRuntime) -> Result<(), Fail> {
+    let alloc = rt.alloc();
+    for (lists, expected) in [(63, Ok(63)), (64, Err(SyntaxError::TooDeep(0)))] {
+        let openers = "[".repeat(alloc, lists)?;
+        let closers = "]".repeat(alloc, lists)?;
+        let text = format!(in alloc; "{openers}1{closers}")?;
+        let found = parse(alloc, text.as_str()).map(|tree| depth(&tree));
+        assert!(rt; found == expected, "{lists}");
+    }
+    Ok(())
+}
