@@ -1,7 +1,7 @@
-//! Documents as large as they may be, plain runs of many events, and what is given back of both.
+//! Plain runs of documents with as many runs and events as may be, and lists that are given back.
 
 use ar_board::{Entry, Finding, Histories, History, Judges, RunLimits};
-use ar_document::{BundleError, read_bundle};
+use ar_document::read_bundle;
 use ar_judge::Verdict;
 use ar_limits::{Effect, Limits, Phase};
 use ar_workers::run_plain;
@@ -44,31 +44,6 @@ fn document(alloc: Global, count: usize, events: usize, value: u32) -> Result<St
     Ok(format!(in alloc;
         "{{\"manifest\":{TEMPLATE},\"shapes\":{{\"m\":\"whole\"}},\"runs\":[{runs}],\"measurements\":[{entries}]}}"
     )?)
-}
-
-/// How many runs and events a document has, or why it is refused.
-fn sizes(alloc: Global, document: &str) -> Result<(usize, u64), BundleError> {
-    let bundle = read_bundle(alloc, document.as_bytes())?;
-    Ok((bundle.runs().len(), bundle.events()))
-}
-
-/// A document has 64 runs and 100,000 entries at most.
-#[test]
-fn largest_documents(rt: HostRuntime) -> Result<(), Fail> {
-    let alloc = rt.alloc();
-    for (runs, entries, expected) in [
-        (64, 100_000, Ok((64, 100_000))),
-        (64, 100_001, Err(BundleError::TooManyMeasurements)),
-        (65, 1, Err(BundleError::Runs)),
-    ] {
-        let document = document(alloc, runs, entries, 1)?;
-        assert_eq!(rt;
-            sizes(alloc, document.as_str()),
-            expected,
-            "{runs} {entries}"
-        );
-    }
-    Ok(())
 }
 
 /// The history of a run that is there.

@@ -2,7 +2,7 @@
 
 use ar_condition::tree::{Literal, Tree};
 use ar_syntax::{SyntaxError, parse, tokens};
-use std::alloc::Global;
+use std::alloc::{AllocError, Global};
 use std::test::Fail;
 
 /// How many bytes a condition may have.
@@ -67,15 +67,26 @@ fn wide(rt: HostRuntime) -> Result<(), Fail> {
     Ok(())
 }
 
-/// How many lists of one item stand one in another, and where the outermost begins.
-fn depth(tree: &Tree) -> usize {
-    match tree {
-        Tree::List { items, .. } => match items.items.first() {
-            Some(first) => depth(first).saturating_add(1),
-            None => 1,
-        },
-        _ => 0,
+/// Whether a tree is so many lists of one item, one in another, with a literal in the innermost.
+fn is_nested(tree: &Tree, lists: usize) -> bool {
+    let mut node = tree;
+    for _ in 0..lists {
+        let Tree::List { items, .. } = node else {
+            return false;
+        };
+        if items.items.len() != 1 {
+            return false;
+        }
+        node = &items.items[0];
     }
+    matches!(node, Tree::Literal { .. })
+}
+
+/// The text of so many lists, one in another.
+fn nested(alloc: Global, lists: usize) -> Result<String, AllocError> {
+    let openers = "[".repeat(alloc, lists)?;
+    let closers = "]".repeat(alloc, lists)?;
+    format!(in alloc; "{openers}1{closers}")
 }
 
 /// A list in a list, and so on: 63 of them with a literal in the innermost are 64 levels, the most
@@ -83,12 +94,9 @@ fn depth(tree: &Tree) -> usize {
 #[test]
 fn deep(rt: HostRuntime) -> Result<(), Fail> {
     let alloc = rt.alloc();
-    for (lists, expected) in [(63, Ok(63)), (64, Err(SyntaxError::TooDeep(0)))] {
-        let openers = "[".repeat(alloc, lists)?;
-        let closers = "]".repeat(alloc, lists)?;
-        let text = format!(in alloc; "{openers}1{closers}")?;
-        let found = parse(alloc, text.as_str()).map(|tree| depth(&tree));
-        assert!(rt; found == expected, "{lists}");
-    }
+    let tree = parse(alloc, nested(alloc, 63)?.as_str())?;
+    assert!(rt; is_nested(&tree, 63));
+    let refused = parse(alloc, nested(alloc, 64)?.as_str()).err();
+    assert_eq!(rt; refused, Some(SyntaxError::TooDeep(0)));
     Ok(())
 }

@@ -7,7 +7,7 @@
 //! - `templates`: templates, their arguments and what they are bound to
 //! - `conditions`: conditions as long, as wide and as deep as they may be
 //! - `code`: code that is given back, and images with a byte less or another one
-//! - `bundles`: documents as large as they may be, and plain runs of many events
+//! - `bundles`: plain runs of as many events as may be, and lists that are given back
 //! - `commands`: commands on inputs that come a byte at a time, that can't be read, and that are kept
 //! - `laws`: laws
 #![tactic(auto)]
