@@ -1,7 +1,9 @@
 //! Commands on inputs that come a byte at a time, that can't be read to their end, and that are kept.
 
 use ar_command::{Closing, Command, Device, DeviceFault, Kept, ServeError, Source, serve_plain};
+use std::alloc::Global;
 use std::io::Read;
+use std::process::Abort;
 
 /// A metric that is to be above 1, and two runs, one of which isn't measured.
 const DOCUMENT: &str =
@@ -79,43 +81,49 @@ impl Source for Failing<'_> {
     }
 }
 
+/// How a command ends on the document, a byte a read and so many reads, and what it writes.
+fn served(
+    alloc: Global,
+    command: Command,
+    reads: usize,
+    output: &mut Vec<u8>,
+) -> Result<Closing, ServeError> {
+    let mut reader = Failing {
+        rest: DOCUMENT.as_bytes(),
+        reads,
+        has_failed: false,
+    };
+    let mut writer = Device::new(output);
+    serve_plain(alloc, command, &mut reader, &mut writer)
+}
+
 /// An input that comes a byte at a time is answered as any other.
 #[test]
 fn a_byte_a_read(rt: HostRuntime) {
     for (command, expected) in ANSWERS {
         let mut output = Vec::new(rt.alloc());
-        let mut reader = Failing {
-            rest: DOCUMENT.as_bytes(),
-            reads: DOCUMENT.len() + 1,
-            has_failed: false,
-        };
-        let mut writer = Device::new(&mut output);
-        let outcome = serve_plain(rt.alloc(), command, &mut reader, &mut writer);
+        let outcome = served(rt.alloc(), command, DOCUMENT.len() + 1, &mut output);
         assert_eq!(rt; outcome, Ok(Closing::Good), "{command:?}");
         assert_eq!(rt; output.as_slice(), expected.as_bytes(), "{command:?}");
     }
 }
 
-/// A reader that fails at one of its reads, be it the one that would find the end, has `Read`
-/// answered and nothing written.
+/// Asserts that a command tells so and writes nothing, where its reader fails: at once, inside the
+/// document, and where the end would be found.
+fn assert_failing(rt: &impl Abort, alloc: Global, command: Command) {
+    for reads in [0, 1, 100, DOCUMENT.len() - 1, DOCUMENT.len()] {
+        let mut output = Vec::new(alloc);
+        let outcome = served(alloc, command, reads, &mut output);
+        assert_eq!(rt; outcome, Err(ServeError::Read), "{command:?}, {reads}");
+        assert!(rt; output.is_empty(), "{command:?}, {reads}");
+    }
+}
+
+/// A failed read is told, and nothing is written.
 #[test]
 fn failing_reads(rt: HostRuntime) {
     for (command, _) in ANSWERS {
-        for reads in [0, 1, 100, DOCUMENT.len() - 1, DOCUMENT.len()] {
-            let mut output = Vec::new(rt.alloc());
-            let mut reader = Failing {
-                rest: DOCUMENT.as_bytes(),
-                reads,
-                has_failed: false,
-            };
-            let mut writer = Device::new(&mut output);
-            let outcome = serve_plain(rt.alloc(), command, &mut reader, &mut writer);
-            assert_eq!(rt; outcome, Err(ServeError::Read), "{command:?}, {reads}");
-            assert!(rt;
-                output.is_empty() && reader.failed(),
-                "{command:?}, {reads}"
-            );
-        }
+        assert_failing(&rt, rt.alloc(), command);
     }
 }
 

@@ -8,23 +8,32 @@ use std::test::Fail;
 /// How many bytes a condition may have.
 const MOST_BYTES: usize = 4096;
 
+/// Why a text is no condition.
+fn refusal_of(alloc: Global, condition: &str) -> Option<SyntaxError> {
+    parse(alloc, condition).err()
+}
+
+/// Whether a condition is a text literal alone, which says this text.
+fn is_literal(alloc: Global, condition: &str, text: &str) -> Result<bool, SyntaxError> {
+    let tree = parse(alloc, condition)?;
+    Ok(matches!(
+        tree,
+        Tree::Literal { at: 0, literal: Literal::Text(ref said) } if said.as_str() == text
+    ))
+}
+
 /// A text literal that is a whole condition of the greatest length.
 #[test]
 fn long_text(rt: HostRuntime) -> Result<(), Fail> {
     let alloc = rt.alloc();
-    let inside = "\\n".repeat(alloc, 2047)?;
-    let text = format!(in alloc; "\"{inside}\"")?;
-    assert_eq!(rt; text.len(), MOST_BYTES);
-    let expected = "\n".repeat(alloc, 2047)?;
-    assert!(rt;
-        matches!(
-            parse(alloc, text.as_str())?,
-            Tree::Literal { at: 0, literal: Literal::Text(ref value) } if value.as_str() == expected.as_str()
-        )
-    );
-    let longer = format!(in alloc; "{text} ")?;
+    let escapes = "\\n".repeat(alloc, 2047)?;
+    let condition = format!(in alloc; "\"{escapes}\"")?;
+    assert_eq!(rt; condition.len(), MOST_BYTES);
+    let text = "\n".repeat(alloc, 2047)?;
+    assert!(rt; is_literal(alloc, condition.as_str(), text.as_str())?);
+    let longer = format!(in alloc; "{condition} ")?;
     assert_eq!(rt;
-        parse(alloc, longer.as_str()).err(),
+        refusal_of(alloc, longer.as_str()),
         Some(SyntaxError::TooLong)
     );
     Ok(())
@@ -54,6 +63,12 @@ fn all_leaves(trees: &[Tree]) -> usize {
     count
 }
 
+/// How many leaves a condition of lists has.
+fn leaves_of(alloc: Global, condition: &str) -> Result<usize, SyntaxError> {
+    let tree = parse(alloc, condition)?;
+    Ok(leaves(&tree))
+}
+
 /// A list of lists of lists, of 3,823 tokens.
 #[test]
 fn wide(rt: HostRuntime) -> Result<(), Fail> {
@@ -62,8 +77,7 @@ fn wide(rt: HostRuntime) -> Result<(), Fail> {
     let table = list_of(alloc, row.as_str(), 15)?;
     let tables = list_of(alloc, table.as_str(), 6)?;
     assert_eq!(rt; tokens(alloc, tables.as_str())?.len(), 3823);
-    let tree = parse(alloc, tables.as_str())?;
-    assert_eq!(rt; leaves(&tree), 7 * 16 * 16);
+    assert_eq!(rt; leaves_of(alloc, tables.as_str())?, 7 * 16 * 16);
     Ok(())
 }
 
@@ -89,14 +103,23 @@ fn nested(alloc: Global, lists: usize) -> Result<String, AllocError> {
     format!(in alloc; "{openers}1{closers}")
 }
 
+/// Whether a condition is so many lists, one in another.
+fn says_nested(alloc: Global, condition: &str, lists: usize) -> Result<bool, SyntaxError> {
+    let tree = parse(alloc, condition)?;
+    Ok(is_nested(&tree, lists))
+}
+
 /// A list in a list, and so on: 63 of them with a literal in the innermost are 64 levels, the most
 /// that a condition has.
 #[test]
 fn deep(rt: HostRuntime) -> Result<(), Fail> {
     let alloc = rt.alloc();
-    let tree = parse(alloc, nested(alloc, 63)?.as_str())?;
-    assert!(rt; is_nested(&tree, 63));
-    let refused = parse(alloc, nested(alloc, 64)?.as_str()).err();
-    assert_eq!(rt; refused, Some(SyntaxError::TooDeep(0)));
+    let deepest = nested(alloc, 63)?;
+    assert!(rt; says_nested(alloc, deepest.as_str(), 63)?);
+    let deeper = nested(alloc, 64)?;
+    assert_eq!(rt;
+        refusal_of(alloc, deeper.as_str()),
+        Some(SyntaxError::TooDeep(0))
+    );
     Ok(())
 }
