@@ -11,8 +11,6 @@
 #![tactic(auto)]
 
 mod command_line;
-#[cfg(test)]
-mod tests;
 mod words;
 
 use ar_command::{Command, Device, Kept, Refusal, ServeError, serve_plain, status};
