@@ -17,3 +17,4 @@ pub mod ListTables
 pub mod ConstructTables
 pub mod KindTable
 pub mod Conditions
+pub mod Turns

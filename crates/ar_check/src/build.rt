@@ -33,7 +33,8 @@ pub(crate) fn index(
     list: Box<Typed>,
     index: Box<Typed>,
 ) -> Result<Box<Typed>, AllocError>
-    ensures { IfOk result (λ tree. typed_view tree.value ≡ typed.index (typed_view list.value) (typed_view index.value)) }
+    ensures { IfOk result
+        (λ tree. typed_view tree.value ≡ typed.index (typed_view list.value) (typed_view index.value)) }
 {
     Ok(Box::new(alloc, Typed::Index { list, index })?)
 }
@@ -98,7 +99,8 @@ pub(crate) fn equal(
     left: Box<Typed>,
     right: Box<Typed>,
 ) -> Result<Box<Typed>, AllocError>
-    ensures { IfOk result (λ tree. typed_view tree.value ≡ typed.equal family (typed_view left.value) (typed_view right.value)) }
+    ensures { IfOk result
+        (λ tree. typed_view tree.value ≡ typed.equal family (typed_view left.value) (typed_view right.value)) }
 {
     Ok(Box::new(
         alloc,
@@ -115,7 +117,8 @@ pub(crate) fn within(
     operand: Box<Typed>,
     list: Box<Typed>,
 ) -> Result<Box<Typed>, AllocError>
-    ensures { IfOk result (λ tree. typed_view tree.value ≡ typed.within (typed_view operand.value) (typed_view list.value)) }
+    ensures { IfOk result
+        (λ tree. typed_view tree.value ≡ typed.within (typed_view operand.value) (typed_view list.value)) }
 {
     Ok(Box::new(alloc, Typed::Within { operand, list })?)
 }
@@ -131,7 +134,8 @@ pub(crate) fn both(
     left: Box<Typed>,
     right: Box<Typed>,
 ) -> Result<Box<Typed>, AllocError>
-    ensures { IfOk result (λ tree. typed_view tree.value ≡ typed.both (typed_view left.value) (typed_view right.value)) }
+    ensures { IfOk result
+        (λ tree. typed_view tree.value ≡ typed.both (typed_view left.value) (typed_view right.value)) }
 {
     Ok(Box::new(alloc, Typed::And { left, right })?)
 }
@@ -141,7 +145,8 @@ pub(crate) fn either(
     left: Box<Typed>,
     right: Box<Typed>,
 ) -> Result<Box<Typed>, AllocError>
-    ensures { IfOk result (λ tree. typed_view tree.value ≡ typed.either (typed_view left.value) (typed_view right.value)) }
+    ensures { IfOk result
+        (λ tree. typed_view tree.value ≡ typed.either (typed_view left.value) (typed_view right.value)) }
 {
     Ok(Box::new(alloc, Typed::Or { left, right })?)
 }
@@ -184,7 +189,8 @@ pub(crate) fn otherwise(
     operand: Box<Typed>,
     otherwise: Box<Typed>,
 ) -> Result<Box<Typed>, AllocError>
-    ensures { IfOk result (λ tree. typed_view tree.value ≡ typed.otherwise (typed_view operand.value) (typed_view otherwise.value)) }
+    ensures { IfOk result
+        (λ tree. typed_view tree.value ≡ typed.otherwise (typed_view operand.value) (typed_view otherwise.value)) }
 {
     Ok(Box::new(alloc, Typed::Default { operand, otherwise })?)
 }
@@ -195,7 +201,8 @@ pub(crate) fn predicate(
     list: Box<Typed>,
     body: Box<Typed>,
 ) -> Result<Box<Typed>, AllocError>
-    ensures { IfOk result (λ tree. typed_view tree.value ≡ typed.predicate predicate (typed_view list.value) (typed_view body.value)) }
+    ensures { IfOk result
+        (λ tree. typed_view tree.value ≡ typed.predicate predicate (typed_view list.value) (typed_view body.value)) }
 {
     Ok(Box::new(
         alloc,

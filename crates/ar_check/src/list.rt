@@ -29,7 +29,8 @@ pub(crate) struct Item {
 
 /// A list of items.
 pub(crate) fn list<'s>(alloc: Global, at: usize, items: Vec<Item>) -> Result<Operand<'s>, TypeError>
-    ensures { Gives is_memory operand_view result (list_of at (map item_view items.items) (no_scalar (map item_view items.items))) }
+    ensures { Gives is_memory operand_view result
+        (list_of at (map item_view items.items) (no_scalar (map item_view items.items))) }
 {
     if let Some(place) = no_scalar(&items) {
         return Err(TypeError::NotScalar(place));

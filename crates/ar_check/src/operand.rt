@@ -10,7 +10,7 @@ ghost use Rattle.ar_check.specs.Check.{field_shape, item_shape, plain_kind};
 ghost use Rattle.ar_check.specs.Operand.{is_truth, made_plain, numbers, plain_of, plain_tree, scalar, scalar_of, turned};
 ghost use Rattle.ar_condition.specs.Views.{typed_view};
 ghost use Rattle.ar_check.specs.Memory.{is_memory};
-ghost use Rattle.ar_check.specs.Private.Inside.{kind_view, operand_view, shaped_answer};
+ghost use Rattle.ar_check.specs.Private.Inside.{kind_view, operand_view, shaped_answer, turned_where, turns};
 
 use crate::build::{as_decimal, plain};
 use crate::error::TypeError;
@@ -157,7 +157,8 @@ pub(crate) fn field_kind<'s>(
     name: &str,
     kind: &Kind<'s>,
 ) -> Result<Kind<'s>, TypeError>
-    ensures { Gives is_memory kind_view result (shaped_answer (field_shape at name.now (plain_of (kind_view kind.now)))) }
+    ensures { Gives is_memory kind_view result
+        (shaped_answer (field_shape at name.now (plain_of (kind_view kind.now)))) }
 {
     match kind {
         Kind::Nil => Err(TypeError::WrongOperand(at)),
@@ -167,7 +168,8 @@ pub(crate) fn field_kind<'s>(
 }
 
 fn item_in(at: usize, shape: &Shape) -> Result<&Shape, TypeError>
-    ensures { Gives (λ _. false) (λ found. shape_view found.now) result (item_shape at (plain_of (shaped (shape_view shape.now)))) }
+    ensures { Gives (λ _. false) (λ found. shape_view found.now) result
+        (item_shape at (plain_of (shaped (shape_view shape.now)))) }
 {
     match kind::plain(shape) {
         Shape::List { item, .. } => Ok(item),
@@ -182,7 +184,8 @@ fn item_in(at: usize, shape: &Shape) -> Result<&Shape, TypeError>
 
 /// The shape of a list's items.
 pub(crate) fn item_shape<'a>(at: usize, kind: &'a Kind<'_>) -> Result<&'a Shape, TypeError>
-    ensures { Gives (λ _. false) (λ found. shape_view found.now) result (item_shape at (plain_of (kind_view kind.now))) }
+    ensures { Gives (λ _. false) (λ found. shape_view found.now) result
+        (item_shape at (plain_of (kind_view kind.now))) }
 {
     match kind {
         Kind::Nil => Err(TypeError::NotAList(at)),
@@ -246,19 +249,21 @@ pub(crate) fn common<'s>(
     }
 }
 
-/// A tree of a kind, as a decimal where it is a whole beside a decimal.
-pub(crate) fn turned(
-    alloc: Global,
-    other: &Kind<'_>,
-    kind: &Kind<'_>,
-    tree: Box<Typed>,
-) -> Result<Box<Typed>, AllocError>
-    ensures { IfOk result (λ made. typed_view made.value ≡ turned (kind_view other.now) (kind_view kind.now) (typed_view tree.value)) }
+/// Whether a tree of a kind is a whole beside a decimal.
+pub(crate) fn turns(other: &Kind<'_>, kind: &Kind<'_>) -> bool
+    ensures { result ≡ turns (kind_view other.now) (kind_view kind.now) }
 {
     let (Some(other), Some(shape)) = (plain_shape(other), plain_shape(kind)) else {
-        return Ok(tree);
+        return false;
     };
-    if matches!(other, Shape::Decimal) && matches!(shape, Shape::Whole) {
+    matches!(other, Shape::Decimal) && matches!(shape, Shape::Whole)
+}
+
+/// A tree as a decimal, where it turns.
+pub(crate) fn turned(alloc: Global, turns: bool, tree: Box<Typed>) -> Result<Box<Typed>, AllocError>
+    ensures { IfOk result (λ made. typed_view made.value ≡ turned_where turns (typed_view tree.value)) }
+{
+    if turns {
         as_decimal(alloc, tree)
     } else {
         Ok(tree)
@@ -280,6 +285,7 @@ pub(crate) fn both_plain(
 }
 
 /// The trees of two operands, each turned beside the other.
+#[tactic(auto, using(crate::proofs::Turns::turned_is))]
 pub(crate) fn turned_both(
     alloc: Global,
     left: Operand<'_>,
@@ -290,17 +296,12 @@ pub(crate) fn turned_both(
     ensures right { IfOk result (λ trees. typed_view trees.1.value
         ≡ turned (operand_view left.entry).kind (operand_view right.entry).kind (operand_view right.entry).tree) }
 {
-    let Operand {
-        tree: first,
-        kind: of_first,
-    } = left;
-    let Operand {
-        tree: second,
-        kind: of_second,
-    } = right;
-    let first = turned(alloc, &of_second, &of_first, first)?;
-    let second = turned(alloc, &of_first, &of_second, second)?;
-    Ok((first, second))
+    let turns_left = turns(&right.kind, &left.kind);
+    let turns_right = turns(&left.kind, &right.kind);
+    let (left, right) = (into_tree(left), into_tree(right));
+    let left = turned(alloc, turns_left, left)?;
+    let right = turned(alloc, turns_right, right)?;
+    Ok((left, right))
 }
 
 /// The kind without nil.

@@ -7,7 +7,7 @@ ghost use Rattle.ar_check.specs.Operand.{among, family_in};
 ghost use Rattle.ar_condition.specs.Typed as typed;
 ghost use Rattle.ar_condition.specs.Views.{typed_view};
 ghost use Rattle.ar_check.specs.Memory.{is_memory};
-ghost use Rattle.ar_check.specs.Private.Inside.{kind_view, operand_view};
+ghost use Rattle.ar_check.specs.Private.Inside.{item_scalar, kind_view, operand_view};
 
 use crate::build::{
     arithmetic, as_decimal, both, either, equal, is_nil, negative, opposite, ordered, within,
@@ -31,7 +31,8 @@ pub(crate) fn where_wanted<'s>(
     tree: Box<Typed>,
     kind: Kind<'s>,
 ) -> Result<Operand<'s>, TypeError>
-    ensures { Gives (λ _. false) operand_view result (where_wanted at wanted (typed_view tree.value) (kind_view kind.entry)) }
+    ensures { Gives (λ _. false) operand_view result
+        (where_wanted at wanted (typed_view tree.value) (kind_view kind.entry)) }
 {
     if wanted {
         Ok(Operand { tree, kind })
@@ -66,27 +67,28 @@ pub(crate) fn unary<'s>(
 ) -> Result<Operand<'s>, TypeError>
     ensures { Gives is_memory operand_view result (unary_of at operator (operand_view operand.entry)) }
 {
+    let wanted = is_truth(&operand);
+    let numbers = numbers(&operand);
+    let operand = made_plain(alloc, operand)?;
     match operator {
-        Unary::Not => {
-            let wanted = is_truth(&operand);
-            let tree = opposite(alloc, made_plain(alloc, operand)?)?;
-            where_wanted(at, wanted, tree, truth())
-        }
+        Unary::Not => where_wanted(at, wanted, opposite(alloc, operand)?, truth()),
         Unary::Minus => {
-            let Some(numbers) = numbers(&operand) else {
+            let Some(numbers) = numbers else {
                 return Err(TypeError::WrongOperand(at));
             };
-            let tree = negative(alloc, numbers, made_plain(alloc, operand)?)?;
+            let tree = negative(alloc, numbers, operand)?;
             let kind = number_kind(numbers);
             Ok(Operand { tree, kind })
         }
         Unary::Plus => {
-            let Some(numbers) = numbers(&operand) else {
+            let Some(numbers) = numbers else {
                 return Err(TypeError::WrongOperand(at));
             };
-            let tree = made_plain(alloc, operand)?;
             let kind = number_kind(numbers);
-            Ok(Operand { tree, kind })
+            Ok(Operand {
+                tree: operand,
+                kind,
+            })
         }
     }
 }
@@ -190,18 +192,21 @@ fn equate<'s>(
     left: Operand<'_>,
     right: Operand<'_>,
 ) -> Result<Operand<'s>, TypeError>
-    ensures { Gives is_memory operand_view result (equality_of at nil_left nil_right (operand_view left.entry) (operand_view right.entry)) }
+    ensures { Gives is_memory operand_view result
+        (equality_of at nil_left nil_right (operand_view left.entry) (operand_view right.entry)) }
 {
+    let sides = (scalar(&left), scalar(&right));
+    let (left, right) = (into_tree(left), into_tree(right));
     if nil_left {
-        return is_nil_of(alloc, right);
+        return tests_nil(alloc, right);
     }
     if nil_right {
-        return is_nil_of(alloc, left);
+        return tests_nil(alloc, left);
     }
-    let (Some(of), Some(beside)) = (scalar(&left), scalar(&right)) else {
+    let (Some(of), Some(beside)) = sides else {
         return Err(TypeError::WrongOperand(at));
     };
-    let tree = equal(alloc, family(of), into_tree(left), into_tree(right))?;
+    let tree = equal(alloc, family(of), left, right)?;
     where_wanted(at, family(of) == family(beside), tree, truth())
 }
 
@@ -209,7 +214,14 @@ fn equate<'s>(
 pub(crate) fn is_nil_of<'s>(alloc: Global, operand: Operand<'_>) -> Result<Operand<'s>, TypeError>
     ensures { Gives is_memory operand_view result (given (typed.is_nil (operand_view operand.entry).tree) truth_kind) }
 {
-    let tree = is_nil(alloc, into_tree(operand))?;
+    tests_nil(alloc, into_tree(operand))
+}
+
+/// Whether what a tree says is nil.
+fn tests_nil<'s>(alloc: Global, tree: Box<Typed>) -> Result<Operand<'s>, TypeError>
+    ensures { Gives is_memory operand_view result (given (typed.is_nil (typed_view tree.value)) truth_kind) }
+{
+    let tree = is_nil(alloc, tree)?;
     let kind = truth();
     Ok(Operand { tree, kind })
 }
@@ -231,12 +243,14 @@ fn order<'s>(
     left: Operand<'_>,
     right: Operand<'_>,
 ) -> Result<Operand<'s>, TypeError>
-    ensures { Gives is_memory operand_view result (ordering_of at order (operand_view left.entry) (operand_view right.entry)) }
+    ensures { Gives is_memory operand_view result
+        (ordering_of at order (operand_view left.entry) (operand_view right.entry)) }
 {
-    let (Some(of), Some(beside)) = (numbers(&left), numbers(&right)) else {
+    let sides = (numbers(&left), numbers(&right));
+    let (left, right) = both_plain(alloc, left, right)?;
+    let (Some(of), Some(beside)) = sides else {
         return Err(TypeError::WrongOperand(at));
     };
-    let (left, right) = both_plain(alloc, left, right)?;
     let tree = ordered(alloc, (of, beside), order, left, right)?;
     let kind = truth();
     Ok(Operand { tree, kind })
@@ -252,13 +266,22 @@ fn contains<'s>(
 ) -> Result<Operand<'s>, TypeError>
     ensures { Gives is_memory operand_view result (in_of at (operand_view operand.entry) (operand_view list.entry)) }
 {
-    let item = scalar_of(plain(item_shape(at, &list.kind)?));
-    let (Some(of), Some(beside)) = (scalar(&operand), item) else {
+    let item = item_scalar(at, &list.kind);
+    let of = scalar(&operand);
+    let operand = into_tree(operand);
+    let list = made_plain(alloc, list)?;
+    let (Some(of), Some(beside)) = (of, item?) else {
         return Err(TypeError::WrongOperand(at));
     };
-    let operand = into_tree(operand);
-    let tree = within(alloc, operand, made_plain(alloc, list)?)?;
+    let tree = within(alloc, operand, list)?;
     where_wanted(at, family(of) == family(beside), tree, truth())
+}
+
+/// What scalar a list's items are once they are plain.
+fn item_scalar(at: usize, list: &Kind<'_>) -> Result<Option<Scalar>, TypeError>
+    ensures { Gives (λ _. false) (λ scalar. scalar) result (item_scalar at (kind_view list.now)) }
+{
+    Ok(scalar_of(plain(item_shape(at, list)?)))
 }
 
 fn calculate<'s>(
@@ -268,12 +291,14 @@ fn calculate<'s>(
     left: Operand<'_>,
     right: Operand<'_>,
 ) -> Result<Operand<'s>, TypeError>
-    ensures { Gives is_memory operand_view result (calculation_of at operator (operand_view left.entry) (operand_view right.entry)) }
+    ensures { Gives is_memory operand_view result
+        (calculation_of at operator (operand_view left.entry) (operand_view right.entry)) }
 {
-    let (Some(of), Some(beside)) = (numbers(&left), numbers(&right)) else {
+    let sides = (numbers(&left), numbers(&right));
+    let (left, right) = both_plain(alloc, left, right)?;
+    let (Some(of), Some(beside)) = sides else {
         return Err(TypeError::WrongOperand(at));
     };
-    let (left, right) = both_plain(alloc, left, right)?;
     calculate_on(alloc, at, operator, (of, beside), left, right)
 }
 

@@ -12,7 +12,7 @@ ghost use Rattle.ar_check.specs.Basics.{literal_kind};
 ghost use Rattle.ar_check.specs.Check.{checked, choice_tree, default_kind, default_of, default_tree, field_of, index_of, innermost, is_nil_literal, len_of, over_items, plain_kind, predicate_kind, predicate_of};
 ghost use Rattle.ar_condition.specs.Meaning.{IsTruthOrFault, mean};
 ghost use Rattle.ar_check.specs.Operand.{made_plain, operand};
-ghost use Rattle.ar_check.specs.Private.Inside.{choice_between, inside, item_in, item_view, items_in, kind_view, operand_view, typed_in};
+ghost use Rattle.ar_check.specs.Private.Inside.{choice_between, inside, item_in, item_view, items_in, kind_view, operand_view, turned_where, typed_in};
 ghost use Rattle.ar_condition.specs.Typed as typed;
 ghost use Rattle.ar_check.specs.Typing.{IsCondition};
 ghost use Rattle.ar_condition.specs.Views.{typed_view};
@@ -23,7 +23,7 @@ use crate::error::TypeError;
 use crate::list::{Item, list};
 use crate::operand::{
     Kind, Operand, as_truth, common, field_kind, is_truth, item_kind, item_shape, made_plain,
-    plain_kind, scalar, turned, turned_both, without_nil,
+    plain_kind, scalar, turned, turned_both, turns, without_nil,
 };
 use crate::operators::{binary, is_nil_of, truth, unary, where_wanted};
 use ar_condition::tree::{Binary, Literal, Tree};
@@ -50,7 +50,8 @@ pub fn check(alloc: Global, tree: Tree, shape: &Shape) -> Result<Typed, TypeErro
 
     // The same by the table of kinds: a truth value, plain or optional, or none.
     ensures condition { IfOk result (λ _. IsCondition (shape_view shape.now) (expression_of tree)) }
-    ensures refused { IfErr result (λ error. Unless (is_memory error) (¬ (IsCondition (shape_view shape.now) (expression_of tree)))) }
+    ensures refused { IfErr result
+        (λ error. Unless (is_memory error) (¬ (IsCondition (shape_view shape.now) (expression_of tree)))) }
 
     // On each value of the shape the condition is true or false or meets a fault.
     ensures answers { IfOk result (λ condition. (value : Value) → fits value (shape_view shape.now) ≡ true
@@ -305,10 +306,11 @@ fn measured_of(alloc: Global, shape: &Shape) -> Result<Operand<'_>, AllocError>
 
 #[tactic(auto, using(crate::proofs::Freely::gives_freely))]
 fn item_of<'s>(alloc: Global, at: usize, item: Option<&'s Shape>) -> Result<Operand<'s>, TypeError>
-    ensures { Gives is_memory operand_view result (innermost at (option_map (λ shape. shape_view shape.now) item.entry)) }
+    ensures { Gives is_memory operand_view result
+        (innermost at (option_map (λ shape. shape_view shape.now) item.entry)) }
 {
-    let kind = innermost_kind(at, item)?;
     let tree = Box::new(alloc, Typed::Item)?;
+    let kind = innermost_kind(at, item)?;
     Ok(Operand { tree, kind })
 }
 
@@ -367,7 +369,8 @@ fn index_of<'s>(
     list: Operand<'s>,
     position: Operand<'_>,
 ) -> Result<Operand<'s>, TypeError>
-    ensures { Gives is_memory operand_view result (index_of at (operand_view list.entry) (operand_view position.entry)) }
+    ensures { Gives is_memory operand_view result
+        (index_of at (operand_view list.entry) (operand_view position.entry)) }
 {
     let kind = item_kind(alloc, at, &list.kind)?;
     let wanted = matches!(scalar(&position), Some(Scalar::Whole));
@@ -410,11 +413,12 @@ fn choice_of<'s>(
     ensures { Gives is_memory operand_view result
         (choice_between at condition.0 (typed_view condition.1.value) (operand_view yes.entry) (operand_view no.entry)) }
 {
-    let Some(kind) = common(alloc, &yes.kind, &no.kind)? else {
-        return Err(TypeError::NoCommonKind(at));
-    };
+    let kind = common(alloc, &yes.kind, &no.kind);
     let (wanted, condition) = condition;
     let tree = choice_tree(alloc, condition, yes, no)?;
+    let Some(kind) = kind? else {
+        return Err(TypeError::NoCommonKind(at));
+    };
     where_wanted(at, wanted, tree, kind)
 }
 
@@ -433,40 +437,43 @@ fn choice_tree(
 }
 
 /// An operand, or what stands in where it is nil.
+#[tactic(auto, using(crate::proofs::Turns::turned_is))]
 fn default_of<'s>(
     alloc: Global,
     at: usize,
     first: Operand<'_>,
     other: Operand<'s>,
 ) -> Result<Operand<'s>, TypeError>
-    ensures { Gives is_memory operand_view result (default_of at (operand_view first.entry) (operand_view other.entry)) }
+    ensures { Gives is_memory operand_view result
+        (default_of at (operand_view first.entry) (operand_view other.entry)) }
 {
     let Operand { tree, kind } = first;
     let plain = without_nil(kind);
+    let turns_first = turns(&other.kind, &plain);
+    let turns_other = turns(&plain, &other.kind);
     let Operand {
         tree: other,
         kind: of_other,
     } = other;
-    let tree = default_tree(alloc, tree, &plain, other, &of_other)?;
-    match default_kind(alloc, plain, of_other)? {
+    let kind = default_kind(alloc, plain, of_other);
+    let tree = default_tree(alloc, turned(alloc, turns_first, tree)?, turns_other, other)?;
+    match kind? {
         Some(kind) => Ok(Operand { tree, kind }),
         None => Err(TypeError::NoCommonKind(at)),
     }
 }
 
-/// The tree of a default, whose sides are turned beside one another.
+/// The tree of a default, whose other side is turned where it turns.
 fn default_tree(
     alloc: Global,
     first: Box<Typed>,
-    plain: &Kind<'_>,
+    turns: bool,
     other: Box<Typed>,
-    of_other: &Kind<'_>,
 ) -> Result<Box<Typed>, AllocError>
     ensures { IfOk result (λ tree. typed_view tree.value
-        ≡ default_tree (typed_view first.value) (kind_view plain.now) (typed_view other.value) (kind_view of_other.now)) }
+        ≡ typed.otherwise (typed_view first.value) (turned_where turns (typed_view other.value))) }
 {
-    let first = turned(alloc, of_other, plain, first)?;
-    let other = turned(alloc, plain, of_other, other)?;
+    let other = turned(alloc, turns, other)?;
     otherwise(alloc, first, other)
 }
 
@@ -476,12 +483,13 @@ fn default_kind<'s>(
     plain: Kind<'_>,
     other: Kind<'s>,
 ) -> Result<Option<Kind<'s>>, AllocError>
-    ensures { IfOk result (λ kind. option_map kind_view kind ≡ default_kind (kind_view plain.entry) (kind_view other.entry)) }
+    ensures { IfOk result
+        (λ kind. option_map kind_view kind ≡ default_kind (kind_view plain.entry) (kind_view other.entry)) }
 {
-    match plain {
-        Kind::Nil => Ok(Some(other)),
-        plain => common(alloc, &plain, &other),
+    if matches!(plain, Kind::Nil) {
+        return Ok(Some(other));
     }
+    common(alloc, &plain, &other)
 }
 
 #[tactic(auto, using(crate::proofs::Freely::gives_freely))]
@@ -492,7 +500,8 @@ fn predicate_of<'s>(
     list: Operand<'s>,
     body: (bool, Box<Typed>),
 ) -> Result<Operand<'s>, TypeError>
-    ensures { Gives is_memory operand_view result (predicate_of at over (operand_view list.entry) body.0 (typed_view body.1.value)) }
+    ensures { Gives is_memory operand_view result
+        (predicate_of at over (operand_view list.entry) body.0 (typed_view body.1.value)) }
 {
     let kind = predicate_kind(alloc, over, &list.kind)?;
     let (wanted, body) = body;

@@ -1,15 +1,18 @@
 -- What operands, items and scopes in memory stand for, of which no public contract speaks.
-use Rattle.std.specs.Prelude.{ℕ, suc, Bool, List, Option, Some, option_map, Result, Ok, Err}
-use Rattle.ar_value.specs.Kind.{Kind, common}
+use Rattle.std.specs.Prelude.{ℕ, suc, Bool, false, ◌&&◌, if◌then◌else◌, List, Option, Some, option_map, Result, Ok, Err}
+use Rattle.ar_value.specs.Answer.{◌>>=◌}
+use Rattle.ar_value.specs.Kind.{Kind, common, is_decimal, plain}
 use Rattle.ar_value.specs.Kind as kind
 use Rattle.ar_value.specs.Shape.{Shape}
 use Rattle.ar_value.specs.View.{shape_view}
 use Rattle.ar_condition.specs.Expression.{Expression, Expressions}
-use Rattle.ar_check.specs.Check.{Answer, Item, choice_in, choice_tree, item_typed, items_typed, typed_of}
-use Rattle.ar_check.specs.Operand.{Operand, operand}
+use Rattle.ar_check.specs.Check.{Answer, Item, choice_in, choice_tree, item_shape, item_typed, items_typed, typed_of}
+use Rattle.ar_check.specs.Operand.{Operand, is_whole, operand, plain_of, scalar_of}
 use Rattle.ar_condition.specs.Typed.{Typed}
+use Rattle.ar_condition.specs.Typed as typed
 use Rattle.ar_condition.specs.Views.{typed_view}
 use Rattle.ar_check.specs.declared.error.TypeError.{TypeError}
+use Rattle.ar_value.specs.declared.operator.Scalar.{Scalar}
 use Rattle.ar_check.specs.declared.list.Item as items
 use Rattle.ar_check.specs.declared.operand.Kind as code
 use Rattle.ar_check.specs.declared.operand.Kind.TheVariants as kinds
@@ -56,3 +59,15 @@ inside scope shape body = typed_of (shape_view scope.measured.now) (Some shape) 
 -- a choice whose condition is made plain already
 abbrev pub choice_between : ℕ → Bool → Typed → Operand → Operand → Answer
 choice_between at is_truth condition met unmet = choice_in at (common met.kind unmet.kind) is_truth (choice_tree condition met unmet)
+
+-- what scalar a list's items are once they are plain
+abbrev pub item_scalar : ℕ → Kind → Result (Option Scalar) TypeError
+item_scalar at list = item_shape at (plain_of list) >>= λ shape. Ok (scalar_of (plain shape))
+
+-- whether a tree of a kind is a whole beside a decimal, and the tree, where it is turned
+abbrev pub turns : Kind → Kind → Bool
+turns (kind.shaped other) (kind.shaped shape) = is_decimal other && is_whole (plain shape)
+turns other of = false
+
+abbrev pub turned_where : Bool → Typed → Typed
+turned_where is_turned tree = if is_turned then typed.as_decimal tree else tree
