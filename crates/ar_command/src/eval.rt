@@ -169,7 +169,8 @@ fn answer(alloc: Global, condition: &Condition, measured: &Json) -> Result<Answe
 
 /// A document's condition, shape and value.
 fn parts_of(document: &Json) -> Result<(&str, &Json, &Json), EvalError>
-    ensures { answer.Gives (λ _. false) (λ parts. (parts.0.now, view parts.1.now, view parts.2.now)) result (parts_of (view document.now)) }
+    ensures { answer.Gives (λ _. false) (λ parts. (parts.0.now, view parts.1.now, view parts.2.now)) result
+        (parts_of (view document.now)) }
 {
     let condition = document
         .get("condition")

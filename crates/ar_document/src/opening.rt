@@ -60,7 +60,8 @@ fn shape_of(alloc: Global, declared: &Json, number: usize) -> Result<Shape, Bund
 
 /// What is declared for a name.
 fn declared<'a>(shapes: Option<&'a Json>, name: &str) -> Option<&'a Json>
-    ensures { option_map (λ json. view json.now) result ≡ option_and_then (get name.now) (option_map (λ json. view json.now) shapes.entry) }
+    ensures { option_map (λ json. view json.now) result ≡ option_and_then (get name.now)
+        (option_map (λ json. view json.now) shapes.entry) }
 {
     shapes?.get(name)
 }

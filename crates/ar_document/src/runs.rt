@@ -70,7 +70,8 @@ fn run_of(alloc: Global, item: &Json) -> Result<Run, BundleError>
 /// The items of `runs`, 1 to 64 of them.
 #[tactic(auto, using(crate::proofs::Counting::many_runs, crate::proofs::Counting::some_runs))]
 fn run_items(document: &Json) -> Result<&[Json], BundleError>
-    ensures exact { Gives (λ _. false) (λ items. map (λ json. view json) items.now) result (run_items (view document.now)) }
+    ensures exact { Gives (λ _. false) (λ items. map (λ json. view json) items.now) result
+        (run_items (view document.now)) }
     ensures few { IfOk result (λ items. length items.now ≤ most_runs) }
 {
     let items = document
@@ -86,7 +87,8 @@ fn run_items(document: &Json) -> Result<&[Json], BundleError>
 /// The runs of a document, whose names may still be the same.
 #[tactic(auto, using(crate::proofs::Steps::step_more, crate::proofs::Steps::step_fault, crate::proofs::Steps::step_end))]
 fn runs_of(alloc: Global, items: &[Json]) -> Result<Vec<Run>, BundleError>
-    ensures exact { Gives is_memory (λ runs. runs.items) result (each_behind (λ earlier. run_of) [] (map (λ json. view json) items.now)) }
+    ensures exact { Gives is_memory (λ runs. runs.items) result
+        (each_behind (λ earlier. run_of) [] (map (λ json. view json) items.now)) }
     ensures each { IfOk result (λ runs. length runs.items ≡ length items.now) }
 {
     let mut runs = Vec::with_capacity(alloc, items.len())?;
