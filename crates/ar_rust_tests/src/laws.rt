@@ -18,15 +18,4 @@ fn can_be_called(_: HostRuntime) {
     ar_limits::laws::limits_before_count();
     ar_limits::laws::one_for_each_metric();
     ar_limits::laws::effects_in_order();
-    ar_syntax::laws::one_tree();
-    ar_syntax::laws::one_refusal();
-    ar_syntax::laws::parse_is_grammar();
-    ar_check::laws::checked_conditions_have_a_meaning();
-    ar_check::laws::typing_is_the_table();
-    ar_check::laws::one_kind();
-    ar_code::laws::one_image();
-    ar_verify::laws::some_verdict();
-    ar_verify::laws::one_verdict();
-    ar_machine::laws::one_end();
-    ar_compile::laws::checked_is_in_limits();
 }

@@ -2,10 +2,9 @@
 //! may be, what is lent and given back, readers and writers in memory, and laws. What takes data and
 //! gives data stands as cases in files.
 //!
-//! - `values`: texts, shapes and values of many bytes, items, levels and fields
-//! - `phases`: runs of many metrics and of many events
-//! - `templates`: templates, their arguments and what they are bound to
-//! - `conditions`: conditions as long, as wide and as deep as they may be
+//! - `values`: shapes and values of as many items and levels as may be, and refused growths
+//! - `phases`: runs of as many events as may be
+//! - `templates`: arguments, and parts of templates that are given back
 //! - `code`: code that is given back, and images with a byte less or another one
 //! - `bundles`: plain runs of as many events as may be, and lists that are given back
 //! - `commands`: commands on inputs that come a byte at a time, that can't be read, and that are kept
@@ -18,8 +17,6 @@ mod bundles;
 mod code;
 #[cfg(test)]
 mod commands;
-#[cfg(test)]
-mod conditions;
 #[cfg(test)]
 mod laws;
 #[cfg(test)]

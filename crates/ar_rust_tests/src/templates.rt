@@ -1,6 +1,6 @@
-//! Templates, their arguments and what they are bound to.
+//! Arguments, and parts of templates that are given back.
 
-use ar_manifest::{Args, Bound, BoundMetric, Metrics, Template};
+use ar_manifest::{Args, Bound, Metrics, Template};
 use ar_value::Text;
 use serde_json::Value as Json;
 use std::alloc::{AllocError, Global};
@@ -37,7 +37,7 @@ fn arguments(rt: HostRuntime) -> Result<(), Fail> {
 
 const TEMPLATE: &str =
     r#"{"apiVersion":"argoproj.io/v1alpha1","kind":"AnalysisTemplate","metadata":{"name":"t"},
-    "spec":{"args":[{"name":"a"},{"name":"b"}],"metrics":[{"name":"m","successCondition":"{{args.b}}{{args.b}}"},{"name":"n"}]}}"#;
+    "spec":{"args":[{"name":"a"},{"name":"b"}],"metrics":[{"name":"m","successCondition":"result > {{args.b}}"},{"name":"n"}]}}"#;
 
 fn template(alloc: Global) -> Result<Template, Fail> {
     let json = Json::from_str(alloc, TEMPLATE)?;
@@ -54,27 +54,15 @@ fn parts_of_a_template(rt: HostRuntime) -> Result<(), Fail> {
     Ok(())
 }
 
-/// The success condition of a metric, or `-`.
-fn condition(metric: &BoundMetric) -> &str {
-    match &metric.success_condition {
-        Some(text) => text.as_str(),
-        None => "-",
-    }
-}
-
-/// Bound metrics are given back, the first with a condition of 100,000 bytes.
+/// So are bound metrics.
 #[test]
 fn bound_metrics(rt: HostRuntime) -> Result<(), Fail> {
     let alloc = rt.alloc();
-    let mut args = two_arguments(alloc)?;
-    let value = "y>=7&".repeat(alloc, 10_000)?;
-    args.insert(alloc, "b", Text::from(value))?;
+    let args = two_arguments(alloc)?;
     let bound = Bound::from(template(alloc)?.bind(alloc, &args)?.into_metrics());
     assert_eq!(rt; bound.metrics().len(), 2);
-    let twice = "y>=7&".repeat(alloc, 20_000)?;
-    assert_eq!(rt; twice.as_str().len(), 100_000);
-    for (metric, expected) in bound.metrics().iter().zip([twice.as_str(), "-"]) {
-        assert!(rt; condition(metric) == expected, "{}", metric.name.as_str());
+    for (metric, name) in bound.metrics().iter().zip(["m", "n"]) {
+        assert_eq!(rt; metric.name.as_str(), name);
     }
     Ok(())
 }

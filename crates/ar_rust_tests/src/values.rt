@@ -1,7 +1,7 @@
-//! Texts, shapes and values of many bytes, items, levels and fields.
+//! Shapes and values of as many items and levels as may be, and refused growths.
 
 use ar_json::{ShapeError, ShapeFault, read_shape, read_value};
-use ar_value::{Decimal, Kind, Shape, Text, Value, Values, fits, merge};
+use ar_value::{Decimal, Shape, Value, Values, fits};
 use serde_json::Value as Json;
 use std::alloc::{AllocError, AllocFailed, Global};
 use std::test::Fail;
@@ -25,21 +25,6 @@ fn is_read(alloc: Global, shape: &Shape, text: &str, expected: &Value) -> Result
 fn fault_of(alloc: Global, shape: &Shape, text: &str) -> Result<Option<ShapeFault>, Fail> {
     let json = Json::from_str(alloc, text)?;
     Ok(read_value(alloc, &json, shape).err())
-}
-
-/// A text of 100,000 bytes is what it was made of, gives it back, and is read.
-#[test]
-fn long_text(rt: HostRuntime) -> Result<(), Fail> {
-    let alloc = rt.alloc();
-    let string = "zwölf 7.8".repeat(alloc, 10_000)?;
-    let json = format!(in alloc; "\"{string}\"")?;
-    let copy = Text::of(alloc, string.as_str())?.into_string();
-    assert_eq!(rt; copy.as_str().len(), 100_000);
-    let text = Text::from(copy);
-    assert!(rt; text.as_str() == string.as_str());
-    let value = Value::Text(text);
-    assert!(rt; is_read(alloc, &Shape::Text, json.as_str(), &value)?);
-    Ok(())
 }
 
 /// So many equal items.
@@ -103,94 +88,6 @@ fn nested_lists(rt: HostRuntime) -> Result<(), Fail> {
     let half = Value::Decimal(Decimal::from_millionths(500_000));
     let value = nested(alloc, 15, half)?;
     assert!(rt; is_read(alloc, &shape, json.as_str(), &value)?);
-    Ok(())
-}
-
-/// The shape of a record of 1,000 wholes.
-fn thousand_shapes(alloc: Global) -> Result<Shape, Fail> {
-    let mut text = String::from_str(alloc, "{\"record\":{\"n0\":\"whole\"")?;
-    for number in 1..1000 {
-        text.push_str(format!(in alloc; ",\"n{number}\":\"whole\"")?.as_str())?;
-    }
-    text.push_str("}}")?;
-    shape_of(alloc, text.as_str())
-}
-
-/// A record of 1,000 fields, each of which is its own number.
-fn thousand_values(alloc: Global, shape: &Shape) -> Result<Value, Fail> {
-    let mut text = String::from_str(alloc, "{\"n0\":0")?;
-    for number in 1..1000 {
-        text.push_str(format!(in alloc; ",\"n{number}\":{number}")?.as_str())?;
-    }
-    text.push_str("}")?;
-    let json = Json::from_str(alloc, text.as_str())?;
-    Ok(read_value(alloc, &json, shape)?)
-}
-
-/// The shape of a record's field.
-fn shape_at<'shape>(shape: &'shape Shape, name: &str) -> Option<&'shape Shape> {
-    match shape {
-        Shape::Object(shapes) => shapes.get(name),
-        _ => None,
-    }
-}
-
-/// The value of a record's field.
-fn value_at<'value>(value: &'value Value, name: &str) -> Option<&'value Value> {
-    match value {
-        Value::Object(fields) => fields.get(name),
-        _ => None,
-    }
-}
-
-/// Whether a field is lent by its name, where it is there.
-fn is_lent(alloc: Global, shape: &Shape, value: &Value, number: i64) -> Result<bool, AllocError> {
-    let name = format!(in alloc; "n{number}")?;
-    let lent_shape = matches!(shape_at(shape, name.as_str()), Some(Shape::Whole));
-    let lent_value =
-        matches!(value_at(value, name.as_str()), Some(Value::Whole(found)) if *found == number);
-    Ok(lent_shape && lent_value)
-}
-
-/// Each of 1,000 fields is lent by its name.
-#[test]
-fn thousand_fields(rt: HostRuntime) -> Result<(), Fail> {
-    let alloc = rt.alloc();
-    let shape = thousand_shapes(alloc)?;
-    let value = thousand_values(alloc, &shape)?;
-    for number in 0..1001 {
-        let expected = number < 1000;
-        assert_eq!(rt;
-            is_lent(alloc, &shape, &value, number)?,
-            expected,
-            "{number}"
-        );
-    }
-    Ok(())
-}
-
-/// Whether the copy of a shape is equal.
-fn is_copied(alloc: Global, shape: &Shape) -> Result<bool, AllocError> {
-    let copy = shape.copy(alloc)?;
-    Ok(copy == *shape)
-}
-
-/// Whether a kind with itself is that kind.
-fn merges(alloc: Global, kind: &Kind) -> Result<bool, AllocError> {
-    match merge(alloc, kind, kind)? {
-        Some(merged) => Ok(merged == *kind),
-        None => Ok(false),
-    }
-}
-
-/// A copy of the shape of 1,000 fields, and the kind that it has in common with itself.
-#[test]
-fn thousand_copies(rt: HostRuntime) -> Result<(), Fail> {
-    let alloc = rt.alloc();
-    let shape = thousand_shapes(alloc)?;
-    assert!(rt; is_copied(alloc, &shape)?);
-    let kind = Kind::Shape(shape);
-    assert!(rt; merges(alloc, &kind)?);
     Ok(())
 }
 
