@@ -1,0 +1,98 @@
+//! The members of a case.
+
+ghost use Rattle.std.specs.Prelude.{◌≡◌, true, IfOk};
+ghost use Rattle.ar_value.specs.Fits.{fits};
+ghost use Rattle.ar_value.specs.View.{shape_view, value_view};
+
+use crate::fault::CaseFault;
+use ar_value::shape_reading::{ShapeError, read_shape};
+use ar_value::value_reading::{ShapeFault, read_value};
+use ar_value::{Decimal, Number, Shape, Value};
+use serde_json::Value as Json;
+use std::alloc::Global;
+
+pub fn json<'a>(case: &'a Json, name: &'static str) -> Result<&'a Json, CaseFault> {
+    case.get(name).ok_or(CaseFault::Member(name))
+}
+
+pub fn text<'a>(case: &'a Json, name: &'static str) -> Result<&'a str, CaseFault> {
+    json(case, name)?.as_str().ok_or(CaseFault::Member(name))
+}
+
+pub fn list<'a>(case: &'a Json, name: &'static str) -> Result<&'a [Json], CaseFault> {
+    match json(case, name)? {
+        Json::Array(items) => Ok(items),
+        _ => Err(CaseFault::Member(name)),
+    }
+}
+
+pub fn number(case: &Json, name: &'static str) -> Result<u64, CaseFault> {
+    json(case, name)?.as_u64().ok_or(CaseFault::Member(name))
+}
+
+/// Whether a member is there and true.
+pub fn is_true(case: &Json, name: &'static str) -> bool {
+    match case.get(name) {
+        Some(json) => matches!(json, Json::Bool(true)),
+        None => false,
+    }
+}
+
+/// A JSON number is a whole, and a text a decimal.
+pub fn operand(case: &Json, name: &'static str) -> Result<Number, CaseFault> {
+    let json = json(case, name)?;
+    if let Some(whole) = json.as_i64() {
+        return Ok(Number::Whole(whole));
+    }
+    let text = json.as_str().ok_or(CaseFault::Member(name))?;
+    match Decimal::of_text(text) {
+        Ok(decimal) => Ok(Number::Decimal(decimal)),
+        Err(_) => Err(CaseFault::Member(name)),
+    }
+}
+
+/// A shape that must be one.
+pub fn shape(alloc: Global, case: &Json, name: &'static str) -> Result<Shape, CaseFault> {
+    match read_shape(alloc, json(case, name)?) {
+        Ok(shape) => Ok(shape),
+        Err(ShapeError::OutOfMemory) => Err(CaseFault::OutOfMemory),
+        Err(_) => Err(CaseFault::Member(name)),
+    }
+}
+
+/// The member `value`, which must be of a shape.
+pub fn value(alloc: Global, case: &Json, shape: &Shape) -> Result<Value, CaseFault>
+    ensures { IfOk result (λ value. fits (value_view value) (shape_view shape.now) ≡ true) }
+{
+    value_of(alloc, json(case, "value")?, "value", shape)
+}
+
+/// What must be a value of a shape, in the member with this name.
+pub fn value_of(
+    alloc: Global,
+    json: &Json,
+    name: &'static str,
+    shape: &Shape,
+) -> Result<Value, CaseFault>
+    ensures { IfOk result (λ value. fits (value_view value) (shape_view shape.now) ≡ true) }
+{
+    match read_value(alloc, json, shape) {
+        Ok(value) => Ok(value),
+        Err(ShapeFault::OutOfMemory) => Err(CaseFault::OutOfMemory),
+        Err(_) => Err(CaseFault::Member(name)),
+    }
+}
+
+/// Bytes, each of which is two hexadecimal digits.
+pub fn bytes(alloc: Global, case: &Json, name: &'static str) -> Result<Vec<u8>, CaseFault> {
+    let mut bytes = Vec::new(alloc);
+    for pair in text(case, name)?.as_bytes().chunks(2) {
+        bytes.push(byte_of(pair).ok_or(CaseFault::Member(name))?)?;
+    }
+    Ok(bytes)
+}
+
+fn byte_of(pair: &[u8]) -> Option<u8> {
+    let digits = str::from_utf8(pair).ok()?;
+    u8::from_str_radix(digits, 16).ok()
+}
