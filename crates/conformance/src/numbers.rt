@@ -7,7 +7,6 @@ ghost use Rattle.std.specs.List.{list_all};
 use crate::fault::{CaseFault, Written};
 use crate::members;
 use crate::printing::{put_decimal, put_number};
-use ar_report::fault_name;
 use ar_value::{Decimal, Fault, Number, compare, digits, whole};
 use serde_json::Value as Json;
 use std::cmp::Ordering;
@@ -89,7 +88,7 @@ fn put_outcome(out: &mut String, outcome: Result<Number, Fault>) -> Written {
     match outcome {
         Ok(number) => put_number(out, number),
         Err(fault) => {
-            out.push_str(fault_name(fault))?;
+            write!(out, "{fault}")?;
             Ok(())
         }
     }

@@ -3,7 +3,6 @@
 use crate::fault::{CaseFault, Written};
 use crate::members;
 use ar_machine::{Answer, Ended};
-use ar_report::fault_name;
 use ar_value::{Decimal, FieldShapes, Fields, Number, Shape, Value, Values};
 use serde_json::Value as Json;
 use std::alloc::Global;
@@ -101,10 +100,7 @@ pub fn put_answer(out: &mut String, answer: Answer) -> Written {
     match answer {
         Ok(true) => out.push_str("true")?,
         Ok(false) => out.push_str("false")?,
-        Err(fault) => {
-            out.push_str("fault ")?;
-            out.push_str(fault_name(fault))?;
-        }
+        Err(fault) => write!(out, "fault {fault}")?,
     }
     Ok(())
 }
