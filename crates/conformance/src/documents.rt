@@ -3,7 +3,7 @@
 use crate::fault::{CaseFault, Written};
 use crate::judges::put_verdict;
 use crate::members;
-use crate::printing::{put_between, put_lines, put_quoted, put_refusal};
+use crate::printing::{put_between, put_lines, put_quoted, put_refusal, put_str};
 use ar_board::{Bundle, Finding};
 use ar_document::{read_bundle, read_json};
 use ar_limits::{Event, Limits, Mark};
@@ -95,10 +95,7 @@ fn put_findings(alloc: Global, bundle: &Bundle, out: &mut String) -> Written {
 fn put_finding(out: &mut String, finding: Finding) -> Written {
     match finding {
         Finding::Judged(verdict) => put_verdict(out, verdict),
-        Finding::Stop => {
-            out.push_str("stop")?;
-            Ok(())
-        }
+        Finding::Stop => put_str(out, "stop"),
     }
 }
 

@@ -5,7 +5,7 @@ ghost use Rattle.ar_judge.specs.Verdict.{Suits, sample_view};
 
 use crate::fault::{CaseFault, Written};
 use crate::members;
-use crate::printing::{put_answer, put_quoted, put_refusal};
+use crate::printing::{put_answer, put_quoted, put_refusal, put_str};
 use ar_judge::{BuildCause, Cause, Condition, Judge, Sample, Verdict};
 use ar_machine::{Ended, run_tested};
 use ar_manifest::{BoundMetric, Text};
@@ -63,10 +63,7 @@ fn put_run_of(alloc: Global, case: &Json, verified: &Verified, out: &mut String)
     match read_value(alloc, members::json(case, "value")?, verified.shape()) {
         Ok(value) => match run_tested(alloc, verified.code(), &value, verified.budget())? {
             Ended::Done(outcome) => put_answer(out, outcome.answer),
-            Ended::Stuck(_) | Ended::Spent => {
-                out.push_str("no answer within the budget")?;
-                Ok(())
-            }
+            Ended::Stuck(_) | Ended::Spent => put_str(out, "no answer within the budget"),
         },
         Err(ShapeFault::OutOfMemory) => Err(CaseFault::OutOfMemory),
         Err(fault) => {

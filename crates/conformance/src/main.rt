@@ -8,8 +8,8 @@
 //!
 //! - `members`: the members of a case
 //! - `printing`: texts, numbers, shapes, values and refusals as they are printed
-//! - `numbers`, `shapes`, `values`, `templates`, `phases`, `conditions`, `codes`, `judges`, `documents`: the
-//!   calls, by their subjects
+//! - `numbers`, `shapes`, `templates`, `phases`, `conditions`, `codes`, `judges`, `documents`: the calls, by
+//!   their subjects
 //! - `trees`, `typed`: conditions as written and as typed, printed
 #![tactic(auto)]
 
@@ -26,7 +26,6 @@ mod shapes;
 mod templates;
 mod trees;
 mod typed;
-mod values;
 
 use fault::{CaseFault, Written};
 use serde_json::Value as Json;
@@ -86,12 +85,9 @@ fn answer_of(alloc: Global, line: &str) -> Result<String, CaseFault> {
 
 /// Writes what a call of any subject answers.
 fn put_answer(alloc: Global, call: &str, case: &Json, out: &mut String) -> Written {
-    let mut written = numbers::put(call, case, out);
+    let mut written = numbers::put(alloc, call, case, out);
     if is_other(written) {
         written = shapes::put(alloc, call, case, out);
-    }
-    if is_other(written) {
-        written = values::put(alloc, call, case, out);
     }
     if is_other(written) {
         written = templates::put(alloc, call, case, out);

@@ -1,4 +1,4 @@
-//! Calls on digits, decimals and wholes.
+//! Calls on numbers and texts.
 
 ghost use Rattle.std.specs.Prelude.{◌≡◌};
 ghost use Rattle.std.specs.Char.{is_ascii_digit};
@@ -6,21 +6,32 @@ ghost use Rattle.std.specs.List.{list_all};
 
 use crate::fault::{CaseFault, Written};
 use crate::members;
-use crate::printing::{put_decimal, put_number};
-use ar_value::{Decimal, Fault, Number, compare, digits, whole};
+use crate::printing::{put_decimal, put_number, put_quoted, put_refusal, put_str};
+use ar_value::{Decimal, Fault, Number, Text, compare, digits, whole};
 use serde_json::Value as Json;
+use std::alloc::Global;
 use std::cmp::Ordering;
 use std::fmt::Write;
 
-pub fn put(call: &str, case: &Json, out: &mut String) -> Written {
+pub fn put(alloc: Global, call: &str, case: &Json, out: &mut String) -> Written {
     match call {
+        "decimal" => put_decimal_of(alloc, case, out),
         "digits" => put_digits(case, out),
-        "digits_decimal" => put_digits_decimal(case, out),
         "compare" => put_compare(case, out),
         "order" => put_order(case, out),
         "add" | "subtract" | "multiply" | "divide" | "remainder" => put_result(call, case, out),
         "negate" | "to_decimal" => put_one(call, case, out),
+        "text" => put_text(alloc, case, out),
+        "same_text" => put_same_text(alloc, case, out),
         _ => Err(CaseFault::UnknownCall),
+    }
+}
+
+/// A decimal text.
+fn put_decimal_of(alloc: Global, case: &Json, out: &mut String) -> Written {
+    match Decimal::of_text(members::text(case, "text")?) {
+        Ok(decimal) => put_decimal(out, decimal),
+        Err(refusal) => put_refusal(alloc, case, out, &refusal),
     }
 }
 
@@ -30,25 +41,18 @@ fn are_digits(text: &str) -> bool
     text.as_bytes().iter().all(|byte| byte.is_ascii_digit())
 }
 
+/// The number that digits spell, or the millionths where there are digits behind a point, too.
 fn put_digits(case: &Json, out: &mut String) -> Written {
-    let text = members::text(case, "digits")?;
-    if !are_digits(text) {
+    let digits = members::text(case, "digits")?;
+    let behind = case.get("fraction").and_then(Json::as_str);
+    if !are_digits(digits) || !are_digits(behind.unwrap_or("")) {
         return Err(CaseFault::Member("digits"));
     }
-    match digits::number(text.as_bytes()) {
-        Some(number) => write!(out, "{number}")?,
-        None => out.push_str("none")?,
-    }
-    Ok(())
-}
-
-fn put_digits_decimal(case: &Json, out: &mut String) -> Written {
-    let before = members::text(case, "whole")?;
-    let behind = members::text(case, "fraction")?;
-    if !are_digits(before) || !are_digits(behind) {
-        return Err(CaseFault::Member("whole"));
-    }
-    match digits::millionths(before.as_bytes(), behind.as_bytes()) {
+    let found = match behind {
+        Some(behind) => digits::millionths(digits.as_bytes(), behind.as_bytes()),
+        None => digits::number(digits.as_bytes()),
+    };
+    match found {
         Some(number) => write!(out, "{number}")?,
         None => out.push_str("none")?,
     }
@@ -57,11 +61,10 @@ fn put_digits_decimal(case: &Json, out: &mut String) -> Written {
 
 fn put_ordering(out: &mut String, ordering: Ordering) -> Written {
     match ordering {
-        Ordering::Less => out.push_str("less")?,
-        Ordering::Equal => out.push_str("equal")?,
-        Ordering::Greater => out.push_str("greater")?,
+        Ordering::Less => put_str(out, "less"),
+        Ordering::Equal => put_str(out, "equal"),
+        Ordering::Greater => put_str(out, "greater"),
     }
-    Ok(())
 }
 
 fn put_compare(case: &Json, out: &mut String) -> Written {
@@ -144,4 +147,18 @@ fn put_one(call: &str, case: &Json, out: &mut String) -> Written {
         ),
         (Number::Decimal(operand), _) => put_decimal(out, operand),
     }
+}
+
+/// A text that was copied, given back and taken again.
+fn put_text(alloc: Global, case: &Json, out: &mut String) -> Written {
+    let copy = Text::of(alloc, members::text(case, "text")?)?;
+    let again = Text::from(copy.into_string());
+    put_quoted(out, again.as_str())
+}
+
+fn put_same_text(alloc: Global, case: &Json, out: &mut String) -> Written {
+    let left = Text::of(alloc, members::text(case, "left")?)?;
+    let right = Text::of(alloc, members::text(case, "right")?)?;
+    write!(out, "{}", left == right)?;
+    Ok(())
 }

@@ -26,6 +26,11 @@ pub fn put_quoted(out: &mut String, text: &str) -> Written {
     Ok(())
 }
 
+pub fn put_str(out: &mut String, text: &str) -> Written {
+    out.push_str(text)?;
+    Ok(())
+}
+
 /// Lines, with ` / ` between each and the next.
 pub fn put_lines(out: &mut String, lines: &str) -> Written {
     for (number, line) in lines.lines().enumerate() {

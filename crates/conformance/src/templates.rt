@@ -2,7 +2,7 @@
 
 use crate::fault::{CaseFault, Written};
 use crate::members;
-use crate::printing::{put_between, put_quoted, put_refusal};
+use crate::printing::{put_quoted, put_refusal, put_str};
 use ar_manifest::{Args, Bound, BoundMetric, ManifestError, Template, Text};
 use serde_json::Value as Json;
 use std::alloc::Global;
@@ -10,26 +10,13 @@ use std::fmt::Write;
 
 pub fn put(alloc: Global, call: &str, case: &Json, out: &mut String) -> Written {
     match call {
-        "read_template" => put_template(alloc, case, out),
         "bind" => put_bound(alloc, case, out),
         "arguments" => put_arguments(alloc, case, out),
         _ => Err(CaseFault::UnknownCall),
     }
 }
 
-/// The template's name, and how many metrics it has.
-fn put_template(alloc: Global, case: &Json, out: &mut String) -> Written {
-    match Template::read(alloc, members::json(case, "template")?) {
-        Ok(template) => {
-            put_quoted(out, template.name.as_str())?;
-            write!(out, " metrics={}", template.metrics.as_slice().len())?;
-            Ok(())
-        }
-        Err(refusal) => put_refusal(alloc, case, out, &refusal),
-    }
-}
-
-/// What the template is bound to, a metric behind another, or the refusal of either step.
+/// The name of the template and the metrics that it is bound to, or the refusal of either step.
 fn put_bound(alloc: Global, case: &Json, out: &mut String) -> Written {
     match Template::read(alloc, members::json(case, "template")?) {
         Ok(template) => put_bound_with(alloc, case, &template, out),
@@ -43,7 +30,10 @@ fn put_bound(alloc: Global, case: &Json, out: &mut String) -> Written {
 fn put_bound_with(alloc: Global, case: &Json, template: &Template, out: &mut String) -> Written {
     let arguments = arguments(alloc, case)?;
     match template.bind(alloc, &arguments) {
-        Ok(bound) => put_metrics(out, &bound),
+        Ok(bound) => {
+            put_quoted(out, template.name.as_str())?;
+            put_metrics(out, &bound)
+        }
         Err(refusal) => {
             out.push_str("bind: ")?;
             put_refusal(alloc, case, out, &refusal)
@@ -52,8 +42,8 @@ fn put_bound_with(alloc: Global, case: &Json, template: &Template, out: &mut Str
 }
 
 fn put_metrics(out: &mut String, bound: &Bound) -> Written {
-    for (number, metric) in bound.metrics().iter().enumerate() {
-        put_between(out, number, " / ")?;
+    for metric in bound.metrics() {
+        out.push_str(" / ")?;
         put_metric(out, metric)?;
     }
     Ok(())
@@ -80,10 +70,7 @@ fn put_metric(out: &mut String, metric: &BoundMetric) -> Written {
 fn put_condition(out: &mut String, text: &Option<Text>) -> Written {
     match text {
         Some(text) => put_quoted(out, text.as_str()),
-        None => {
-            out.push_str("none")?;
-            Ok(())
-        }
+        None => put_str(out, "none"),
     }
 }
 
@@ -109,9 +96,6 @@ fn put_arguments(alloc: Global, case: &Json, out: &mut String) -> Written {
     write!(out, "{}: ", arguments.len())?;
     match arguments.get(members::text(case, "argument")?) {
         Some(value) => put_quoted(out, value.as_str()),
-        None => {
-            out.push_str("none")?;
-            Ok(())
-        }
+        None => put_str(out, "none"),
     }
 }
