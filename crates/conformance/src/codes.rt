@@ -6,7 +6,7 @@ ghost use Rattle.ar_value.specs.View.{shape_view, value_view};
 
 use crate::fault::{CaseFault, Written};
 use crate::members;
-use crate::printing::{put_between, put_ended, put_lines, put_quoted, put_refusal};
+use crate::printing::{put_ended, put_lines, put_quoted, put_refusal};
 use ar_check::check;
 use ar_code::{Code, decode, encode, listing};
 use ar_compile::{CompileError, compile, in_limits};
@@ -50,8 +50,10 @@ fn put_code(alloc: Global, out: &mut String, code: &Code) -> Written {
 
 fn put_texts(out: &mut String, texts: &[String]) -> Written {
     out.push_str("[")?;
-    for (number, text) in texts.iter().enumerate() {
-        put_between(out, number, ",")?;
+    let mut between = "";
+    for text in texts.iter() {
+        out.push_str(between)?;
+        between = ",";
         put_quoted(out, text.as_str())?;
     }
     out.push_str("]")?;

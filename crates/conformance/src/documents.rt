@@ -3,7 +3,7 @@
 use crate::fault::{CaseFault, Written};
 use crate::judges::put_verdict;
 use crate::members;
-use crate::printing::{put_between, put_lines, put_quoted, put_refusal, put_str};
+use crate::printing::{put_lines, put_quoted, put_refusal, put_str};
 use ar_board::{Bundle, Finding};
 use ar_document::{read_bundle, read_json};
 use ar_limits::{Event, Limits, Mark};
@@ -65,13 +65,17 @@ fn put_bundle(alloc: Global, call: &str, bundle: &Bundle, out: &mut String) -> W
 /// The names of metrics and runs, and how many entries there are.
 fn put_parts(bundle: &Bundle, out: &mut String) -> Written {
     out.push_str("metrics=[")?;
-    for (number, metric) in bundle.metrics().iter().enumerate() {
-        put_between(out, number, ",")?;
+    let mut between = "";
+    for metric in bundle.metrics().iter() {
+        out.push_str(between)?;
+        between = ",";
         put_quoted(out, metric.name.as_str())?;
     }
     out.push_str("] runs=[")?;
-    for (number, run) in bundle.runs().iter().enumerate() {
-        put_between(out, number, ",")?;
+    let mut between = "";
+    for run in bundle.runs().iter() {
+        out.push_str(between)?;
+        between = ",";
         put_quoted(out, run.name.as_str())?;
     }
     write!(out, "] entries={}", bundle.events())?;
@@ -80,10 +84,10 @@ fn put_parts(bundle: &Bundle, out: &mut String) -> Written {
 
 /// The run of each entry, what the entry comes to, and what it is to the run.
 fn put_findings(alloc: Global, bundle: &Bundle, out: &mut String) -> Written {
+    let mut between = "";
     for number in 0..bundle.events() {
-        if number > 0 {
-            out.push_str(" / ")?;
-        }
+        out.push_str(between)?;
+        between = " / ";
         let finding = bundle.finding(alloc, number)?;
         write!(out, "run {}: ", bundle.run_of(number))?;
         put_finding(out, finding)?;
@@ -118,9 +122,11 @@ fn mark_name(mark: Mark) -> &'static str {
 
 /// The limits of each metric of each run.
 fn put_limits(bundle: &Bundle, out: &mut String) -> Written {
-    for (number, run) in bundle.runs().iter().enumerate() {
-        put_between(out, number, " / ")?;
-        write!(out, "run {number}:")?;
+    let mut between = "";
+    for run in bundle.runs().iter() {
+        out.push_str(between)?;
+        between = " / ";
+        write!(out, "run {}:", run.name.as_str())?;
         put_run_limits(out, run.limits.as_slice())?;
     }
     Ok(())
@@ -141,15 +147,19 @@ fn put_run_limits(out: &mut String, limits: &[Limits]) -> Written {
     Ok(())
 }
 
+#[tactic(auto, using(crate::proofs::Reporting::lawful))]
 fn put_report(alloc: Global, bundle: &Bundle, out: &mut String) -> Written {
     let histories = run_plain(alloc, bundle)?;
     put_lines(out, report(alloc, bundle, &histories)?.as_str())
 }
 
+#[tactic(auto, using(crate::proofs::Reporting::lawful))]
 fn put_phases(alloc: Global, bundle: &Bundle, out: &mut String) -> Written {
     let histories = run_plain(alloc, bundle)?;
-    for (number, phase) in run_phases(alloc, bundle, &histories)?.iter().enumerate() {
-        put_between(out, number, ", ")?;
+    let mut between = "";
+    for phase in run_phases(alloc, bundle, &histories)?.iter() {
+        out.push_str(between)?;
+        between = ", ";
         out.push_str(phase_name(*phase))?;
     }
     Ok(())

@@ -1,7 +1,9 @@
 //! Calls on conditions that can be run, and on judges.
 
 ghost use Rattle.std.specs.Prelude.{◌≡◌, IfOk};
-ghost use Rattle.ar_judge.specs.Verdict.{Suits, sample_view};
+ghost use Rattle.ar_board.specs.Bundle.{JudgesShape, SampleSuits};
+ghost use Rattle.ar_judge.specs.Verdict.{sample_view};
+ghost use Rattle.ar_value.specs.View.{shape_view};
 
 use crate::fault::{CaseFault, Written};
 use crate::members;
@@ -95,7 +97,9 @@ fn metric_of(alloc: Global, case: &Json) -> Result<BoundMetric, CaseFault> {
 }
 
 /// What was measured: the member `value`, or nothing.
-fn sample_of(alloc: Global, case: &Json, shape: &Shape) -> Result<Sample, CaseFault> {
+fn sample_of(alloc: Global, case: &Json, shape: &Shape) -> Result<Sample, CaseFault>
+    ensures { IfOk result (λ sample. SampleSuits (shape_view shape.now) (sample_view sample)) }
+{
     match case.get("value") {
         Some(json) => match read_value(alloc, json, shape) {
             Ok(value) => Ok(Sample::Measured(value)),
@@ -106,15 +110,28 @@ fn sample_of(alloc: Global, case: &Json, shape: &Shape) -> Result<Sample, CaseFa
     }
 }
 
+#[tactic(auto, using(crate::proofs::Suiting::of_shape))]
 fn put_judged(alloc: Global, case: &Json, out: &mut String) -> Written {
     let shape = members::shape(alloc, case, "shape")?;
     match Judge::build(alloc, &metric_of(alloc, case)?, &shape) {
-        Ok(judge) => {
-            let sample = sample_of(alloc, case, &shape)?;
-            put_verdict(out, judge.judge(alloc, &sample)?)
-        }
+        Ok(judge) => put_verdict_of(alloc, case, &shape, &judge, out),
         Err(refusal) => put_refusal(alloc, case, out, &refusal),
     }
+}
+
+/// The verdict of a judge of the shape.
+#[tactic(auto, using(crate::proofs::Suiting::suits))]
+fn put_verdict_of(
+    alloc: Global,
+    case: &Json,
+    shape: &Shape,
+    judge: &Judge,
+    out: &mut String,
+) -> Written
+    requires { JudgesShape (shape_view shape.now) judge.now }
+{
+    let sample = sample_of(alloc, case, shape)?;
+    put_verdict(out, judge.judge(alloc, &sample)?)
 }
 
 pub fn put_verdict(out: &mut String, verdict: Verdict) -> Written {

@@ -1,11 +1,7 @@
 //! Calls on limits, events and phases.
 
-ghost use Rattle.std.specs.Prelude.{◌≡◌, IfOk};
-ghost use Rattle.ar_limits.specs.Limits.{HasPositiveCounts};
-
 use crate::fault::{CaseFault, Written};
 use crate::members;
-use crate::printing::put_between;
 use ar_limits::{Effect, Event, Limits, MOST_EVENTS, Mark, Phase, RunState};
 use ar_report::phase_name;
 use serde_json::Value as Json;
@@ -132,8 +128,10 @@ fn put_effect(out: &mut String, effect: Effect) -> Written {
 
 /// Applies all events, and writes what each did.
 fn put_effects(case: &Json, state: &mut RunState, out: &mut String) -> Written {
-    for (number, item) in members::list(case, "events")?.iter().enumerate() {
-        put_between(out, number, ", ")?;
+    let mut between = "";
+    for item in members::list(case, "events")?.iter() {
+        out.push_str(between)?;
+        between = ", ";
         let event = event_of(item).ok_or(CaseFault::Member("events"))?;
         let effect = apply(state, event).ok_or(CaseFault::Member("events"))?;
         put_effect(out, effect)?;

@@ -33,17 +33,11 @@ pub fn put_str(out: &mut String, text: &str) -> Written {
 
 /// Lines, with ` / ` between each and the next.
 pub fn put_lines(out: &mut String, lines: &str) -> Written {
-    for (number, line) in lines.lines().enumerate() {
-        put_between(out, number, " / ")?;
-        out.push_str(line)?;
-    }
-    Ok(())
-}
-
-/// What stands before each item of a list but the first.
-pub fn put_between(out: &mut String, number: usize, between: &str) -> Written {
-    if number > 0 {
+    let mut between = "";
+    for line in lines.lines() {
         out.push_str(between)?;
+        between = " / ";
+        out.push_str(line)?;
     }
     Ok(())
 }
@@ -51,22 +45,26 @@ pub fn put_between(out: &mut String, number: usize, between: &str) -> Written {
 /// A decimal with at least one digit behind its point, and no zero behind that one at its end.
 pub fn put_decimal(out: &mut String, decimal: Decimal) -> Written {
     let millionths = decimal.millionths();
-    if millionths < 0 {
-        out.push_str("-")?;
-    }
     let size = millionths.unsigned_abs();
-    write!(out, "{}.", size / 1_000_000)?;
-    let mut rest = size % 1_000_000;
-    let mut unit = 100_000;
-    for place in 0..6 {
-        if place == 0 || rest > 0 {
-            write!(out, "{}", rest / unit)?;
-            rest %= unit;
-        }
-        unit /= 10;
-        if unit == 0 {
-            unit = 1;
-        }
+    let sign = if millionths < 0 { "-" } else { "" };
+    write!(out, "{sign}{}.", size / 1_000_000)?;
+    put_fraction(out, size % 1_000_000)
+}
+
+/// Millionths below one, without the zeros at their end.
+fn put_fraction(out: &mut String, millionths: u64) -> Written {
+    if millionths % 100_000 == 0 {
+        write!(out, "{}", millionths / 100_000)?;
+    } else if millionths % 10_000 == 0 {
+        write!(out, "{:02}", millionths / 10_000)?;
+    } else if millionths % 1_000 == 0 {
+        write!(out, "{:03}", millionths / 1_000)?;
+    } else if millionths % 100 == 0 {
+        write!(out, "{:04}", millionths / 100)?;
+    } else if millionths % 10 == 0 {
+        write!(out, "{:05}", millionths / 10)?;
+    } else {
+        write!(out, "{millionths:06}")?;
     }
     Ok(())
 }
@@ -142,8 +140,10 @@ pub fn put_value(out: &mut String, value: &Value) -> Written {
 #[cycle(put_value)]
 fn put_items(out: &mut String, values: &Values) -> Written {
     out.push_str("[")?;
-    for (number, item) in values.items.iter().enumerate() {
-        put_between(out, number, ",")?;
+    let mut between = "";
+    for item in values.items.iter() {
+        out.push_str(between)?;
+        between = ",";
         put_value(out, item)?;
     }
     out.push_str("]")?;
@@ -153,8 +153,10 @@ fn put_items(out: &mut String, values: &Values) -> Written {
 #[cycle(put_value)]
 fn put_fields(out: &mut String, fields: &Fields) -> Written {
     out.push_str("{")?;
-    for (number, field) in fields.items.iter().enumerate() {
-        put_between(out, number, ",")?;
+    let mut between = "";
+    for field in fields.items.iter() {
+        out.push_str(between)?;
+        between = ",";
         put_quoted(out, field.name.as_str())?;
         out.push_str(":")?;
         put_value(out, &field.value)?;
@@ -189,8 +191,10 @@ pub fn put_shape(out: &mut String, shape: &Shape) -> Written {
 #[cycle(put_shape)]
 fn put_field_shapes(out: &mut String, fields: &FieldShapes) -> Written {
     out.push_str("{\"record\":{")?;
-    for (number, field) in fields.items.iter().enumerate() {
-        put_between(out, number, ",")?;
+    let mut between = "";
+    for field in fields.items.iter() {
+        out.push_str(between)?;
+        between = ",";
         put_quoted(out, field.name.as_str())?;
         out.push_str(":")?;
         put_shape(out, &field.shape)?;
