@@ -21,17 +21,14 @@ use std::fmt::Write;
 pub fn put(alloc: Global, call: &str, case: &Json, out: &mut String) -> Written {
     match call {
         "decode" => put_decoded(alloc, case, out),
-        "encode" => put_encoded(alloc, case, out),
         "compile" => put_compiled(alloc, case, out),
         "verify" => put_verified(alloc, case, out),
-        "run" => put_run(alloc, case, out),
         "run_tested" => put_tested(alloc, case, out),
-        "verify_and_run" => put_verified_and_run(alloc, case, out),
         _ => Err(CaseFault::UnknownCall),
     }
 }
 
-/// The code of an image: its texts, its names and its listing, or the refusal.
+/// The code of an image: its own image, its texts, its names and its listing, or the refusal.
 fn put_decoded(alloc: Global, case: &Json, out: &mut String) -> Written {
     match decode(alloc, &members::bytes(alloc, case, "image")?) {
         Ok(code) => put_code(alloc, out, &code),
@@ -40,7 +37,8 @@ fn put_decoded(alloc: Global, case: &Json, out: &mut String) -> Written {
 }
 
 fn put_code(alloc: Global, out: &mut String, code: &Code) -> Written {
-    out.push_str("texts=")?;
+    put_bytes(out, &encode(alloc, code)?)?;
+    out.push_str(" / texts=")?;
     put_texts(out, code.texts())?;
     out.push_str(" names=")?;
     put_texts(out, code.names())?;
@@ -58,14 +56,6 @@ fn put_texts(out: &mut String, texts: &[String]) -> Written {
     }
     out.push_str("]")?;
     Ok(())
-}
-
-/// The image of the code of an image, or the refusal.
-fn put_encoded(alloc: Global, case: &Json, out: &mut String) -> Written {
-    match decode(alloc, &members::bytes(alloc, case, "image")?) {
-        Ok(code) => put_bytes(out, &encode(alloc, &code)?),
-        Err(refusal) => put_refusal(alloc, case, out, &refusal),
-    }
 }
 
 fn put_bytes(out: &mut String, bytes: &[u8]) -> Written {
@@ -118,33 +108,26 @@ fn put_cause(out: &mut String, cause: Cause) -> Written {
     }
 }
 
-fn put_bounds(out: &mut String, verified: &Verified) -> Written {
-    write!(
-        out,
-        "accepted depth={} budget={}",
-        verified.depth(),
-        verified.budget()
-    )?;
-    Ok(())
-}
-
+/// The verdict on code, and how the runs of the values end, where there are any: of verified code as `run`
+/// ends them, which has to be how `run_tested` ends with just the fuel that they cost; of other code with
+/// the case's fuel.
 fn put_verified(alloc: Global, case: &Json, out: &mut String) -> Written {
     let code = code_of(alloc, case)?;
     match verify(alloc, code, members::shape(alloc, case, "shape")?) {
-        Ok(verified) => put_bounds(out, &verified),
-        Err(refused) => put_cause(out, refused.cause),
-    }
-}
-
-/// What verified code comes to on a value, and what that costs.
-fn put_run(alloc: Global, case: &Json, out: &mut String) -> Written {
-    let code = code_of(alloc, case)?;
-    match verify(alloc, code, members::shape(alloc, case, "shape")?) {
         Ok(verified) => {
-            let value = members::value(alloc, case, verified.shape())?;
-            put_ended(out, Ended::Done(run(alloc, &verified, &value)?))
+            write!(
+                out,
+                "accepted operations={} depth={} budget={}",
+                verified.code().ops().len(),
+                verified.depth(),
+                verified.budget()
+            )?;
+            put_runs(alloc, case, &verified, out)
         }
-        Err(refused) => put_cause(out, refused.cause),
+        Err(refused) => {
+            put_cause(out, refused.cause)?;
+            put_tested_runs(alloc, case, &refused.code, out)
+        }
     }
 }
 
@@ -156,24 +139,8 @@ fn put_tested(alloc: Global, case: &Json, out: &mut String) -> Written {
     put_ended(out, run_tested(alloc, &code, &value, fuel)?)
 }
 
-/// The verdict on code, and how the runs of the values end: of verified code as `run` ends them, which
-/// has to be how `run_tested` ends with just the fuel that they cost; of other code with the case's fuel.
-fn put_verified_and_run(alloc: Global, case: &Json, out: &mut String) -> Written {
-    let code = code_of(alloc, case)?;
-    match verify(alloc, code, members::shape(alloc, case, "shape")?) {
-        Ok(verified) => {
-            put_bounds(out, &verified)?;
-            put_runs(alloc, case, &verified, out)
-        }
-        Err(refused) => {
-            put_cause(out, refused.cause)?;
-            put_tested_runs(alloc, case, &refused.code, out)
-        }
-    }
-}
-
 fn put_runs(alloc: Global, case: &Json, verified: &Verified, out: &mut String) -> Written {
-    for json in members::list(case, "values")? {
+    for json in members::list_or_none(case, "values")? {
         let value = members::value_of(alloc, json, "values", verified.shape())?;
         put_one_run(alloc, verified, &value, out)?;
     }
@@ -201,10 +168,10 @@ fn put_one_run(alloc: Global, verified: &Verified, value: &Value, out: &mut Stri
 
 fn put_tested_runs(alloc: Global, case: &Json, code: &Code, out: &mut String) -> Written {
     let shape = members::shape(alloc, case, "shape")?;
-    let fuel = members::number(case, "fuel")?;
-    for json in members::list(case, "values")? {
+    for json in members::list_or_none(case, "values")? {
         let value = members::value_of(alloc, json, "values", &shape)?;
         out.push_str(" / ")?;
+        let fuel = members::number(case, "fuel")?;
         put_ended(out, run_tested(alloc, code, &value, fuel)?)?;
     }
     Ok(())

@@ -29,17 +29,13 @@ pub fn put(alloc: Global, call: &str, case: &Json, out: &mut String) -> Written 
     }
 }
 
-/// A condition that can be run: its text, how many operations it has, and what it says of the value.
+/// A condition that can be run: its text, and what it says of the value.
 fn put_condition(alloc: Global, case: &Json, out: &mut String) -> Written {
     let shape = members::shape(alloc, case, "shape")?;
     match Condition::build(alloc, members::text(case, "condition")?, shape) {
         Ok(condition) => {
             put_quoted(out, condition.text())?;
-            write!(
-                out,
-                " operations={} ",
-                condition.verified().code().ops().len()
-            )?;
+            out.push_str(" ")?;
             let value = members::value(alloc, case, condition.verified().shape())?;
             put_answer(out, condition.answer(alloc, &value)?)
         }

@@ -26,6 +26,14 @@ pub fn list<'a>(case: &'a Json, name: &'static str) -> Result<&'a [Json], CaseFa
     }
 }
 
+/// A list, which is empty where the member isn't there.
+pub fn list_or_none<'a>(case: &'a Json, name: &'static str) -> Result<&'a [Json], CaseFault> {
+    if case.get(name).is_none() {
+        return Ok(&[]);
+    }
+    list(case, name)
+}
+
 pub fn number(case: &Json, name: &'static str) -> Result<u64, CaseFault> {
     json(case, name)?.as_u64().ok_or(CaseFault::Member(name))
 }

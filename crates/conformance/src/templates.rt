@@ -77,11 +77,9 @@ fn put_condition(out: &mut String, text: &Option<Text>) -> Written {
 /// The member `arguments`, where it is there: a list of pairs, each a list of a name and a value.
 fn arguments(alloc: Global, case: &Json) -> Result<Args, CaseFault> {
     let mut arguments = Args::new(alloc);
-    if case.get("arguments").is_some() {
-        for pair in members::list(case, "arguments")? {
-            let (name, value) = pair_of(pair).ok_or(CaseFault::Member("arguments"))?;
-            arguments.insert(alloc, name, Text::copied(alloc, value)?)?;
-        }
+    for pair in members::list_or_none(case, "arguments")? {
+        let (name, value) = pair_of(pair).ok_or(CaseFault::Member("arguments"))?;
+        arguments.insert(alloc, name, Text::copied(alloc, value)?)?;
     }
     Ok(arguments)
 }
