@@ -3,7 +3,7 @@
 use crate::fault::{CaseFault, Written};
 use crate::judges::put_verdict;
 use crate::members;
-use crate::printing::{put_lines, put_quoted, put_refusal, put_str};
+use crate::printing::{put_lines, put_quoted, put_refusal, put_shape, put_str};
 use ar_board::{Bundle, Finding};
 use ar_document::{read_bundle, read_json};
 use ar_limits::{Event, Limits, Mark};
@@ -62,16 +62,18 @@ fn put_bundle(alloc: Global, call: &str, bundle: &Bundle, out: &mut String) -> W
     }
 }
 
-/// The names of metrics and runs, and how many entries there are.
+/// The metrics with their shapes, the names of runs, and how many entries there are.
 fn put_parts(bundle: &Bundle, out: &mut String) -> Written {
-    out.push_str("metrics=[")?;
+    out.push_str("metrics={")?;
     let mut between = "";
     for metric in bundle.metrics().iter() {
         out.push_str(between)?;
         between = ",";
         put_quoted(out, metric.name.as_str())?;
+        out.push_str(":")?;
+        put_shape(out, &metric.shape)?;
     }
-    out.push_str("] runs=[")?;
+    out.push_str("} runs=[")?;
     let mut between = "";
     for run in bundle.runs().iter() {
         out.push_str(between)?;
