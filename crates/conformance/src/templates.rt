@@ -3,7 +3,7 @@
 use crate::fault::{CaseFault, Written};
 use crate::members;
 use crate::printing::{put_quoted, put_refusal, put_str};
-use ar_manifest::{Args, Bound, BoundMetric, ManifestError, Template, Text};
+use ar_manifest::{Args, Bound, BoundMetric, Template, Text};
 use serde_json::Value as Json;
 use std::alloc::Global;
 use std::fmt::Write;
