@@ -69,13 +69,13 @@ fn put_bytes(out: &mut String, bytes: &[u8]) -> Written {
 fn compiled(alloc: Global, case: &Json) -> Result<Result<Code, CompileError>, CaseFault> {
     let shape = members::shape(alloc, case, "shape")?;
     let Ok(tree) = parse(alloc, members::text(case, "condition")?) else {
-        return Err(CaseFault::Member("condition"));
+        return Err(CaseFault::Member);
     };
     let Ok(typed) = check(alloc, tree, &shape) else {
-        return Err(CaseFault::Member("condition"));
+        return Err(CaseFault::Member);
     };
     if !in_limits(&typed) {
-        return Err(CaseFault::Member("condition"));
+        return Err(CaseFault::Member);
     }
     Ok(compile(alloc, &typed))
 }
@@ -90,11 +90,11 @@ fn put_compiled(alloc: Global, case: &Json, out: &mut String) -> Written {
 /// The code of the member `image`, or else of `condition` under `shape`.
 fn code_of(alloc: Global, case: &Json) -> Result<Code, CaseFault> {
     if case.get("image").is_none() {
-        return compiled(alloc, case)?.map_err(|_| CaseFault::Member("condition"));
+        return compiled(alloc, case)?.map_err(|_| CaseFault::Member);
     }
     match decode(alloc, &members::bytes(alloc, case, "image")?) {
         Ok(code) => Ok(code),
-        Err(_) => Err(CaseFault::Member("image")),
+        Err(_) => Err(CaseFault::Member),
     }
 }
 
@@ -141,7 +141,7 @@ fn put_tested(alloc: Global, case: &Json, out: &mut String) -> Written {
 
 fn put_runs(alloc: Global, case: &Json, verified: &Verified, out: &mut String) -> Written {
     for json in members::list_or_none(case, "values")? {
-        let value = members::value_of(alloc, json, "values", verified.shape())?;
+        let value = members::value_of(alloc, json, verified.shape())?;
         put_one_run(alloc, verified, &value, out)?;
     }
     Ok(())
@@ -169,7 +169,7 @@ fn put_one_run(alloc: Global, verified: &Verified, value: &Value, out: &mut Stri
 fn put_tested_runs(alloc: Global, case: &Json, code: &Code, out: &mut String) -> Written {
     let shape = members::shape(alloc, case, "shape")?;
     for json in members::list_or_none(case, "values")? {
-        let value = members::value_of(alloc, json, "values", &shape)?;
+        let value = members::value_of(alloc, json, &shape)?;
         out.push_str(" / ")?;
         let fuel = members::number(case, "fuel")?;
         put_ended(out, run_tested(alloc, code, &value, fuel)?)?;

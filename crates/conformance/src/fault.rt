@@ -12,8 +12,8 @@ pub enum CaseFault {
     #[error("unknown call")]
     UnknownCall,
     /// A member isn't there, or is nothing that the call takes.
-    #[error("member `{0}` is missing, or nothing that this call takes")]
-    Member(&'static str),
+    #[error("a member is missing, or nothing that this call takes")]
+    Member,
     #[error("a read or a write failed")]
     Device,
     #[error("out of memory")]
@@ -27,7 +27,7 @@ impl CaseFault {
     /// The exit status, as those of `argo_judge`.
     pub fn status(self) -> u8 {
         match self {
-            CaseFault::NoJson | CaseFault::UnknownCall | CaseFault::Member(_) => 2,
+            CaseFault::NoJson | CaseFault::UnknownCall | CaseFault::Member => 2,
             CaseFault::OutOfMemory => 3,
             CaseFault::Device => 4,
         }

@@ -72,7 +72,7 @@ fn put_run_of(alloc: Global, case: &Json, verified: &Verified, out: &mut String)
 }
 
 /// The text of a member, where it is there.
-fn text_of(alloc: Global, case: &Json, name: &'static str) -> Result<Option<Text>, CaseFault> {
+fn text_of(alloc: Global, case: &Json, name: &str) -> Result<Option<Text>, CaseFault> {
     if case.get(name).is_none() {
         return Ok(None);
     }

@@ -46,7 +46,7 @@ fn put_digits(case: &Json, out: &mut String) -> Written {
     let digits = members::text(case, "digits")?;
     let behind = case.get("fraction").and_then(Json::as_str);
     if !are_digits(digits) || !are_digits(behind.unwrap_or("")) {
-        return Err(CaseFault::Member("digits"));
+        return Err(CaseFault::Member);
     }
     let found = match behind {
         Some(behind) => digits::millionths(digits.as_bytes(), behind.as_bytes()),
@@ -78,7 +78,7 @@ fn put_order(case: &Json, out: &mut String) -> Written {
     let left = members::operand(case, "left")?;
     let right = members::operand(case, "right")?;
     let (Number::Decimal(left), Number::Decimal(right)) = (left, right) else {
-        return Err(CaseFault::Member("left"));
+        return Err(CaseFault::Member);
     };
     put_ordering(out, left.cmp(&right))?;
     if left < right {
@@ -105,7 +105,7 @@ fn put_result(call: &str, case: &Json, out: &mut String) -> Written {
         (Number::Decimal(left), Number::Decimal(right)) => of_decimals(call, left, right),
         _ => None,
     };
-    put_outcome(out, outcome.ok_or(CaseFault::Member("right"))?)
+    put_outcome(out, outcome.ok_or(CaseFault::Member)?)
 }
 
 /// Arithmetic of wholes, whose quotient is a decimal.

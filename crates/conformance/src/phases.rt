@@ -40,7 +40,7 @@ fn put_phase(case: &Json, out: &mut String) -> Written {
             return Ok(());
         }
     }
-    Err(CaseFault::Member("phase"))
+    Err(CaseFault::Member)
 }
 
 /// A limit of a list of four.
@@ -66,7 +66,7 @@ fn limits_of(item: &Json) -> Option<Limits> {
 fn all_limits(alloc: Global, case: &Json) -> Result<Vec<Limits>, CaseFault> {
     let mut limits = Vec::new(alloc);
     for item in members::list(case, "limits")? {
-        limits.push(limits_of(item).ok_or(CaseFault::Member("limits"))?)?;
+        limits.push(limits_of(item).ok_or(CaseFault::Member)?)?;
     }
     Ok(limits)
 }
@@ -132,8 +132,8 @@ fn put_effects(case: &Json, state: &mut RunState, out: &mut String) -> Written {
     for item in members::list(case, "events")?.iter() {
         out.push_str(between)?;
         between = ", ";
-        let event = event_of(item).ok_or(CaseFault::Member("events"))?;
-        let effect = apply(state, event).ok_or(CaseFault::Member("events"))?;
+        let event = event_of(item).ok_or(CaseFault::Member)?;
+        let effect = apply(state, event).ok_or(CaseFault::Member)?;
         put_effect(out, effect)?;
     }
     Ok(())
@@ -160,7 +160,7 @@ fn put_metrics(state: &RunState, out: &mut String) -> Written {
 fn opened(alloc: Global, case: &Json) -> Result<RunState, CaseFault> {
     let limits = all_limits(alloc, case)?;
     if !Limits::have_positive_counts(&limits) {
-        return Err(CaseFault::Member("limits"));
+        return Err(CaseFault::Member);
     }
     Ok(RunState::new(alloc, &limits)?)
 }

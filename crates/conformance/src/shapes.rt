@@ -51,12 +51,12 @@ fn put_field_shape(alloc: Global, case: &Json, out: &mut String) -> Written {
 fn fields_of(shape: &Shape) -> Result<&FieldShapes, CaseFault> {
     match shape {
         Shape::Object(fields) => Ok(fields),
-        _ => Err(CaseFault::Member("shape")),
+        _ => Err(CaseFault::Member),
     }
 }
 
 /// The kind of nil, where the member is null, or of a shape.
-fn kind_of(alloc: Global, case: &Json, name: &'static str) -> Result<Kind, CaseFault> {
+fn kind_of(alloc: Global, case: &Json, name: &str) -> Result<Kind, CaseFault> {
     match members::json(case, name)? {
         Json::Null => Ok(Kind::Nil),
         _ => Ok(Kind::Shape(members::shape(alloc, case, name)?)),
@@ -90,7 +90,7 @@ fn put_read_value(alloc: Global, case: &Json, out: &mut String) -> Written {
 }
 
 /// A value of the shape that the case gives under a name.
-fn value_of(alloc: Global, case: &Json, shape: &'static str) -> Result<Value, CaseFault> {
+fn value_of(alloc: Global, case: &Json, shape: &str) -> Result<Value, CaseFault> {
     let shape = members::shape(alloc, case, shape)?;
     members::value(alloc, case, &shape)
 }
@@ -101,7 +101,7 @@ fn put_field(alloc: Global, case: &Json, out: &mut String) -> Written {
             Some(value) => put_value(out, value),
             None => put_str(out, "none"),
         },
-        _ => Err(CaseFault::Member("value")),
+        _ => Err(CaseFault::Member),
     }
 }
 

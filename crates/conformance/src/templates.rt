@@ -78,7 +78,7 @@ fn put_condition(out: &mut String, text: &Option<Text>) -> Written {
 fn arguments(alloc: Global, case: &Json) -> Result<Args, CaseFault> {
     let mut arguments = Args::new(alloc);
     for pair in members::list_or_none(case, "arguments")? {
-        let (name, value) = pair_of(pair).ok_or(CaseFault::Member("arguments"))?;
+        let (name, value) = pair_of(pair).ok_or(CaseFault::Member)?;
         arguments.insert(alloc, name, Text::copied(alloc, value)?)?;
     }
     Ok(arguments)
