@@ -4,7 +4,7 @@ use Rattle.std.specs.List.{AllByRecursion, filter_map}
 use Rattle.ar_value.specs.Fits.{fits}
 use Rattle.ar_value.specs.Shape.{Shape}
 use Rattle.ar_value.specs.View.{shape_view}
-use Rattle.ar_value.specs.declared.value_reading.ShapeFault.TheVariants as shape_fault
+use Rattle.ar_json.specs.declared.value_reading.ShapeFault.TheVariants as shape_fault
 use Rattle.ar_judge.specs.Condition.{Condition}
 use Rattle.ar_judge.specs.Verdict.{Judge, RunsNothing, Sample, measured, misfit, provider, sample_view, verdict}
 use Rattle.ar_judge.specs.declared.verdict.Verdict.{Verdict}

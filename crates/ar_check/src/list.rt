@@ -19,7 +19,7 @@ use ar_value::shape::Shape;
 use std::alloc::{AllocError, Global};
 
 /// An item of a list literal, made plain.
-#[derive(Debug, Drop)]
+#[derive(Drop)]
 pub(crate) struct Item {
     pub at: usize,
     /// None where it is no scalar.

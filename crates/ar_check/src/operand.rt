@@ -22,7 +22,7 @@ use std::alloc::{AllocError, Global};
 
 /// The kind of an operand: that of the literal `nil`, or a shape, which is lent where it is a part
 /// of a declared one.
-#[derive(Debug, Drop)]
+#[derive(Drop)]
 pub(crate) enum Kind<'s> {
     Nil,
     Declared(&'s Shape),
@@ -30,7 +30,7 @@ pub(crate) enum Kind<'s> {
 }
 
 /// A tree with its kind.
-#[derive(Debug, Drop)]
+#[derive(Drop)]
 pub(crate) struct Operand<'s> {
     pub tree: Box<Typed>,
     pub kind: Kind<'s>,

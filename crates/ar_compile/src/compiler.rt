@@ -184,7 +184,8 @@ fn put_two(
 ) -> Result<(), AllocError>
     requires { (InLimits (typed_view left.now)) × (InLimits (typed_view right.now))
         × (place_of draft.old + operations (typed_view left.now) + operations (typed_view right.now) ≤ 4096) }
-    ensures { OnOk result (draft.new ≡ with_op op (drafted (typed_view right.now) (drafted (typed_view left.now) draft.old))) }
+    ensures { OnOk result
+        (draft.new ≡ with_op op (drafted (typed_view right.now) (drafted (typed_view left.now) draft.old))) }
 {
     put(alloc, draft, left)?;
     put(alloc, draft, right)?;
@@ -235,7 +236,8 @@ fn put_choice(
     met: &Typed,
     unmet: &Typed,
 ) -> Result<(), AllocError>
-    requires { (InLimits (typed_view condition.now)) × (InLimits (typed_view met.now)) × (InLimits (typed_view unmet.now))
+    requires { (InLimits (typed_view condition.now)) × (InLimits (typed_view met.now))
+        × (InLimits (typed_view unmet.now))
         × (place_of draft.old + operations (typed.choice (typed_view condition.now) (typed_view met.now) (typed_view unmet.now)) ≤ 4096) }
     ensures { OnOk result (draft.new
         ≡ drafted (typed.choice (typed_view condition.now) (typed_view met.now) (typed_view unmet.now)) draft.old) }
@@ -276,7 +278,8 @@ fn put_list(
 #[cycle(compiler)]
 #[tactic(auto, using(crate::proofs::Sequences::next_operations, crate::proofs::Sequences::no_operations, crate::proofs::Sequences::next_limits, crate::proofs::Sequences::next_drafted, crate::proofs::Sequences::none_drafted, crate::proofs::Drafts::drafted_length))]
 fn put_items(alloc: Global, draft: &mut Draft, items: &[Typed]) -> Result<(), AllocError>
-    requires { (AllInLimits (items_view items.now)) × (place_of draft.old + operations_of_items (items_view items.now) ≤ 4096) }
+    requires { (AllInLimits (items_view items.now))
+        × (place_of draft.old + operations_of_items (items_view items.now) ≤ 4096) }
     ensures { OnOk result (draft.new ≡ drafted_items (items_view items.now) draft.old) }
 {
     for item in items {
@@ -297,7 +300,8 @@ fn put_loop(
 ) -> Result<(), AllocError>
     requires { (InLimits (typed_view list.now)) × (InLimits (typed_view body.now))
         × (place_of draft.old + operations (typed_view list.now) + 1 + operations (typed_view body.now) + 1 ≤ 4096) }
-    ensures { OnOk result (draft.new ≡ drafted (typed.predicate predicate (typed_view list.now) (typed_view body.now)) draft.old) }
+    ensures { OnOk result
+        (draft.new ≡ drafted (typed.predicate predicate (typed_view list.now) (typed_view body.now)) draft.old) }
 {
     put(alloc, draft, list)?;
     let enter = draft.place();

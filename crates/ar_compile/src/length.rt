@@ -39,7 +39,8 @@ pub(crate) fn room_after(room: usize, tree: &Typed) -> Option<usize>
 /// A tree and one operation more.
 #[cycle(length)]
 fn room_after_one(room: usize, operand: &Typed) -> Option<usize>
-    ensures { SomeIff result (operations (typed_view operand.now) + 1 ≤ room) (room - (operations (typed_view operand.now) + 1)) }
+    ensures { SomeIff result (operations (typed_view operand.now) + 1 ≤ room)
+        (room - (operations (typed_view operand.now) + 1)) }
 {
     room_after(room, operand)?.checked_sub(1)
 }
@@ -47,7 +48,8 @@ fn room_after_one(room: usize, operand: &Typed) -> Option<usize>
 /// Two trees and one operation more.
 #[cycle(length)]
 fn room_after_two(room: usize, left: &Typed, right: &Typed) -> Option<usize>
-    ensures { SomeIff result (operations_of_two left.now right.now ≤ room) (room - operations_of_two left.now right.now) }
+    ensures { SomeIff result (operations_of_two left.now right.now ≤ room)
+        (room - operations_of_two left.now right.now) }
 {
     room_after(room_after(room, left)?, right)?.checked_sub(1)
 }
@@ -55,7 +57,8 @@ fn room_after_two(room: usize, left: &Typed, right: &Typed) -> Option<usize>
 #[cycle(length)]
 #[tactic(auto, using(crate::proofs::Sequences::next_operations, crate::proofs::Sequences::no_operations))]
 fn room_after_items(room: usize, items: &[Typed]) -> Option<usize>
-    ensures { SomeIff result (operations_of_items (items_view items.now) ≤ room) (room - (operations_of_items (items_view items.now))) }
+    ensures { SomeIff result (operations_of_items (items_view items.now) ≤ room)
+        (room - (operations_of_items (items_view items.now))) }
 {
     let mut left = room;
     for item in items {

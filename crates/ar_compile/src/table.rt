@@ -28,7 +28,8 @@ pub(crate) fn add_text(
     number: usize,
 ) -> Result<(), AllocError>
     requires { number ≡ number_of text.now (map string_bytes texts.old.items) }
-    ensures table { OnOk result (map string_bytes texts.new.items ≡ with_text text.now (map string_bytes texts.old.items)) }
+    ensures table { OnOk result
+        (map string_bytes texts.new.items ≡ with_text text.now (map string_bytes texts.old.items)) }
     // Also where the growth was refused.
     ensures few { length texts.new.items ≤ length texts.old.items + 1 }
 {

@@ -9,7 +9,7 @@ use ar_value::operator::Predicate;
 use ar_value::text::Text;
 
 /// The value of a literal.
-#[derive(Debug, Drop)]
+#[derive(Drop)]
 pub enum Literal {
     Nil,
     Bool(bool),
@@ -55,7 +55,7 @@ pub enum Comparison {
 /// The tree of a condition. `at` is the byte offset of what names a node: its operator (`not` of
 /// `not in`), the `?` of a choice, the name of a call, the `[` of an index or list, the `.` or `[`
 /// of a field; else the node's own token. Parentheses make no node.
-#[derive(Debug, Drop)]
+#[derive(Drop)]
 #[cycle(tree)]
 pub enum Tree {
     /// The measured value.
@@ -131,7 +131,7 @@ pub enum Tree {
 }
 
 /// Trees in order, as the items of a list.
-#[derive(Debug, Drop)]
+#[derive(Drop)]
 #[cycle(tree)]
 pub struct Trees {
     pub items: Vec<Tree>,

@@ -7,7 +7,7 @@ use ar_value::text::Text;
 /// A condition whose kinds are known. `!=` is `==` negated, `not in` is `in` negated, a comparison
 /// with the literal `nil` is `isNil`, and `+a` is `a`.
 #[cycle(typed)]
-#[derive(Debug, Drop)]
+#[derive(Drop)]
 pub enum Typed {
     /// The measured value.
     Result,
@@ -90,7 +90,7 @@ pub enum Typed {
 
 /// The items of a list.
 #[cycle(typed)]
-#[derive(Debug, Drop)]
+#[derive(Drop)]
 pub struct TypedItems {
     pub items: Vec<Typed>,
 }

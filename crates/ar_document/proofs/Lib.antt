@@ -1,4 +1,3 @@
-pub mod Documents
 mod Steps
 mod Naming
 mod Counting

@@ -7,8 +7,7 @@ use Rattle.ar_manifest.specs.Arguments.{value_of, with_value}
 use Rattle.ar_manifest.proofs.Entries.{with_new_value}
 use Rattle.std.proofs.lemmas.List.{drop_all, drop_more, map-append, length-map, length-take-le}
 use Rattle.std.proofs.Math.Seq.{take-suc}
-use Rattle.ar_value.specs.Answer.{◌>>=◌, Unless}
-use Rattle.ar_document.specs.Answers.{holds_or}
+use Rattle.ar_value.specs.Answer.{◌>>=◌, Unless, holds_or}
 use Rattle.ar_document.specs.Document.{is_memory}
 use Rattle.ar_board.specs.declared.bundle.MetricPart.{MetricPart}
 use Rattle.ar_document.specs.Opening.{are_new, metric_view, names_of, number_of}

@@ -9,12 +9,12 @@ use Rattle.ar_judge.specs.declared.error.BuildError.{BuildError}
 use Rattle.ar_board.specs.Bundle.{Bundle}
 use Rattle.ar_board.specs.declared.bundle.RunPart.{RunPart}
 use Rattle.ar_document.specs.Document.{Follows, IsBundleOf, IsFaultOf, ReadsInput, of_entry, of_opening, of_run}
-use Rattle.ar_document.specs.Json.{json_in}
+use Rattle.ar_json.specs.Document.{json_in}
 use Rattle.ar_document.specs.Opening.{Metric, Opened}
 use Rattle.ar_document.specs.Parts.{AreJudges, AreParts, IsPart, RefusesMetric, RefusesRun, RefusesRuns}
 use Rattle.ar_document.specs.declared.error.BundleError.{BundleError}
 use Rattle.ar_document.specs.declared.error.BundleError.TheVariants.{Bind, Build}
-use Rattle.ar_document.specs.declared.json.JsonError.{JsonError}
+use Rattle.ar_json.specs.declared.document.JsonError.{JsonError}
 use Rattle.ar_document.specs.declared.runs.Run.{Run}
 use Rattle.ar_judge.proofs.OneCause.{judged_alone, one_error}
 

@@ -6,11 +6,11 @@ use Rattle.std.specs.Option.{MatchOption, ok_or}
 use Rattle.std.proofs.lemmas.Option.{slice_get_read}
 use Rattle.serde_json.specs.Data.{Data}
 use Rattle.ar_value.specs.Answer.{Unless}
-use Rattle.ar_value.specs.Reading.{is_memory, is_memory_under, read}
+use Rattle.ar_json.specs.Reading.{is_memory, is_memory_under, read}
 use Rattle.ar_value.specs.Shape.{Shape}
-use Rattle.ar_value.specs.declared.value_reading.ShapeFault.{ShapeFault}
-use Rattle.ar_value.specs.declared.value_reading.ShapeFault.TheVariants.{OutOfMemory}
-use Rattle.ar_value.proofs.ReadLemmas.{under_is_memory}
+use Rattle.ar_json.specs.declared.value_reading.ShapeFault.{ShapeFault}
+use Rattle.ar_json.specs.declared.value_reading.ShapeFault.TheVariants.{OutOfMemory}
+use Rattle.ar_json.proofs.ReadLemmas.{under_is_memory}
 use Rattle.ar_judge.specs.Verdict.{misfit}
 use Rattle.ar_board.specs.declared.bundle.MetricPart.{MetricPart}
 use Rattle.ar_document.specs.Entries.{sample_by}

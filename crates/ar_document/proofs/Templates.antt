@@ -13,13 +13,12 @@ use Rattle.ar_document.specs.Opening.{template_in}
 use Rattle.ar_document.specs.declared.error.BundleError.TheVariants.{Bind, Manifest}
 use Rattle.ar_manifest.specs.Binding.{RunArguments}
 use Rattle.ar_manifest.specs.Bound.{bound_condition, bound_limit, bound_metric, bound_of, count_without, effective_count, next_bound}
-use Rattle.ar_manifest.specs.Template.{TemplateArguments}
+use Rattle.ar_manifest.specs.Template.{TemplateArguments, arguments_of, counted, counted_metrics, head_of, lists_nothing, metric_of, template_of}
 use Rattle.ar_manifest.specs.declared.template.Metric.{Metric}
 use Rattle.ar_document.proofs.Growing.{one_more}
 use Rattle.ar_manifest.specs.declared.bound.BoundMetric.{BoundMetric}
-use Rattle.ar_manifest.specs.Answer.{◌>>=◌, each_behind, holds_or, there_or}
-use Rattle.ar_manifest.specs.Json.{member_of_member, list_of}
-use Rattle.ar_manifest.specs.Template.{arguments_of, counted, counted_metrics, head_of, lists_nothing, metric_of, template_of}
+use Rattle.ar_value.specs.Answer.{◌>>=◌, each_behind, holds_or, there_or}
+use Rattle.ar_json.specs.Members.{member_of_member, list_of}
 use Rattle.ar_manifest.specs.declared.error.ManifestError.{ManifestError}
 use Rattle.ar_manifest.specs.declared.error.ManifestError.TheVariants.{IntervalMissing, NoMetrics, Unsupported}
 use Rattle.ar_manifest.specs.declared.template.Template.{Template}

@@ -4,13 +4,13 @@ use Rattle.serde_json.specs.Data.{Data}
 use Rattle.ar_board.specs.Bundle.{Bundle}
 use Rattle.ar_board.specs.declared.bundle.RunPart.{RunPart}
 use Rattle.ar_document.specs.Entries.{entries_in, entry_view}
-use Rattle.ar_document.specs.Json.{json_in}
+use Rattle.ar_json.specs.Document.{json_in}
 use Rattle.ar_document.specs.Opening.{Opened, metric_view, opened_of}
 use Rattle.ar_document.specs.Parts.{AreParts, RefusesRuns}
 use Rattle.ar_document.specs.declared.error.BundleError.{BundleError}
 use Rattle.ar_document.specs.declared.error.BundleError.TheVariants as errors
-use Rattle.ar_document.specs.declared.json.JsonError.{JsonError}
-use Rattle.ar_document.specs.declared.json.JsonError.TheVariants as json_errors
+use Rattle.ar_json.specs.declared.document.JsonError.{JsonError}
+use Rattle.ar_json.specs.declared.document.JsonError.TheVariants as json_errors
 
 -- this is the bundle of a document: its template's metrics, each run's part, and what its entries tell
 pub record IsBundleOf (document : Data) (bundle : Bundle) : Type 0 where

@@ -2,18 +2,17 @@
 use Rattle.std.specs.Prelude.{ℕ, nat_lt, Bool, false, if◌then◌else◌, List, [], length, map, codes, slice_get, Option, Some, None, option_and_then, Result, Ok, Err}
 use Rattle.serde_json.specs.Data.{Data, boolean}
 use Rattle.serde_json.specs.Find.{get, as_str}
-use Rattle.ar_value.specs.Answer.{◌>>=◌}
-use Rattle.ar_value.specs.Reading.{read}
+use Rattle.ar_value.specs.Answer.{◌>>=◌, there_or, each_behind}
+use Rattle.ar_json.specs.Reading.{read}
 use Rattle.ar_value.specs.Shape.{Shape}
 use Rattle.ar_value.specs.Value.{Value}
-use Rattle.ar_value.specs.declared.value_reading.ShapeFault.{ShapeFault}
-use Rattle.ar_manifest.specs.Json.{list_of, member}
+use Rattle.ar_json.specs.declared.value_reading.ShapeFault.{ShapeFault}
+use Rattle.ar_json.specs.Members.{list_of, member}
 use Rattle.ar_judge.specs.Verdict.{Sample, measured, misfit, provider, sample_view}
 use Rattle.ar_board.specs.Bundle.{most_events}
 use Rattle.ar_board.specs.declared.bundle.EventPart.{EventPart}
 use Rattle.ar_board.specs.declared.bundle.What as parts
 use Rattle.ar_board.specs.declared.bundle.What.TheVariants as whats
-use Rattle.ar_document.specs.Answers.{there_or, each_behind}
 use Rattle.ar_document.specs.Opening.{Opened, names_of, number_of}
 use Rattle.ar_document.specs.declared.error.BundleError.{BundleError}
 use Rattle.ar_document.specs.declared.error.BundleError.TheVariants.{TooManyMeasurements, BadEntry, UnknownRun, UnknownMetric}

@@ -4,20 +4,19 @@ use Rattle.std.specs.Prelude.{ℕ, suc, nat_lt, if◌then◌else◌, List, [], �
 use Rattle.std.specs.Str.{bytes_eq}
 use Rattle.serde_json.specs.Data.{Data, null, string, object, Members, no_members, member}
 use Rattle.serde_json.specs.Find.{get, as_str}
-use Rattle.ar_value.specs.Answer.{◌>>=◌}
-use Rattle.ar_value.specs.Declaration.{shape_of}
+use Rattle.ar_value.specs.Answer.{◌>>=◌, there_or, holds_or, each_behind}
+use Rattle.ar_json.specs.Declaration.{shape_of}
 use Rattle.ar_value.specs.Shape.{Shape}
 use Rattle.ar_value.specs.View.{shape_view}
 use Rattle.ar_manifest.specs.Arguments.{with_value}
 use Rattle.ar_manifest.specs.Binding.{RunArguments}
-use Rattle.ar_manifest.specs.Json.{list_of}
+use Rattle.ar_json.specs.Members.{list_of}
 use Rattle.ar_manifest.specs.Template.{template_of}
 use Rattle.ar_manifest.specs.declared.template.Template.{Template}
 use Rattle.ar_manifest.specs.declared.template.Metric as templates
 use Rattle.ar_judge.specs.Condition.{refused_as}
 use Rattle.ar_board.specs.Bundle.{most_runs}
 use Rattle.ar_board.specs.declared.bundle.MetricPart.{MetricPart}
-use Rattle.ar_document.specs.Answers.{there_or, holds_or, each_behind}
 use Rattle.ar_document.specs.declared.error.BundleError.{BundleError}
 use Rattle.ar_document.specs.declared.error.BundleError.TheVariants.{Manifest, ShapeMissing, Shapes, Runs, DoubleRun}
 use Rattle.ar_document.specs.declared.runs.Run.{Run}

@@ -3,15 +3,15 @@
 ghost use Rattle.std.specs.Prelude.{◌≡◌, ◌<◌, Err, length};
 ghost use Rattle.serde_json.specs.View.{view};
 ghost use Rattle.ar_document.specs.Document.{Reads, ReadsInput, UnlessMemory};
-ghost use Rattle.ar_document.specs.Json.{most_bytes};
+ghost use Rattle.ar_json.specs.Document.{most_bytes};
 ghost use Rattle.ar_document.specs.declared.error.BundleError.TheVariants.{TooLarge};
 
 use crate::entries::read_entries;
 use crate::error::BundleError;
-use crate::json::read_json;
 use crate::opening::open;
 use crate::parts::parts_of;
 use ar_board::Bundle;
+use ar_json::read_json;
 use serde_json::Value as Json;
 use std::alloc::Global;
 

@@ -4,13 +4,12 @@ ghost use Rattle.std.specs.Prelude.{◌≡◌, ◌<◌, ◌≤◌, ℕ, List, []
 ghost use Rattle.std.specs.List.{AllByRecursion};
 ghost use Rattle.serde_json.specs.Find.{get};
 ghost use Rattle.serde_json.specs.View.{view};
-ghost use Rattle.ar_value.specs.Answer.{Gives};
+ghost use Rattle.ar_value.specs.Answer.{Gives, each_behind, there_or};
 ghost use Rattle.ar_value.specs.View.{shape_view};
-ghost use Rattle.ar_manifest.specs.Json.{unless_null};
-ghost use Rattle.ar_value.specs.Reading.{is_memory as is_fault_of_memory};
+ghost use Rattle.ar_json.specs.Members.{unless_null};
+ghost use Rattle.ar_json.specs.Reading.{is_memory as is_fault_of_memory};
 ghost use Rattle.ar_judge.specs.Verdict.{misfit, sample_view};
 ghost use Rattle.ar_board.specs.Bundle.{IsEntry, SampleSuits, most_events};
-ghost use Rattle.ar_document.specs.Answers.{each_behind, there_or};
 ghost use Rattle.ar_document.specs.Document.{is_memory};
 ghost use Rattle.ar_document.specs.Entries.{Entry, entries_in, entry_in, entry_items, entry_view, given, is_true, listed_entries, measured_of, measurement_of, sample_of, stop_of, text_of};
 ghost use Rattle.ar_document.specs.Opening.{names_of, number_of};
@@ -19,13 +18,13 @@ ghost use Rattle.ar_document.specs.Private.Opened.{IsOpened, opened_view};
 ghost use Rattle.ar_document.specs.declared.error.BundleError.TheVariants.{OutOfMemory, UnknownRun};
 
 use crate::error::BundleError;
-use crate::json::list_of;
 use crate::names::Numbers;
 use crate::opening::Opened;
 use ar_board::{EventPart, What};
+use ar_json::members::list_of;
+use ar_json::value_reading::{ShapeFault, read_value};
 use ar_judge::Sample;
 use ar_value::shape::Shape;
-use ar_value::value_reading::{ShapeFault, read_value};
 use serde_json::Value as Json;
 use std::alloc::Global;
 
@@ -81,7 +80,9 @@ fn misfit_of(fault: ShapeFault) -> Result<Sample, BundleError>
 /// The sample of what was given, under the shape of its metric.
 #[tactic(auto, using(crate::proofs::Sampling::misfit_told, crate::proofs::Sampling::misfit_suits))]
 fn sample_of(alloc: Global, shape: &Shape, found: Option<&Json>) -> Result<Sample, BundleError>
-    ensures exact { IfOk result (λ sample. sample_view sample ≡ sample_of (shape_view shape.now) (option_map (λ json. view json.now) found.entry)) }
+    ensures exact { IfOk result
+        (λ sample. sample_view sample ≡ sample_of (shape_view shape.now)
+        (option_map (λ json. view json.now) found.entry)) }
     ensures suits { IfOk result (λ sample. SampleSuits (shape_view shape.now) (sample_view sample)) }
     ensures memory { IfErr result (λ e. e ≡ OutOfMemory) }
 {
@@ -98,7 +99,8 @@ fn sample_of(alloc: Global, shape: &Shape, found: Option<&Json>) -> Result<Sampl
 #[tactic(auto, using(crate::proofs::Naming::run_inside))]
 fn run_number(opened: &Opened, number: usize, name: &str) -> Result<usize, BundleError>
     requires { IsOpened opened.now }
-    ensures exact { Gives (λ _. false) (λ run. run) result (there_or (UnknownRun number) (number_of name.now (names_of opened.now.runs.items))) }
+    ensures exact { Gives (λ _. false) (λ run. run) result
+        (there_or (UnknownRun number) (number_of name.now (names_of opened.now.runs.items))) }
     ensures inside { IfOk result (λ run. run < length opened.now.runs.items) }
 {
     number_of(&opened.run_numbers, name).ok_or(BundleError::UnknownRun(number))
@@ -153,7 +155,8 @@ fn measurement_of(
     item: &Json,
 ) -> Result<EventPart, BundleError>
     requires { IsOpened opened.now }
-    ensures exact { Gives is_memory entry_view result (measurement_of (opened_view opened.now) number name.now (view item.now)) }
+    ensures exact { Gives is_memory entry_view result
+        (measurement_of (opened_view opened.now) number name.now (view item.now)) }
     ensures entry { IfOk result (IsEntry opened.now.metrics.items (length opened.now.runs.items)) }
 {
     let metric = text_of(item, "metric").ok_or(BundleError::BadEntry(number))?;
@@ -197,7 +200,8 @@ fn listed_entries(found: Option<&Json>) -> Result<&[Json], BundleError>
 /// The items of `measurements`, at most 100,000 of them.
 #[tactic(auto, using(crate::proofs::Counting::many_entries, crate::proofs::Counting::few_entries_are))]
 fn entry_items(document: &Json) -> Result<&[Json], BundleError>
-    ensures exact { Gives (λ _. false) (λ items. map (λ json. view json) items.now) result (entry_items (view document.now)) }
+    ensures exact { Gives (λ _. false) (λ items. map (λ json. view json) items.now) result
+        (entry_items (view document.now)) }
     ensures few { IfOk result (λ items. length items.now ≤ most_events) }
 {
     let items = listed_entries(document.get("measurements"))?;
@@ -213,7 +217,8 @@ fn entries_of(alloc: Global, opened: &Opened, items: &[Json]) -> Result<Vec<Even
     ensures exact { Gives is_memory (λ entries. map entry_view entries.items) result
         (each_behind (entry_in (opened_view opened.now)) [] (map (λ json. view json) items.now)) }
     ensures each { IfOk result (λ entries. length entries.items ≡ length items.now) }
-    ensures entries { IfOk result (λ entries. AllByRecursion (IsEntry opened.now.metrics.items (length opened.now.runs.items)) entries.items) }
+    ensures entries { IfOk result
+        (λ entries. AllByRecursion (IsEntry opened.now.metrics.items (length opened.now.runs.items)) entries.items) }
 {
     let mut entries = Vec::with_capacity(alloc, items.len())?;
     for (number, item) in items.iter().enumerate() {
@@ -231,9 +236,11 @@ pub(crate) fn read_entries(
     document: &Json,
 ) -> Result<Vec<EventPart>, BundleError>
     requires { IsOpened opened.now }
-    ensures exact { Gives is_memory (λ entries. map entry_view entries.items) result (entries_in (opened_view opened.now) (view document.now)) }
+    ensures exact { Gives is_memory (λ entries. map entry_view entries.items) result
+        (entries_in (opened_view opened.now) (view document.now)) }
     ensures few { IfOk result (λ entries. length entries.items ≤ most_events) }
-    ensures entries { IfOk result (λ entries. AllByRecursion (IsEntry opened.now.metrics.items (length opened.now.runs.items)) entries.items) }
+    ensures entries { IfOk result
+        (λ entries. AllByRecursion (IsEntry opened.now.metrics.items (length opened.now.runs.items)) entries.items) }
 {
     let items = entry_items(document)?;
     entries_of(alloc, opened, items)

@@ -1,9 +1,9 @@
 //! Why a document is no bundle.
 
-use crate::json::JsonError;
+use ar_json::document::JsonError;
+use ar_json::shape_reading::ShapeError;
 use ar_judge::BuildError;
 use ar_manifest::ManifestError;
-use ar_value::shape_reading::ShapeError;
 use std::alloc::{AllocError, AllocFailed};
 use thiserror::Error;
 

@@ -8,11 +8,13 @@ ghost use Rattle.ar_document.specs.declared.error.BundleError.{BundleError};
 /// No input is a bundle and refused, too.
 #[tactic(auto, using(crate::proofs::OneAnswer::bundle_or_fault))]
 pub fn bundle_or_fault()
-    ensures { (input : List ℕ) (bundle : Bundle) (error : BundleError) → ReadsInput input (Ok bundle) → ReadsInput input (Err error) → ⊥ }
+    ensures { (input : List ℕ) (bundle : Bundle) (error : BundleError) → ReadsInput input (Ok bundle)
+        → ReadsInput input (Err error) → ⊥ }
 {}
 
 /// It is refused for one fault.
 #[tactic(auto, using(crate::proofs::OneAnswer::same_fault))]
 pub fn same_fault()
-    ensures { (input : List ℕ) (error other : BundleError) → ReadsInput input (Err error) → ReadsInput input (Err other) → error ≡ other }
+    ensures { (input : List ℕ) (error other : BundleError) → ReadsInput input (Err error) → ReadsInput input (Err other)
+        → error ≡ other }
 {}

@@ -7,7 +7,6 @@
 //! runs and metrics are found by a map.
 //!
 //! - [`bundle`]: bundles of documents; [`error`]: why a document is none
-//! - [`json`]: JSON documents of limited size
 //! - `opening`: the template, its metrics and their shapes; [`runs`]: runs as they are written;
 //!   `names`: numbers by name
 //! - `parts`: a judge and limits for each run and metric; `entries`: what happened
@@ -17,7 +16,6 @@
 pub mod bundle;
 mod entries;
 pub mod error;
-pub mod json;
 pub mod laws;
 mod names;
 mod opening;
@@ -26,4 +24,3 @@ pub mod runs;
 
 pub use bundle::read_bundle;
 pub use error::BundleError;
-pub use json::{JsonError, read_json};

@@ -18,7 +18,8 @@ pub(crate) fn add_name(
     name: &str,
     number: usize,
 ) -> Result<bool, AllocError>
-    ensures new { (names : List (List ℕ)) → AreNumbers names numbers.old → IfOk result (λ new. new ≡ is_none (number_of name.now names)) }
+    ensures new { (names : List (List ℕ)) → AreNumbers names numbers.old
+        → IfOk result (λ new. new ≡ is_none (number_of name.now names)) }
     ensures numbers { (names : List (List ℕ)) → AreNumbers names numbers.old → length names ≡ number
         → OnOk result (AreNumbers (names ++ name.now ∷ []) numbers.new) }
 {

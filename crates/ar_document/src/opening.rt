@@ -4,7 +4,7 @@ ghost use Rattle.std.specs.Prelude.{◌≡◌, IfOk, List, length, map, option_a
 ghost use Rattle.serde_json.specs.Find.{get};
 ghost use Rattle.serde_json.specs.View.{view};
 ghost use Rattle.ar_value.specs.Answer.{Gives};
-ghost use Rattle.ar_value.specs.Declaration.{shape_of as declared_shape};
+ghost use Rattle.ar_json.specs.Declaration.{shape_of as declared_shape};
 ghost use Rattle.ar_value.specs.View.{shape_view};
 ghost use Rattle.ar_judge.specs.Condition.{refused_as};
 ghost use Rattle.ar_document.specs.Document.{is_memory};
@@ -17,9 +17,9 @@ use crate::error::BundleError;
 use crate::names::{Numbers, add_name};
 use crate::runs::{Run, read_runs};
 use ar_board::MetricPart;
+use ar_json::shape_reading::{ShapeError, read_shape};
 use ar_manifest::{ManifestError, Metric, Template};
 use ar_value::shape::Shape;
-use ar_value::shape_reading::{ShapeError, read_shape};
 use ar_value::text::Text;
 use serde_json::Value as Json;
 use std::alloc::{AllocError, Global};
@@ -60,7 +60,8 @@ fn shape_of(alloc: Global, declared: &Json, number: usize) -> Result<Shape, Bund
 
 /// What is declared for a name.
 fn declared<'a>(shapes: Option<&'a Json>, name: &str) -> Option<&'a Json>
-    ensures { option_map (λ json. view json.now) result ≡ option_and_then (get name.now) (option_map (λ json. view json.now) shapes.entry) }
+    ensures { option_map (λ json. view json.now) result ≡ option_and_then (get name.now)
+        (option_map (λ json. view json.now) shapes.entry) }
 {
     shapes?.get(name)
 }

@@ -45,7 +45,8 @@ fn judge_of(
     metric: &MetricPart,
     bound: &BoundMetric,
 ) -> Result<Judge, BundleError>
-    ensures built { IfOk result (IsJudge (shape_view metric.now.shape) bound.now.success_condition bound.now.failure_condition) }
+    ensures built { IfOk result
+        (IsJudge (shape_view metric.now.shape) bound.now.success_condition bound.now.failure_condition) }
     ensures refused { IfRefused result (RefusesJudge run number metric.now bound.now) }
 {
     match Judge::build(alloc, bound, &metric.shape) {

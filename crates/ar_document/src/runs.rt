@@ -2,18 +2,17 @@
 
 ghost use Rattle.std.specs.Prelude.{◌≡◌, ◌≤◌, ◌++◌, ◌∷◌, ℕ, List, [], IfOk, OnOk, false, is_none, length, map, option_map};
 ghost use Rattle.serde_json.specs.View.{members_view, view};
-ghost use Rattle.ar_value.specs.Answer.{Gives};
+ghost use Rattle.ar_value.specs.Answer.{Gives, each_behind, holds_or};
 ghost use Rattle.ar_board.specs.Bundle.{most_runs};
-ghost use Rattle.ar_document.specs.Answers.{each_behind, holds_or};
 ghost use Rattle.ar_document.specs.Document.{is_memory};
 ghost use Rattle.ar_document.specs.Opening.{are_new, names_of, number_of, own_arguments, run_items, run_of, runs_in, texts_by_name};
 ghost use Rattle.ar_document.specs.Private.Naming.{AreNumbers};
 ghost use Rattle.ar_document.specs.declared.error.BundleError.TheVariants.{DoubleRun};
 
 use crate::error::BundleError;
-use crate::json::list_of;
 use crate::names::{Numbers, add_name};
-use ar_manifest::{Args, Text as Argument};
+use ar_json::members::list_of;
+use ar_manifest::Args;
 use ar_value::text::Text;
 use serde_json::{Map, Value as Json};
 use std::alloc::Global;
@@ -38,7 +37,7 @@ fn texts_by_name(alloc: Global, members: &Map<String, Json>) -> Result<Args, Bun
         let Json::String(text) = json else {
             return Err(BundleError::Runs);
         };
-        own.insert(alloc, name.as_str(), Argument::copied(alloc, text)?)?;
+        own.insert(alloc, name.as_str(), Text::of(alloc, text)?)?;
     }
     Ok(own)
 }
@@ -71,7 +70,8 @@ fn run_of(alloc: Global, item: &Json) -> Result<Run, BundleError>
 /// The items of `runs`, 1 to 64 of them.
 #[tactic(auto, using(crate::proofs::Counting::many_runs, crate::proofs::Counting::some_runs))]
 fn run_items(document: &Json) -> Result<&[Json], BundleError>
-    ensures exact { Gives (λ _. false) (λ items. map (λ json. view json) items.now) result (run_items (view document.now)) }
+    ensures exact { Gives (λ _. false) (λ items. map (λ json. view json) items.now) result
+        (run_items (view document.now)) }
     ensures few { IfOk result (λ items. length items.now ≤ most_runs) }
 {
     let items = document
@@ -87,7 +87,8 @@ fn run_items(document: &Json) -> Result<&[Json], BundleError>
 /// The runs of a document, whose names may still be the same.
 #[tactic(auto, using(crate::proofs::Steps::step_more, crate::proofs::Steps::step_fault, crate::proofs::Steps::step_end))]
 fn runs_of(alloc: Global, items: &[Json]) -> Result<Vec<Run>, BundleError>
-    ensures exact { Gives is_memory (λ runs. runs.items) result (each_behind (λ earlier. run_of) [] (map (λ json. view json) items.now)) }
+    ensures exact { Gives is_memory (λ runs. runs.items) result
+        (each_behind (λ earlier. run_of) [] (map (λ json. view json) items.now)) }
     ensures each { IfOk result (λ runs. length runs.items ≡ length items.now) }
 {
     let mut runs = Vec::with_capacity(alloc, items.len())?;

@@ -1,7 +1,7 @@
 //! Documents as large as they may be, and larger by one; and JSON documents.
 
 use crate::document::{Answer, Document, ONE_METRIC, PLAIN, answer_to, text_of};
-use ar_document::json::MOST_BYTES;
+use ar_json::document::MOST_BYTES;
 use ar_document::{BundleError, JsonError, read_json};
 use ar_manifest::ManifestError;
 use serde_json::Value as Json;

@@ -6,7 +6,7 @@ use ar_document::BundleError;
 use ar_judge::{BuildCause, BuildError};
 use ar_manifest::ManifestError;
 use ar_syntax::SyntaxError;
-use ar_value::shape_reading::ShapeError;
+use ar_json::shape_reading::ShapeError;
 use std::test::Fail;
 
 /// A document, and what it is read as.

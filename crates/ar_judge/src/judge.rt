@@ -10,7 +10,8 @@ use crate::error::{BuildCause, BuildError};
 use crate::sample::Sample;
 use crate::verdict::{Cause, Verdict};
 use ar_machine::Answer;
-use ar_manifest::{BoundMetric, Text};
+use ar_manifest::BoundMetric;
+use ar_value::Text;
 use ar_value::shape::Shape;
 use ar_value::value::Value;
 use ar_verify::Verified;
@@ -46,8 +47,10 @@ impl Judge {
     /// that can be run, and why.
     #[tactic(auto, using(crate::proofs::Refusing::success_told, crate::proofs::Refusing::failure_told))]
     pub fn build(alloc: Global, metric: &BoundMetric, shape: &Shape) -> Result<Judge, BuildError>
-        ensures built { IfOk result (IsJudge (shape_view shape.now) metric.now.success_condition metric.now.failure_condition) }
-        ensures refused { IfErr result (RefusesTexts (shape_view shape.now) metric.now.success_condition metric.now.failure_condition) }
+        ensures built { IfOk result
+            (IsJudge (shape_view shape.now) metric.now.success_condition metric.now.failure_condition) }
+        ensures refused { IfErr result
+            (RefusesTexts (shape_view shape.now) metric.now.success_condition metric.now.failure_condition) }
         // Where there is no text, want of memory is never answered.
         ensures without_memory { HasNoText metric.now.success_condition metric.now.failure_condition → IsOk result }
     {
@@ -58,14 +61,16 @@ impl Judge {
 
     /// The verified code of the success condition.
     pub fn success(&self) -> Option<&Verified>
-        ensures { option_map (λ verified. verified.now) result ≡ option_map (λ condition. condition.verified) self.now.success }
+        ensures { option_map (λ verified. verified.now) result
+            ≡ option_map (λ condition. condition.verified) self.now.success }
     {
         self.success.as_ref().map(Condition::verified)
     }
 
     /// The verified code of the failure condition.
     pub fn failure(&self) -> Option<&Verified>
-        ensures { option_map (λ verified. verified.now) result ≡ option_map (λ condition. condition.verified) self.now.failure }
+        ensures { option_map (λ verified. verified.now) result
+            ≡ option_map (λ condition. condition.verified) self.now.failure }
     {
         self.failure.as_ref().map(Condition::verified)
     }

@@ -1,7 +1,7 @@
 //! What a judge is given.
 
+use ar_json::value_reading::ShapeFault;
 use ar_value::value::Value;
-use ar_value::value_reading::ShapeFault;
 
 /// What a metric's provider gave. Contracts see it by `sample_view` of `specs/Verdict`.
 #[derive(Debug, Drop)]

@@ -1,7 +1,7 @@
 //! What a judge finds.
 
+use ar_json::value_reading::ShapeFault;
 use ar_value::fault::Fault;
-use ar_value::value_reading::ShapeFault;
 
 /// What a measurement comes to.
 #[derive(Clone, Copy, Debug, PartialEq, Eq)]

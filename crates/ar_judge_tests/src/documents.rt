@@ -6,7 +6,7 @@ use ar_board::{Bundle, Finding};
 use ar_document::read_bundle;
 use ar_judge::{Cause, Verdict};
 use ar_limits::Limits;
-use ar_value::value_reading::ShapeFault;
+use ar_json::value_reading::ShapeFault;
 use std::alloc::{AllocError, Global};
 use std::test::Fail;
 

@@ -6,7 +6,8 @@ ghost use Rattle.ar_value.specs.Fits.{fits};
 ghost use Rattle.ar_value.specs.View.{shape_view, value_view};
 
 use ar_judge::{BuildError, Judge, Sample, Verdict};
-use ar_manifest::{BoundMetric, Text};
+use ar_manifest::BoundMetric;
+use ar_value::Text;
 use ar_value::{Shape, Value, read_shape, read_value};
 use serde_json::Value as Json;
 use std::alloc::{AllocError, Global};

@@ -4,7 +4,7 @@ use crate::judging::{Conditions, judge_of, shape_of, success, value_of, verdict_
 use ar_judge::{Cause, Condition, Sample, Verdict};
 use ar_value::Shape;
 use ar_value::fault::Fault;
-use ar_value::value_reading::ShapeFault;
+use ar_json::value_reading::ShapeFault;
 use std::test::Fail;
 
 const DECIMALS: &str = "{\"list\":\"decimal\",\"max\":10}";

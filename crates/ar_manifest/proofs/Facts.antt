@@ -3,7 +3,7 @@ use Rattle.std.proofs.Common.{◌≡◌, [], ◌∷◌, refl, Some, None, Ok, Er
 use Rattle.std.specs.Prelude.{codes, option_map}
 use Rattle.serde_json.specs.Read.{read}
 use Rattle.serde_json.proofs.OnLiterals.{serde_json_on_literals}
-use Rattle.ar_manifest.specs.Answer.{each_behind}
+use Rattle.ar_value.specs.Answer.{each_behind}
 use Rattle.ar_manifest.specs.Binding.{bound_text, filled, referred_value}
 use Rattle.ar_manifest.specs.Bound.{bound_limit, effective_count, limit_of_text}
 use Rattle.ar_manifest.specs.Cut.{cut_at, parts_of, parts_within, whole, reference}

@@ -1,7 +1,7 @@
 -- One reference of a text after another.
 use Rattle.std.proofs.Common.{◌≡◌, ℕ, List, [], ◌++◌, refl, sym, ◌∙◌, ap, append_assoc, Some, None, Result, Ok, Err}
 use Rattle.std.specs.Prelude.{codes}
-use Rattle.ar_manifest.specs.Answer.{◌>>=◌}
+use Rattle.ar_value.specs.Answer.{◌>>=◌}
 use Rattle.ar_manifest.specs.Binding.{RunArguments, bound_text, filled, referred_value}
 use Rattle.ar_manifest.specs.Cut.{reference, cut_at, parts_of}
 use Rattle.ar_manifest.specs.Template.{TemplateArguments}

@@ -1,18 +1,12 @@
 -- JSON lists.
-use Rattle.std.proofs.Common.{◌≡◌, ◌≤◌, ◌<◌, true, false, List, [], ◌∷◌, length, map, refl, ap, arith, Ok, Err}
+use Rattle.std.proofs.Common.{◌≡◌, ◌≤◌, ◌<◌, true, false, List, [], ◌∷◌, length, map, refl, arith, Ok, Err}
 use Rattle.std.specs.Prelude.{nat_lt}
 use Rattle.std.proofs.lemmas.List.{length-map}
 use Rattle.std.proofs.lemmas.Bool.Decides.{nat_tests}
-use Rattle.serde_json.specs.View.{items_view, view}
+use Rattle.serde_json.specs.View.{view}
 use Rattle.serde_json.specs.declared.value.Value.{Value}
-use Rattle.ar_manifest.specs.Json.{listed}
 use Rattle.ar_manifest.specs.Template.{counted}
 use Rattle.ar_manifest.specs.declared.error.ManifestError.TheVariants.{TooManyMetrics}
-
--- the values of a list are those that its items show
-pub listed_items : (list : List Value) → listed (items_view list) ≡ map (λ json. view json) list
-listed_items [] = refl
-listed_items (json ∷ list) = ap (λ rest. view json ∷ rest) (listed_items list)
 
 -- too many metrics
 pub counted_many : (list : List Value) → 64 < length list → counted (map (λ json. view json) list) ≡ Err TooManyMetrics

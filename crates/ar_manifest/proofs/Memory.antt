@@ -4,12 +4,13 @@ use Rattle.std.specs.Prelude.{◌↔◌, ◌&&◌, codes, option_and_then, is_no
 use Rattle.std.specs.List.{list_any}
 use Rattle.std.specs.Option.{option_or}
 use Rattle.serde_json.specs.Data.{Data, null, boolean, number, string, array, object}
-use Rattle.ar_manifest.specs.Answer.{◌>>=◌, Gives, Unless, each_behind, holds_or, is_memory, there_or}
+use Rattle.ar_value.specs.Answer.{◌>>=◌, Gives, Unless, each_behind, holds_or, there_or}
+use Rattle.ar_manifest.specs.Refusals.{is_memory}
 use Rattle.ar_manifest.specs.Arguments.{value_of}
 use Rattle.ar_manifest.specs.Binding.{RunArguments, argument_name, bound_text, filled, referred_value, trimmed}
 use Rattle.ar_manifest.specs.Bound.{bound_condition, bound_limit, bound_metric, bound_of, effective_count, is_limit_text, limit_of_number, limit_of_text, most, next_bound}
 use Rattle.ar_manifest.specs.Cut.{Parts, whole, unclosed, reference, parts_of}
-use Rattle.ar_manifest.specs.Json.{list_of, member, member_of_member, text_member, text_or}
+use Rattle.ar_json.specs.Members.{list_of, member, member_of_member, text_member, text_or}
 use Rattle.ar_manifest.specs.Private.Early.{first_counted}
 use Rattle.ar_manifest.specs.Template.{TemplateArguments, argument_of, arguments_of, counted, counted_metrics, has_text_or, head_of, is_named, is_text, limit_or, lists_nothing, metric_limits, metric_of, named_metric, new_name, template_name, template_of}
 use Rattle.ar_manifest.specs.declared.error.ManifestError.{ManifestError}

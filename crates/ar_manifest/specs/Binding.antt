@@ -2,7 +2,7 @@
 use Rattle.std.specs.Prelude.{ℕ, nat_eq, ◌==◌, if◌then◌else◌, List, [], ◌∷◌, ◌++◌, drop, reverse, codes, Option, Some, None, Result, Ok, Err}
 use Rattle.std.specs.List.{starts_with}
 use Rattle.std.specs.Option.{option_or}
-use Rattle.ar_manifest.specs.Answer.{◌>>=◌, there_or}
+use Rattle.ar_value.specs.Answer.{◌>>=◌, there_or}
 use Rattle.ar_manifest.specs.Arguments.{value_of}
 use Rattle.ar_manifest.specs.Cut.{Parts, whole, unclosed, reference, parts_of}
 use Rattle.ar_manifest.specs.Template.{TemplateArguments}

@@ -3,9 +3,9 @@ use Rattle.std.specs.Prelude.{◌≡◌, ℕ, zero, suc, nat_le, nat_lt, Bool, �
 use Rattle.std.specs.Char.{is_ascii_digit}
 use Rattle.std.specs.List.{list_all}
 use Rattle.std.specs.Str.Parse.{digits_value}
-use Rattle.ar_manifest.specs.Answer.{◌>>=◌, Refuses, each_behind}
+use Rattle.ar_value.specs.Answer.{◌>>=◌, Refuses, each_behind}
 use Rattle.ar_manifest.specs.Binding.{RunArguments, bound_text}
-use Rattle.ar_manifest.specs.Json.{unless_empty}
+use Rattle.ar_json.specs.Members.{unless_empty}
 use Rattle.ar_manifest.specs.Template.{TemplateArguments}
 use Rattle.ar_manifest.specs.declared.bound.BoundMetric.{BoundMetric}
 use Rattle.ar_manifest.specs.declared.error.ManifestError.{ManifestError}

@@ -1,6 +1,5 @@
 pub mod Arguments
-pub mod Answer
-pub mod Json
+pub mod Refusals
 pub mod Template
 pub mod Cut
 pub mod Binding

@@ -4,9 +4,9 @@ use Rattle.std.specs.List.{list_any}
 use Rattle.std.specs.Str.{bytes_eq}
 use Rattle.serde_json.specs.Data.{Data, number, string}
 use Rattle.serde_json.specs.Find.{as_str, as_u64}
-use Rattle.ar_manifest.specs.Answer.{◌>>=◌, there_or, holds_or, each_behind}
+use Rattle.ar_value.specs.Answer.{◌>>=◌, there_or, holds_or, each_behind}
 use Rattle.ar_manifest.specs.Arguments.{value_of}
-use Rattle.ar_manifest.specs.Json.{list_of, member, member_of_member, text_member, text_or, unless_empty}
+use Rattle.ar_json.specs.Members.{list_of, member, member_of_member, text_member, text_or, unless_empty}
 use Rattle.ar_manifest.specs.declared.error.ManifestError.{ManifestError}
 use Rattle.ar_manifest.specs.declared.error.ManifestError.TheVariants.{WrongVersion, WrongKind, NameMissing, BadArgs, NoMetrics, TooManyMetrics, MetricNameMissing, DoubleMetric, BadField, Unsupported}
 use Rattle.ar_manifest.specs.declared.template.Limit.{Limit}

@@ -3,7 +3,7 @@
 ghost use Rattle.std.specs.Prelude.{◌≡◌, ◌==◌, ◌++◌, [], ◌∷◌, length, OnOk, OnErr, option_copied};
 ghost use Rattle.ar_manifest.specs.Arguments.{value_of, with_value};
 
-use crate::text::Text;
+use ar_value::Text;
 use indexmap::IndexMap;
 use std::alloc::{AllocError, Global};
 use std::marker::Model;
@@ -67,7 +67,7 @@ impl<V> Arguments<V> {
         ensures ok { OnOk result (self.new ≡ with_value self.old name.now value) }
         ensures err { OnErr result (self.new ≡ self.old) }
     {
-        self.put(Text::copied(alloc, name)?, value)
+        self.put(Text::of(alloc, name)?, value)
     }
 
     #[tactic(auto, using(crate::proofs::Entries::with_value_entry))]

@@ -1,7 +1,8 @@
 //! Binding the metrics of a template.
 
 ghost use Rattle.std.specs.Prelude.{◌≡◌, [], None, Ok};
-ghost use Rattle.ar_manifest.specs.Answer.{Gives, Refuses, each_behind, is_memory};
+ghost use Rattle.ar_value.specs.Answer.{Gives, Refuses, each_behind};
+ghost use Rattle.ar_manifest.specs.Refusals.{is_memory};
 ghost use Rattle.ar_manifest.specs.Bound.{IsNumber, IsPlain, RefusesFirst, bound_condition, bound_limit, bound_metric, bound_of, next_bound};
 
 use crate::arguments::{Args, Arguments};
@@ -10,7 +11,7 @@ use crate::bound::{Bound, BoundMetric};
 use crate::error::ManifestError;
 use crate::limit::{effective_count, limit_of_number, limit_of_text};
 use crate::template::{Limit, Metric, Template};
-use crate::text::Text;
+use ar_value::Text;
 use std::alloc::Global;
 
 /// `failureLimit`, where a metric has none.
@@ -79,7 +80,7 @@ fn metric(alloc: Global, scope: &Scope, metric: &Metric) -> Result<BoundMetric, 
     let consecutive_error_limit = limit(alloc, scope, &metric.limits.consecutive_error)?;
     let count = effective_count(count, metric.has_interval, scope.metric)?;
     Ok(BoundMetric {
-        name: Text::copied(alloc, metric.name.as_str())?,
+        name: Text::of(alloc, metric.name.as_str())?,
         success_condition,
         failure_condition,
         failure_limit: failure_limit.unwrap_or(FAILURES),

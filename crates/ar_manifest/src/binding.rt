@@ -1,13 +1,14 @@
 //! Binding the arguments of a text: each `{{args.name}}` gives way to the argument's value.
 
 ghost use Rattle.std.specs.Prelude.{◌≡◌, ◌<◌, false, length, option_map};
-ghost use Rattle.ar_manifest.specs.Answer.{Gives, is_memory};
+ghost use Rattle.ar_value.specs.Answer.{Gives};
+ghost use Rattle.ar_manifest.specs.Refusals.{is_memory};
 ghost use Rattle.ar_manifest.specs.Binding.{argument_name, bound_text, referred_value, trimmed, without_leading_spaces, without_trailing_spaces};
 ghost use Rattle.ar_manifest.specs.Cut.{cut_at};
 
 use crate::arguments::{Args, Arguments};
 use crate::error::ManifestError;
-use crate::text::Text;
+use ar_value::Text;
 use std::alloc::Global;
 
 /// What a text of a metric is bound to.

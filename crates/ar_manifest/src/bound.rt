@@ -2,7 +2,7 @@
 
 ghost use Rattle.std.specs.Prelude.{◌≡◌};
 
-use crate::text::Text;
+use ar_value::Text;
 use std::marker::Model;
 
 /// A metric of a template whose arguments are bound.

@@ -18,12 +18,11 @@
 //! | `arguments` | values by name: a template's arguments, and a run's own |
 //! | `bound` | metrics whose arguments are bound |
 //! | `error` | why a template is refused |
-//! | `text` | texts |
 //! | [`laws`] | what holds of binding, for all texts |
-//! | `json`, `reader` | looking into a JSON document, and reading it as a template |
+//! | `reader` | reading a JSON document as a template |
 //! | `binding`, `limit`, `binder` | binding a text, a limit, and a template's metrics |
 //!
-//! In `specs`, `Json` and `Template` define reading, `Cut` where a text is cut at its braces,
+//! In `specs`, `Template` defines reading, `Cut` where a text is cut at its braces,
 //! `Binding` what becomes of a text, `Bound` limits, counts and the order of refusals. `Private`
 //! has what only the proofs use.
 #![tactic(auto)]
@@ -33,15 +32,12 @@ mod binder;
 mod binding;
 mod bound;
 mod error;
-mod json;
 pub mod laws;
 mod limit;
 mod reader;
 mod template;
-mod text;
 
 pub use arguments::{Args, Arguments};
 pub use bound::{Bound, BoundMetric};
 pub use error::ManifestError;
 pub use template::{Limit, Metric, MetricLimits, Metrics, Template};
-pub use text::Text;

@@ -4,18 +4,19 @@ ghost use Rattle.std.specs.Prelude.{◌≡◌, [], IfOk, IsOk, false, length, ma
 ghost use Rattle.std.specs.List.{list_any};
 ghost use Rattle.serde_json.specs.Find.{as_u64};
 ghost use Rattle.serde_json.specs.View.{number_view, view};
-ghost use Rattle.ar_manifest.specs.Answer.{Gives, Refuses, each_behind, is_memory};
+ghost use Rattle.ar_value.specs.Answer.{Gives, Refuses, each_behind};
+ghost use Rattle.ar_manifest.specs.Refusals.{is_memory};
 ghost use Rattle.ar_manifest.specs.Arguments.{value_of};
 ghost use Rattle.ar_manifest.specs.Private.Early.{first_counted};
 ghost use Rattle.ar_manifest.specs.Template.{HasNoArguments, argument_of, arguments_of, counted_metrics, has_text_or, head_of, is_named, is_text, limit_or, lists_nothing, metric_limits, metric_of, named_metric, new_name, number_limit, template_name, template_of};
 
 use crate::arguments::Arguments;
 use crate::error::ManifestError;
-use crate::json::{list_of, member, member_of_member, text_member, text_or};
 use crate::template::{Limit, Metric, MetricLimits, Metrics, Template};
-use crate::text::{Text, copied};
+use ar_json::members::{list_of, member, member_of_member, text_member, text_or};
+use ar_value::Text;
 use serde_json::{Number, Value as Json};
-use std::alloc::Global;
+use std::alloc::{AllocError, Global};
 
 /// The only `apiVersion` of an AnalysisTemplate.
 const VERSION: &str = "argoproj.io/v1alpha1";
@@ -47,7 +48,7 @@ fn limit_or(
     match found {
         None => Ok(None),
         Some(Json::Number(number)) => Ok(Some(number_limit(number))),
-        Some(Json::String(text)) => Ok(Some(Limit::Text(Text::copied(alloc, text)?))),
+        Some(Json::String(text)) => Ok(Some(Limit::Text(Text::of(alloc, text)?))),
         Some(_) => Err(refusal),
     }
 }
@@ -88,7 +89,7 @@ fn named_metric(alloc: Global, json: &Json, name: &str, i: usize) -> Result<Metr
     let has_interval = has_text_or(member(json, "interval"), refusal)?;
     let limits = metric_limits(alloc, json, i)?;
     Ok(Metric {
-        name: Text::copied(alloc, name)?,
+        name: Text::of(alloc, name)?,
         success_condition,
         failure_condition,
         has_interval,
@@ -176,6 +177,16 @@ fn found_argument<'a>(
     Ok((name, text_or(member(json, "value"), refusal)?))
 }
 
+/// A copy of a text that may be missing.
+fn copied(alloc: Global, text: Option<&str>) -> Result<Option<Text>, AllocError>
+    ensures { IfOk result (λ copy. copy ≡ option_map (λ text. text.now) text.entry) }
+{
+    match text {
+        None => Ok(None),
+        Some(text) => Ok(Some(Text::of(alloc, text)?)),
+    }
+}
+
 /// An argument behind earlier ones.
 fn argument(
     alloc: Global,
@@ -187,7 +198,7 @@ fn argument(
     ensures new { IfOk result (λ argument. value_of argument.0 earlier.now ≡ None) }
 {
     let (name, value) = found_argument(json, earlier)?;
-    Ok((Text::copied(alloc, name)?, copied(alloc, value)?))
+    Ok((Text::of(alloc, name)?, copied(alloc, value)?))
 }
 
 /// The arguments of a JSON list.
@@ -278,7 +289,7 @@ pub(crate) fn template(alloc: Global, json: &Json) -> Result<Template, ManifestE
         return Err(ManifestError::Unsupported(0));
     }
     Ok(Template {
-        name: Text::copied(alloc, name)?,
+        name: Text::of(alloc, name)?,
         arguments,
         metrics,
     })

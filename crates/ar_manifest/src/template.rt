@@ -2,7 +2,8 @@
 
 ghost use Rattle.std.specs.Prelude.{◌≡◌, ◌↔◌, Err};
 ghost use Rattle.serde_json.specs.View.{view};
-ghost use Rattle.ar_manifest.specs.Answer.{Gives, is_memory};
+ghost use Rattle.ar_value.specs.Answer.{Gives};
+ghost use Rattle.ar_manifest.specs.Refusals.{is_memory};
 ghost use Rattle.ar_manifest.specs.Bound.{RefusesFirst, bound_of};
 ghost use Rattle.ar_manifest.specs.Template.{HasNoArguments, template_of};
 ghost use Rattle.ar_manifest.specs.declared.error.ManifestError.TheVariants.{NameMissing, NoMetrics, TooManyMetrics, WrongKind, WrongVersion};
@@ -12,7 +13,7 @@ use crate::binder::bound;
 use crate::bound::Bound;
 use crate::error::ManifestError;
 use crate::reader::template;
-use crate::text::Text;
+use ar_value::Text;
 use serde_json::Value as Json;
 use std::alloc::Global;
 use std::marker::Model;

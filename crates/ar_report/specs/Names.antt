@@ -2,8 +2,8 @@
 use Rattle.std.specs.Prelude.{ℕ, List, codes, ◌++◌}
 use Rattle.ar_value.specs.declared.fault.Fault.{Fault}
 use Rattle.ar_value.specs.declared.fault.Fault.TheVariants.{IndexOutOfRange, NilOperand, Overflow, DivisionByZero}
-use Rattle.ar_value.specs.declared.value_reading.ShapeFault.{ShapeFault}
-use Rattle.ar_value.specs.declared.value_reading.ShapeFault.TheVariants.{WrongKind, FloatNumber, NotFinite, BadDecimal, OutOfRange, ListTooLong, MissingField, OutOfMemory}
+use Rattle.ar_json.specs.declared.value_reading.ShapeFault.{ShapeFault}
+use Rattle.ar_json.specs.declared.value_reading.ShapeFault.TheVariants.{WrongKind, FloatNumber, NotFinite, BadDecimal, OutOfRange, ListTooLong, MissingField, OutOfMemory}
 use Rattle.ar_limits.specs.declared.event.Effect.{Effect}
 use Rattle.ar_limits.specs.declared.event.Effect.TheVariants as effects
 use Rattle.ar_limits.specs.declared.phase.Phase.{Phase}

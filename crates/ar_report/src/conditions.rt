@@ -98,7 +98,8 @@ fn put_judge(
     metric: &str,
     judge: &Judge,
 ) -> Result<(), AllocError>
-    ensures { OnOk result (string_bytes out.new ≡ string_bytes out.old ++ judge_text (shown_text shown) run.now metric.now judge.now) }
+    ensures { OnOk result
+        (string_bytes out.new ≡ string_bytes out.old ++ judge_text (shown_text shown) run.now metric.now judge.now) }
 {
     put_condition(alloc, out, shown, run, metric, "success", judge.success())?;
     put_condition(alloc, out, shown, run, metric, "failure", judge.failure())?;
@@ -136,7 +137,8 @@ fn put_judges(
 /// The conditions of all runs.
 #[tactic(auto, using(crate::proofs::Shown::next_of_runs, crate::proofs::Shown::no_run_left, crate::proofs::Runs::run_is_run))]
 fn put_runs(alloc: Global, shown: Shown, bundle: &Bundle) -> Result<String, AllocError>
-    ensures { IfOk result (λ text. string_bytes text ≡ runs_text (shown_text shown) bundle.now.metrics bundle.now.runs) }
+    ensures { IfOk result
+        (λ text. string_bytes text ≡ runs_text (shown_text shown) bundle.now.metrics bundle.now.runs) }
 {
     let mut out = String::new(alloc);
     for run in bundle.runs() {

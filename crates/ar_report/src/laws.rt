@@ -9,5 +9,6 @@ ghost use Rattle.ar_report.specs.Report.{CanBeReported};
 /// Lawful histories can be reported.
 #[tactic(auto, using(crate::proofs::Runs::lawful_can_be_reported))]
 pub fn lawful_can_be_reported()
-    ensures { (bundle : Bundle) (histories : List (List Entry)) → AreLawful bundle histories → CanBeReported bundle histories }
+    ensures { (bundle : Bundle) (histories : List (List Entry)) → AreLawful bundle histories
+        → CanBeReported bundle histories }
 {}

@@ -3,10 +3,10 @@
 ghost use Rattle.std.specs.Prelude.{◌≡◌, ◌++◌, OnOk, string_bytes};
 ghost use Rattle.ar_report.specs.Names.{cause_text, effect_text, fault_name, misfit_name, phase_name, verdict_text};
 
+use ar_json::value_reading::ShapeFault;
 use ar_judge::{Cause, Verdict};
 use ar_limits::{Effect, Phase};
 use ar_value::fault::Fault;
-use ar_value::value_reading::ShapeFault;
 use std::alloc::AllocError;
 use std::fmt::Write;
 

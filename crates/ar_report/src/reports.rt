@@ -96,7 +96,8 @@ fn put_finding(
 #[tactic(auto, using(crate::proofs::Lines::found_inside))]
 fn put_event(out: &mut String, bundle: &Bundle, entry: Entry) -> Result<(), AllocError>
     requires { found bundle.now entry.number ≡ Some entry.finding }
-    ensures { OnOk result (string_bytes out.new ≡ string_bytes out.old ++ event_line bundle.now entry.number entry.effect) }
+    ensures { OnOk result
+        (string_bytes out.new ≡ string_bytes out.old ++ event_line bundle.now entry.number entry.effect) }
 {
     let what = &bundle.entries()[entry.number as usize].what;
     put_event_number(out, entry.number)?;
@@ -105,7 +106,8 @@ fn put_event(out: &mut String, bundle: &Bundle, entry: Entry) -> Result<(), Allo
 }
 
 fn put_event_number(out: &mut String, number: u64) -> Result<(), AllocError>
-    ensures { OnOk result (string_bytes out.new ≡ string_bytes out.old ++ (codes "event " ++ (decimal number ++ codes " "))) }
+    ensures { OnOk result
+        (string_bytes out.new ≡ string_bytes out.old ++ (codes "event " ++ (decimal number ++ codes " "))) }
 {
     out.push_str("event ")?;
     put_number(out, number)?;
@@ -113,7 +115,8 @@ fn put_event_number(out: &mut String, number: u64) -> Result<(), AllocError>
 }
 
 fn put_event_effect(out: &mut String, effect: Effect) -> Result<(), AllocError>
-    ensures { OnOk result (string_bytes out.new ≡ string_bytes out.old ++ (codes " " ++ (effect_text effect ++ codes "\n"))) }
+    ensures { OnOk result
+        (string_bytes out.new ≡ string_bytes out.old ++ (codes " " ++ (effect_text effect ++ codes "\n"))) }
 {
     out.push_str(" ")?;
     put_effect(out, effect)?;
@@ -134,7 +137,8 @@ fn put_run_line(out: &mut String, run: &RunPart, phase: Phase) -> Result<(), All
 #[tactic(auto, using(crate::proofs::Lines::next_metric, crate::proofs::Lines::no_metric))]
 fn put_metrics(out: &mut String, metrics: &[MetricPart], state: &RunState) -> Result<(), AllocError>
     requires { length state.now.limits ≡ length metrics.now }
-    ensures { OnOk result (string_bytes out.new ≡ string_bytes out.old ++ metric_lines metrics.now state.now.phases state.now.counts) }
+    ensures { OnOk result
+        (string_bytes out.new ≡ string_bytes out.old ++ metric_lines metrics.now state.now.phases state.now.counts) }
 {
     for (number, metric) in metrics.iter().enumerate() {
         put_metric(
@@ -190,9 +194,11 @@ fn put_run(
 ) -> Result<(), AllocError>
     requires run { IsRun bundle.now.metrics run.now }
     requires found { AreFound bundle.now entries.now }
-    requires effects { map (λ entry. entry.effect) entries.now ≡ effects run.now.limits (events_of bundle.now (numbers_of entries.now)) }
+    requires effects { map (λ entry. entry.effect) entries.now ≡ effects run.now.limits
+        (events_of bundle.now (numbers_of entries.now)) }
     requires few { length entries.now ≤ most_events }
-    ensures { OnOk result (string_bytes out.new ≡ string_bytes out.old ++ run_text bundle.now run.now (numbers_of entries.now)) }
+    ensures { OnOk result
+        (string_bytes out.new ≡ string_bytes out.old ++ run_text bundle.now run.now (numbers_of entries.now)) }
 {
     let state = replayed(alloc, bundle, run, entries)?;
     put_run_line(out, run, state.phase())?;

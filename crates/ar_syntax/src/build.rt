@@ -51,7 +51,8 @@ pub(crate) fn binary(
     left: Tree,
     right: Tree,
 ) -> Result<Tree, AllocError>
-    ensures { IfOk result (λ tree. expression_of tree ≡ BinaryAt at operator (expression_of left) (expression_of right)) }
+    ensures { IfOk result
+        (λ tree. expression_of tree ≡ BinaryAt at operator (expression_of left) (expression_of right)) }
 {
     Ok(Tree::Binary {
         at,
@@ -68,7 +69,8 @@ pub(crate) fn choice(
     yes: Tree,
     no: Tree,
 ) -> Result<Tree, AllocError>
-    ensures { IfOk result (λ tree. expression_of tree ≡ ChoiceAt at (expression_of condition) (expression_of yes) (expression_of no)) }
+    ensures { IfOk result
+        (λ tree. expression_of tree ≡ ChoiceAt at (expression_of condition) (expression_of yes) (expression_of no)) }
 {
     Ok(Tree::Choice {
         at,
@@ -111,7 +113,8 @@ pub(crate) fn default(
     operand: Tree,
     otherwise: Tree,
 ) -> Result<Tree, AllocError>
-    ensures { IfOk result (λ tree. expression_of tree ≡ DefaultAt at (expression_of operand) (expression_of otherwise)) }
+    ensures { IfOk result
+        (λ tree. expression_of tree ≡ DefaultAt at (expression_of operand) (expression_of otherwise)) }
 {
     Ok(Tree::Default {
         at,
@@ -127,7 +130,8 @@ pub(crate) fn predicate(
     list: Tree,
     body: Tree,
 ) -> Result<Tree, AllocError>
-    ensures { IfOk result (λ tree. expression_of tree ≡ PredicateAt at predicate (expression_of list) (expression_of body)) }
+    ensures { IfOk result
+        (λ tree. expression_of tree ≡ PredicateAt at predicate (expression_of list) (expression_of body)) }
 {
     Ok(Tree::Predicate {
         at,

@@ -121,7 +121,8 @@ fn base_digits_len(bytes: &[u8], base: Base) -> usize
 /// The whole that digits of a base spell, where it fits.
 fn prefixed_value(digits: &[u8], base: Base) -> Option<i64>
     requires digits { list_all (is_digit_in base) digits.now ≡ true }
-    ensures { SomeIff result (IsTrue (is_i64 (pos (digits_value (radix base) digits.now)))) (pos (digits_value (radix base) digits.now)) }
+    ensures { SomeIff result (IsTrue (is_i64 (pos (digits_value (radix base) digits.now))))
+        (pos (digits_value (radix base) digits.now)) }
 {
     signed(base_value(digits, base)?)
 }
@@ -244,7 +245,8 @@ fn whole_value(digits: &[u8]) -> Option<i64>
 fn decimal_value(whole: &[u8], fraction: &[u8]) -> Option<i64>
     requires whole { list_all is_ascii_digit whole.now ≡ true }
     requires fraction { list_all is_ascii_digit fraction.now ≡ true }
-    ensures { SomeIff result (IsTrue (is_i64 (pos (magnitude_of whole.now fraction.now)))) (pos (magnitude_of whole.now fraction.now)) }
+    ensures { SomeIff result (IsTrue (is_i64 (pos (magnitude_of whole.now fraction.now))))
+        (pos (magnitude_of whole.now fraction.now)) }
 {
     signed(millionths(whole, fraction)?)
 }

@@ -59,7 +59,8 @@ fn begin_with(
     at: usize,
     start: Begin,
 ) -> Result<State, Refusal>
-    ensures { Steps (λ rules. begin rules (frames_of stack.old.items) at (start_of start)) (frames_of stack.new.items) result }
+    ensures { Steps (λ rules. begin rules (frames_of stack.old.items) at (start_of start))
+        (frames_of stack.new.items) result }
 {
     match start {
         Begin::Leaf(tree) => Ok(State::Have(tree)),
@@ -86,7 +87,8 @@ fn begin_with(
 
 /// Items with one more.
 fn with_item(items: Vec<Tree>, item: Tree) -> Result<Vec<Tree>, AllocFailed<Tree>>
-    ensures { IfOk result (λ all. map expression_of all.items ≡ map expression_of items.items ++ expression_of item ∷ []) }
+    ensures { IfOk result
+        (λ all. map expression_of all.items ≡ map expression_of items.items ++ expression_of item ∷ []) }
 {
     let mut items = items;
     items.push(item)?;
@@ -96,7 +98,8 @@ fn with_item(items: Vec<Tree>, item: Tree) -> Result<Vec<Tree>, AllocFailed<Tree
 /// Behind an operand.
 #[tactic(auto, using(crate::proofs::Openers::opener_left, crate::proofs::Openers::no_opener_left))]
 fn have(alloc: Global, stack: &mut Vec<Frame>, tree: Tree, token: &Token) -> Result<State, Refusal>
-    ensures { Steps (λ rules. have rules (frames_of stack.old.items) (expression_of tree) token.now) (frames_of stack.new.items) result }
+    ensures { Steps (λ rules. have rules (frames_of stack.old.items) (expression_of tree) token.now)
+        (frames_of stack.new.items) result }
 {
     let at = token.span.start;
     match follow_of(token) {
@@ -232,7 +235,8 @@ fn end_frame(
 
 /// What stands in parentheses ends.
 fn end_group(tree: Tree, ender: Ender) -> Result<State, Refusal>
-    ensures { (stack : _) → StepsFreely (λ rules. end_with rules ender (Have (Grouped ∷ stack) (expression_of tree))) stack result }
+    ensures { (stack : _)
+        → StepsFreely (λ rules. end_with rules ender (Have (Grouped ∷ stack) (expression_of tree))) stack result }
 {
     match ender {
         Ender::EndGroup => Ok(State::Have(tree)),
@@ -265,7 +269,8 @@ fn end_braces(
     arguments: Vec<Tree>,
     ender: Ender,
 ) -> Result<State, Refusal>
-    ensures { (stack : _) (before : List Expression) (last : Expression) → map expression_of arguments.items ≡ before ++ last ∷ []
+    ensures { (stack : _) (before : List Expression) (last : Expression)
+        → map expression_of arguments.items ≡ before ++ last ∷ []
         → StepsFreely (λ rules. end_with rules ender (Have (Braced at function before ∷ stack) last)) stack result }
 {
     match ender {
@@ -325,9 +330,11 @@ fn end_argument(
     arguments: Vec<Tree>,
     ender: Ender,
 ) -> Result<State, Refusal>
-    ensures plain { (stack : _) (before : List Expression) (last : Expression) → map expression_of arguments.items ≡ before ++ last ∷ []
+    ensures plain { (stack : _) (before : List Expression) (last : Expression)
+        → map expression_of arguments.items ≡ before ++ last ∷ []
         → Steps (λ rules. end_with rules ender (Have (Argued at function before ∷ stack) last)) stack result }
-    ensures body { (stack : _) (before : List Expression) (last : Expression) → map expression_of arguments.items ≡ before ++ last ∷ []
+    ensures body { (stack : _) (before : List Expression) (last : Expression)
+        → map expression_of arguments.items ≡ before ++ last ∷ []
         → Steps (λ rules. end_with rules ender (Have (Body at function before ∷ stack) last)) stack result }
 {
     match ender {
@@ -421,7 +428,8 @@ fn call(alloc: Global, at: usize, function: Call, arguments: Vec<Tree>) -> Resul
 /// Behind the point of a field.
 #[tactic(auto, unfolding(crate::specs::Roles::name_of))]
 fn select(alloc: Global, at: usize, owner: Tree, token: &Token) -> Result<State, Refusal>
-    ensures { (stack : _) → Steps (λ rules. select rules stack at (expression_of owner) (name_of token.now)) stack result }
+    ensures { (stack : _)
+        → Steps (λ rules. select rules stack at (expression_of owner) (name_of token.now)) stack result }
 {
     let name = match &token.kind {
         TokenKind::Word(word) => Text::of(alloc, word.letters())?,
@@ -545,7 +553,8 @@ fn want_in(stack: &mut Vec<Frame>, at: usize, first: Tree, token: &Token) -> Res
 
 /// Behind the name of a call.
 fn want_group(alloc: Global, at: usize, function: Call, token: &Token) -> Result<State, Refusal>
-    ensures { (stack : _) → StepsFreely (λ rules. when rules (is_group token.now) (WantArgument stack at function [])) stack result }
+    ensures { (stack : _)
+        → StepsFreely (λ rules. when rules (is_group token.now) (WantArgument stack at function [])) stack result }
 {
     if is_group(token) {
         let so_far = Vec::new(alloc);
@@ -671,7 +680,8 @@ pub(crate) fn step(
     state: State,
     token: &Token,
 ) -> Result<State, Refusal>
-    ensures { Steps (λ rules. step rules (state_of (frames_of stack.old.items) state) token.now) (frames_of stack.new.items) result }
+    ensures { Steps (λ rules. step rules (state_of (frames_of stack.old.items) state) token.now)
+        (frames_of stack.new.items) result }
 {
     match state {
         State::Want => want(alloc, stack, token),

@@ -1,11 +1,26 @@
 -- An answer: a value, or a refusal.
-use Rattle.std.specs.Prelude.{◌≡◌, Bool, true, false, Result, Ok, Err}
+use Rattle.std.specs.Prelude.{◌≡◌, Bool, true, false, List, [], ◌∷◌, ◌++◌, Option, Some, None, Result, Ok, Err, ⊤}
 
 -- a value leads on, a refusal stands
 infixl 10 ◌>>=◌
 abbrev pub ◌>>=◌ : {A B E : Type 0} → Result A E → (A → Result B E) → Result B E
 (Ok x) >>= f = f x
 (Err e) >>= f = Err e
+
+-- a value that has to be there
+abbrev pub there_or : {A E : Type 0} → E → Option A → Result A E
+there_or refusal (Some x) = Ok x
+there_or refusal None = Err refusal
+
+-- a fact that has to hold
+abbrev pub holds_or : {E : Type 0} → E → Bool → Result ⊤ E
+holds_or refusal true = Ok tt
+holds_or refusal false = Err refusal
+
+-- what a step makes of each of some items, one after another, each behind those that it made before
+unfoldable pub each_behind : {A B E : Type 0} → (List B → A → Result B E) → List B → List A → Result (List B) E
+each_behind step earlier [] = Ok earlier
+each_behind step earlier (item ∷ items) = step earlier item >>= λ made. each_behind step (earlier ++ made ∷ []) items
 
 abbrev pub Unless : Bool → Type 0 → Type 0
 Unless true P = Unit {0}
@@ -15,3 +30,7 @@ Unless false P = P
 abbrev pub Gives : {X Y E : Type 0} → (E → Bool) → (X → Y) → Result X E → Result Y E → Type 0
 Gives is_memory view (Ok x) answer = answer ≡ Ok (view x)
 Gives is_memory view (Err e) answer = Unless (is_memory e) (answer ≡ Err e)
+
+-- Each refusal that is defined is returned: want of memory can't stand in its place.
+abbrev pub Refuses : {X Y E : Type 0} → Result X E → Result Y E → Type 0
+Refuses {E = E} result answer = (refusal : E) → answer ≡ Err refusal → result ≡ Err refusal

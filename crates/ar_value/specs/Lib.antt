@@ -6,11 +6,7 @@ pub mod DecimalText
 pub mod Value
 pub mod Operators
 pub mod Shape
-pub mod Names
 pub mod Fits
 pub mod Kind
 pub mod View
-pub mod Declaration
-pub mod Reading
 pub mod Private
-pub use Rattle.serde_json.specs.Data

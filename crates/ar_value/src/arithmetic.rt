@@ -1,7 +1,8 @@
 //! Arithmetic of decimals: exact, or cut toward zero, and refused where a result doesn't fit. It
 //! takes no memory.
 
-ghost use Rattle.std.specs.Prelude.{◌≡◌, ◌*ℤ◌};
+ghost use Rattle.std.specs.Prelude.{◌≡◌, ◌≢◌, ◌*ℤ◌, pos};
+ghost use Rattle.ar_value.specs.Decimal.{cut, million};
 ghost use Rattle.ar_value.specs.Arithmetic.{decimal_of_whole, decimal_product, difference, negation, quotient, sum, within};
 
 use crate::decimal::{Decimal, MILLION};
@@ -35,7 +36,14 @@ fn quotient(dividend: i64, divisor: i64) -> Result<i64, Fault>
     if divisor == 0 {
         return Err(Fault::DivisionByZero);
     }
-    within(i128::from(dividend) * MILLION / i128::from(divisor))
+    within(exact_quotient(dividend, divisor))
+}
+
+fn exact_quotient(dividend: i64, divisor: i64) -> i128
+    requires { divisor ≢ pos 0 }
+    ensures { result ≡ cut (dividend *ℤ million) divisor }
+{
+    i128::from(dividend) * MILLION / i128::from(divisor)
 }
 
 /// Arithmetic of decimals.

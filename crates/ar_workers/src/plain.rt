@@ -38,7 +38,8 @@ impl Runs {
         requires bundle { IsBundle bundle.now }
         requires there { number < length bundle.now.entries }
         requires grown { AreGrown bundle.now number 0 bundle.now.runs self.old.states.items self.old.histories.items }
-        ensures { OnOk result (AreGrown bundle.now (number + 1) 0 bundle.now.runs self.new.states.items self.new.histories.items) }
+        ensures { OnOk result
+            (AreGrown bundle.now (number + 1) 0 bundle.now.runs self.new.states.items self.new.histories.items) }
     {
         let finding = bundle.finding(alloc, number)?;
         let event = bundle.event(number, finding);

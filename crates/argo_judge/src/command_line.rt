@@ -1,6 +1,6 @@
 //! The command line, read with `clap`.
 
-use crate::serve::Command;
+use ar_command::Command;
 use clap::error::ErrorKind;
 use clap::{Arg, ArgAction, ArgMatches};
 use std::alloc::{AllocError, Global};

@@ -2,38 +2,19 @@
 //! docs/LANGUAGE.md lists where it differs from Argo Rollouts' controller.
 //!
 //! The program reads one JSON document from standard input, carries a command out on it, and
-//! writes the answer to standard output. `serve::serve_plain` is all of that over any reader and
-//! writer, and its contract is the program's promise: what is written is the stated function of
-//! the bytes that were read, or the input is refused by the first fault that stands in it and
-//! nothing is written. What is left to `main` are the command line, the words of faults and the
-//! exit status.
+//! writes the answer to standard output. `ar_command::serve_plain` is all of that over any reader
+//! and writer. What is left to this crate are the command line, the words of refusals and the exit
+//! status.
 //!
-//! - `serve`: a command, from the bytes read to the bytes written
-//! - `eval`: a document with a condition, a shape and a value: what the condition says of the value
-//! - `input`: reading a whole document
-//! - `device`: readers and writers that remember whether they failed
-//! - `status`: exit statuses
 //! - `command_line`: the command line, read with `clap`
-//! - `kept`: a reader that keeps what was read
 //! - `words`: the words of a refusal, with names of the document that was read
 #![tactic(auto)]
 
-mod answer;
 mod command_line;
-pub mod device;
-pub mod eval;
-pub mod input;
-mod kept;
-pub mod serve;
-pub mod status;
-#[cfg(test)]
-mod tests;
 mod words;
 
+use ar_command::{Command, Device, Kept, Refusal, ServeError, serve_plain, status};
 use command_line::{Request, UsageError, request_of};
-use device::Device;
-use kept::Kept;
-use serve::{Command, Refusal, ServeError, serve_plain};
 use std::alloc::AllocError;
 use std::process::ExitCode;
 use std::rt::Env;

@@ -1,7 +1,6 @@
 //! The words of refusals: a refusal's own text, with names of the document beside its numbers.
 
-use crate::eval::EvalError;
-use crate::serve::Refusal;
+use ar_command::{EvalError, Refusal};
 use ar_document::BundleError;
 use ar_manifest::ManifestError;
 use serde_json::Value as Json;

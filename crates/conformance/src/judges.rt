@@ -8,12 +8,12 @@ ghost use Rattle.ar_value.specs.View.{shape_view};
 use crate::fault::{CaseFault, Written};
 use crate::members;
 use crate::printing::{put_answer, put_quoted, put_refusal, put_str};
+use ar_json::{ShapeError, ShapeFault, read_shape, read_value};
 use ar_judge::{BuildCause, Cause, Condition, Judge, Sample, Verdict};
 use ar_machine::{Ended, run_tested};
-use ar_manifest::{BoundMetric, Text};
+use ar_manifest::BoundMetric;
 use ar_report::fault_name;
-use ar_value::Shape;
-use ar_value::value_reading::{ShapeFault, read_value};
+use ar_value::{Shape, Text};
 use ar_verify::Verified;
 use serde_json::Value as Json;
 use std::alloc::Global;
@@ -46,7 +46,17 @@ fn put_condition(alloc: Global, case: &Json, out: &mut String) -> Written {
 /// What a condition says of a value, as its code comes to on the machine that is tested with its budget as
 /// fuel; or which part of the case is refused, and why.
 fn put_run(alloc: Global, case: &Json, out: &mut String) -> Written {
-    let shape = members::shape(alloc, case, "shape")?;
+    match read_shape(alloc, members::json(case, "shape")?) {
+        Ok(shape) => put_run_under(alloc, case, shape, out),
+        Err(ShapeError::OutOfMemory) => Err(CaseFault::OutOfMemory),
+        Err(refusal) => {
+            write!(out, "shape: {refusal}")?;
+            Ok(())
+        }
+    }
+}
+
+fn put_run_under(alloc: Global, case: &Json, shape: Shape, out: &mut String) -> Written {
     match Condition::build(alloc, members::text(case, "condition")?, shape) {
         Ok(condition) => put_run_of(alloc, case, condition.verified(), out),
         Err(BuildCause::OutOfMemory) => Err(CaseFault::OutOfMemory),
@@ -76,13 +86,13 @@ fn text_of(alloc: Global, case: &Json, name: &str) -> Result<Option<Text>, CaseF
     if case.get(name).is_none() {
         return Ok(None);
     }
-    Ok(Some(Text::copied(alloc, members::text(case, name)?)?))
+    Ok(Some(Text::of(alloc, members::text(case, name)?)?))
 }
 
 /// A metric with the conditions `success` and `failure`, each where it is there.
 fn metric_of(alloc: Global, case: &Json) -> Result<BoundMetric, CaseFault> {
     Ok(BoundMetric {
-        name: Text::copied(alloc, "metric")?,
+        name: Text::of(alloc, "metric")?,
         success_condition: text_of(alloc, case, "success")?,
         failure_condition: text_of(alloc, case, "failure")?,
         failure_limit: 0,

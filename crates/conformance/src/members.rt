@@ -5,8 +5,7 @@ ghost use Rattle.ar_value.specs.Fits.{fits};
 ghost use Rattle.ar_value.specs.View.{shape_view, value_view};
 
 use crate::fault::CaseFault;
-use ar_value::shape_reading::{ShapeError, read_shape};
-use ar_value::value_reading::{ShapeFault, read_value};
+use ar_json::{ShapeError, ShapeFault, read_shape, read_value};
 use ar_value::{Decimal, Number, Shape, Value};
 use serde_json::Value as Json;
 use std::alloc::Global;

@@ -3,9 +3,8 @@
 use crate::fault::{CaseFault, Written};
 use crate::members;
 use crate::printing::{put_refusal, put_shape, put_str, put_value};
+use ar_json::{read_shape, read_value};
 use ar_value::kind::{Kind, common, is_optional, merge, plain};
-use ar_value::shape_reading::read_shape;
-use ar_value::value_reading::read_value;
 use ar_value::{FieldShapes, Shape, Value, fits};
 use serde_json::Value as Json;
 use std::alloc::Global;

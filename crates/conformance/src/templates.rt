@@ -3,7 +3,8 @@
 use crate::fault::{CaseFault, Written};
 use crate::members;
 use crate::printing::{put_quoted, put_refusal, put_str};
-use ar_manifest::{Args, Bound, BoundMetric, Template, Text};
+use ar_manifest::{Args, Bound, BoundMetric, Template};
+use ar_value::Text;
 use serde_json::Value as Json;
 use std::alloc::Global;
 use std::fmt::Write;
@@ -79,7 +80,7 @@ fn arguments(alloc: Global, case: &Json) -> Result<Args, CaseFault> {
     let mut arguments = Args::new(alloc);
     for pair in members::list_or_none(case, "arguments")? {
         let (name, value) = pair_of(pair).ok_or(CaseFault::Member)?;
-        arguments.insert(alloc, name, Text::copied(alloc, value)?)?;
+        arguments.insert(alloc, name, Text::of(alloc, value)?)?;
     }
     Ok(arguments)
 }

@@ -1,8 +1,8 @@
 -- What is looked at before memory is taken.
 use Rattle.std.specs.Prelude.{List, Result, codes}
 use Rattle.serde_json.specs.Data.{Data}
-use Rattle.ar_manifest.specs.Answer.{◌>>=◌}
-use Rattle.ar_manifest.specs.Json.{member_of_member}
+use Rattle.ar_value.specs.Answer.{◌>>=◌}
+use Rattle.ar_json.specs.Members.{member_of_member}
 use Rattle.ar_manifest.specs.Template.{counted_metrics, head_of}
 use Rattle.ar_manifest.specs.declared.error.ManifestError.{ManifestError}
 

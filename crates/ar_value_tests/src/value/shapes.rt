@@ -1,7 +1,7 @@
 //! Shapes read from JSON.
 
 use ar_value::shape::{FieldShape, FieldShapes, Shape};
-use ar_value::shape_reading::{ShapeError, read_shape};
+use ar_json::shape_reading::{ShapeError, read_shape};
 use ar_value::text::Text;
 use serde_json::Value as Json;
 use std::alloc::Global;

@@ -6,7 +6,7 @@ use ar_value::fitting::fits;
 use ar_value::shape::Shape;
 use ar_value::text::Text;
 use ar_value::value::{Field, Fields, Value, Values};
-use ar_value::value_reading::ShapeFault;
+use ar_json::value_reading::ShapeFault;
 use std::test::Fail;
 
 fn decimal(millionths: i64) -> Value {

@@ -2,7 +2,7 @@ use Rattle.std.proofs.Common.{◌≡◌, [], drop, map, length}
 use Rattle.std.specs.List.{AllByRecursion}
 use Rattle.serde_json.specs.View.{view}
 use Rattle.ar_board.specs.Bundle.{IsEntry}
-use Rattle.ar_document.specs.Answers.{each_behind}
+use Rattle.ar_value.specs.Answer.{each_behind}
 use Rattle.ar_document.specs.Entries.{entry_in, entry_view}
 use Rattle.ar_document.specs.Private.Opened.{opened_view}
 use Rattle.ar_document.proofs.entries.entries_of.Given as goal

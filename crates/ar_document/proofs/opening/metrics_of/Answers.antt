@@ -4,7 +4,7 @@ use Rattle.std.proofs.lemmas.List.{length-map, map-id}
 use Rattle.std.proofs.lemmas.Result.{err_from_is_err_and}
 use Rattle.serde_json.specs.View.{view}
 use Rattle.ar_manifest.specs.declared.template.Metric.{Metric}
-use Rattle.ar_document.specs.Answers.{each_behind}
+use Rattle.ar_value.specs.Answer.{each_behind}
 use Rattle.ar_document.specs.Opening.{metric_view, with_shape}
 use Rattle.ar_document.proofs.Steps.{step_end, step_fault, step_more}
 use Rattle.ar_document.proofs.opening.metrics_of.Goals as goal

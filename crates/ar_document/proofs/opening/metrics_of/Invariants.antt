@@ -1,7 +1,7 @@
 use Rattle.std.proofs.Common.{◌≡◌, [], drop, map, length}
 use Rattle.serde_json.specs.View.{view}
 use Rattle.std.specs.Prelude.{option_map}
-use Rattle.ar_document.specs.Answers.{each_behind}
+use Rattle.ar_value.specs.Answer.{each_behind}
 use Rattle.ar_document.specs.Opening.{metric_view, with_shape}
 use Rattle.ar_manifest.specs.declared.template.Metric.{Metric}
 use Rattle.ar_document.proofs.opening.metrics_of.Given as goal

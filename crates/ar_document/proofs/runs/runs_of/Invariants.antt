@@ -1,6 +1,6 @@
 use Rattle.std.proofs.Common.{◌≡◌, [], drop, map, length}
 use Rattle.serde_json.specs.View.{view}
-use Rattle.ar_document.specs.Answers.{each_behind}
+use Rattle.ar_value.specs.Answer.{each_behind}
 use Rattle.ar_document.specs.Opening.{run_of}
 use Rattle.ar_document.specs.declared.runs.Run.{Run}
 use Rattle.ar_document.proofs.runs.runs_of.Given as goal

@@ -1,6 +1,7 @@
 use Rattle.std.proofs.Common.{arith, ◌≡◌, Err, length, refl}
 use Rattle.std.proofs.lemmas.Result.{err_from_is_err_and}
-use Rattle.ar_manifest.specs.Answer.{Unless, is_memory}
+use Rattle.ar_value.specs.Answer.{Unless}
+use Rattle.ar_manifest.specs.Refusals.{is_memory}
 use Rattle.ar_manifest.specs.Bound.{IsPlain, next_bound}
 use Rattle.ar_manifest.proofs.First.{at_first, refused_item}
 use Rattle.ar_manifest.proofs.Steps.{step_end, step_fault}

@@ -1,5 +1,5 @@
 use Rattle.std.proofs.Common.{◌≡◌, [], drop, length, map}
-use Rattle.ar_manifest.specs.Answer.{each_behind}
+use Rattle.ar_value.specs.Answer.{each_behind}
 use Rattle.ar_manifest.specs.Bound.{next_bound}
 use Rattle.ar_manifest.proofs.First.{StaysAtFirst}
 use Rattle.ar_manifest.proofs.binder.metrics.Given as goal

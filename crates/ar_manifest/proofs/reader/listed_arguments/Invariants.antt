@@ -1,6 +1,6 @@
 use Rattle.std.proofs.Common.{◌≡◌, [], drop, map}
 use Rattle.serde_json.specs.View.{view}
-use Rattle.ar_manifest.specs.Answer.{each_behind}
+use Rattle.ar_value.specs.Answer.{each_behind}
 use Rattle.ar_manifest.specs.Template.{argument_of}
 use Rattle.ar_manifest.proofs.reader.listed_arguments.Given as goal
 

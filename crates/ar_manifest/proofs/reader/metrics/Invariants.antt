@@ -1,6 +1,6 @@
 use Rattle.std.proofs.Common.{◌≡◌, [], drop, map}
 use Rattle.serde_json.specs.View.{view}
-use Rattle.ar_manifest.specs.Answer.{each_behind}
+use Rattle.ar_value.specs.Answer.{each_behind}
 use Rattle.ar_manifest.specs.Template.{metric_of}
 use Rattle.ar_manifest.proofs.reader.metrics.Given as goal
 

@@ -1,0 +1,100 @@
+-- What was read of an input says as much as all of it.
+use Rattle.std.proofs.Common.{◌≡◌, ℕ, ◌≤◌, Bool, true, false, List, [], ◌++◌, length, Option, Some, None, Result, Ok, Err, refl, sym, subst, ◌∙◌, ap, arith, length-append, append-nil}
+use Rattle.std.specs.Prelude.{IfSome, nat_lt}
+use Rattle.std.proofs.lemmas.Bool.Decides.{nat_tests}
+use Rattle.serde_json.specs.Data.{Data}
+use Rattle.ar_value.specs.Answer.{◌>>=◌, Unless}
+use Rattle.ar_json.specs.Reading.{is_memory, is_memory_under, read}
+use Rattle.ar_value.specs.Shape.{Shape}
+use Rattle.ar_value.specs.declared.fault.Fault.{Fault}
+use Rattle.ar_json.specs.declared.value_reading.ShapeFault.{ShapeFault}
+use Rattle.ar_value.proofs.Answers.{unless_more}
+use Rattle.ar_json.proofs.ReadLemmas.{under_is_memory}
+use Rattle.ar_board.specs.Bundle.{Bundle}
+use Rattle.ar_judge.specs.Condition.{refused_as}
+use Rattle.ar_document.specs.Document as bundles
+use Rattle.ar_json.specs.Document.{json_in, most_bytes}
+use Rattle.ar_document.specs.declared.error.BundleError.{BundleError}
+use Rattle.ar_command.specs.Input.{ReadsUpToLimit}
+use Rattle.ar_command.specs.Evaluation.{Evaluates, Follows, of_json, prepared, prepared_input}
+use Rattle.ar_command.specs.Serving.{Refuses, Says}
+use Rattle.ar_command.specs.declared.eval.EvalError.{EvalError}
+use Rattle.ar_command.specs.declared.serve.Closing.{Closing}
+use Rattle.ar_command.specs.declared.serve.Command.{Command}
+use Rattle.ar_command.specs.declared.serve.Command.TheVariants as commands
+use Rattle.ar_command.specs.declared.serve.Refusal.{Refusal}
+use Rattle.ar_command.specs.Private.Refusing.{IfRefused}
+use Rattle.ar_command.specs.declared.serve.ServeError.{ServeError}
+use Rattle.ar_command.specs.declared.serve.ServeError.TheVariants.{OutOfMemory, Read, Refused, Write}
+use Rattle.std.specs.Io.KnownBytes.{Appends}
+use Rattle.ar_command.specs.declared.serve.Refusal.TheVariants as refusals
+
+-- one input begins with the bytes that were read, all of them or too many
+by_size : (input rest bytes : List ℕ) (is_large : Bool) → nat_lt most_bytes (length bytes) ≡ is_large → input ≡ bytes ++ rest → (length bytes ≤ most_bytes → rest ≡ [])
+    → json_in input ≡ json_in bytes
+unfolding json_in
+by_size input rest bytes true large front all =
+    let longer : nat_lt most_bytes (length input) ≡ true = rw front (grind (arith, nat_tests, length-append {A = ℕ})) in
+    rw (large, longer) refl
+by_size input rest bytes false small front all =
+    let none : rest ≡ [] = all (grind (arith, nat_tests)) in
+    ap json_in (front ∙ ap (λ more. bytes ++ more) none ∙ append-nil bytes)
+
+same_json : (known after : Option (List ℕ)) (bytes : List ℕ) → ReadsUpToLimit known after bytes → IfSome known (λ input. json_in input ≡ json_in bytes)
+same_json None after bytes reads = tt
+same_json (Some input) None bytes reads = absurd reads.front
+same_json (Some input) (Some rest) bytes reads = by_size input rest bytes (nat_lt most_bytes (length bytes)) refl reads.front reads.whole
+
+-- ---- what is said of an input is said of each that is the same document
+
+module _ (input bytes : List ℕ) (same : json_in input ≡ json_in bytes) where
+  evaluates_too : (answer : Result (Result Bool Fault) EvalError) → Evaluates bytes answer → Evaluates input answer
+  unfolding prepared_input
+  evaluates_too answer is = record { follows = subst (λ json. Follows (refused_as of_json json >>= prepared) answer) (sym same) is.follows }
+
+  reads_too : (answer : Result Bundle BundleError) → bundles.ReadsInput bytes answer → bundles.ReadsInput input answer
+  reads_too answer is = record { follows = subst (λ json. bundles.Follows json answer) (sym same) is.follows }
+
+  says_too : (command : Command) (text : List ℕ) (closing : Closing) → Says command bytes text closing → Says command input text closing
+  says_too commands.Eval text closing says = (record { answer = says.0.answer; evaluates = evaluates_too (Ok says.0.answer) says.0.evaluates; is = says.0.is }, says.1)
+  says_too commands.Check text closing says = (record { bundle = says.0.bundle; reads = reads_too (Ok says.0.bundle) says.0.reads; is = says.0.is }, says.1)
+  says_too commands.List text closing says = (record { bundle = says.0.bundle; reads = reads_too (Ok says.0.bundle) says.0.reads; is = says.0.is }, says.1)
+  says_too commands.Plain text closing says = record { bundle = says.bundle; reads = reads_too (Ok says.bundle) says.reads; reported = says.reported }
+
+  refuses_too : (command : Command) (refusal : Refusal) → Refuses command bytes refusal → Refuses command input refusal
+  refuses_too commands.Eval (refusals.Eval fault) refuses = evaluates_too (Err fault) refuses
+  refuses_too commands.Eval (refusals.Bundle error) refuses = absurd refuses
+  refuses_too commands.Check (refusals.Bundle error) refuses = reads_too (Err error) refuses
+  refuses_too commands.Check (refusals.Eval fault) refuses = absurd refuses
+  refuses_too commands.List (refusals.Bundle error) refuses = reads_too (Err error) refuses
+  refuses_too commands.List (refusals.Eval fault) refuses = absurd refuses
+  refuses_too commands.Plain (refusals.Bundle error) refuses = reads_too (Err error) refuses
+  refuses_too commands.Plain (refusals.Eval fault) refuses = absurd refuses
+
+of_known : (P : List ℕ → Type 0) (bytes : List ℕ) (known : Option (List ℕ)) → IfSome known (λ input. json_in input ≡ json_in bytes) → ((input : List ℕ) → json_in input ≡ json_in bytes → P input) → IfSome known P
+of_known P bytes None same says = tt
+of_known P bytes (Some input) same says = says input same
+
+pub said_of_whole : (known after : Option (List ℕ)) (bytes : List ℕ) (command : Command) (text : List ℕ) (closing : Closing) → ReadsUpToLimit known after bytes → Says command bytes text closing → IfSome known (λ input. Says command input text closing)
+said_of_whole known after bytes command text closing reads says = of_known (λ input. Says command input text closing) bytes known (same_json known after bytes reads) (λ input same. says_too input bytes same command text closing says)
+
+pub refused_of_whole : (known after : Option (List ℕ)) (bytes : List ℕ) (command : Command) (refusal : Refusal) → ReadsUpToLimit known after bytes → Refuses command bytes refusal → IfSome known (λ input. Refuses command input refusal)
+refused_of_whole known after bytes command refusal reads refuses = of_known (λ input. Refuses command input refusal) bytes known (same_json known after bytes reads) (λ input same. refuses_too input bytes same command refusal refuses)
+
+-- what may be want of memory under a shape is want of memory
+pub misfits : (shape : Shape) (json : Data) (fault : ShapeFault) → Unless (is_memory_under shape fault) (read shape json ≡ Err fault) → Unless (is_memory fault) (read shape json ≡ Err fault)
+misfits shape json fault h = unless_more (read shape json ≡ Err fault) (is_memory_under shape fault) (is_memory fault) (under_is_memory shape fault) h
+
+pub refused_by : (known after : Option (List ℕ)) (bytes : List ℕ) (command : Command) (error : ServeError) (refusal : Refusal) → ReadsUpToLimit known after bytes → IfRefused {A = Bool} (Err error) (Refuses command bytes) → error ≡ Refused refusal → IfSome known (λ input. Refuses command input refusal)
+refused_by known after bytes command (Refused own) refusal reads refuses same = let is : own ≡ refusal = cc in refused_of_whole known after bytes command refusal reads (subst (Refuses command bytes) is refuses)
+refused_by known after bytes command OutOfMemory refusal reads refuses same = absurd cc
+refused_by known after bytes command Read refusal reads refuses same = absurd refuses
+refused_by known after bytes command Write refusal reads refuses same = absurd refuses
+
+with_text : (known : Option (List ℕ)) (command : Command) (text : List ℕ) (closing : Closing) (P : List ℕ → Type 0) → IfSome known (λ input. Says command input text closing) → P text → IfSome known (λ input. (text : List ℕ) × Says command input text closing × P text)
+with_text None command text closing P says goes = tt
+with_text (Some input) command text closing P says goes = (text, says, goes)
+
+pub written_of_whole : (known after : Option (List ℕ)) (bytes : List ℕ) (command : Command) (text : List ℕ) (closing : Closing) (before contents : Option (List ℕ)) → ReadsUpToLimit known after bytes → Says command bytes text closing → Appends before contents text
+    → IfSome known (λ input. (text : List ℕ) × Says command input text closing × Appends before contents text)
+written_of_whole known after bytes command text closing before contents reads says goes = with_text known command text closing (Appends before contents) (said_of_whole known after bytes command text closing reads says) goes

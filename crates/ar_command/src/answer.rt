@@ -1,0 +1,146 @@
+//! What each command says of an input.
+
+ghost use Rattle.std.specs.Prelude.{◌≡◌, Err, IfOk, map, string_bytes};
+ghost use Rattle.std.specs.List.{list_any};
+ghost use Rattle.ar_board.specs.Lawful.{AllRise, AreLawful};
+ghost use Rattle.ar_limits.specs.Metric.{is_unsuccessful};
+ghost use Rattle.ar_report.specs.Check.{check_text, list_text};
+ghost use Rattle.ar_command.specs.Evaluation.{Writes, line_of};
+ghost use Rattle.ar_command.specs.Private.Refusing.{IfRefused};
+ghost use Rattle.ar_command.specs.Serving.{IsReported, Refuses, Reports, Says, Shows, closing_of};
+ghost use Rattle.ar_command.specs.declared.serve.Closing.TheVariants.{Good};
+ghost use Rattle.ar_command.specs.declared.serve.Command.TheVariants as commands;
+
+use crate::eval::evaluate;
+use crate::serve::{Closing, Command, ServeError};
+use ar_board::{Bundle, Histories};
+use ar_document::read_bundle;
+use ar_limits::Phase;
+use ar_machine::Answer;
+use ar_report::{check_text, fault_name, list_text, report, run_phases};
+use ar_workers::run_plain;
+use std::alloc::{AllocError, Global};
+
+/// A text to be written, and how its command closes.
+#[derive(Debug, Drop)]
+pub(crate) struct Said {
+    pub text: String,
+    pub closing: Closing,
+}
+
+/// What a command says of an input.
+pub(crate) fn answer(alloc: Global, command: Command, input: &[u8]) -> Result<Said, ServeError>
+    ensures said { IfOk result (λ said. Says command input.now (string_bytes said.text) said.closing) }
+    ensures refused { IfRefused result (Refuses command input.now) }
+{
+    match command {
+        Command::Eval => evaluated(alloc, input),
+        Command::Check => checked(alloc, input),
+        Command::List => listed(alloc, input),
+        Command::Plain => reported(alloc, input),
+    }
+}
+
+/// The line of what a condition says.
+fn line(alloc: Global, answer: Answer) -> Result<String, AllocError>
+    ensures { IfOk result (λ text. string_bytes text ≡ line_of answer) }
+{
+    let mut out = String::new(alloc);
+    match answer {
+        Ok(true) => out.push_str("true\n")?,
+        Ok(false) => out.push_str("false\n")?,
+        Err(fault) => {
+            out.push_str("fault ")?;
+            out.push_str(fault_name(fault))?;
+            out.push_str("\n")?;
+        }
+    }
+    Ok(out)
+}
+
+fn evaluated(alloc: Global, input: &[u8]) -> Result<Said, ServeError>
+    ensures said { IfOk result (λ said. Says commands.Eval input.now (string_bytes said.text) said.closing) }
+    ensures refused { IfRefused result (Refuses commands.Eval input.now) }
+{
+    let answer = evaluate(alloc, input)?;
+    Ok(Said {
+        text: line(alloc, answer)?,
+        closing: Closing::Good,
+    })
+}
+
+fn checked(alloc: Global, input: &[u8]) -> Result<Said, ServeError>
+    ensures said { IfOk result (λ said. Says commands.Check input.now (string_bytes said.text) said.closing) }
+    ensures refused { IfRefused result (Refuses commands.Check input.now) }
+{
+    let bundle = read_bundle(alloc, input)?;
+    Ok(Said {
+        text: check_text(alloc, &bundle)?,
+        closing: Closing::Good,
+    })
+}
+
+fn listed(alloc: Global, input: &[u8]) -> Result<Said, ServeError>
+    ensures said { IfOk result (λ said. Says commands.List input.now (string_bytes said.text) said.closing) }
+    ensures refused { IfRefused result (Refuses commands.List input.now) }
+{
+    let bundle = read_bundle(alloc, input)?;
+    Ok(Said {
+        text: list_text(alloc, &bundle)?,
+        closing: Closing::Good,
+    })
+}
+
+fn reported(alloc: Global, input: &[u8]) -> Result<Said, ServeError>
+    ensures said { IfOk result (λ said. Says commands.Plain input.now (string_bytes said.text) said.closing) }
+    ensures refused { IfRefused result (Refuses commands.Plain input.now) }
+{
+    let bundle = read_bundle(alloc, input)?;
+    Ok(run(alloc, &bundle)?)
+}
+
+/// The report of a bundle's plain run.
+fn run(alloc: Global, bundle: &Bundle) -> Result<Said, AllocError>
+    ensures { IfOk result (λ said. IsReported bundle.now (string_bytes said.text) said.closing) }
+{
+    let histories = run_plain(alloc, bundle)?;
+    report_of(alloc, bundle, &histories)
+}
+
+/// The report of lawful histories.
+#[tactic(auto, using(crate::proofs::Reporting::lawful))]
+fn report_of(alloc: Global, bundle: &Bundle, histories: &Histories) -> Result<Said, AllocError>
+    requires lawful { AreLawful bundle.now histories.now }
+    requires rise { AllRise histories.now }
+    ensures { IfOk result (λ said. IsReported bundle.now (string_bytes said.text) said.closing) }
+{
+    let text = report(alloc, bundle, histories)?;
+    let phases = run_phases(alloc, bundle, histories)?;
+    Ok(Said {
+        text,
+        closing: closing_of(&phases),
+    })
+}
+
+/// Whether a phase is Failed, Error or Inconclusive.
+fn is_bad(phase: &Phase) -> bool
+    ensures { result ≡ is_unsuccessful phase.now }
+{
+    phase.is_unsuccessful()
+}
+
+fn any_bad(phases: &[Phase]) -> bool
+    ensures { result ≡ list_any is_unsuccessful phases.now }
+{
+    phases.iter().any(is_bad)
+}
+
+fn closing_of(phases: &[Phase]) -> Closing
+    ensures { result ≡ closing_of phases.now }
+{
+    if any_bad(phases) {
+        Closing::Bad
+    } else {
+        Closing::Good
+    }
+}

@@ -1,0 +1,182 @@
+//! `eval`: one condition, judged on one value.
+
+ghost use Rattle.std.specs.Prelude.{◌≡◌, ◌<◌, Err, List, false, length, ℕ};
+ghost use Rattle.serde_json.specs.View.{view};
+ghost use Rattle.ar_value.specs.Answer as answer;
+ghost use Rattle.ar_command.specs.Evaluation.{Answers, Evaluates, Follows, UnlessMemory, prepared_of, parts_of, prepared};
+ghost use Rattle.ar_value.specs.Shape.{Shape as Declared};
+ghost use Rattle.ar_value.specs.View.{shape_view};
+ghost use Rattle.ar_judge.specs.Condition.{IsBuilt};
+ghost use Rattle.ar_json.specs.Document.{most_bytes};
+ghost use Rattle.ar_command.specs.declared.eval.EvalError.TheVariants.{TooLarge};
+
+use ar_check::TypeError;
+use ar_compile::CompileError;
+use ar_json::shape_reading::{ShapeError, read_shape};
+use ar_json::value_reading::{ShapeFault, read_value};
+use ar_json::{JsonError, read_json};
+use ar_judge::{BuildCause, Condition};
+use ar_machine::Answer;
+use ar_syntax::SyntaxError;
+use ar_value::shape::Shape;
+use ar_verify::Reason;
+use serde_json::Value as Json;
+use std::alloc::{AllocError, Global};
+use thiserror::Error;
+
+/// Why an input can't be evaluated, in the order in which it is looked at.
+#[derive(Clone, Copy, Debug, PartialEq, Eq, Error)]
+pub enum EvalError {
+    #[error("document: TooLarge: expected at most 16777216 bytes")]
+    TooLarge,
+    #[error("document: Utf8OrJson: expected one JSON value in UTF-8")]
+    Utf8OrJson,
+    #[error("document: BadDocument: expected an object with a text `condition`, a `shape` and a `value`")]
+    BadDocument,
+    #[error("shape: {0}")]
+    Shape(ShapeError),
+    #[error("condition, {0}")]
+    Grammar(SyntaxError),
+    #[error("condition, {0}")]
+    Kinds(TypeError),
+    #[error("condition: {0}")]
+    Compiler(CompileError),
+    /// The verifier refuses the condition's code at an operation, counted from 0.
+    #[error("condition: {1} (operation {0} of its code)")]
+    Verifier(usize, Reason),
+    #[error("value: {0}")]
+    Misfit(ShapeFault),
+    #[error("out of memory")]
+    OutOfMemory,
+}
+
+impl From<BuildCause> for EvalError {
+    ghost use Rattle.std.specs.Prelude.{◌≡◌};
+    ghost use Rattle.ar_command.specs.Evaluation.{of_build};
+
+    ghost from_gives = { λ cause e. e ≡ of_build cause };
+
+    fn from(cause: BuildCause) -> EvalError {
+        match cause {
+            BuildCause::Grammar(error) => EvalError::Grammar(error),
+            BuildCause::Kinds(error) => EvalError::Kinds(error),
+            BuildCause::Compiler(error) => EvalError::Compiler(error),
+            BuildCause::Verifier(place, reason) => EvalError::Verifier(place, reason),
+            BuildCause::OutOfMemory => EvalError::OutOfMemory,
+        }
+    }
+}
+
+impl From<ShapeError> for EvalError {
+    ghost use Rattle.std.specs.Prelude.{◌≡◌};
+    ghost use Rattle.ar_command.specs.Evaluation.{of_shape};
+
+    ghost from_gives = { λ error e. e ≡ of_shape error };
+
+    fn from(error: ShapeError) -> EvalError {
+        match error {
+            ShapeError::OutOfMemory => EvalError::OutOfMemory,
+            error => EvalError::Shape(error),
+        }
+    }
+}
+
+impl From<ShapeFault> for EvalError {
+    ghost use Rattle.std.specs.Prelude.{◌≡◌};
+    ghost use Rattle.ar_command.specs.Evaluation.{of_misfit};
+
+    ghost from_gives = { λ fault e. e ≡ of_misfit fault };
+
+    fn from(fault: ShapeFault) -> EvalError {
+        match fault {
+            ShapeFault::OutOfMemory => EvalError::OutOfMemory,
+            fault => EvalError::Misfit(fault),
+        }
+    }
+}
+
+impl From<AllocError> for EvalError {
+    ghost use Rattle.std.specs.Prelude.{◌≡◌};
+    ghost use Rattle.ar_command.specs.declared.eval.EvalError.TheVariants.{OutOfMemory};
+
+    ghost from_gives = { λ _ e. e ≡ OutOfMemory };
+
+    fn from(_error: AllocError) -> EvalError {
+        EvalError::OutOfMemory
+    }
+}
+
+impl From<JsonError> for EvalError {
+    ghost use Rattle.std.specs.Prelude.{◌≡◌};
+    ghost use Rattle.ar_command.specs.Evaluation.{of_json};
+
+    ghost from_gives = { λ error e. e ≡ of_json error };
+
+    fn from(error: JsonError) -> EvalError {
+        match error {
+            JsonError::TooLarge => EvalError::TooLarge,
+            JsonError::Utf8OrJson => EvalError::Utf8OrJson,
+            JsonError::OutOfMemory => EvalError::OutOfMemory,
+        }
+    }
+}
+
+/// What the condition of a JSON document says of its value: the document is an object with a text
+/// `condition`, a `shape` and a `value`.
+///
+/// # Errors
+///
+/// The first fault that stands in the input, in the order of `EvalError`.
+#[tactic(auto, using(crate::proofs::Judging::of_document, crate::proofs::Judging::of_no_document))]
+pub fn evaluate(alloc: Global, input: &[u8]) -> Result<Answer, EvalError>
+    ensures exact { UnlessMemory result (Evaluates input.now) }
+
+    // An input that is too large is refused for that alone.
+    ensures too_large { most_bytes < length input.now → result ≡ Err TooLarge }
+{
+    let document = read_json(alloc, input)?;
+    judge(alloc, &document)
+}
+
+/// What the condition of a document says of its value.
+#[tactic(auto, unfolding(crate::specs::Evaluation::prepared))]
+fn judge(alloc: Global, document: &Json) -> Result<Answer, EvalError>
+    ensures { UnlessMemory result (Follows (prepared (view document.now))) }
+{
+    let (text, declared, measured) = parts_of(document)?;
+    let shape = read_shape(alloc, declared)?;
+    judge_text(alloc, text, shape, measured)
+}
+
+/// What a condition's text says of what was measured.
+#[tactic(auto, using(crate::proofs::Judging::not_built))]
+fn judge_text(alloc: Global, text: &str, shape: Shape, measured: &Json) -> Result<Answer, EvalError>
+    ensures { UnlessMemory result (Answers (prepared_of text.now (shape_view shape) (view measured.now))) }
+{
+    let condition = Condition::build(alloc, text, shape)?;
+    answer(alloc, &condition, measured)
+}
+
+/// What a condition says of what was measured.
+#[tactic(auto, using(crate::proofs::Judging::answered))]
+fn answer(alloc: Global, condition: &Condition, measured: &Json) -> Result<Answer, EvalError>
+    ensures { (text : List ℕ) (shape : Declared) → IsBuilt shape text condition.now
+        → UnlessMemory result (Answers (prepared_of text shape (view measured.now))) }
+{
+    let value = read_value(alloc, measured, condition.verified().shape())?;
+    Ok(condition.answer(alloc, &value)?)
+}
+
+/// A document's condition, shape and value.
+fn parts_of(document: &Json) -> Result<(&str, &Json, &Json), EvalError>
+    ensures { answer.Gives (λ _. false) (λ parts. (parts.0.now, view parts.1.now, view parts.2.now)) result
+        (parts_of (view document.now)) }
+{
+    let condition = document
+        .get("condition")
+        .and_then(Json::as_str)
+        .ok_or(EvalError::BadDocument)?;
+    let declared = document.get("shape").ok_or(EvalError::BadDocument)?;
+    let measured = document.get("value").ok_or(EvalError::BadDocument)?;
+    Ok((condition, declared, measured))
+}

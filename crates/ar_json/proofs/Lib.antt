@@ -1,0 +1,9 @@
+pub mod Lists
+pub mod ReadLemmas
+pub mod ReadFits
+pub mod ReadNames
+pub mod Memory
+pub mod ShapeNames
+pub mod Declarations
+pub mod Wholes
+pub mod Documents

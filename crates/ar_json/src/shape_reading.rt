@@ -1,0 +1,252 @@
+//! Shapes, read from JSON.
+
+ghost use Rattle.std.specs.Prelude.{◌≡◌, IfOk, false, map, option_and_then};
+ghost use Rattle.serde_json.specs.Data.{member, no_members};
+ghost use Rattle.serde_json.specs.Find.{as_number, as_u64};
+ghost use Rattle.serde_json.specs.View.{members_view, view};
+ghost use Rattle.ar_value.specs.Answer.{Gives};
+ghost use Rattle.ar_json.specs.Declaration.{declares_optional, fields_declared, is_memory, is_memory_for, list_declared, max_of, object_declared, optional_declared, record_declared, scalar_named, shape_of, shape_within};
+ghost use Rattle.ar_json.specs.Private.OneField.{named_declared};
+ghost use Rattle.ar_json.specs.Names.{FieldShapeNamesRise, Rise, ShapeNamesRise, shape_names};
+ghost use Rattle.ar_value.specs.Shape.{field_shapes_of};
+ghost use Rattle.ar_value.specs.View.{field_shape_view, shape_view};
+ghost use Rattle.ar_json.specs.declared.shape_reading.ShapeError.TheVariants.{OutOfMemory};
+
+use ar_value::shape::{FieldShape, FieldShapes, Shape};
+use ar_value::text::Text;
+use serde_json::{Map, Value as Json};
+use std::alloc::{AllocError, AllocFailed, Global};
+use thiserror::Error;
+
+/// How many levels a shape may have; a scalar is one.
+const MOST_SHAPE_LEVELS: usize = 16;
+
+/// The greatest `max` of a list.
+const MOST_LIST_ITEMS: u64 = 10_000;
+
+/// Why a JSON value declares no shape.
+#[derive(Clone, Copy, Debug, PartialEq, Eq, Error)]
+pub enum ShapeError {
+    #[error("TooDeep: a shape has at most 16 levels")]
+    TooDeep,
+    #[error("UnknownShape: expected \"bool\", \"whole\", \"decimal\", \"text\", {{\"list\":shape,\"max\":number}}, {{\"record\":{{name:shape,..}}}} or {{\"optional\":shape}}")]
+    UnknownShape,
+    #[error("MaxMissing: expected a list's greatest length as \"max\", a whole number of 0 or more")]
+    MaxMissing,
+    #[error("MaxTooLarge: the greatest length of a list is at most 10000")]
+    MaxTooLarge,
+    #[error("NestedOptional: an optional shape holds one that isn't optional")]
+    NestedOptional,
+    #[error("out of memory")]
+    OutOfMemory,
+}
+
+impl From<AllocError> for ShapeError {
+    ghost from_gives = { λ _ e. e ≡ OutOfMemory };
+
+    fn from(_error: AllocError) -> ShapeError {
+        ShapeError::OutOfMemory
+    }
+}
+
+impl<T: Drop> From<AllocFailed<T>> for ShapeError {
+    ghost from_gives = { λ _ e. e ≡ OutOfMemory };
+
+    fn from(_error: AllocFailed<T>) -> ShapeError {
+        ShapeError::OutOfMemory
+    }
+}
+
+/// The shape that a JSON value declares: `"bool"`, `"whole"`, `"decimal"`, `"text"`,
+/// `{"list":S,"max":n}`, `{"record":{name:S,..}}` or `{"optional":S}`. It takes memory for all but
+/// scalars.
+///
+/// # Errors
+///
+/// The first of these, outer before inner, a record's fields in byte order of their names:
+/// `TooDeep` for more than 16 levels; `UnknownShape` for any other value, or an object of other
+/// names; `MaxMissing` where a list's `max` is absent or no whole number of 0 or more;
+/// `MaxTooLarge` where it is over 10,000; `NestedOptional` for an optional shape in another.
+/// `OutOfMemory` where a growth was refused.
+#[tactic(auto, unfolding(crate::specs::Declaration::shape_of))]
+pub fn read_shape(alloc: Global, json: &Json) -> Result<Shape, ShapeError>
+    // This shape, or this refusal.
+    ensures exact { Gives (is_memory_for (view json.now)) shape_view result (shape_of (view json.now)) }
+
+    // Its records have their fields by rising names.
+    ensures names_rise { IfOk result (λ shape. ShapeNamesRise (shape_view shape)) }
+{
+    shape_within(alloc, json, MOST_SHAPE_LEVELS)
+}
+
+/// The shape of at most so many levels.
+#[cycle(shape_within)]
+#[tactic(auto, using(crate::proofs::Declarations::scalar_level, crate::proofs::Declarations::object_level))]
+fn shape_within(alloc: Global, json: &Json, levels: usize) -> Result<Shape, ShapeError>
+    ensures exact { Gives (is_memory_for (view json.now)) shape_view result (shape_within levels (view json.now)) }
+    ensures names_rise { IfOk result (λ shape. ShapeNamesRise (shape_view shape)) }
+{
+    if levels == 0 {
+        return Err(ShapeError::TooDeep);
+    }
+    match json {
+        Json::String(name) => scalar(name.as_str()),
+        Json::Object(members) => object_shape(alloc, members, levels - 1),
+        _ => Err(ShapeError::UnknownShape),
+    }
+}
+
+fn scalar(name: &str) -> Result<Shape, ShapeError>
+    ensures exact { Gives (λ _. false) shape_view result (scalar_named name.now) }
+    ensures names_rise { IfOk result (λ shape. ShapeNamesRise (shape_view shape)) }
+{
+    match name {
+        "bool" => Ok(Shape::Bool),
+        "whole" => Ok(Shape::Whole),
+        "decimal" => Ok(Shape::Decimal),
+        "text" => Ok(Shape::Text),
+        _ => Err(ShapeError::UnknownShape),
+    }
+}
+
+/// The shape that an object declares by the names of its members, with inner shapes of at most so
+/// many levels.
+#[cycle(shape_within)]
+fn object_shape(
+    alloc: Global,
+    members: &Map<String, Json>,
+    levels: usize,
+) -> Result<Shape, ShapeError>
+    ensures exact { Gives is_memory shape_view result
+        (object_declared (shape_within levels) (members_view members.now.entries)) }
+    ensures names_rise { IfOk result (λ shape. ShapeNamesRise (shape_view shape)) }
+{
+    let mut members = members.iter();
+    let Some((name, inner)) = members.next() else {
+        return Err(ShapeError::UnknownShape);
+    };
+    let Some((second, max)) = members.next() else {
+        return named_shape(alloc, name.as_str(), inner, levels);
+    };
+    if members.next().is_some() {
+        return Err(ShapeError::UnknownShape);
+    }
+    if name.as_str() == "list" && second.as_str() == "max" {
+        list_shape(alloc, inner, max, levels)
+    } else {
+        Err(ShapeError::UnknownShape)
+    }
+}
+
+/// The shape that an object of one name declares.
+#[cycle(shape_within)]
+fn named_shape(alloc: Global, name: &str, inner: &Json, levels: usize) -> Result<Shape, ShapeError>
+    ensures exact { Gives is_memory shape_view result
+        (object_declared (shape_within levels) (member name.now (view inner.now) no_members)) }
+    ensures names_rise { IfOk result (λ shape. ShapeNamesRise (shape_view shape)) }
+{
+    match name {
+        "list" => Err(ShapeError::MaxMissing),
+        "record" => record_shape(alloc, inner, levels),
+        "optional" => optional_shape(alloc, inner, levels),
+        _ => Err(ShapeError::UnknownShape),
+    }
+}
+
+#[cycle(shape_within)]
+#[tactic(auto, using(crate::proofs::Declarations::gives_any))]
+fn list_shape(alloc: Global, item: &Json, max: &Json, levels: usize) -> Result<Shape, ShapeError>
+    ensures exact { Gives is_memory shape_view result
+        (list_declared (shape_within levels) (view item.now) (view max.now)) }
+    ensures names_rise { IfOk result (λ shape. ShapeNamesRise (shape_view shape)) }
+{
+    let max = greatest_length(max)?;
+    let item = Box::new(alloc, shape_within(alloc, item, levels)?)?;
+    Ok(Shape::List { item, max })
+}
+
+fn greatest_length(json: &Json) -> Result<usize, ShapeError>
+    ensures { Gives (λ _. false) (λ max. max) result (max_of (option_and_then as_u64 (as_number (view json.now)))) }
+{
+    let max = json.as_u64().ok_or(ShapeError::MaxMissing)?;
+    if max > MOST_LIST_ITEMS {
+        return Err(ShapeError::MaxTooLarge);
+    }
+    Ok(max as usize)
+}
+
+#[cycle(shape_within)]
+#[tactic(auto, using(crate::proofs::Declarations::gives_any))]
+fn optional_shape(alloc: Global, inner: &Json, levels: usize) -> Result<Shape, ShapeError>
+    ensures exact { Gives is_memory shape_view result
+        (optional_declared (shape_within levels) (view inner.now)) }
+    ensures names_rise { IfOk result (λ shape. ShapeNamesRise (shape_view shape)) }
+{
+    if declares_optional(inner) {
+        return Err(ShapeError::NestedOptional);
+    }
+    let plain = Box::new(alloc, shape_within(alloc, inner, levels)?)?;
+    Ok(Shape::Optional(plain))
+}
+
+/// Whether a JSON value is an object of the one name `optional`.
+fn declares_optional(json: &Json) -> bool
+    ensures { result ≡ declares_optional (view json.now) }
+{
+    let Json::Object(members) = json else {
+        return false;
+    };
+    let mut members = members.iter();
+    match members.next() {
+        Some((name, _)) => name.as_str() == "optional" && members.next().is_none(),
+        None => false,
+    }
+}
+
+#[cycle(shape_within)]
+fn record_shape(alloc: Global, json: &Json, levels: usize) -> Result<Shape, ShapeError>
+    ensures exact { Gives is_memory shape_view result
+        (record_declared (shape_within levels) (view json.now)) }
+    ensures names_rise { IfOk result (λ shape. ShapeNamesRise (shape_view shape)) }
+{
+    let Json::Object(members) = json else {
+        return Err(ShapeError::UnknownShape);
+    };
+    let items = field_shapes(alloc, members, levels)?;
+    Ok(Shape::Object(FieldShapes { items }))
+}
+
+#[cycle(shape_within)]
+#[tactic(auto, using(crate::proofs::Declarations::no_shape_left, crate::proofs::ShapeNames::names_rise, crate::proofs::ShapeNames::one_more))]
+fn field_shapes(
+    alloc: Global,
+    members: &Map<String, Json>,
+    levels: usize,
+) -> Result<Vec<FieldShape>, ShapeError>
+    ensures exact { Gives is_memory (λ vec. field_shapes_of (map field_shape_view vec.items)) result
+        (fields_declared (shape_within levels) (members_view members.now.entries)) }
+    ensures names_rise { IfOk result (λ vec. Rise (shape_names (field_shapes_of (map field_shape_view vec.items)))) }
+    ensures inner_names_rise { IfOk result (λ vec. FieldShapeNamesRise (field_shapes_of (map field_shape_view vec.items))) }
+{
+    let mut fields = Vec::with_capacity(alloc, members.len())?;
+    for (name, json) in members.iter() {
+        fields.push(field_shape(alloc, name.as_str(), json, levels)?)?;
+    }
+    Ok(fields)
+}
+
+#[cycle(shape_within)]
+#[tactic(auto, using(crate::proofs::Declarations::gives_any))]
+fn field_shape(
+    alloc: Global,
+    name: &str,
+    json: &Json,
+    levels: usize,
+) -> Result<FieldShape, ShapeError>
+    ensures exact { Gives is_memory field_shape_view result (named_declared name.now (shape_within levels (view json.now))) }
+    ensures names_rise { IfOk result (λ field. ShapeNamesRise (field_shape_view field).1) }
+{
+    let shape = shape_within(alloc, json, levels)?;
+    let name = Text::of(alloc, name)?;
+    Ok(FieldShape { name, shape })
+}

@@ -1,0 +1,66 @@
+//! Code that is given back, and images with a byte less or another one.
+
+use ar_code::{Code, ImageError, Op, decode, encode};
+use ar_value::Shape;
+use ar_verify::{Cause, Reason, verify};
+use std::alloc::{AllocError, Global};
+use std::test::Fail;
+
+/// The code of `result[0] >= 0.95` under a list of decimals.
+const SUCCESS_RATE: [u8; 18] = [
+    0x41, 0x52, 0x43, 0x56, 0x01, 0x00, 0x00, 0x06, 0x07, 0x02, 0x00, 0x0a, 0x03, 0xe0, 0xfb, 0x73,
+    0x24, 0x38,
+];
+
+/// Code that is refused is given back.
+#[test]
+fn refused_code(rt: HostRuntime) -> Result<(), Fail> {
+    let alloc = rt.alloc();
+    let ops = vec![in alloc; Op::PushWhole(7)]?;
+    let code = Code::of_parts(ops, Vec::new(alloc), Vec::new(alloc));
+    assert_eq!(rt;
+        encode(alloc, &code)?.as_slice(),
+        b"ARCV\x01\x00\x00\x01\x02\x0e".as_slice()
+    );
+    let Err(refused) = verify(alloc, code, Shape::Whole) else {
+        return Err(Fail::from("expected a refusal"));
+    };
+    let reason = Reason::NoReturn;
+    assert!(rt; refused.cause == Cause::Fault { place: 0, reason });
+    assert!(rt; refused.code.ops() == [Op::PushWhole(7)].as_slice());
+    Ok(())
+}
+
+/// Whether bytes are no image, or the image of what is read of them.
+fn is_written_again(alloc: Global, bytes: &[u8]) -> Result<bool, AllocError> {
+    match decode(alloc, bytes) {
+        Ok(code) => Ok(encode(alloc, &code)?.as_slice() == bytes),
+        Err(_) => Ok(true),
+    }
+}
+
+/// Whether that is so, whatever a byte of the image is changed to.
+fn are_written_again(alloc: Global, at: usize) -> Result<bool, AllocError> {
+    for byte in 0..=255 {
+        let mut bytes = SUCCESS_RATE;
+        if let Some(changed) = bytes.get_mut(at) {
+            *changed = byte;
+        }
+        if !is_written_again(alloc, &bytes)? {
+            return Ok(false);
+        }
+    }
+    Ok(true)
+}
+
+/// Each prefix lacks a byte. Whatever a byte is changed to, what is accepted is written again as it
+/// was.
+#[test]
+fn changed_images(rt: HostRuntime) -> Result<(), Fail> {
+    for at in 0..SUCCESS_RATE.len() {
+        let refused = decode(rt.alloc(), &SUCCESS_RATE[..at]).err();
+        assert!(rt; refused == Some(ImageError::Truncated(at)), "{at}");
+        assert!(rt; are_written_again(rt.alloc(), at)?, "{at}");
+    }
+    Ok(())
+}

@@ -1,0 +1,143 @@
+//! Commands on inputs that come a byte at a time, that can't be read to their end, and that are kept.
+
+use ar_command::{Closing, Command, Device, DeviceFault, Kept, ServeError, Source, serve_plain};
+use std::alloc::Global;
+use std::io::Read;
+use std::process::Abort;
+
+/// A metric that is to be above 1, and two runs, one of which isn't measured.
+const DOCUMENT: &str =
+    r#"{"manifest":{"apiVersion":"argoproj.io/v1alpha1","kind":"AnalysisTemplate","metadata":{"name":"t"},"spec":{"metrics":[{"name":"m","successCondition":"result > 1"}]}},"shapes":{"m":"whole"},"runs":[{"name":"a"},{"name":"b"}],"measurements":[{"run":"a","metric":"m","value":2}]}"#;
+
+/// The commands, and what each writes for the document.
+const ANSWERS: [(Command, &str); 3] = [
+    (
+        Command::Plain,
+        "\
+run a Successful
+metric m Successful successful=1 failed=0 inconclusive=0 error=0 consecutiveError=0
+event 0 m Successful closed Successful
+run b Pending
+metric m Pending successful=0 failed=0 inconclusive=0 error=0 consecutiveError=0
+",
+    ),
+    (
+        Command::Check,
+        "\
+run a metric m success operations=4 depth=2 budget=4
+run b metric m success operations=4 depth=2 budget=4
+",
+    ),
+    (
+        Command::List,
+        "\
+run a metric m success
+0 LoadResult
+1 PushWhole 1
+2 GtW
+3 Return
+run b metric m success
+0 LoadResult
+1 PushWhole 1
+2 GtW
+3 Return
+",
+    ),
+];
+
+/// A source that gives a byte a read, and fails once its reads are used up.
+#[derive(Drop)]
+struct Failing<'a> {
+    rest: &'a [u8],
+    reads: usize,
+    has_failed: bool,
+}
+
+impl Source for Failing<'_> {
+    ghost use Rattle.std.specs.Prelude.{Some};
+
+    ghost remaining = { λ s. Some s.rest.now };
+
+    ghost has_failed = { λ s. s.has_failed };
+
+    fn read(&mut self, buf: &mut [u8]) -> Result<usize, DeviceFault> {
+        if self.reads == 0 {
+            self.has_failed = true;
+            return Err(DeviceFault);
+        }
+        self.reads -= 1;
+        let most = buf.len().min(1);
+        match self.rest.read(&mut buf[..most]) {
+            Ok(count) => Ok(count),
+            Err(_) => {
+                self.has_failed = true;
+                Err(DeviceFault)
+            }
+        }
+    }
+
+    fn failed(&self) -> bool {
+        self.has_failed
+    }
+}
+
+/// How a command ends on the document, a byte a read and so many reads, and what it writes.
+fn served(
+    alloc: Global,
+    command: Command,
+    reads: usize,
+    output: &mut Vec<u8>,
+) -> Result<Closing, ServeError> {
+    let mut reader = Failing {
+        rest: DOCUMENT.as_bytes(),
+        reads,
+        has_failed: false,
+    };
+    let mut writer = Device::new(output);
+    serve_plain(alloc, command, &mut reader, &mut writer)
+}
+
+/// An input that comes a byte at a time is answered as any other.
+#[test]
+fn a_byte_a_read(rt: HostRuntime) {
+    for (command, expected) in ANSWERS {
+        let mut output = Vec::new(rt.alloc());
+        let outcome = served(rt.alloc(), command, DOCUMENT.len() + 1, &mut output);
+        assert_eq!(rt; outcome, Ok(Closing::Good), "{command:?}");
+        assert_eq!(rt; output.as_slice(), expected.as_bytes(), "{command:?}");
+    }
+}
+
+/// Asserts that a command tells so and writes nothing, where its reader fails: at once, inside the
+/// document, and where the end would be found.
+fn assert_failing(rt: &impl Abort, alloc: Global, command: Command) {
+    for reads in [0, 1, 100, DOCUMENT.len() - 1, DOCUMENT.len()] {
+        let mut output = Vec::new(alloc);
+        let outcome = served(alloc, command, reads, &mut output);
+        assert_eq!(rt; outcome, Err(ServeError::Read), "{command:?}, {reads}");
+        assert!(rt; output.is_empty(), "{command:?}, {reads}");
+    }
+}
+
+/// A failed read is told, and nothing is written.
+#[test]
+fn failing_reads(rt: HostRuntime) {
+    for (command, _) in ANSWERS {
+        assert_failing(&rt, rt.alloc(), command);
+    }
+}
+
+/// A source that keeps what was read has read it all once a document is answered.
+#[test]
+fn kept_input(rt: HostRuntime) {
+    for (command, expected) in ANSWERS {
+        let mut output = Vec::new(rt.alloc());
+        let mut reader = Kept::new(rt.alloc(), Device::new(DOCUMENT.as_bytes()));
+        let mut writer = Device::new(&mut output);
+        let outcome = serve_plain(rt.alloc(), command, &mut reader, &mut writer);
+        assert_eq!(rt; outcome, Ok(Closing::Good), "{command:?}");
+        assert_eq!(rt; output.as_slice(), expected.as_bytes(), "{command:?}");
+        assert!(rt; reader.bytes() == DOCUMENT.as_bytes(), "{command:?}");
+        assert!(rt; !reader.failed() && !reader.wants_memory());
+    }
+}

@@ -1,0 +1,32 @@
+//! Laws. A law does nothing but hold, so a call returns.
+
+#[test]
+fn can_be_called(_: HostRuntime) {
+    ar_value::laws::merge_has_both();
+    ar_value::laws::merge_with_itself();
+    ar_value::laws::merge_either_way();
+    ar_json::laws::what_is_read_fits();
+    ar_json::laws::memory_is_no_fault();
+    ar_limits::laws::at_most_one_metric_phase();
+    ar_limits::laws::at_most_one_run_phase();
+    ar_limits::laws::closed_for_a_reason();
+    ar_limits::laws::metric_phase_stays();
+    ar_limits::laws::run_phase_stays();
+    ar_limits::laws::late_changes_nothing();
+    ar_limits::laws::only_timely_matters();
+    ar_limits::laws::closed_metrics_are_complete();
+    ar_limits::laws::limits_before_count();
+    ar_limits::laws::one_for_each_metric();
+    ar_limits::laws::effects_in_order();
+    ar_syntax::laws::one_tree();
+    ar_syntax::laws::one_refusal();
+    ar_syntax::laws::parse_is_grammar();
+    ar_check::laws::checked_conditions_have_a_meaning();
+    ar_check::laws::typing_is_the_table();
+    ar_check::laws::one_kind();
+    ar_code::laws::one_image();
+    ar_verify::laws::some_verdict();
+    ar_verify::laws::one_verdict();
+    ar_machine::laws::one_end();
+    ar_compile::laws::checked_is_in_limits();
+}

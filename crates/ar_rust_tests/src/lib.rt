@@ -1,0 +1,30 @@
+//! Tests of public calls that need Rust: that calls succeed with ample memory on inputs as large as
+//! may be, what is lent and given back, readers and writers in memory, and laws. What takes data and
+//! gives data stands as cases in files.
+//!
+//! - `values`: texts, shapes and values of many bytes, items, levels and fields
+//! - `phases`: runs of many metrics and of many events
+//! - `templates`: templates, their arguments and what they are bound to
+//! - `conditions`: conditions as long, as wide and as deep as they may be
+//! - `code`: code that is given back, and images with a byte less or another one
+//! - `bundles`: plain runs of as many events as may be, and lists that are given back
+//! - `commands`: commands on inputs that come a byte at a time, that can't be read, and that are kept
+//! - `laws`: laws
+#![tactic(auto)]
+
+#[cfg(test)]
+mod bundles;
+#[cfg(test)]
+mod code;
+#[cfg(test)]
+mod commands;
+#[cfg(test)]
+mod conditions;
+#[cfg(test)]
+mod laws;
+#[cfg(test)]
+mod phases;
+#[cfg(test)]
+mod templates;
+#[cfg(test)]
+mod values;

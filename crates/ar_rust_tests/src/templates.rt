@@ -1,0 +1,80 @@
+//! Templates, their arguments and what they are bound to.
+
+use ar_manifest::{Args, Bound, BoundMetric, Metrics, Template};
+use ar_value::Text;
+use serde_json::Value as Json;
+use std::alloc::{AllocError, Global};
+use std::test::Fail;
+
+/// The arguments `b`, whose first value is replaced, and `a`.
+fn two_arguments(alloc: Global) -> Result<Args, AllocError> {
+    let mut args = Args::new(alloc);
+    for (name, value) in [("b", "1"), ("a", "2"), ("b", "3")] {
+        args.insert(alloc, name, Text::of(alloc, value)?)?;
+    }
+    Ok(args)
+}
+
+fn shown<'args>(args: &'args Args, name: &str) -> &'args str {
+    match args.get(name) {
+        Some(value) => value.as_str(),
+        None => "-",
+    }
+}
+
+/// Arguments keep one value for each name.
+#[test]
+fn arguments(rt: HostRuntime) -> Result<(), Fail> {
+    let none: Args = Args::new(rt.alloc());
+    assert!(rt; none.is_empty());
+    let args = two_arguments(rt.alloc())?;
+    assert_eq!(rt; args.len(), 2);
+    for (name, expected) in [("b", "3"), ("a", "2"), ("", "-")] {
+        assert_eq!(rt; shown(&args, name), expected, "{name}");
+    }
+    Ok(())
+}
+
+const TEMPLATE: &str =
+    r#"{"apiVersion":"argoproj.io/v1alpha1","kind":"AnalysisTemplate","metadata":{"name":"t"},
+    "spec":{"args":[{"name":"a"},{"name":"b"}],"metrics":[{"name":"m","successCondition":"{{args.b}}{{args.b}}"},{"name":"n"}]}}"#;
+
+fn template(alloc: Global) -> Result<Template, Fail> {
+    let json = Json::from_str(alloc, TEMPLATE)?;
+    Ok(Template::read(alloc, &json)?)
+}
+
+/// A template's name and metrics are given back.
+#[test]
+fn parts_of_a_template(rt: HostRuntime) -> Result<(), Fail> {
+    let template = template(rt.alloc())?;
+    assert_eq!(rt; template.name.into_string().as_str(), "t");
+    let metrics = Metrics::from(template.metrics.into_vec());
+    assert_eq!(rt; metrics.as_slice().len(), 2);
+    Ok(())
+}
+
+/// The success condition of a metric, or `-`.
+fn condition(metric: &BoundMetric) -> &str {
+    match &metric.success_condition {
+        Some(text) => text.as_str(),
+        None => "-",
+    }
+}
+
+/// Bound metrics are given back, the first with a condition of 100,000 bytes.
+#[test]
+fn bound_metrics(rt: HostRuntime) -> Result<(), Fail> {
+    let alloc = rt.alloc();
+    let mut args = two_arguments(alloc)?;
+    let value = "y>=7&".repeat(alloc, 10_000)?;
+    args.insert(alloc, "b", Text::from(value))?;
+    let bound = Bound::from(template(alloc)?.bind(alloc, &args)?.into_metrics());
+    assert_eq!(rt; bound.metrics().len(), 2);
+    let twice = "y>=7&".repeat(alloc, 20_000)?;
+    assert_eq!(rt; twice.as_str().len(), 100_000);
+    for (metric, expected) in bound.metrics().iter().zip([twice.as_str(), "-"]) {
+        assert!(rt; condition(metric) == expected, "{}", metric.name.as_str());
+    }
+    Ok(())
+}

@@ -1,5 +1,0 @@
-pub mod Private
-pub mod Device
-pub mod Input
-pub mod Evaluation
-pub mod Serving
