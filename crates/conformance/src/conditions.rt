@@ -1,0 +1,83 @@
+//! Calls on conditions as texts: tokens, trees, and trees whose kinds are known.
+
+use crate::fault::{CaseFault, Written};
+use crate::members;
+use crate::printing::{put_decimal, put_quoted, put_refusal};
+use crate::trees::put_tree;
+use crate::typed::put_typed;
+use ar_check::check;
+use ar_condition::Tree;
+use ar_syntax::{Token, TokenKind, parse, tokens};
+use serde_json::Value as Json;
+use std::alloc::Global;
+use std::fmt::Write;
+
+pub fn put(alloc: Global, call: &str, case: &Json, out: &mut String) -> Written {
+    match call {
+        "tokens" => put_tokens(alloc, case, out),
+        "parse" => put_parsed(alloc, case, out),
+        "check" => put_checked(alloc, case, out),
+        _ => Err(CaseFault::UnknownCall),
+    }
+}
+
+fn put_tokens(alloc: Global, case: &Json, out: &mut String) -> Written {
+    match tokens(alloc, members::text(case, "condition")?) {
+        Ok(tokens) => put_all_tokens(out, tokens.as_slice()),
+        Err(refusal) => put_refusal(alloc, case, out, &refusal),
+    }
+}
+
+fn put_all_tokens(out: &mut String, tokens: &[Token]) -> Written {
+    out.push_str("[")?;
+    let mut between = "";
+    for token in tokens.iter() {
+        out.push_str(between)?;
+        between = ", ";
+        write!(out, "{}-{} ", token.span.start, token.span.end)?;
+        put_token(out, &token.kind)?;
+    }
+    out.push_str("]")?;
+    Ok(())
+}
+
+fn put_token(out: &mut String, kind: &TokenKind) -> Written {
+    match kind {
+        TokenKind::Word(word) => write!(out, "word {}", word.letters())?,
+        TokenKind::Name(name) => write!(out, "name {}", name.as_str())?,
+        TokenKind::Whole(whole) => write!(out, "whole {whole}")?,
+        TokenKind::Decimal(decimal) => {
+            out.push_str("decimal ")?;
+            put_decimal(out, *decimal)?;
+        }
+        TokenKind::Text(text) => {
+            out.push_str("text ")?;
+            put_quoted(out, text.as_str())?;
+        }
+        TokenKind::Sign(sign) => write!(out, "sign {}", sign.spelling())?,
+    }
+    Ok(())
+}
+
+fn put_parsed(alloc: Global, case: &Json, out: &mut String) -> Written {
+    match parse(alloc, members::text(case, "condition")?) {
+        Ok(tree) => put_tree(out, &tree),
+        Err(refusal) => put_refusal(alloc, case, out, &refusal),
+    }
+}
+
+/// The typed tree of a condition that can be parsed.
+fn put_checked(alloc: Global, case: &Json, out: &mut String) -> Written {
+    match parse(alloc, members::text(case, "condition")?) {
+        Ok(tree) => put_typed_of(alloc, case, tree, out),
+        Err(refusal) => put_refusal(alloc, case, out, &refusal),
+    }
+}
+
+fn put_typed_of(alloc: Global, case: &Json, tree: Tree, out: &mut String) -> Written {
+    let shape = members::shape(alloc, case, "shape")?;
+    match check(alloc, tree, &shape) {
+        Ok(typed) => put_typed(out, &typed),
+        Err(refusal) => put_refusal(alloc, case, out, &refusal),
+    }
+}

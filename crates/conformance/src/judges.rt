@@ -1,0 +1,190 @@
+//! Calls on conditions that can be run, and on judges.
+
+ghost use Rattle.std.specs.Prelude.{◌≡◌, IfOk};
+ghost use Rattle.ar_board.specs.Bundle.{JudgesShape, SampleSuits};
+ghost use Rattle.ar_judge.specs.Verdict.{sample_view};
+ghost use Rattle.ar_value.specs.View.{shape_view};
+
+use crate::fault::{CaseFault, Written};
+use crate::members;
+use crate::printing::{put_answer, put_quoted, put_refusal, put_str};
+use ar_json::{ShapeError, ShapeFault, read_shape, read_value};
+use ar_judge::{BuildCause, Cause, Condition, Judge, Sample, Verdict};
+use ar_machine::{Ended, run_tested};
+use ar_manifest::BoundMetric;
+use ar_report::fault_name;
+use ar_value::{Shape, Text};
+use ar_verify::Verified;
+use serde_json::Value as Json;
+use std::alloc::Global;
+use std::fmt::Write;
+
+pub fn put(alloc: Global, call: &str, case: &Json, out: &mut String) -> Written {
+    match call {
+        "condition" => put_condition(alloc, case, out),
+        "run_condition" => put_run(alloc, case, out),
+        "judge" => put_judged(alloc, case, out),
+        "judge_code" => put_judge(alloc, case, out),
+        _ => Err(CaseFault::UnknownCall),
+    }
+}
+
+/// A condition that can be run: its text, and what it says of the value.
+fn put_condition(alloc: Global, case: &Json, out: &mut String) -> Written {
+    let shape = members::shape(alloc, case, "shape")?;
+    match Condition::build(alloc, members::text(case, "condition")?, shape) {
+        Ok(condition) => {
+            put_quoted(out, condition.text())?;
+            out.push_str(" ")?;
+            let value = members::value(alloc, case, condition.verified().shape())?;
+            put_answer(out, condition.answer(alloc, &value)?)
+        }
+        Err(refusal) => put_refusal(alloc, case, out, &refusal),
+    }
+}
+
+/// What a condition says of a value, as its code comes to on the machine that is tested with its budget as
+/// fuel; or which part of the case is refused, and why.
+fn put_run(alloc: Global, case: &Json, out: &mut String) -> Written {
+    match read_shape(alloc, members::json(case, "shape")?) {
+        Ok(shape) => put_run_under(alloc, case, shape, out),
+        Err(ShapeError::OutOfMemory) => Err(CaseFault::OutOfMemory),
+        Err(refusal) => {
+            write!(out, "shape: {refusal}")?;
+            Ok(())
+        }
+    }
+}
+
+fn put_run_under(alloc: Global, case: &Json, shape: Shape, out: &mut String) -> Written {
+    match Condition::build(alloc, members::text(case, "condition")?, shape) {
+        Ok(condition) => put_run_of(alloc, case, condition.verified(), out),
+        Err(BuildCause::OutOfMemory) => Err(CaseFault::OutOfMemory),
+        Err(refusal) => {
+            write!(out, "condition{refusal}")?;
+            Ok(())
+        }
+    }
+}
+
+fn put_run_of(alloc: Global, case: &Json, verified: &Verified, out: &mut String) -> Written {
+    match read_value(alloc, members::json(case, "value")?, verified.shape()) {
+        Ok(value) => match run_tested(alloc, verified.code(), &value, verified.budget())? {
+            Ended::Done(outcome) => put_answer(out, outcome.answer),
+            Ended::Stuck(_) | Ended::Spent => put_str(out, "no answer within the budget"),
+        },
+        Err(ShapeFault::OutOfMemory) => Err(CaseFault::OutOfMemory),
+        Err(fault) => {
+            write!(out, "value: {fault}")?;
+            Ok(())
+        }
+    }
+}
+
+/// The text of a member, where it is there.
+fn text_of(alloc: Global, case: &Json, name: &str) -> Result<Option<Text>, CaseFault> {
+    if case.get(name).is_none() {
+        return Ok(None);
+    }
+    Ok(Some(Text::of(alloc, members::text(case, name)?)?))
+}
+
+/// A metric with the conditions `success` and `failure`, each where it is there.
+fn metric_of(alloc: Global, case: &Json) -> Result<BoundMetric, CaseFault> {
+    Ok(BoundMetric {
+        name: Text::of(alloc, "metric")?,
+        success_condition: text_of(alloc, case, "success")?,
+        failure_condition: text_of(alloc, case, "failure")?,
+        failure_limit: 0,
+        inconclusive_limit: 0,
+        consecutive_error_limit: 4,
+        count: None,
+    })
+}
+
+/// What was measured: the member `value`, or nothing.
+fn sample_of(alloc: Global, case: &Json, shape: &Shape) -> Result<Sample, CaseFault>
+    ensures { IfOk result (λ sample. SampleSuits (shape_view shape.now) (sample_view sample)) }
+{
+    match case.get("value") {
+        Some(json) => match read_value(alloc, json, shape) {
+            Ok(value) => Ok(Sample::Measured(value)),
+            Err(ShapeFault::OutOfMemory) => Err(CaseFault::OutOfMemory),
+            Err(fault) => Ok(Sample::Misfit(fault)),
+        },
+        None => Ok(Sample::Provider),
+    }
+}
+
+#[tactic(auto, using(crate::proofs::Suiting::of_shape))]
+fn put_judged(alloc: Global, case: &Json, out: &mut String) -> Written {
+    let shape = members::shape(alloc, case, "shape")?;
+    match Judge::build(alloc, &metric_of(alloc, case)?, &shape) {
+        Ok(judge) => put_verdict_of(alloc, case, &shape, &judge, out),
+        Err(refusal) => put_refusal(alloc, case, out, &refusal),
+    }
+}
+
+/// The verdict of a judge of the shape.
+#[tactic(auto, using(crate::proofs::Suiting::suits))]
+fn put_verdict_of(
+    alloc: Global,
+    case: &Json,
+    shape: &Shape,
+    judge: &Judge,
+    out: &mut String,
+) -> Written
+    requires { JudgesShape (shape_view shape.now) judge.now }
+{
+    let sample = sample_of(alloc, case, shape)?;
+    put_verdict(out, judge.judge(alloc, &sample)?)
+}
+
+pub fn put_verdict(out: &mut String, verdict: Verdict) -> Written {
+    match verdict {
+        Verdict::Successful => out.push_str("Successful")?,
+        Verdict::Failed => out.push_str("Failed")?,
+        Verdict::Inconclusive => out.push_str("Inconclusive")?,
+        Verdict::Error(Cause::Provider) => out.push_str("Error provider")?,
+        Verdict::Error(Cause::Shape(fault)) => write!(out, "Error shape {fault:?}")?,
+        Verdict::Error(Cause::Success(fault)) => write!(
+            out,
+            "Error success {}",
+            fault_name(fault)
+        )?,
+        Verdict::Error(Cause::Failure(fault)) => write!(
+            out,
+            "Error failure {}",
+            fault_name(fault)
+        )?,
+    }
+    Ok(())
+}
+
+/// The bounds of the code of each condition.
+fn put_judge(alloc: Global, case: &Json, out: &mut String) -> Written {
+    let shape = members::shape(alloc, case, "shape")?;
+    match Judge::build(alloc, &metric_of(alloc, case)?, &shape) {
+        Ok(judge) => {
+            put_bounds(out, "success", judge.success())?;
+            out.push_str(" / ")?;
+            put_bounds(out, "failure", judge.failure())
+        }
+        Err(refusal) => put_refusal(alloc, case, out, &refusal),
+    }
+}
+
+fn put_bounds(out: &mut String, name: &str, verified: Option<&Verified>) -> Written {
+    match verified {
+        Some(verified) => {
+            write!(
+                out,
+                "{name} depth={} budget={}",
+                verified.depth(),
+                verified.budget()
+            )?
+        }
+        None => write!(out, "{name} none")?,
+    }
+    Ok(())
+}

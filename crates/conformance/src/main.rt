@@ -1,0 +1,116 @@
+//! `conformance`: answers the cases of the conformance suite by the libraries of this repository.
+//!
+//! Standard input has a case a line: a JSON object whose text `call` names a call, with the members that
+//! the call takes; docs/CONFORMANCE.md lists them. Standard output gets a line for each, with what the
+//! call answered. Other members, as `name` and `answer`, are not looked at. The first line that is no
+//! case is told on standard error with its number, from 1, and ends the program with status 2; so empty
+//! lines and remarks are left out before (`conformance/check` does it).
+//!
+//! - `members`: the members of a case
+//! - `printing`: texts, numbers, shapes, values and refusals as they are printed
+//! - `numbers`, `shapes`, `templates`, `phases`, `conditions`, `codes`, `judges`, `documents`: the calls, by
+//!   their subjects
+//! - `trees`, `typed`: conditions as written and as typed, printed
+#![tactic(auto)]
+
+mod codes;
+mod conditions;
+mod documents;
+mod fault;
+mod judges;
+mod members;
+mod numbers;
+mod phases;
+mod printing;
+mod shapes;
+mod templates;
+mod trees;
+mod typed;
+
+use fault::{CaseFault, Written};
+use serde_json::Value as Json;
+use std::alloc::Global;
+use std::io;
+use std::process::ExitCode;
+
+fn main(rt: HostRuntime) -> ExitCode {
+    ExitCode::from(run(&rt))
+}
+
+/// Answers each line, and gives the exit status.
+fn run<R: AllocGlobal + Input + Print + Eprint>(rt: &R) -> u8 {
+    for (number, line) in rt.lines(rt.alloc()).enumerate() {
+        let answered = match line {
+            Ok(line) => print_answer(rt, line.as_str()),
+            Err(error) => Err(of_device(&error)),
+        };
+        if let Err(fault) = answered {
+            let line = number.saturating_add(1);
+            let _ = eprintln!(rt; "conformance: line {line}: {fault}");
+            return fault.status();
+        }
+    }
+    0
+}
+
+/// A read or a write that failed, or want of memory.
+fn of_device(error: &io::Error) -> CaseFault {
+    if error.kind() == io::ErrorKind::OutOfMemory {
+        CaseFault::OutOfMemory
+    } else {
+        CaseFault::Device
+    }
+}
+
+fn print_answer<R: AllocGlobal + Print>(rt: &R, line: &str) -> Written {
+    let answer = answer_of(rt.alloc(), line)?;
+    match println!(rt; "{answer}") {
+        Ok(()) => Ok(()),
+        Err(error) => Err(of_device(&error)),
+    }
+}
+
+/// The answer to a line.
+fn answer_of(alloc: Global, line: &str) -> Result<String, CaseFault> {
+    let case = match Json::from_str(alloc, line) {
+        Ok(case) => case,
+        Err(error) if error.is_memory() => return Err(CaseFault::OutOfMemory),
+        Err(_) => return Err(CaseFault::NoJson),
+    };
+    let mut out = String::new(alloc);
+    let call = members::text(&case, "call")?;
+    put_answer(alloc, call, &case, &mut out)?;
+    Ok(out)
+}
+
+/// Writes what a call of any subject answers.
+fn put_answer(alloc: Global, call: &str, case: &Json, out: &mut String) -> Written {
+    let mut written = numbers::put(alloc, call, case, out);
+    if is_other(written) {
+        written = shapes::put(alloc, call, case, out);
+    }
+    if is_other(written) {
+        written = templates::put(alloc, call, case, out);
+    }
+    if is_other(written) {
+        written = phases::put(alloc, call, case, out);
+    }
+    if is_other(written) {
+        written = conditions::put(alloc, call, case, out);
+    }
+    if is_other(written) {
+        written = codes::put(alloc, call, case, out);
+    }
+    if is_other(written) {
+        written = judges::put(alloc, call, case, out);
+    }
+    if is_other(written) {
+        written = documents::put(alloc, call, case, out);
+    }
+    written
+}
+
+/// Whether the call is one of another subject, so that nothing was written.
+fn is_other(written: Written) -> bool {
+    matches!(written, Err(CaseFault::UnknownCall))
+}

@@ -1,0 +1,181 @@
+//! Calls on limits, events and phases.
+
+use crate::fault::{CaseFault, Written};
+use crate::members;
+use ar_limits::{Effect, Event, Limits, MOST_EVENTS, Mark, Phase, RunState};
+use ar_report::phase_name;
+use serde_json::Value as Json;
+use std::alloc::Global;
+use std::fmt::Write;
+
+pub fn put(alloc: Global, call: &str, case: &Json, out: &mut String) -> Written {
+    match call {
+        "phase" => put_phase(case, out),
+        "positive_counts" => put_positive(alloc, case, out),
+        "phases" => put_phases(alloc, case, out),
+        _ => Err(CaseFault::UnknownCall),
+    }
+}
+
+const PHASES: [Phase; 6] = [
+    Phase::Pending,
+    Phase::Running,
+    Phase::Successful,
+    Phase::Failed,
+    Phase::Error,
+    Phase::Inconclusive,
+];
+
+/// Whether a phase is complete, and whether it is so without success.
+fn put_phase(case: &Json, out: &mut String) -> Written {
+    let name = members::text(case, "phase")?;
+    for phase in PHASES {
+        if phase_name(phase) == name {
+            write!(
+                out,
+                "complete={} unsuccessful={}",
+                phase.is_complete(),
+                phase.is_unsuccessful()
+            )?;
+            return Ok(());
+        }
+    }
+    Err(CaseFault::Member)
+}
+
+/// A limit of a list of four.
+fn limit_of(item: &Json, place: usize) -> Option<u32> {
+    u32::try_from(item.get(place)?.as_u64()?).ok()
+}
+
+/// The limits of a metric: of failures, of inconclusive marks, of errors in succession, and the count or
+/// null.
+fn limits_of(item: &Json) -> Option<Limits> {
+    let count = match item.get(3usize)? {
+        Json::Null => None,
+        _ => Some(limit_of(item, 3)?),
+    };
+    Some(Limits {
+        failure: limit_of(item, 0)?,
+        inconclusive: limit_of(item, 1)?,
+        consecutive_error: limit_of(item, 2)?,
+        count,
+    })
+}
+
+fn all_limits(alloc: Global, case: &Json) -> Result<Vec<Limits>, CaseFault> {
+    let mut limits = Vec::new(alloc);
+    for item in members::list(case, "limits")? {
+        limits.push(limits_of(item).ok_or(CaseFault::Member)?)?;
+    }
+    Ok(limits)
+}
+
+fn put_positive(alloc: Global, case: &Json, out: &mut String) -> Written {
+    let limits = all_limits(alloc, case)?;
+    write!(out, "{}", Limits::have_positive_counts(&limits))?;
+    Ok(())
+}
+
+fn mark_of(name: &str) -> Option<Mark> {
+    match name {
+        "Successful" => Some(Mark::Successful),
+        "Failed" => Some(Mark::Failed),
+        "Inconclusive" => Some(Mark::Inconclusive),
+        "Error" => Some(Mark::Error),
+        _ => None,
+    }
+}
+
+/// The text `stop`, or a list of a metric's number and a mark.
+fn event_of(item: &Json) -> Option<Event> {
+    if let Some(text) = item.as_str() {
+        return if text == "stop" {
+            Some(Event::Stop)
+        } else {
+            None
+        };
+    }
+    let metric = usize::try_from(item.get(0usize)?.as_u64()?).ok()?;
+    Some(Event::Mark(metric, mark_of(item.get(1usize)?.as_str()?)?))
+}
+
+/// Applies an event, where the run takes one more and has its metric.
+fn apply(state: &mut RunState, event: Event) -> Option<Effect> {
+    if state.handed() >= MOST_EVENTS {
+        return None;
+    }
+    match event {
+        Event::Mark(metric, mark) if metric < state.metrics() => {
+            Some(state.apply(Event::Mark(metric, mark)))
+        }
+        Event::Mark(..) => None,
+        Event::Stop => Some(state.apply(Event::Stop)),
+    }
+}
+
+fn put_effect(out: &mut String, effect: Effect) -> Written {
+    match effect {
+        Effect::Applied => out.push_str("applied")?,
+        Effect::Late => out.push_str("late")?,
+        Effect::Closed(phase) => {
+            out.push_str("closed ")?;
+            out.push_str(phase_name(phase))?;
+        }
+    }
+    Ok(())
+}
+
+/// Applies all events, and writes what each did.
+fn put_effects(case: &Json, state: &mut RunState, out: &mut String) -> Written {
+    let mut between = "";
+    for item in members::list(case, "events")?.iter() {
+        out.push_str(between)?;
+        between = ", ";
+        let event = event_of(item).ok_or(CaseFault::Member)?;
+        let effect = apply(state, event).ok_or(CaseFault::Member)?;
+        put_effect(out, effect)?;
+    }
+    Ok(())
+}
+
+fn put_metrics(state: &RunState, out: &mut String) -> Written {
+    for metric in 0..state.metrics() {
+        let counts = state.counts(metric);
+        write!(
+            out,
+            " / metric {} successful={} failed={} inconclusive={} error={} consecutiveError={}",
+            phase_name(state.metric_phase(metric)),
+            counts.successful,
+            counts.failed,
+            counts.inconclusive,
+            counts.error,
+            counts.succession,
+        )?;
+    }
+    Ok(())
+}
+
+/// The run of limits before any event.
+fn opened(alloc: Global, case: &Json) -> Result<RunState, CaseFault> {
+    let limits = all_limits(alloc, case)?;
+    if !Limits::have_positive_counts(&limits) {
+        return Err(CaseFault::Member);
+    }
+    Ok(RunState::new(alloc, &limits)?)
+}
+
+/// The effect of each event, then the phase of the run, how many events it was handed, and the phase and
+/// the counts of each metric.
+fn put_phases(alloc: Global, case: &Json, out: &mut String) -> Written {
+    let mut state = opened(alloc, case)?;
+    out.push_str("[")?;
+    put_effects(case, &mut state, out)?;
+    write!(
+        out,
+        "] / run {} handed={}",
+        phase_name(state.phase()),
+        state.handed()
+    )?;
+    put_metrics(&state, out)
+}

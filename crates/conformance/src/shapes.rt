@@ -1,0 +1,113 @@
+//! Calls on shapes, kinds and values.
+
+use crate::fault::{CaseFault, Written};
+use crate::members;
+use crate::printing::{put_refusal, put_shape, put_str, put_value};
+use ar_json::{read_shape, read_value};
+use ar_value::kind::{Kind, common, is_optional, merge, plain};
+use ar_value::{FieldShapes, Shape, Value, fits};
+use serde_json::Value as Json;
+use std::alloc::Global;
+use std::fmt::Write;
+
+pub fn put(alloc: Global, call: &str, case: &Json, out: &mut String) -> Written {
+    match call {
+        "read_shape" => put_read_shape(alloc, case, out),
+        "plain" => put_plain(alloc, case, out),
+        "field_shape" => put_field_shape(alloc, case, out),
+        "merge" | "common" => put_joined(alloc, call, case, out),
+        "read_value" => put_read_value(alloc, case, out),
+        "field" => put_field(alloc, case, out),
+        "fits" => put_fits(alloc, case, out),
+        _ => Err(CaseFault::UnknownCall),
+    }
+}
+
+/// A copy of the shape that was read.
+fn put_read_shape(alloc: Global, case: &Json, out: &mut String) -> Written {
+    match read_shape(alloc, members::json(case, "shape")?) {
+        Ok(shape) => put_shape(out, &shape.copy(alloc)?),
+        Err(refusal) => put_refusal(alloc, case, out, &refusal),
+    }
+}
+
+/// The shape of what isn't nil, and whether nil fits.
+fn put_plain(alloc: Global, case: &Json, out: &mut String) -> Written {
+    let shape = members::shape(alloc, case, "shape")?;
+    put_shape(out, plain(&shape))?;
+    write!(out, " optional={}", is_optional(&shape))?;
+    Ok(())
+}
+
+fn put_field_shape(alloc: Global, case: &Json, out: &mut String) -> Written {
+    let shape = members::shape(alloc, case, "shape")?;
+    match fields_of(&shape)?.get(members::text(case, "field")?) {
+        Some(shape) => put_shape(out, shape),
+        None => put_str(out, "none"),
+    }
+}
+
+fn fields_of(shape: &Shape) -> Result<&FieldShapes, CaseFault> {
+    match shape {
+        Shape::Object(fields) => Ok(fields),
+        _ => Err(CaseFault::Member),
+    }
+}
+
+/// The kind of nil, where the member is null, or of a shape.
+fn kind_of(alloc: Global, case: &Json, name: &str) -> Result<Kind, CaseFault> {
+    match members::json(case, name)? {
+        Json::Null => Ok(Kind::Nil),
+        _ => Ok(Kind::Shape(members::shape(alloc, case, name)?)),
+    }
+}
+
+fn joined(alloc: Global, call: &str, case: &Json) -> Result<Option<Kind>, CaseFault> {
+    let left = kind_of(alloc, case, "left")?;
+    let right = kind_of(alloc, case, "right")?;
+    if call == "merge" {
+        Ok(merge(alloc, &left, &right)?)
+    } else {
+        Ok(common(alloc, &left, &right)?)
+    }
+}
+
+fn put_joined(alloc: Global, call: &str, case: &Json, out: &mut String) -> Written {
+    match joined(alloc, call, case)? {
+        Some(Kind::Shape(shape)) => put_shape(out, &shape),
+        Some(Kind::Nil) => put_str(out, "null"),
+        None => put_str(out, "none"),
+    }
+}
+
+fn put_read_value(alloc: Global, case: &Json, out: &mut String) -> Written {
+    let shape = members::shape(alloc, case, "shape")?;
+    match read_value(alloc, members::json(case, "value")?, &shape) {
+        Ok(value) => put_value(out, &value),
+        Err(refusal) => put_refusal(alloc, case, out, &refusal),
+    }
+}
+
+/// A value of the shape that the case gives under a name.
+fn value_of(alloc: Global, case: &Json, shape: &str) -> Result<Value, CaseFault> {
+    let shape = members::shape(alloc, case, shape)?;
+    members::value(alloc, case, &shape)
+}
+
+fn put_field(alloc: Global, case: &Json, out: &mut String) -> Written {
+    match value_of(alloc, case, "shape")? {
+        Value::Object(fields) => match fields.get(members::text(case, "field")?) {
+            Some(value) => put_value(out, value),
+            None => put_str(out, "none"),
+        },
+        _ => Err(CaseFault::Member),
+    }
+}
+
+/// Whether a value of the shape `of` fits the shape.
+fn put_fits(alloc: Global, case: &Json, out: &mut String) -> Written {
+    let value = value_of(alloc, case, "of")?;
+    let shape = members::shape(alloc, case, "shape")?;
+    write!(out, "{}", fits(&value, &shape))?;
+    Ok(())
+}

@@ -1,0 +1,100 @@
+//! Calls on templates and their arguments.
+
+use crate::fault::{CaseFault, Written};
+use crate::members;
+use crate::printing::{put_quoted, put_refusal, put_str};
+use ar_manifest::{Args, Bound, BoundMetric, Template};
+use ar_value::Text;
+use serde_json::Value as Json;
+use std::alloc::Global;
+use std::fmt::Write;
+
+pub fn put(alloc: Global, call: &str, case: &Json, out: &mut String) -> Written {
+    match call {
+        "bind" => put_bound(alloc, case, out),
+        "arguments" => put_arguments(alloc, case, out),
+        _ => Err(CaseFault::UnknownCall),
+    }
+}
+
+/// The name of the template and the metrics that it is bound to, or the refusal of either step.
+fn put_bound(alloc: Global, case: &Json, out: &mut String) -> Written {
+    match Template::read(alloc, members::json(case, "template")?) {
+        Ok(template) => put_bound_with(alloc, case, &template, out),
+        Err(refusal) => {
+            out.push_str("read: ")?;
+            put_refusal(alloc, case, out, &refusal)
+        }
+    }
+}
+
+fn put_bound_with(alloc: Global, case: &Json, template: &Template, out: &mut String) -> Written {
+    let arguments = arguments(alloc, case)?;
+    match template.bind(alloc, &arguments) {
+        Ok(bound) => {
+            put_quoted(out, template.name.as_str())?;
+            put_metrics(out, &bound)
+        }
+        Err(refusal) => {
+            out.push_str("bind: ")?;
+            put_refusal(alloc, case, out, &refusal)
+        }
+    }
+}
+
+fn put_metrics(out: &mut String, bound: &Bound) -> Written {
+    for metric in bound.metrics() {
+        out.push_str(" / ")?;
+        put_metric(out, metric)?;
+    }
+    Ok(())
+}
+
+fn put_metric(out: &mut String, metric: &BoundMetric) -> Written {
+    put_quoted(out, metric.name.as_str())?;
+    out.push_str(" success=")?;
+    put_condition(out, &metric.success_condition)?;
+    out.push_str(" failure=")?;
+    put_condition(out, &metric.failure_condition)?;
+    write!(
+        out,
+        " limits={},{},{}",
+        metric.failure_limit, metric.inconclusive_limit, metric.consecutive_error_limit,
+    )?;
+    match metric.count {
+        Some(count) => write!(out, " count={count}")?,
+        None => out.push_str(" count=none")?,
+    }
+    Ok(())
+}
+
+fn put_condition(out: &mut String, text: &Option<Text>) -> Written {
+    match text {
+        Some(text) => put_quoted(out, text.as_str()),
+        None => put_str(out, "none"),
+    }
+}
+
+/// The member `arguments`, where it is there: a list of pairs, each a list of a name and a value.
+fn arguments(alloc: Global, case: &Json) -> Result<Args, CaseFault> {
+    let mut arguments = Args::new(alloc);
+    for pair in members::list_or_none(case, "arguments")? {
+        let (name, value) = pair_of(pair).ok_or(CaseFault::Member)?;
+        arguments.insert(alloc, name, Text::of(alloc, value)?)?;
+    }
+    Ok(arguments)
+}
+
+fn pair_of(pair: &Json) -> Option<(&str, &str)> {
+    Some((pair.get(0usize)?.as_str()?, pair.get(1usize)?.as_str()?))
+}
+
+/// How many names have a value, and the value of a name.
+fn put_arguments(alloc: Global, case: &Json, out: &mut String) -> Written {
+    let arguments = arguments(alloc, case)?;
+    write!(out, "{}: ", arguments.len())?;
+    match arguments.get(members::text(case, "argument")?) {
+        Some(value) => put_quoted(out, value.as_str()),
+        None => put_str(out, "none"),
+    }
+}

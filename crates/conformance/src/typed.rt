@@ -1,0 +1,192 @@
+//! Conditions as typed, printed: a node as `(operator kinds child child)`. What the check puts in is written
+//! out: `plain` where nil is a fault, `decimal` where a whole is turned.
+
+use crate::fault::Written;
+use crate::printing::put_quoted;
+use crate::trees::{predicate_name, put_literal};
+use ar_condition::typed::Typed;
+use ar_value::operator::{Arithmetic, Family, Numbers, Order, Scalar};
+use std::fmt::Write;
+
+fn numbers_name(numbers: Numbers) -> &'static str {
+    match numbers {
+        Numbers::Wholes => "wholes",
+        Numbers::Decimals => "decimals",
+    }
+}
+
+fn arithmetic_sign(operator: Arithmetic) -> &'static str {
+    match operator {
+        Arithmetic::Add => "+",
+        Arithmetic::Subtract => "-",
+        Arithmetic::Multiply => "*",
+        Arithmetic::Divide => "/",
+        Arithmetic::Remainder => "%",
+    }
+}
+
+fn order_sign(order: Order) -> &'static str {
+    match order {
+        Order::Less => "<",
+        Order::LessOrEqual => "<=",
+        Order::Greater => ">",
+        Order::GreaterOrEqual => ">=",
+    }
+}
+
+fn family_name(family: Family) -> &'static str {
+    match family {
+        Family::Truth => "bool",
+        Family::Number => "number",
+        Family::Text => "text",
+    }
+}
+
+fn scalar_name(scalar: Scalar) -> &'static str {
+    match scalar {
+        Scalar::Bool => "bool",
+        Scalar::Whole => "whole",
+        Scalar::Decimal => "decimal",
+        Scalar::Text => "text",
+    }
+}
+
+/// The words of a node.
+fn put_words(out: &mut String, typed: &Typed) -> Written {
+    match typed {
+        Typed::Result => out.push_str("result")?,
+        Typed::Item => out.push_str("#")?,
+        Typed::Literal(literal) => put_literal(out, literal)?,
+        Typed::Field { .. } => out.push_str("field")?,
+        Typed::Index { .. } => out.push_str("index")?,
+        Typed::Plain(_) => out.push_str("plain")?,
+        Typed::AsDecimal(_) => out.push_str("decimal")?,
+        Typed::Negative { numbers, .. } => write!(out, "negative {}", numbers_name(*numbers))?,
+        Typed::Arithmetic {
+            numbers,
+            operator,
+            ..
+        } => {
+            write!(
+                out,
+                "{} {}",
+                arithmetic_sign(*operator),
+                numbers_name(*numbers)
+            )?
+        }
+        Typed::Ordered {
+            of,
+            beside,
+            order,
+            ..
+        } => {
+            write!(
+                out,
+                "{} {} {}",
+                order_sign(*order),
+                numbers_name(*of),
+                numbers_name(*beside)
+            )?
+        }
+        Typed::Equal { family, .. } => write!(out, "== {}", family_name(*family))?,
+        Typed::Within { .. } => out.push_str("in")?,
+        Typed::Not(_) => out.push_str("not")?,
+        Typed::And { .. } => out.push_str("and")?,
+        Typed::Or { .. } => out.push_str("or")?,
+        Typed::Choice { .. } => out.push_str("choice")?,
+        Typed::List { scalar, .. } => write!(out, "list {}", scalar_name(*scalar))?,
+        Typed::Len(_) => out.push_str("len")?,
+        Typed::IsNil(_) => out.push_str("isNil")?,
+        Typed::Default { .. } => out.push_str("default")?,
+        Typed::Predicate { predicate, .. } => out.push_str(predicate_name(*predicate))?,
+    }
+    Ok(())
+}
+
+fn open(out: &mut String, typed: &Typed) -> Written {
+    out.push_str("(")?;
+    put_words(out, typed)
+}
+
+fn close(out: &mut String) -> Written {
+    out.push_str(")")?;
+    Ok(())
+}
+
+/// A tree with a blank before it.
+#[cycle(put_typed)]
+fn put_child(out: &mut String, typed: &Typed) -> Written {
+    out.push_str(" ")?;
+    put_typed(out, typed)
+}
+
+#[cycle(put_typed)]
+fn put_children(out: &mut String, items: &[Typed]) -> Written {
+    for item in items {
+        put_child(out, item)?;
+    }
+    Ok(())
+}
+
+#[cycle(put_typed)]
+pub fn put_typed(out: &mut String, typed: &Typed) -> Written {
+    match typed {
+        Typed::Result | Typed::Item | Typed::Literal(_) => put_words(out, typed),
+        Typed::Field { owner, name } => {
+            open(out, typed)?;
+            put_child(out, owner)?;
+            out.push_str(" ")?;
+            put_quoted(out, name.as_str())?;
+            close(out)
+        }
+        Typed::Plain(operand)
+        | Typed::AsDecimal(operand)
+        | Typed::Negative { operand, .. }
+        | Typed::Not(operand)
+        | Typed::Len(operand)
+        | Typed::IsNil(operand) => {
+            open(out, typed)?;
+            put_child(out, operand)?;
+            close(out)
+        }
+        Typed::Index {
+            list: left,
+            index: right,
+        }
+        | Typed::Arithmetic { left, right, .. }
+        | Typed::Ordered { left, right, .. }
+        | Typed::Equal { left, right, .. }
+        | Typed::Within {
+            operand: left,
+            list: right,
+        }
+        | Typed::And { left, right }
+        | Typed::Or { left, right }
+        | Typed::Default {
+            operand: left,
+            otherwise: right,
+        }
+        | Typed::Predicate {
+            list: left,
+            body: right,
+            ..
+        } => {
+            open(out, typed)?;
+            put_child(out, left)?;
+            put_child(out, right)?;
+            close(out)
+        }
+        Typed::Choice { condition, yes, no } => {
+            open(out, typed)?;
+            put_child(out, condition)?;
+            put_child(out, yes)?;
+            put_child(out, no)?;
+            close(out)
+        }
+        Typed::List { items, .. } => {
+            open(out, typed)?;
+            put_children(out, &items.items)?;
+            close(out)
+        }
+    }
+}
