@@ -95,7 +95,8 @@ struct Tables {
 #[tactic(auto, unfolding(crate::specs::Decoding::fields_at))]
 fn push_bool(end: usize, at: usize, tables: Tables, bytes: &[u8]) -> Result<(Op, &[u8]), ImageError>
     requires { length bytes.now ≤ end }
-    ensures exact { Gives (λ _. false) (λ read. (read.0, read.1.now)) result (fields_in end at tables one_bit bytes.now) }
+    ensures exact { Gives (λ _. false) (λ read. (read.0, read.1.now)) result
+        (fields_in end at tables one_bit bytes.now) }
     ensures shorter { IfOk result (λ read. length read.1.now ≤ length bytes.now) }
 {
     let (holds, rest) = bit_at(end, bytes)?;
@@ -110,7 +111,8 @@ fn push_whole(
     bytes: &[u8],
 ) -> Result<(Op, &[u8]), ImageError>
     requires { length bytes.now ≤ end }
-    ensures exact { Gives (λ _. false) (λ read. (read.0, read.1.now)) result (fields_in end at tables one_whole bytes.now) }
+    ensures exact { Gives (λ _. false) (λ read. (read.0, read.1.now)) result
+        (fields_in end at tables one_whole bytes.now) }
     ensures shorter { IfOk result (λ read. length read.1.now ≤ length bytes.now) }
 {
     let (number, rest) = wide_at(end, bytes)?;
@@ -125,7 +127,8 @@ fn push_decimal(
     bytes: &[u8],
 ) -> Result<(Op, &[u8]), ImageError>
     requires { length bytes.now ≤ end }
-    ensures exact { Gives (λ _. false) (λ read. (read.0, read.1.now)) result (fields_in end at tables one_decimal bytes.now) }
+    ensures exact { Gives (λ _. false) (λ read. (read.0, read.1.now)) result
+        (fields_in end at tables one_decimal bytes.now) }
     ensures shorter { IfOk result (λ read. length read.1.now ≤ length bytes.now) }
 {
     let (number, rest) = wide_at(end, bytes)?;
@@ -135,7 +138,8 @@ fn push_decimal(
 #[tactic(auto, unfolding(crate::specs::Decoding::fields_at))]
 fn push_text(end: usize, at: usize, tables: Tables, bytes: &[u8]) -> Result<(Op, &[u8]), ImageError>
     requires { length bytes.now ≤ end }
-    ensures exact { Gives (λ _. false) (λ read. (read.0, read.1.now)) result (fields_in end at tables text_number bytes.now) }
+    ensures exact { Gives (λ _. false) (λ read. (read.0, read.1.now)) result
+        (fields_in end at tables text_number bytes.now) }
     ensures shorter { IfOk result (λ read. length read.1.now ≤ length bytes.now) }
 {
     let (number, rest) = entry_at(end, at, tables.texts, bytes)?;
@@ -145,7 +149,8 @@ fn push_text(end: usize, at: usize, tables: Tables, bytes: &[u8]) -> Result<(Op,
 #[tactic(auto, unfolding(crate::specs::Decoding::fields_at))]
 fn field(end: usize, at: usize, tables: Tables, bytes: &[u8]) -> Result<(Op, &[u8]), ImageError>
     requires { length bytes.now ≤ end }
-    ensures exact { Gives (λ _. false) (λ read. (read.0, read.1.now)) result (fields_in end at tables name_number bytes.now) }
+    ensures exact { Gives (λ _. false) (λ read. (read.0, read.1.now)) result
+        (fields_in end at tables name_number bytes.now) }
     ensures shorter { IfOk result (λ read. length read.1.now ≤ length bytes.now) }
 {
     let (number, rest) = entry_at(end, at, tables.names, bytes)?;
@@ -155,7 +160,8 @@ fn field(end: usize, at: usize, tables: Tables, bytes: &[u8]) -> Result<(Op, &[u
 #[tactic(auto, unfolding(crate::specs::Decoding::fields_at))]
 fn make_list(end: usize, at: usize, tables: Tables, bytes: &[u8]) -> Result<(Op, &[u8]), ImageError>
     requires { length bytes.now ≤ end }
-    ensures exact { Gives (λ _. false) (λ read. (read.0, read.1.now)) result (fields_in end at tables scalar_and_count bytes.now) }
+    ensures exact { Gives (λ _. false) (λ read. (read.0, read.1.now)) result
+        (fields_in end at tables scalar_and_count bytes.now) }
     ensures shorter { IfOk result (λ read. length read.1.now ≤ length bytes.now) }
 {
     let (scalar, rest) = scalar_at(end, bytes)?;
@@ -180,7 +186,8 @@ fn fields_at(
     bytes: &[u8],
 ) -> Result<(Op, &[u8]), ImageError>
     requires { length bytes.now ≤ end }
-    ensures exact { Gives (λ _. false) (λ read. (read.0, read.1.now)) result (fields_in end at tables (form_view form) bytes.now) }
+    ensures exact { Gives (λ _. false) (λ read. (read.0, read.1.now)) result
+        (fields_in end at tables (form_view form) bytes.now) }
     ensures shorter { IfOk result (λ read. length read.1.now ≤ length bytes.now) }
 {
     match form {
@@ -204,7 +211,8 @@ fn fields_at(
 #[tactic(auto, unfolding(crate::specs::Decoding::op_at))]
 fn op_at(end: usize, tables: Tables, bytes: &[u8]) -> Result<(Op, &[u8]), ImageError>
     requires { length bytes.now ≤ end }
-    ensures exact { Gives (λ _. false) (λ read. (read.0, read.1.now)) result (op_at end tables.texts tables.names bytes.now) }
+    ensures exact { Gives (λ _. false) (λ read. (read.0, read.1.now)) result
+        (op_at end tables.texts tables.names bytes.now) }
     ensures shorter { IfOk result (λ read. length read.1.now ≤ length bytes.now) }
 {
     let at = place(end, bytes);
@@ -284,7 +292,8 @@ fn so_many_texts(
     bytes: &[u8],
 ) -> Result<(Vec<String>, &[u8]), ImageError>
     requires { length bytes.now ≤ end }
-    ensures exact { Gives is_memory (λ read. (map string_bytes read.0.items, read.1.now)) result (so_many_texts end count bytes.now) }
+    ensures exact { Gives is_memory (λ read. (map string_bytes read.0.items, read.1.now)) result
+        (so_many_texts end count bytes.now) }
     ensures shorter { IfOk result (λ read. length read.1.now ≤ length bytes.now) }
 {
     let mut texts = Vec::new(alloc);
@@ -301,7 +310,8 @@ fn so_many_texts(
 #[tactic(auto, using(crate::proofs::Freely::gives_freely), unfolding(crate::specs::Decoding::texts_at))]
 fn texts_at(alloc: Global, end: usize, bytes: &[u8]) -> Result<(Vec<String>, &[u8]), ImageError>
     requires { length bytes.now ≤ end }
-    ensures exact { Gives is_memory (λ read. (map string_bytes read.0.items, read.1.now)) result (texts_at end bytes.now) }
+    ensures exact { Gives is_memory (λ read. (map string_bytes read.0.items, read.1.now)) result
+        (texts_at end bytes.now) }
     ensures shorter { IfOk result (λ read. length read.1.now ≤ length bytes.now) }
 {
     let (count, rest) = count_at(end, bytes)?;
@@ -360,7 +370,8 @@ pub fn decode(alloc: Global, bytes: &[u8]) -> Result<Code, ImageError>
     ensures image { IfOk result (λ code. bytes.now ≡ image code) }
 
     // The image of code is read as that code.
-    ensures only { (code : Parts) → IsWritable code → bytes.now ≡ image code → Gives is_memory (λ read. read) result (Ok code) }
+    ensures only { (code : Parts) → IsWritable code → bytes.now ≡ image code
+        → Gives is_memory (λ read. read) result (Ok code) }
 {
     whole_code(alloc, bytes)
 }

@@ -164,7 +164,8 @@ fn entry(texts: &[String], number: u32) -> &str
 
 /// An entry's number, and the entry itself.
 fn put_entry(out: &mut String, texts: &[String], number: u32) -> Result<(), AllocError>
-    ensures { OnOk result (string_bytes out.new ≡ string_bytes out.old ++ numbered (map string_bytes texts.now) number) }
+    ensures { OnOk result
+        (string_bytes out.new ≡ string_bytes out.old ++ numbered (map string_bytes texts.now) number) }
 {
     let text = entry(texts, number);
     write!(out, " {number} {text}")

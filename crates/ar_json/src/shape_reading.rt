@@ -243,7 +243,8 @@ fn field_shape(
     json: &Json,
     levels: usize,
 ) -> Result<FieldShape, ShapeError>
-    ensures exact { Gives is_memory field_shape_view result (named_declared name.now (shape_within levels (view json.now))) }
+    ensures exact { Gives is_memory field_shape_view result
+        (named_declared name.now (shape_within levels (view json.now))) }
     ensures names_rise { IfOk result (λ field. ShapeNamesRise (field_shape_view field).1) }
 {
     let shape = shape_within(alloc, json, levels)?;

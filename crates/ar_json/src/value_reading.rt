@@ -75,11 +75,13 @@ impl<T: Drop> From<AllocFailed<T>> for ShapeFault {
 #[tactic(auto, using(crate::proofs::ReadFits::gives_fits, crate::proofs::ReadNames::gives_names))]
 pub fn read_value(alloc: Global, json: &Json, shape: &Shape) -> Result<Value, ShapeFault>
     // This value, or this fault.
-    ensures exact { Gives (is_memory_under (shape_view shape.now)) value_view result (read (shape_view shape.now) (view json.now)) }
+    ensures exact { Gives (is_memory_under (shape_view shape.now)) value_view result
+        (read (shape_view shape.now) (view json.now)) }
 
     // The value fits its shape, and has its records' fields by rising names where the shape has.
     ensures fits { IfOk result (λ value. fits (value_view value) (shape_view shape.now) ≡ true) }
-    ensures names_rise { ShapeNamesRise (shape_view shape.now) → IfOk result (λ value. ValueNamesRise (value_view value)) }
+    ensures names_rise { ShapeNamesRise (shape_view shape.now)
+        → IfOk result (λ value. ValueNamesRise (value_view value)) }
 {
     value_under(alloc, shape, json)
 }
@@ -87,7 +89,8 @@ pub fn read_value(alloc: Global, json: &Json, shape: &Shape) -> Result<Value, Sh
 /// The recursion goes down the shape.
 #[cycle(value_under)]
 fn value_under(alloc: Global, shape: &Shape, json: &Json) -> Result<Value, ShapeFault>
-    ensures { Gives (is_memory_under (shape_view shape.now)) value_view result (read (shape_view shape.now) (view json.now)) }
+    ensures { Gives (is_memory_under (shape_view shape.now)) value_view result
+        (read (shape_view shape.now) (view json.now)) }
 {
     match (shape, json) {
         (Shape::Bool, Json::Bool(truth)) => Ok(Value::Bool(*truth)),
@@ -109,7 +112,8 @@ fn value_under(alloc: Global, shape: &Shape, json: &Json) -> Result<Value, Shape
 #[cycle(value_under)]
 #[tactic(auto, using(crate::proofs::ReadLemmas::list_too_long, crate::proofs::ReadLemmas::list_short))]
 fn list_under(alloc: Global, item: &Shape, max: usize, json: &[Json]) -> Result<Value, ShapeFault>
-    ensures { Gives is_memory value_view result (list_read (λ d. read (shape_view item.now) d) max (items_view json.now)) }
+    ensures { Gives is_memory value_view result
+        (list_read (λ d. read (shape_view item.now) d) max (items_view json.now)) }
 {
     if json.len() > max {
         return Err(ShapeFault::ListTooLong);
@@ -154,7 +158,8 @@ fn field_under(
     of: &FieldShape,
     members: &Map<String, Json>,
 ) -> Result<Field, ShapeFault>
-    ensures { Gives is_memory field_view result (named_read (field_shape_view of.now) (members_view members.now.entries)) }
+    ensures { Gives is_memory field_view result
+        (named_read (field_shape_view of.now) (members_view members.now.entries)) }
 {
     let value = field_value(alloc, of, members)?;
     Ok(Field {

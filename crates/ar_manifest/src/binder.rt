@@ -98,7 +98,8 @@ fn metrics(
     arguments: &Arguments<Option<Text>>,
     own: &Args,
 ) -> Result<Bound, ManifestError>
-    ensures exact { Gives is_memory (λ bound. bound) result (each_behind (next_bound arguments.now own.now) [] list.now) }
+    ensures exact { Gives is_memory (λ bound. bound) result
+        (each_behind (next_bound arguments.now own.now) [] list.now) }
     ensures first { RefusesFirst arguments.now own.now list.now result }
 {
     let mut metrics: Vec<BoundMetric> = Vec::new(alloc);

@@ -1,12 +1,27 @@
-//! Tests of the public calls of the libraries of conditions, which stand above them all so that each
-//! library is proved once. They show what no contract says: that calls succeed with ample memory,
-//! worked rows whose expected values were worked out by hand, and printed texts.
+//! Tests of public calls that need Rust: that calls succeed with ample memory on inputs as large as
+//! may be, what is lent and given back, readers and writers in memory, and laws. What takes data and
+//! gives data stands as cases in files.
 //!
-//! - `check`: kinds of conditions
-//! - `syntax`: tokens, trees and refusals of conditions
+//! - `values`: shapes and values of as many items and levels as may be, and refused growths
+//! - `phases`: runs of as many events as may be
+//! - `templates`: arguments, and parts of templates that are given back
+//! - `code`: code that is given back, and images with a byte less or another one
+//! - `bundles`: plain runs of as many events as may be, and lists that are given back
+//! - `commands`: commands on inputs that come a byte at a time, that can't be read, and that are kept
+//! - `laws`: laws
 #![tactic(auto)]
 
 #[cfg(test)]
-mod check;
+mod bundles;
 #[cfg(test)]
-mod syntax;
+mod code;
+#[cfg(test)]
+mod commands;
+#[cfg(test)]
+mod laws;
+#[cfg(test)]
+mod phases;
+#[cfg(test)]
+mod templates;
+#[cfg(test)]
+mod values;

@@ -42,7 +42,8 @@ pub(crate) fn scaled_millionths(
     requires fraction { list_all is_ascii_digit fraction.now ≡ true }
     requires up { up < 1000 }
     requires down { down < 1000 }
-    ensures { SomeIff result (scaled_magnitude whole.now fraction.now up down < 2 ^ 64) (scaled_magnitude whole.now fraction.now up down) }
+    ensures { SomeIff result (scaled_magnitude whole.now fraction.now up down < 2 ^ 64)
+        (scaled_magnitude whole.now fraction.now up down) }
 {
     let raised = KEPT_DIGITS + up;
     let lowered = fraction.len() + down;

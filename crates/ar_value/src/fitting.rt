@@ -57,7 +57,8 @@ fn are_all_fit(shape: &Shape, items: &[Value]) -> bool
 #[cycle(is_fit)]
 #[tactic(auto, using(crate::proofs::FitLemmas::lengths_differ, crate::proofs::FitLemmas::next, crate::proofs::FitLemmas::none_left))]
 fn are_fields_fit(shapes: &[FieldShape], fields: &[Field]) -> bool
-    ensures { result ≡ fields_fit (fields_of (map field_view fields.now)) (field_shapes_of (map field_shape_view shapes.now)) }
+    ensures { result ≡ fields_fit (fields_of (map field_view fields.now))
+        (field_shapes_of (map field_shape_view shapes.now)) }
 {
     if fields.len() != shapes.len() {
         return false;

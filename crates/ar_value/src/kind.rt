@@ -91,7 +91,8 @@ fn whole_as_decimal(alloc: Global, shape: &Shape) -> Result<Option<Shape>, Alloc
 }
 
 fn merge_shapes(alloc: Global, left: &Shape, right: &Shape) -> Result<Option<Shape>, AllocError>
-    ensures { IfOk result (λ shape. option_map shape_view shape ≡ merge_shapes (shape_view left.now) (shape_view right.now)) }
+    ensures { IfOk result
+        (λ shape. option_map shape_view shape ≡ merge_shapes (shape_view left.now) (shape_view right.now)) }
 {
     if !is_optional(left) && !is_optional(right) {
         return widest(alloc, left, right);

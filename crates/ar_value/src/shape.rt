@@ -51,7 +51,8 @@ impl Shape {
 impl FieldShapes {
     /// The shape of the field of a name.
     pub fn get(&self, name: &str) -> Option<&Shape>
-        ensures { option_map (λ shape. shape_view shape.now) result ≡ shape_named name.now (field_shapes_view self.now) }
+        ensures { option_map (λ shape. shape_view shape.now) result
+            ≡ shape_named name.now (field_shapes_view self.now) }
     {
         shape_named(&self.items, name)
     }

@@ -52,7 +52,8 @@ impl Fields {
 }
 
 fn value_named<'fields>(fields: &'fields [Field], name: &str) -> Option<&'fields Value>
-    ensures { option_map (λ value. value_view value.now) result ≡ value_named name.now (fields_of (map field_view fields.now)) }
+    ensures { option_map (λ value. value_view value.now) result
+        ≡ value_named name.now (fields_of (map field_view fields.now)) }
 {
     for field in fields {
         if field.name.as_str() == name {

@@ -62,7 +62,8 @@ fn most_on_top(kinds: &[Kind<'_>]) -> usize
 
 /// A table of the places of so many operations, and of one behind them. A run begins at the first.
 fn table<'s>(alloc: Global, count: usize) -> Result<Vec<Result<Operands<'s>, Reason>>, AllocError>
-    ensures { IfOk result (λ arrived. table_view arrived.items ≡ Ok (operands [] []) ∷ replicate count (Err Unreachable)) }
+    ensures { IfOk result
+        (λ arrived. table_view arrived.items ≡ Ok (operands [] []) ∷ replicate count (Err Unreachable)) }
 {
     let mut arrived = Vec::new(alloc);
     arrived.push(Ok(Operands::none(alloc)))?;
@@ -91,7 +92,8 @@ fn one_more<'s>(
     arrived: Result<Operands<'s>, Reason>,
     next: Operands<'s>,
 ) -> Result<Result<Operands<'s>, Reason>, AllocError>
-    ensures { IfOk result (λ joined. arrival_view joined ≡ one_more (arrival_view arrived.entry) (operands_view next.entry)) }
+    ensures { IfOk result
+        (λ joined. arrival_view joined ≡ one_more (arrival_view arrived.entry) (operands_view next.entry)) }
 {
     match arrived {
         Ok(so_far) => join(alloc, so_far, &next),
@@ -158,7 +160,8 @@ impl<'s> Pass<'s> {
     ) -> Result<(), Failure>
         requires inside { place + 1 < length self.old.arrived.items }
         requires targets { StaysWithin (length self.old.arrived.items) (action op) }
-        ensures { Meets (λ _. pass_view self.new) result (looked_at code.now (shape_view measured.now) place op (pass_view self.old)) }
+        ensures { Meets (λ _. pass_view self.new) result
+            (looked_at code.now (shape_view measured.now) place op (pass_view self.old)) }
     {
         let had = take(&mut self.arrived, place)?;
         self.found.note_items(most_on_top(&had.kinds))?;

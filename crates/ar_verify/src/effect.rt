@@ -93,7 +93,8 @@ fn field<'s>(
     number: u32,
     kinds: &mut Vec<Kind<'s>>,
 ) -> Result<Option<Kind<'s>>, AllocError>
-    ensures { IfOk result (λ given. Leaves given kinds.new.items (field_by code.now number (from_top kinds.old.items))) }
+    ensures { IfOk result
+        (λ given. Leaves given kinds.new.items (field_by code.now number (from_top kinds.old.items))) }
 {
     let Some(name) = name_at(code.names(), number) else {
         return Ok(None);
@@ -133,7 +134,8 @@ fn make_list<'s>(
     count: u8,
     kinds: &mut Vec<Kind<'s>>,
 ) -> Result<Option<Kind<'s>>, AllocError>
-    ensures { IfOk result (λ given. Leaves given kinds.new.items (list_made scalar count count (from_top kinds.old.items))) }
+    ensures { IfOk result
+        (λ given. Leaves given kinds.new.items (list_made scalar count count (from_top kinds.old.items))) }
 {
     for _taken in 0..count {
         if !takes_scalar(scalar, kinds) {

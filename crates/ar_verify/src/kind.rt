@@ -266,7 +266,8 @@ pub(crate) fn list_in<'a>(kind: &'a Kind<'_>) -> Option<ListKind<'a>>
 
 /// The shape of a record's field, where the shape is that of a record that has one of the name.
 pub(crate) fn field_in<'a>(name: &str, shape: &'a Shape) -> Option<&'a Shape>
-    ensures { option_map (λ field. shaped (shape_view field.now)) result ≡ field_kind name.now (shaped (shape_view shape.now)) }
+    ensures { option_map (λ field. shaped (shape_view field.now)) result
+        ≡ field_kind name.now (shaped (shape_view shape.now)) }
 {
     match shape {
         Shape::Object(fields) => fields.get(name),

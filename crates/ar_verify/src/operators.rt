@@ -55,7 +55,8 @@ pub(crate) fn field_of<'s>(
 
 #[tactic(auto, using(crate::proofs::Parts::item_by_list))]
 fn item<'s>(alloc: Global, list: Kind<'s>, index: &Kind<'_>) -> Result<Option<Kind<'s>>, AllocError>
-    ensures { IfOk result (λ given. option_map kind_view given ≡ item_kind (kind_view list.entry) (kind_view index.now)) }
+    ensures { IfOk result
+        (λ given. option_map kind_view given ≡ item_kind (kind_view list.entry) (kind_view index.now)) }
 {
     if !is_scalar(Scalar::Whole, index) {
         return Ok(None);
@@ -88,7 +89,8 @@ fn default<'s>(
     operand: Kind<'s>,
     other: Kind<'s>,
 ) -> Result<Option<Kind<'s>>, AllocError>
-    ensures { IfOk result (λ given. option_map kind_view given ≡ default_kind (kind_view operand.entry) (kind_view other.entry)) }
+    ensures { IfOk result
+        (λ given. option_map kind_view given ≡ default_kind (kind_view operand.entry) (kind_view other.entry)) }
 {
     match operand {
         Kind::Nil => Ok(Some(other)),
@@ -148,7 +150,8 @@ fn member<'s>(
     operand: &Kind<'_>,
     list: &Kind<'_>,
 ) -> Result<Option<Kind<'s>>, AllocError>
-    ensures { IfOk result (λ given. option_map kind_view given ≡ member_kind (kind_view operand.now) (kind_view list.now)) }
+    ensures { IfOk result
+        (λ given. option_map kind_view given ≡ member_kind (kind_view operand.now) (kind_view list.now)) }
 {
     let Some(list) = list_in(list) else {
         return Ok(None);
@@ -227,7 +230,8 @@ fn are_compared(numbers: Compared, left: &Kind<'_>, right: &Kind<'_>) -> bool
 }
 
 fn are_in_family(family: Family, left: &Kind<'_>, right: &Kind<'_>) -> bool
-    ensures { result ≡ (is_family family (family_in (kind_view left.now)) && is_family family (family_in (kind_view right.now))) }
+    ensures { result ≡ (is_family family (family_in (kind_view left.now))
+        && is_family family (family_in (kind_view right.now))) }
 {
     is_family(family, family_in(left)) && is_family(family, family_in(right))
 }
@@ -239,7 +243,8 @@ pub(crate) fn apply_binary<'s>(
     left: Kind<'s>,
     right: Kind<'s>,
 ) -> Result<Option<Kind<'s>>, AllocError>
-    ensures { IfOk result (λ given. option_map kind_view given ≡ two operator (kind_view left.entry) (kind_view right.entry)) }
+    ensures { IfOk result
+        (λ given. option_map kind_view given ≡ two operator (kind_view left.entry) (kind_view right.entry)) }
 {
     match operator {
         Binary::Index => item(alloc, left, &right),

@@ -60,7 +60,8 @@ fn is_same(left: &Shape, right: &Shape) -> bool
 #[cycle(is_same)]
 #[tactic(auto, using(crate::proofs::Same::lengths_differ, crate::proofs::Same::next, crate::proofs::Same::none_left))]
 fn are_fields_same(fields: &[FieldShape], others: &[FieldShape]) -> bool
-    ensures { result ≡ same_fields (field_shapes_of (map field_shape_view fields.now)) (field_shapes_of (map field_shape_view others.now)) }
+    ensures { result ≡ same_fields (field_shapes_of (map field_shape_view fields.now))
+        (field_shapes_of (map field_shape_view others.now)) }
 {
     if fields.len() != others.len() {
         return false;

@@ -55,7 +55,8 @@ fn take_truth(kinds: &mut Vec<Kind<'_>>) -> Result<(), Failure>
 
 /// Takes a list.
 fn take_list<'s>(alloc: Global, kinds: &mut Vec<Kind<'s>>) -> Result<ListKind<'s>, Failure>
-    ensures { Meets (λ list. (list_view list, from_top kinds.new.items)) result (list_taken (from_top kinds.old.items)) }
+    ensures { Meets (λ list. (list_view list, from_top kinds.new.items)) result
+        (list_taken (from_top kinds.old.items)) }
 {
     let operand = pop(kinds).ok_or(Reason::IllKinded)?;
     Ok(into_list(alloc, operand)?.ok_or(Reason::IllKinded)?)
@@ -84,7 +85,8 @@ fn answer_kind<'s>(
 
 #[tactic(auto, using(crate::proofs::Tops::on_top))]
 fn push_loop<'s>(loops: &mut Vec<Around<'s>>, innermost: Around<'s>) -> Result<(), AllocError>
-    ensures { OnOk result (from_innermost loops.new.items ≡ around_view innermost.entry ∷ from_innermost loops.old.items) }
+    ensures { OnOk result
+        (from_innermost loops.new.items ≡ around_view innermost.entry ∷ from_innermost loops.old.items) }
 {
     loops.push(innermost)?;
     Ok(())
@@ -113,7 +115,8 @@ fn keep_or_take<'s>(
     target: u32,
     mut had: Operands<'s>,
 ) -> Result<Sends<'s>, Failure>
-    ensures { Meets sends_view result (kept_or_taken next target (operands_view had.entry).kinds (operands_view had.entry).loops) }
+    ensures { Meets sends_view result
+        (kept_or_taken next target (operands_view had.entry).kinds (operands_view had.entry).loops) }
 {
     let kept = had.copy(alloc)?;
     take_truth(&mut had.kinds)?;
@@ -136,7 +139,8 @@ fn branch<'s>(
     target: u32,
     mut had: Operands<'s>,
 ) -> Result<Sends<'s>, Failure>
-    ensures { Meets sends_view result (branched next target (operands_view had.entry).kinds (operands_view had.entry).loops) }
+    ensures { Meets sends_view result
+        (branched next target (operands_view had.entry).kinds (operands_view had.entry).loops) }
 {
     take_truth(&mut had.kinds)?;
     let taken = had.copy(alloc)?;
@@ -203,7 +207,8 @@ fn step<'s>(
     next: usize,
     had: Operands<'s>,
 ) -> Result<Sends<'s>, Failure>
-    ensures { Meets sends_view result (stepping predicate next (operands_view had.entry).kinds (operands_view had.entry).loops) }
+    ensures { Meets sends_view result
+        (stepping predicate next (operands_view had.entry).kinds (operands_view had.entry).loops) }
 {
     let Operands {
         mut kinds,
@@ -315,7 +320,8 @@ pub(crate) fn send_on<'s>(
     action: Action,
     had: Operands<'s>,
 ) -> Result<Sends<'s>, Failure>
-    ensures exact { Meets sends_view result (sends_by code.now (shape_view measured.now) next action (operands_view had.entry)) }
+    ensures exact { Meets sends_view result
+        (sends_by code.now (shape_view measured.now) next action (operands_view had.entry)) }
     ensures shallow { IfOk result (λ sends. deepest (sends_view sends) ≤ most_operands) }
 {
     if lacks(action, &had) {
