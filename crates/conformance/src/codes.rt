@@ -6,7 +6,7 @@ ghost use Rattle.ar_value.specs.View.{shape_view, value_view};
 
 use crate::fault::{CaseFault, Written};
 use crate::members;
-use crate::printing::{put_ended, put_lines, put_quoted, put_refusal};
+use crate::printing::{put_between, put_ended, put_lines, put_quoted, put_refusal};
 use ar_check::check;
 use ar_code::{Code, decode, encode, listing};
 use ar_compile::{CompileError, compile, in_limits};
@@ -48,10 +48,10 @@ fn put_code(alloc: Global, out: &mut String, code: &Code) -> Written {
 
 fn put_texts(out: &mut String, texts: &[String]) -> Written {
     out.push_str("[")?;
-    let mut between = "";
+    let mut first = true;
     for text in texts.iter() {
-        out.push_str(between)?;
-        between = ",";
+        put_between(out, first, ",")?;
+        first = false;
         put_quoted(out, text.as_str())?;
     }
     out.push_str("]")?;

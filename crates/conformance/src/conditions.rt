@@ -2,7 +2,7 @@
 
 use crate::fault::{CaseFault, Written};
 use crate::members;
-use crate::printing::{put_decimal, put_quoted, put_refusal};
+use crate::printing::{put_between, put_decimal, put_quoted, put_refusal};
 use crate::trees::put_tree;
 use crate::typed::put_typed;
 use ar_check::check;
@@ -30,10 +30,10 @@ fn put_tokens(alloc: Global, case: &Json, out: &mut String) -> Written {
 
 fn put_all_tokens(out: &mut String, tokens: &[Token]) -> Written {
     out.push_str("[")?;
-    let mut between = "";
+    let mut first = true;
     for token in tokens.iter() {
-        out.push_str(between)?;
-        between = ", ";
+        put_between(out, first, ", ")?;
+        first = false;
         write!(out, "{}-{} ", token.span.start, token.span.end)?;
         put_token(out, &token.kind)?;
     }

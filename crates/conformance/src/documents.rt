@@ -3,7 +3,7 @@
 use crate::fault::{CaseFault, Written};
 use crate::judges::put_verdict;
 use crate::members;
-use crate::printing::{put_lines, put_quoted, put_refusal, put_shape, put_str};
+use crate::printing::{put_between, put_lines, put_quoted, put_refusal, put_shape, put_str};
 use ar_board::{Bundle, Finding};
 use ar_document::read_bundle;
 use ar_json::read_json;
@@ -66,19 +66,19 @@ fn put_bundle(alloc: Global, call: &str, bundle: &Bundle, out: &mut String) -> W
 /// The metrics with their shapes, the names of runs, and how many entries there are.
 fn put_parts(bundle: &Bundle, out: &mut String) -> Written {
     out.push_str("metrics={")?;
-    let mut between = "";
+    let mut first = true;
     for metric in bundle.metrics().iter() {
-        out.push_str(between)?;
-        between = ",";
+        put_between(out, first, ",")?;
+        first = false;
         put_quoted(out, metric.name.as_str())?;
         out.push_str(":")?;
         put_shape(out, &metric.shape)?;
     }
     out.push_str("} runs=[")?;
-    let mut between = "";
+    let mut first = true;
     for run in bundle.runs().iter() {
-        out.push_str(between)?;
-        between = ",";
+        put_between(out, first, ",")?;
+        first = false;
         put_quoted(out, run.name.as_str())?;
     }
     write!(out, "] entries={}", bundle.events())?;
@@ -87,10 +87,10 @@ fn put_parts(bundle: &Bundle, out: &mut String) -> Written {
 
 /// The run of each entry, what the entry comes to, and what it is to the run.
 fn put_findings(alloc: Global, bundle: &Bundle, out: &mut String) -> Written {
-    let mut between = "";
+    let mut first = true;
     for number in 0..bundle.events() {
-        out.push_str(between)?;
-        between = " / ";
+        put_between(out, first, " / ")?;
+        first = false;
         let finding = bundle.finding(alloc, number)?;
         write!(out, "run {}: ", bundle.run_of(number))?;
         put_finding(out, finding)?;
@@ -125,10 +125,10 @@ fn mark_name(mark: Mark) -> &'static str {
 
 /// The limits of each metric of each run.
 fn put_limits(bundle: &Bundle, out: &mut String) -> Written {
-    let mut between = "";
+    let mut first = true;
     for run in bundle.runs().iter() {
-        out.push_str(between)?;
-        between = " / ";
+        put_between(out, first, " / ")?;
+        first = false;
         write!(out, "run {}:", run.name.as_str())?;
         put_run_limits(out, run.limits.as_slice())?;
     }
@@ -159,10 +159,10 @@ fn put_report(alloc: Global, bundle: &Bundle, out: &mut String) -> Written {
 #[tactic(auto, using(crate::proofs::Reporting::lawful))]
 fn put_phases(alloc: Global, bundle: &Bundle, out: &mut String) -> Written {
     let histories = run_plain(alloc, bundle)?;
-    let mut between = "";
+    let mut first = true;
     for phase in run_phases(alloc, bundle, &histories)?.iter() {
-        out.push_str(between)?;
-        between = ", ";
+        put_between(out, first, ", ")?;
+        first = false;
         out.push_str(phase_name(*phase))?;
     }
     Ok(())

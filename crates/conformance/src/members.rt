@@ -45,16 +45,23 @@ pub fn is_true(case: &Json, name: &str) -> bool {
     }
 }
 
+pub fn whole(case: &Json, name: &str) -> Result<i64, CaseFault> {
+    json(case, name)?.as_i64().ok_or(CaseFault::Member)
+}
+
+/// A text that spells a decimal.
+pub fn decimal(case: &Json, name: &str) -> Result<Decimal, CaseFault> {
+    match Decimal::of_text(text(case, name)?) {
+        Ok(decimal) => Ok(decimal),
+        Err(_) => Err(CaseFault::Member),
+    }
+}
+
 /// A JSON number is a whole, and a text a decimal.
 pub fn operand(case: &Json, name: &str) -> Result<Number, CaseFault> {
-    let json = json(case, name)?;
-    if let Some(whole) = json.as_i64() {
-        return Ok(Number::Whole(whole));
-    }
-    let text = json.as_str().ok_or(CaseFault::Member)?;
-    match Decimal::of_text(text) {
-        Ok(decimal) => Ok(Number::Decimal(decimal)),
-        Err(_) => Err(CaseFault::Member),
+    match json(case, name)? {
+        Json::String(_) => Ok(Number::Decimal(decimal(case, name)?)),
+        _ => Ok(Number::Whole(whole(case, name)?)),
     }
 }
 

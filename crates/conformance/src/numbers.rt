@@ -75,11 +75,8 @@ fn put_compare(case: &Json, out: &mut String) -> Written {
 
 /// How decimals are ordered, and whether the left one is below the right one.
 fn put_order(case: &Json, out: &mut String) -> Written {
-    let left = members::operand(case, "left")?;
-    let right = members::operand(case, "right")?;
-    let (Number::Decimal(left), Number::Decimal(right)) = (left, right) else {
-        return Err(CaseFault::Member);
-    };
+    let left = members::decimal(case, "left")?;
+    let right = members::decimal(case, "right")?;
     put_ordering(out, left.cmp(&right))?;
     if left < right {
         out.push_str(", below")?;
@@ -98,12 +95,9 @@ fn put_outcome(out: &mut String, outcome: Result<Number, Fault>) -> Written {
 }
 
 fn put_result(call: &str, case: &Json, out: &mut String) -> Written {
-    let left = members::operand(case, "left")?;
-    let right = members::operand(case, "right")?;
-    let outcome = match (left, right) {
-        (Number::Whole(left), Number::Whole(right)) => of_wholes(call, left, right),
-        (Number::Decimal(left), Number::Decimal(right)) => of_decimals(call, left, right),
-        _ => None,
+    let outcome = match members::operand(case, "left")? {
+        Number::Whole(left) => of_wholes(call, left, members::whole(case, "right")?),
+        Number::Decimal(left) => of_decimals(call, left, members::decimal(case, "right")?),
     };
     put_outcome(out, outcome.ok_or(CaseFault::Member)?)
 }
@@ -132,20 +126,13 @@ fn of_decimals(call: &str, left: Decimal, right: Decimal) -> Option<Result<Numbe
 
 /// A negation, or a whole as a decimal.
 fn put_one(call: &str, case: &Json, out: &mut String) -> Written {
-    match (members::operand(case, "operand")?, call) {
-        (Number::Whole(operand), "negate") => put_outcome(
-            out,
-            whole::neg(operand).map(Number::Whole),
-        ),
-        (Number::Decimal(operand), "negate") => put_outcome(
-            out,
-            operand.neg().map(Number::Decimal),
-        ),
-        (Number::Whole(operand), _) => put_outcome(
-            out,
-            Decimal::of_whole(operand).map(Number::Decimal),
-        ),
-        (Number::Decimal(operand), _) => put_decimal(out, operand),
+    if call == "to_decimal" {
+        let whole = members::whole(case, "operand")?;
+        return put_outcome(out, Decimal::of_whole(whole).map(Number::Decimal));
+    }
+    match members::operand(case, "operand")? {
+        Number::Whole(operand) => put_outcome(out, whole::neg(operand).map(Number::Whole)),
+        Number::Decimal(operand) => put_outcome(out, operand.neg().map(Number::Decimal)),
     }
 }
 

@@ -2,6 +2,7 @@
 
 use crate::fault::{CaseFault, Written};
 use crate::members;
+use crate::printing::put_between;
 use ar_limits::{Effect, Event, Limits, MOST_EVENTS, Mark, Phase, RunState};
 use ar_report::phase_name;
 use serde_json::Value as Json;
@@ -128,10 +129,10 @@ fn put_effect(out: &mut String, effect: Effect) -> Written {
 
 /// Applies all events, and writes what each did.
 fn put_effects(case: &Json, state: &mut RunState, out: &mut String) -> Written {
-    let mut between = "";
+    let mut first = true;
     for item in members::list(case, "events")?.iter() {
-        out.push_str(between)?;
-        between = ", ";
+        put_between(out, first, ", ")?;
+        first = false;
         let event = event_of(item).ok_or(CaseFault::Member)?;
         let effect = apply(state, event).ok_or(CaseFault::Member)?;
         put_effect(out, effect)?;

@@ -31,12 +31,20 @@ pub fn put_str(out: &mut String, text: &str) -> Written {
     Ok(())
 }
 
+/// What stands before each item of a list but the first.
+pub fn put_between(out: &mut String, first: bool, between: &str) -> Written {
+    if !first {
+        out.push_str(between)?;
+    }
+    Ok(())
+}
+
 /// Lines, with ` / ` between each and the next.
 pub fn put_lines(out: &mut String, lines: &str) -> Written {
-    let mut between = "";
+    let mut first = true;
     for line in lines.lines() {
-        out.push_str(between)?;
-        between = " / ";
+        put_between(out, first, " / ")?;
+        first = false;
         out.push_str(line)?;
     }
     Ok(())
@@ -140,10 +148,10 @@ pub fn put_value(out: &mut String, value: &Value) -> Written {
 #[cycle(put_value)]
 fn put_items(out: &mut String, values: &Values) -> Written {
     out.push_str("[")?;
-    let mut between = "";
+    let mut first = true;
     for item in values.items.iter() {
-        out.push_str(between)?;
-        between = ",";
+        put_between(out, first, ",")?;
+        first = false;
         put_value(out, item)?;
     }
     out.push_str("]")?;
@@ -153,10 +161,10 @@ fn put_items(out: &mut String, values: &Values) -> Written {
 #[cycle(put_value)]
 fn put_fields(out: &mut String, fields: &Fields) -> Written {
     out.push_str("{")?;
-    let mut between = "";
+    let mut first = true;
     for field in fields.items.iter() {
-        out.push_str(between)?;
-        between = ",";
+        put_between(out, first, ",")?;
+        first = false;
         put_quoted(out, field.name.as_str())?;
         out.push_str(":")?;
         put_value(out, &field.value)?;
@@ -191,10 +199,10 @@ pub fn put_shape(out: &mut String, shape: &Shape) -> Written {
 #[cycle(put_shape)]
 fn put_field_shapes(out: &mut String, fields: &FieldShapes) -> Written {
     out.push_str("{\"record\":{")?;
-    let mut between = "";
+    let mut first = true;
     for field in fields.items.iter() {
-        out.push_str(between)?;
-        between = ",";
+        put_between(out, first, ",")?;
+        first = false;
         put_quoted(out, field.name.as_str())?;
         out.push_str(":")?;
         put_shape(out, &field.shape)?;
