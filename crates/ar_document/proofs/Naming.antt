@@ -14,7 +14,7 @@ use Rattle.ar_document.specs.Opening.{are_new, metric_view, names_of, number_of}
 use Rattle.ar_document.specs.declared.error.BundleError.{BundleError}
 use Rattle.ar_document.specs.declared.error.BundleError.TheVariants.{DoubleRun}
 use Rattle.ar_document.specs.declared.runs.Run.{Run}
-use Rattle.ar_document.proofs.Steps.{leads}
+use Rattle.ar_value.proofs.Steps.{leads}
 use Rattle.ar_document.specs.Private.Naming.{AreNumbers}
 use Rattle.ar_document.specs.Private.Opened.{metric_names}
 

@@ -3,7 +3,7 @@ use Rattle.serde_json.specs.View.{view}
 use Rattle.ar_document.specs.Document.{is_memory, of_entry, of_run}
 use Rattle.ar_document.specs.Private.Opened.{opened_view}
 use Rattle.ar_document.proofs.Answering.{parts_are_bundle, refuses}
-use Rattle.ar_document.proofs.Steps.{leads}
+use Rattle.ar_value.proofs.Steps.{leads}
 use Rattle.ar_document.proofs.bundle.bundle_of.Goals as goal
 
 pub returns-in_err-parts : goal.returns-in_err-parts

@@ -3,7 +3,7 @@ use Rattle.std.proofs.lemmas.Result.{err_from_is_err_and}
 use Rattle.ar_document.specs.Document.{is_memory}
 use Rattle.ar_document.proofs.Growing.{next_judge}
 use Rattle.ar_document.proofs.Refusing.{next_refused}
-use Rattle.ar_document.proofs.Steps.{leads}
+use Rattle.ar_value.proofs.Steps.{leads}
 use Rattle.ar_document.proofs.parts.judges_of.Goals as goal
 
 pub returns-in_err-judge-clause-refused : goal.returns-in_err-judge-clause-refused

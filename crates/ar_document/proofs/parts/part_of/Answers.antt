@@ -2,7 +2,7 @@ use Rattle.std.proofs.Common.{rules}
 use Rattle.std.proofs.lemmas.Result.{err_from_is_err_and}
 use Rattle.ar_document.specs.Document.{is_memory}
 use Rattle.ar_document.proofs.Refusing.{run_refused}
-use Rattle.ar_document.proofs.Steps.{leads}
+use Rattle.ar_value.proofs.Steps.{leads}
 use Rattle.ar_document.proofs.Templates.{bound_is, bound_many}
 use Rattle.ar_document.proofs.parts.part_of.Goals as goal
 

@@ -3,7 +3,7 @@ use Rattle.ar_document.specs.Document.{is_memory}
 use Rattle.ar_document.specs.Private.Opened.{opened_view}
 use Rattle.ar_document.proofs.Growing.{next_part}
 use Rattle.ar_document.proofs.Refusing.{runs_refused}
-use Rattle.ar_document.proofs.Steps.{leads}
+use Rattle.ar_value.proofs.Steps.{leads}
 use Rattle.ar_document.proofs.parts.parts_of.Goals as goal
 
 pub returns-in_err-part-clause-refused : goal.returns-in_err-part-clause-refused
