@@ -1,1 +1,3 @@
 pub mod Bundles
+pub mod HistoryLemmas
+pub mod CoreSteps

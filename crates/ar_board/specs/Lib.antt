@@ -1,2 +1,3 @@
 pub mod Bundle
 pub mod Lawful
+pub mod Core

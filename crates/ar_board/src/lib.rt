@@ -6,14 +6,22 @@
 //! run the numbers in the order in which they were applied, each with its finding and its effect;
 //! `specs/Lawful` says which of them are lawful for a bundle.
 //!
+//! The core of a board (`specs/Core`) is what a board does to plain lists, one [`CoreStep`] after
+//! another: a number is put into the queue, a worker takes it, and posts it to its run's history.
+//! [`laws`] say what holds behind every list of steps.
+//!
 //! - [`bundle`]: bundles and their parts; [`finding`]: what a number comes to
 //! - [`history`]: histories of runs
+//! - [`core_step`]: steps of the core
 #![tactic(auto)]
 
 pub mod bundle;
+pub mod core_step;
 pub mod finding;
 pub mod history;
+pub mod laws;
 
 pub use bundle::{Bundle, EventPart, Judges, MetricPart, RunLimits, RunPart, What};
+pub use core_step::CoreStep;
 pub use finding::Finding;
 pub use history::{Entry, Histories, History};

@@ -1,0 +1,12 @@
+//! Steps of a board, as `specs/Core` defines them.
+
+/// A step of a board: at its queue, or under its lock.
+#[derive(Clone, Copy, Debug, PartialEq, Eq)]
+pub enum CoreStep {
+    /// The next number goes to the queue's end.
+    Put,
+    /// The queue's first number goes into the empty hand of the worker with this number.
+    Take(usize),
+    /// The number in the worker's hand goes to the end of its run's history.
+    Post(usize),
+}
