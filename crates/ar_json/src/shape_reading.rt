@@ -226,7 +226,8 @@ fn field_shapes(
     ensures exact { Gives is_memory (λ vec. field_shapes_of (map field_shape_view vec.items)) result
         (fields_declared (shape_within levels) (members_view members.now.entries)) }
     ensures names_rise { IfOk result (λ vec. Rise (shape_names (field_shapes_of (map field_shape_view vec.items)))) }
-    ensures inner_names_rise { IfOk result (λ vec. FieldShapeNamesRise (field_shapes_of (map field_shape_view vec.items))) }
+    ensures inner_names_rise { IfOk result
+        (λ vec. FieldShapeNamesRise (field_shapes_of (map field_shape_view vec.items))) }
 {
     let mut fields = Vec::with_capacity(alloc, members.len())?;
     for (name, json) in members.iter() {

@@ -18,7 +18,7 @@ use serde_json::Value as Json;
 use std::alloc::Global;
 use std::fmt::Write;
 
-pub fn put(alloc: Global, call: &str, case: &Json, out: &mut String) -> Written {
+pub(crate) fn put(alloc: Global, call: &str, case: &Json, out: &mut String) -> Written {
     match call {
         "decode" => put_decoded(alloc, case, out),
         "compile" => put_compiled(alloc, case, out),

@@ -14,7 +14,7 @@ use serde_json::Value as Json;
 use std::alloc::Global;
 use std::fmt::Write;
 
-pub fn put(alloc: Global, call: &str, case: &Json, out: &mut String) -> Written {
+pub(crate) fn put(alloc: Global, call: &str, case: &Json, out: &mut String) -> Written {
     match call {
         "read_json" => put_json(alloc, case, out),
         "read_bundle" | "findings" | "limits" | "report" | "run_phases" | "bounds" | "list" => {

@@ -19,7 +19,7 @@ use serde_json::Value as Json;
 use std::alloc::Global;
 use std::fmt::Write;
 
-pub fn put(alloc: Global, call: &str, case: &Json, out: &mut String) -> Written {
+pub(crate) fn put(alloc: Global, call: &str, case: &Json, out: &mut String) -> Written {
     match call {
         "condition" => put_condition(alloc, case, out),
         "run_condition" => put_run(alloc, case, out),
@@ -140,7 +140,7 @@ fn put_verdict_of(
     put_verdict(out, judge.judge(alloc, &sample)?)
 }
 
-pub fn put_verdict(out: &mut String, verdict: Verdict) -> Written {
+pub(crate) fn put_verdict(out: &mut String, verdict: Verdict) -> Written {
     match verdict {
         Verdict::Successful => out.push_str("Successful")?,
         Verdict::Failed => out.push_str("Failed")?,

@@ -9,7 +9,7 @@ use serde_json::Value as Json;
 use std::alloc::Global;
 use std::fmt::Write;
 
-pub fn put(alloc: Global, call: &str, case: &Json, out: &mut String) -> Written {
+pub(crate) fn put(alloc: Global, call: &str, case: &Json, out: &mut String) -> Written {
     match call {
         "phase" => put_phase(case, out),
         "positive_counts" => put_positive(alloc, case, out),

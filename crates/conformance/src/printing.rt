@@ -9,7 +9,7 @@ use std::alloc::Global;
 use std::fmt::{Debug, Display, Write};
 
 /// A text as a JSON string.
-pub fn put_quoted(out: &mut String, text: &str) -> Written {
+pub(crate) fn put_quoted(out: &mut String, text: &str) -> Written {
     out.push_str("\"")?;
     for character in text.chars() {
         match character {
@@ -26,13 +26,13 @@ pub fn put_quoted(out: &mut String, text: &str) -> Written {
     Ok(())
 }
 
-pub fn put_str(out: &mut String, text: &str) -> Written {
+pub(crate) fn put_str(out: &mut String, text: &str) -> Written {
     out.push_str(text)?;
     Ok(())
 }
 
 /// What stands before each item of a list but the first.
-pub fn put_between(out: &mut String, first: bool, between: &str) -> Written {
+pub(crate) fn put_between(out: &mut String, first: bool, between: &str) -> Written {
     if !first {
         out.push_str(between)?;
     }
@@ -40,7 +40,7 @@ pub fn put_between(out: &mut String, first: bool, between: &str) -> Written {
 }
 
 /// Lines, with ` / ` between each and the next.
-pub fn put_lines(out: &mut String, lines: &str) -> Written {
+pub(crate) fn put_lines(out: &mut String, lines: &str) -> Written {
     let mut first = true;
     for line in lines.lines() {
         put_between(out, first, " / ")?;
@@ -51,7 +51,7 @@ pub fn put_lines(out: &mut String, lines: &str) -> Written {
 }
 
 /// A decimal with at least one digit behind its point, and no zero behind that one at its end.
-pub fn put_decimal(out: &mut String, decimal: Decimal) -> Written {
+pub(crate) fn put_decimal(out: &mut String, decimal: Decimal) -> Written {
     let millionths = decimal.millionths();
     let size = millionths.unsigned_abs();
     let sign = if millionths < 0 { "-" } else { "" };
@@ -77,7 +77,7 @@ fn put_fraction(out: &mut String, millionths: u64) -> Written {
     Ok(())
 }
 
-pub fn put_number(out: &mut String, number: Number) -> Written {
+pub(crate) fn put_number(out: &mut String, number: Number) -> Written {
     match number {
         Number::Whole(whole) => {
             write!(out, "{whole}")?;
@@ -88,7 +88,7 @@ pub fn put_number(out: &mut String, number: Number) -> Written {
 }
 
 /// A refusal by its name with its numbers, or in its own words where the case wants these.
-pub fn put_refusal<E: Debug + Display>(
+pub(crate) fn put_refusal<E: Debug + Display>(
     alloc: Global,
     case: &Json,
     out: &mut String,
@@ -107,7 +107,7 @@ pub fn put_refusal<E: Debug + Display>(
 }
 
 /// What a condition says of a value.
-pub fn put_answer(out: &mut String, answer: Answer) -> Written {
+pub(crate) fn put_answer(out: &mut String, answer: Answer) -> Written {
     match answer {
         Ok(true) => out.push_str("true")?,
         Ok(false) => out.push_str("false")?,
@@ -117,7 +117,7 @@ pub fn put_answer(out: &mut String, answer: Answer) -> Written {
 }
 
 /// How a run of code ends.
-pub fn put_ended(out: &mut String, ended: Ended) -> Written {
+pub(crate) fn put_ended(out: &mut String, ended: Ended) -> Written {
     match ended {
         Ended::Done(outcome) => {
             put_answer(out, outcome.answer)?;
@@ -131,7 +131,7 @@ pub fn put_ended(out: &mut String, ended: Ended) -> Written {
 
 /// A value as JSON, but for decimals, which are written as numbers with a point.
 #[cycle(put_value)]
-pub fn put_value(out: &mut String, value: &Value) -> Written {
+pub(crate) fn put_value(out: &mut String, value: &Value) -> Written {
     match value {
         Value::Nil => out.push_str("null")?,
         Value::Bool(true) => out.push_str("true")?,
@@ -175,7 +175,7 @@ fn put_fields(out: &mut String, fields: &Fields) -> Written {
 
 /// A shape as the JSON that declares it.
 #[cycle(put_shape)]
-pub fn put_shape(out: &mut String, shape: &Shape) -> Written {
+pub(crate) fn put_shape(out: &mut String, shape: &Shape) -> Written {
     match shape {
         Shape::Bool => out.push_str("\"bool\"")?,
         Shape::Whole => out.push_str("\"whole\"")?,

@@ -10,7 +10,7 @@ use serde_json::Value as Json;
 use std::alloc::Global;
 use std::fmt::Write;
 
-pub fn put(alloc: Global, call: &str, case: &Json, out: &mut String) -> Written {
+pub(crate) fn put(alloc: Global, call: &str, case: &Json, out: &mut String) -> Written {
     match call {
         "read_shape" => put_read_shape(alloc, case, out),
         "plain" => put_plain(alloc, case, out),

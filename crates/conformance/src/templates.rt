@@ -9,7 +9,7 @@ use serde_json::Value as Json;
 use std::alloc::Global;
 use std::fmt::Write;
 
-pub fn put(alloc: Global, call: &str, case: &Json, out: &mut String) -> Written {
+pub(crate) fn put(alloc: Global, call: &str, case: &Json, out: &mut String) -> Written {
     match call {
         "bind" => put_bound(alloc, case, out),
         "arguments" => put_arguments(alloc, case, out),

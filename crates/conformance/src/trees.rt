@@ -6,7 +6,7 @@ use ar_condition::tree::{Binary, Comparison, Literal, Tree, Unary};
 use ar_value::operator::Predicate;
 use std::fmt::Write;
 
-pub fn put_literal(out: &mut String, literal: &Literal) -> Written {
+pub(crate) fn put_literal(out: &mut String, literal: &Literal) -> Written {
     match literal {
         Literal::Nil => out.push_str("nil")?,
         Literal::Bool(true) => out.push_str("true")?,
@@ -18,7 +18,7 @@ pub fn put_literal(out: &mut String, literal: &Literal) -> Written {
     Ok(())
 }
 
-pub fn comparison_sign(comparison: Comparison) -> &'static str {
+pub(crate) fn comparison_sign(comparison: Comparison) -> &'static str {
     match comparison {
         Comparison::Equal => "==",
         Comparison::NotEqual => "!=",
@@ -52,7 +52,7 @@ fn unary_sign(operator: Unary) -> &'static str {
     }
 }
 
-pub fn predicate_name(predicate: Predicate) -> &'static str {
+pub(crate) fn predicate_name(predicate: Predicate) -> &'static str {
     match predicate {
         Predicate::All => "all",
         Predicate::Any => "any",
@@ -116,7 +116,7 @@ fn put_children(out: &mut String, trees: &[Tree]) -> Written {
 }
 
 #[cycle(put_tree)]
-pub fn put_tree(out: &mut String, tree: &Tree) -> Written {
+pub(crate) fn put_tree(out: &mut String, tree: &Tree) -> Written {
     match tree {
         Tree::Result { .. } | Tree::Item { .. } => put_leaf(out, tree),
         Tree::Literal { literal, .. } => {

@@ -129,7 +129,7 @@ fn put_children(out: &mut String, items: &[Typed]) -> Written {
 }
 
 #[cycle(put_typed)]
-pub fn put_typed(out: &mut String, typed: &Typed) -> Written {
+pub(crate) fn put_typed(out: &mut String, typed: &Typed) -> Written {
     match typed {
         Typed::Result | Typed::Item | Typed::Literal(_) => put_words(out, typed),
         Typed::Field { owner, name } => {
