@@ -1,3 +1,4 @@
 pub mod Bundles
 pub mod HistoryLemmas
 pub mod CoreSteps
+pub mod Room

@@ -1,5 +1,5 @@
 -- A bundle: a template's metrics, its runs, and what happened to them, numbered from 0.
-use Rattle.std.specs.Prelude.{◌≡◌, ◌≢◌, ◌<◌, ◌≤◌, ℕ, true, List, [], ◌∷◌, length, slice_get, Option, Some, None, IfSome, option_and_then, option_map}
+use Rattle.std.specs.Prelude.{◌≡◌, ◌≢◌, ◌<◌, ◌≤◌, ◌==◌, ℕ, suc, true, List, [], ◌∷◌, length, slice_get, Option, Some, None, IfSome, count_by, option_and_then, option_map}
 use Rattle.std.specs.List.{AllByRecursion, filter_map}
 use Rattle.ar_value.specs.Fits.{fits}
 use Rattle.ar_value.specs.Shape.{Shape}
@@ -137,3 +137,19 @@ events_of bundle numbers = filter_map (happened bundle) numbers
 
 abbrev pub run_of : Bundle → (number : ℕ) → Option ℕ
 run_of bundle number = option_map (λ entry. entry.run) (slice_get bundle.entries number)
+
+-- ---- how many entries the runs have
+
+abbrev pub count_of : List EventPart → (run : ℕ) → ℕ
+count_of entries run = count_by (λ entry. entry.run == run) entries
+
+abbrev pub entries_of : Bundle → (run : ℕ) → ℕ
+entries_of bundle run = count_of bundle.entries run
+
+-- that of each run, counting from a run
+abbrev pub counts_of : List EventPart → (from : ℕ) → List RunPart → List ℕ
+counts_of entries from [] = []
+counts_of entries from (run ∷ runs) = count_of entries from ∷ counts_of entries (suc from) runs
+
+abbrev pub sizes_of : Bundle → List ℕ
+sizes_of bundle = counts_of bundle.entries 0 bundle.runs
