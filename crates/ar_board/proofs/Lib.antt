@@ -2,3 +2,4 @@ pub mod Bundles
 pub mod HistoryLemmas
 pub mod CoreSteps
 pub mod Room
+pub mod Sizes

@@ -2,7 +2,7 @@
 
 ghost use Rattle.std.specs.Prelude.{◌≡◌, ◌<◌, IfOk, IsOk, Some, length};
 ghost use Rattle.ar_limits.specs.Replay.{IsOfMetricBelow};
-ghost use Rattle.ar_board.specs.Bundle.{FoundWithoutCondition, IsBundle, NeedsNoCondition, SuitsMetric, bundle_of, found, found_of, happened, run_of};
+ghost use Rattle.ar_board.specs.Bundle.{FoundWithoutCondition, IsBundle, NeedsNoCondition, SuitsMetric, bundle_of, found, found_of, happened, run_of, sizes_of};
 ghost use Rattle.ar_board.specs.declared.bundle.What.TheVariants as What;
 ghost use Rattle.ar_judge.specs.Verdict.{sample_view};
 
@@ -183,6 +183,22 @@ impl Bundle {
         ensures { result.now ≡ self.now.entries }
     {
         &self.entries
+    }
+
+    /// How many entries each run has, in one pass over them.
+    ///
+    /// # Errors
+    ///
+    /// Want of memory alone.
+    #[tactic(auto, using(crate::proofs::Sizes::all_counted, crate::proofs::Sizes::none_counted))]
+    pub fn sizes(&self, alloc: Global) -> Result<Vec<usize>, AllocError>
+        ensures exact { IfOk result (λ sizes. sizes.items ≡ sizes_of self.now) }
+    {
+        let mut sizes = vec![in alloc; 0; self.runs.len()]?;
+        for entry in self.entries.as_slice() {
+            sizes[entry.run] += 1;
+        }
+        Ok(sizes)
     }
 
     /// How many entries there are.

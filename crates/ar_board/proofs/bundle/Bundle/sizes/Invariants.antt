@@ -1,0 +1,7 @@
+use Rattle.std.proofs.Common.{◌≡◌, take}
+use Rattle.ar_board.specs.Bundle.{counts_of}
+use Rattle.ar_board.proofs.bundle.Bundle.sizes.Given as goal
+
+-- the entries so far are counted
+abbrev pub invariant-loop-entry : goal.invariant-loop-entry
+invariant-loop-entry l = l.sizes.items ≡ counts_of (take l.entry-index l.entry-items) 0 l.self.runs
