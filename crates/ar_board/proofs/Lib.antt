@@ -3,3 +3,5 @@ pub mod HistoryLemmas
 pub mod CoreSteps
 pub mod Room
 pub mod Sizes
+pub mod Places
+pub mod Cells

@@ -1,5 +1,5 @@
 -- Histories that are lawful: each number stands once, in its own run's history, with its finding and its effect.
-use Rattle.std.specs.Prelude.{◌≡◌, ◌<◌, ◌==◌, ◌+◌, ℕ, suc, if◌then◌else◌, List, [], ◌∷◌, length, map, Some}
+use Rattle.std.specs.Prelude.{◌≡◌, ◌<◌, ◌≤◌, ◌==◌, ◌+◌, ℕ, suc, if◌then◌else◌, List, [], ◌∷◌, length, map, Some}
 use Rattle.std.specs.List.{AllByRecursion}
 use Rattle.ar_limits.specs.Run.{effects}
 use Rattle.ar_limits.specs.declared.limits.Limits.{Limits}
@@ -34,6 +34,15 @@ abbrev pub AreHistories : Bundle → (from : ℕ) → List RunPart → List (Lis
 AreHistories bundle from [] [] = Unit {0}
 AreHistories bundle from (run ∷ runs) (history ∷ histories) = IsHistory bundle from run.limits history × AreHistories bundle (suc from) runs histories
 AreHistories bundle from runs histories = ⊥
+
+abbrev pub AtMostOnce : List ℕ → Type 0
+AtMostOnce numbers = (number : ℕ) → times_in number numbers ≤ 1
+
+-- what a board has while numbers are still missing: a history for each run, of its own numbers, each at most once, with
+-- their findings and effects
+pub record AreHistoriesSoFar (bundle : Bundle) (histories : List (List Entry)) : Type 0 where
+  pub of_runs : AreHistories bundle 0 bundle.runs histories
+  pub once : AllByRecursion (λ history. AtMostOnce (numbers_of history)) histories
 
 -- a history for each run, and each number of the bundle just once in them
 pub record AreLawful (bundle : Bundle) (histories : List (List Entry)) : Type 0 where

@@ -1,3 +1,6 @@
 pub mod Bundle
 pub mod Lawful
 pub mod Core
+pub mod Receipts
+pub mod Cell
+pub mod Private

@@ -16,10 +16,16 @@
 #![tactic(auto)]
 
 pub mod bundle;
+pub mod cell;
 pub mod core_step;
 pub mod finding;
 pub mod history;
+mod kept_run;
 pub mod laws;
+pub mod names;
+pub mod posted;
+pub mod receipt;
+pub mod snapshot;
 
 pub use bundle::{Bundle, EventPart, Judges, MetricPart, RunLimits, RunPart, What};
 pub use core_step::CoreStep;

@@ -1,0 +1,47 @@
+-- How a cell keeps runs. No public contract speaks of this.
+use Rattle.std.specs.Prelude.{◌≡◌, ◌<◌, ◌≤◌, ◌==◌, ℕ, suc, if◌then◌else◌, List, [], ◌∷◌, length, map, Option, Some, None, option_map, get_or, slice_get, vec_capacity}
+use Rattle.ar_limits.specs.Replay.{IsOfMetricBelow}
+use Rattle.ar_limits.specs.declared.event.Event.{Event}
+use Rattle.ar_board.specs.Bundle.{Bundle, IsBundle, entries_of, most_events, run_of}
+use Rattle.ar_board.specs.Cell.{Cell, IsCell, KeptRun, history_at, lock_of}
+use Rattle.ar_board.specs.Lawful.{numbers_of}
+use Rattle.ar_board.specs.declared.history.Entry.{Entry}
+use Rattle.ar_board.specs.declared.kept_run.KeptRun.{KeptRun as Declared}
+
+-- a run can take one entry more, by a worker
+pub record CanTake (run : Declared) (worker : ℕ) (event : Event) : Type 0 where
+  pub entry : length run.entries.items < vec_capacity run.entries
+  pub author : length run.authors.items < vec_capacity run.authors
+  pub there : worker < length run.posts.items
+  pub few : get_or run.posts.items worker 0 < most_events
+  pub room : run.state.handed < most_events
+  pub metric : IsOfMetricBelow (length run.state.limits) event
+
+abbrev pub kept_of : Declared → KeptRun
+kept_of run = record { history = run.entries.items; authors = run.authors.items; posts = run.posts.items; state = run.state }
+
+abbrev pub cell_of : List Declared → (total : ℕ) → Cell
+cell_of runs total = record { runs = map kept_of runs; total = total }
+
+-- where a number stands among some
+abbrev pub place_in : (number : ℕ) → List ℕ → Option ℕ
+place_in number [] = None
+place_in number (first ∷ numbers) = if first == number then Some 0 else option_map suc (place_in number numbers)
+
+-- the place of each number in its run's history, where it stands there
+pub record IsTable (bundle : Bundle) (cell : Cell) (places : List (Option ℕ)) : Type 0 where
+  pub as_many : length places ≡ length bundle.entries
+  pub each : (number run : ℕ) → run_of bundle number ≡ Some run → slice_get places number ≡ Some (place_in number (numbers_of (history_at cell run)))
+
+-- room for all entries of a run that is under the lock
+pub record HasRoom (bundle : Bundle) (lock run : ℕ) (kept : Declared) : Type 0 where
+  pub entries : lock_of run ≡ lock → entries_of bundle run ≤ vec_capacity kept.entries
+  pub authors : lock_of run ≡ lock → entries_of bundle run ≤ vec_capacity kept.authors
+
+-- what always holds of a cell
+pub record IsInside (named : Bundle) (workers lock : ℕ) (bundle : Bundle) (runs : List Declared) (places : List (Option ℕ)) (total : ℕ) : Type 0 where
+  pub is_named : bundle ≡ named
+  pub is_bundle : IsBundle bundle
+  pub cell : IsCell bundle workers lock (cell_of runs total)
+  pub table : IsTable bundle (cell_of runs total) places
+  pub room : (run : ℕ) (kept : Declared) → slice_get runs run ≡ Some kept → HasRoom bundle lock run kept

@@ -1,0 +1,32 @@
+//! Types that name a bundle or a lock in contracts. They have no values: a function over them speaks of
+//! whichever bundle and lock its caller has.
+
+ghost use Rattle.ar_board.specs.Bundle.{bundle_of};
+ghost use Rattle.std.specs.Prelude.{ℕ, []};
+
+use std::marker::Brand;
+use std::sync::ledger::Ledger;
+
+/// Names a bundle, and how many workers there are for it.
+pub trait BundleName {
+    ghost use Rattle.ar_board.specs.Bundle.{Bundle};
+
+    ghost bundle: { Bundle };
+
+    ghost workers: { ℕ };
+}
+
+impl BundleName for Brand {
+    ghost bundle = { bundle_of [] [] [] };
+
+    ghost workers = { 0 };
+}
+
+/// Names a lock of a board, and the ledger of what is posted under it.
+pub trait LockName: Ledger {
+    ghost lock: { ℕ };
+}
+
+impl LockName for Brand {
+    ghost lock = { 0 };
+}
