@@ -5,3 +5,4 @@ pub mod Room
 pub mod Sizes
 pub mod Places
 pub mod Cells
+pub mod Shows

@@ -1,13 +1,18 @@
 //! What a cell keeps of one run.
 
-ghost use Rattle.std.specs.Prelude.{◌≡◌, ◌+◌, [], ◌∷◌, ◌++◌, length, slice_index_or, slice_set, vec_capacity};
+ghost use Rattle.std.specs.Prelude.{◌≡◌, ◌+◌, ◌<◌, ◌↔◌, [], ◌∷◌, ◌++◌, IfOk, IsTrue, Some, length, slice_get, slice_index_or, slice_set, vec_capacity};
+ghost use Rattle.ar_limits.specs.Metric.{HasPositiveCounts};
+ghost use Rattle.ar_board.specs.declared.history.Entry.{Entry};
 ghost use Rattle.ar_limits.specs.Replay.{ForEachReplay, Replays};
 ghost use Rattle.ar_limits.specs.Run.{effect_of};
 
 use crate::finding::Finding;
 use crate::history::Entry;
 use crate::posted::Posted;
-use ar_limits::{Event, RunState};
+use crate::receipt::Receipt;
+use crate::snapshot::Snapshot;
+use ar_limits::{Event, Limits, Phase, RunState};
+use std::alloc::{AllocError, Global};
 
 /// The history of a run, the worker that posted each of its entries, how many each worker posted, and
 /// where the run stands.
@@ -20,7 +25,26 @@ pub(crate) struct KeptRun {
 }
 
 impl KeptRun {
-    ghost use Rattle.ar_board.specs.Private.Kept.{CanTake};
+    ghost use Rattle.ar_board.specs.Private.Kept.{CanTake, IsNextOwn, IsOpened, own_from};
+    ghost use Rattle.ar_board.specs.Receipts.{posted_by, received};
+
+    /// A run to which nothing has happened, with room for so many entries.
+    pub(crate) fn open(
+        alloc: Global,
+        limits: &[Limits],
+        room: usize,
+        workers: usize,
+    ) -> Result<KeptRun, AllocError>
+        requires { HasPositiveCounts limits.now }
+        ensures { IfOk result (IsOpened limits.now room workers) }
+    {
+        Ok(KeptRun {
+            entries: Vec::with_capacity(alloc, room)?,
+            authors: Vec::with_capacity(alloc, room)?,
+            posts: vec![in alloc; 0; workers]?,
+            state: RunState::new(alloc, limits)?,
+        })
+    }
 
     /// One entry more, by a worker. There is room for it.
     pub(crate) fn push(
@@ -54,5 +78,76 @@ impl KeptRun {
         self.authors.push_reserved(worker);
         self.posts[worker] += 1;
         Posted { place, effect }
+    }
+
+    /// Whether the numbers and places of a worker's entries are those of its receipts for the run.
+    #[tactic(auto, using(crate::proofs::Shows::agree_at_first, crate::proofs::Shows::agree_skip))]
+    pub(crate) fn agrees(&self, run: usize, worker: usize, receipts: &[Receipt]) -> bool
+        requires { length self.now.authors.items ≡ length self.now.entries.items }
+        ensures { IsTrue result
+            ↔ (posted_by worker self.now.entries.items self.now.authors.items ≡ received run receipts.now) }
+    {
+        let mut from = 0;
+        for receipt in receipts {
+            if receipt.run != run {
+                continue;
+            }
+            match self.next_own(worker, from) {
+                Some(place) if self.is_of(place, receipt) => from = place + 1,
+                _ => return false,
+            }
+        }
+        self.next_own(worker, from).is_none()
+    }
+
+    /// Whether the entry at a place is that of a receipt.
+    fn is_of(&self, place: usize, receipt: &Receipt) -> bool
+        requires { place < length self.now.entries.items }
+        ensures { (entry : Entry) → slice_get self.now.entries.items place ≡ Some entry
+            → IsTrue result ↔ ((entry.number ≡ receipt.now.number) × (place ≡ receipt.now.place)) }
+    {
+        place == receipt.place && self.entries[place].number == receipt.number
+    }
+
+    /// The first place from one on with an entry of the worker.
+    #[tactic(auto, using(crate::proofs::Shows::next_skip, crate::proofs::Shows::next_here, crate::proofs::Shows::next_end))]
+    fn next_own(&self, worker: usize, from: usize) -> Option<usize>
+        requires { length self.now.authors.items ≡ length self.now.entries.items }
+        ensures { IsNextOwn worker self.now.entries.items self.now.authors.items from result }
+    {
+        for place in from..self.authors.len() {
+            if self.authors[place] == worker {
+                return Some(place);
+            }
+        }
+        None
+    }
+
+    /// What is shown of the run.
+    pub(crate) fn snapshot(&self, alloc: Global) -> Result<Snapshot, AllocError>
+        requires { length self.now.state.phases ≡ length self.now.state.limits }
+        ensures phase { IfOk result (λ shown. shown.phase ≡ self.now.state.phase) }
+        ensures metrics { IfOk result (λ shown. shown.metrics.items ≡ self.now.state.phases) }
+        ensures posts { IfOk result (λ shown. shown.posts.items ≡ self.now.posts.items) }
+    {
+        Ok(Snapshot {
+            phase: self.state.phase(),
+            metrics: self.metric_phases(alloc)?,
+            posts: self.posts.to_vec(alloc)?,
+        })
+    }
+
+    /// The phase of each metric.
+    #[tactic(auto, using(crate::proofs::Shows::phases_next, crate::proofs::Shows::phases_all))]
+    fn metric_phases(&self, alloc: Global) -> Result<Vec<Phase>, AllocError>
+        requires { length self.now.state.phases ≡ length self.now.state.limits }
+        ensures { IfOk result (λ phases. phases.items ≡ self.now.state.phases) }
+    {
+        let metrics = self.state.metrics();
+        let mut phases = Vec::with_capacity(alloc, metrics)?;
+        for metric in 0..metrics {
+            phases.push(self.state.metric_phase(metric))?;
+        }
+        Ok(phases)
     }
 }

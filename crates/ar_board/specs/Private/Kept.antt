@@ -1,10 +1,12 @@
 -- How a cell keeps runs. No public contract speaks of this.
-use Rattle.std.specs.Prelude.{◌≡◌, ◌<◌, ◌≤◌, ◌==◌, ℕ, suc, if◌then◌else◌, List, [], ◌∷◌, length, map, Option, Some, None, option_map, get_or, slice_get, vec_capacity}
-use Rattle.ar_limits.specs.Replay.{IsOfMetricBelow}
+use Rattle.std.specs.Prelude.{◌≡◌, ◌<◌, ◌≤◌, ◌==◌, ℕ, suc, if◌then◌else◌, List, [], ◌∷◌, length, map, Option, Some, None, option_map, drop, get_or, replicate, slice_get, vec_capacity}
+use Rattle.ar_limits.specs.Replay.{IsOfMetricBelow, Replays}
 use Rattle.ar_limits.specs.declared.event.Event.{Event}
+use Rattle.ar_limits.specs.declared.limits.Limits.{Limits}
 use Rattle.ar_board.specs.Bundle.{Bundle, IsBundle, entries_of, most_events, run_of}
 use Rattle.ar_board.specs.Cell.{Cell, IsCell, KeptRun, history_at, lock_of}
 use Rattle.ar_board.specs.Lawful.{numbers_of}
+use Rattle.ar_board.specs.Receipts.{posted_from}
 use Rattle.ar_board.specs.declared.history.Entry.{Entry}
 use Rattle.ar_board.specs.declared.kept_run.KeptRun.{KeptRun as Declared}
 
@@ -16,6 +18,25 @@ pub record CanTake (run : Declared) (worker : ℕ) (event : Event) : Type 0 wher
   pub few : get_or run.posts.items worker 0 < most_events
   pub room : run.state.handed < most_events
   pub metric : IsOfMetricBelow (length run.state.limits) event
+
+-- a run to which nothing has happened, with room for so many entries
+pub record IsOpened (limits : List Limits) (room workers : ℕ) (run : Declared) : Type 0 where
+  pub entries : run.entries.items ≡ []
+  pub authors : run.authors.items ≡ []
+  pub posts : run.posts.items ≡ replicate workers 0
+  pub state : Replays limits [] run.state
+  pub has_room : room ≤ vec_capacity run.entries
+  pub has_room_for_authors : room ≤ vec_capacity run.authors
+
+-- a worker's entries from a place on
+abbrev pub own_from : (worker : ℕ) → List Entry → (authors : List ℕ) → (from : ℕ) → List (ℕ × ℕ)
+own_from worker entries authors from = posted_from from worker (drop from entries) (drop from authors)
+
+-- the first of them, where there is one
+abbrev pub IsNextOwn : (worker : ℕ) → List Entry → (authors : List ℕ) → (from : ℕ) → Option ℕ → Type 0
+IsNextOwn worker entries authors from None = own_from worker entries authors from ≡ []
+IsNextOwn worker entries authors from (Some place) =
+    (entry : Entry) × (slice_get entries place ≡ Some entry) × (own_from worker entries authors from ≡ (entry.number, place) ∷ own_from worker entries authors (suc place))
 
 abbrev pub kept_of : Declared → KeptRun
 kept_of run = record { history = run.entries.items; authors = run.authors.items; posts = run.posts.items; state = run.state }
