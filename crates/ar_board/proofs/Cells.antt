@@ -11,18 +11,18 @@ use Rattle.ar_limits.specs.Run.{effect_of}
 use Rattle.ar_limits.specs.declared.event.Effect.{Effect}
 use Rattle.ar_limits.specs.declared.event.Event.{Event}
 use Rattle.ar_limits.specs.declared.limits.Limits.{Limits}
-use Rattle.ar_board.specs.Bundle.{Bundle, IsBundle, IsRun, entries_of, events_of, found, happened, most_events, run_of}
+use Rattle.ar_board.specs.Bundle.{Bundle, IsBundle, IsRun, count_of, counts_of, entries_of, events_of, found, happened, most_events, run_of, sizes_of}
 use Rattle.ar_board.specs.Cell.{ArePosts, Cell, IsCell, IsKept, IsPosted, IsUnder, KeptRun, Stands, authors_at, authors_of, histories_of, history_at, lock_of}
 use Rattle.ar_board.specs.Core.{added, posted}
 use Rattle.ar_board.specs.Lawful.{AreHistories, AtMostOnce, IsFound, IsHistory, numbers_of, times, times_in}
-use Rattle.ar_board.specs.Private.Kept.{CanTake, HasRoom, IsInside, IsTable, cell_of, kept_of, place_in}
+use Rattle.ar_board.specs.Private.KeptRuns.{CanTake, HasRoom, IsInside, IsTable, cell_of, kept_of, place_in}
 use Rattle.ar_board.specs.declared.bundle.EventPart.{EventPart}
 use Rattle.ar_board.specs.declared.bundle.RunPart.{RunPart}
 use Rattle.ar_board.specs.declared.finding.Finding.{Finding}
 use Rattle.ar_board.specs.declared.history.Entry.{Entry}
 use Rattle.ar_board.specs.declared.kept_run.KeptRun.{KeptRun as Declared}
 use Rattle.ar_board.specs.declared.posted.Posted.{Posted}
-use Rattle.ar_board.proofs.Bundles.{of_each, run_of_number}
+use Rattle.ar_board.proofs.Bundles.{entry_at, of_each, run_of_number}
 use Rattle.ar_board.proofs.HistoryLemmas.{all_push, events_push, history_push, numbers_push, times_push}
 use Rattle.ar_board.proofs.Places.{absent, place_last, place_other, present, times_own}
 use Rattle.ar_board.proofs.Room.{has_room}
@@ -62,6 +62,16 @@ pub few_happen : (bundle : Bundle) (numbers : List ℕ) → length (events_of bu
 few_happen bundle [] = omega arith
 few_happen bundle (number ∷ numbers) = one_happens (happened bundle number) (events_of bundle numbers) (length numbers) (few_happen bundle numbers)
 
+-- ---- how many entries a run has
+
+count_at : (entries : List EventPart) (from run : ℕ) (parts : List RunPart) (d : ℕ) → run < length parts → get_or (counts_of entries from parts) run d ≡ count_of entries (from + run)
+count_at entries from run [] d inside = absurd (omega arith)
+count_at entries from zero (part ∷ parts) d inside = ap (count_of entries) (omega arith)
+count_at entries from (suc run) (part ∷ parts) d inside = count_at entries (suc from) run parts d (omega arith) ∙ ap (count_of entries) (omega arith)
+
+pub size_at : (bundle : Bundle) (run d : ℕ) → run < length bundle.runs → get_or (sizes_of bundle) run d ≡ entries_of bundle run
+size_at bundle run d inside = count_at bundle.entries 0 run bundle.runs d inside ∙ ap (entries_of bundle) (omega arith)
+
 -- ---- histories of a cell
 
 histories_from : (bundle : Bundle) (from : ℕ) (parts : List RunPart) (kept : List KeptRun) → length kept ≡ length parts
@@ -85,7 +95,7 @@ histories_are bundle workers lock cell is =
         let here : run ≡ 0 + run = omega arith in
         subst (λ (at : ℕ). IsHistory bundle at part.limits kept.history) here (is.each run part kept there kept_there).history)
 
-kept_at : (runs : List Declared) (run : ℕ) (kept : Declared) → slice_get runs run ≡ Some kept → slice_get (map kept_of runs) run ≡ Some (kept_of kept)
+pub kept_at : (runs : List Declared) (run : ℕ) (kept : Declared) → slice_get runs run ≡ Some kept → slice_get (map kept_of runs) run ≡ Some (kept_of kept)
 kept_at runs run kept there = slice_get-map kept_of runs run ∙ ap (option_map kept_of) there
 
 pub history_is : (runs : List Declared) (total run : ℕ) (kept : Declared) → slice_get runs run ≡ Some kept → history_at (cell_of runs total) run ≡ kept.entries.items
@@ -97,6 +107,12 @@ pub authors_are : (runs : List Declared) (total run : ℕ) (kept : Declared) →
 authors_are runs total run kept there =
     get_or_from_slice_get (authors_of (cell_of runs total)) run kept.authors.items []
     (slice_get-map (λ (kept : KeptRun). kept.authors) (map kept_of runs) run ∙ ap (option_map (λ (kept : KeptRun). kept.authors)) (kept_at runs run kept there))
+
+pub read_history : (named : Bundle) (workers lock : ℕ) (bundle : Bundle) (runs : List Declared) (places : List (Option ℕ)) (total run : ℕ) (kept : Declared) → IsInside named workers lock bundle runs places total → run < length named.runs → kept ≡ get_or runs run kept → history_at (cell_of runs total) run ≡ kept.entries.items
+read_history named workers lock bundle runs places total run kept inside below read =
+    let many : length runs ≡ length bundle.runs = sym (length-map runs kept_of) ∙ inside.cell.as_many in
+    let same = ap (λ (bundle : Bundle). length bundle.runs) inside.is_named in
+    history_is runs total run kept (slice_get_read runs (length runs) run kept refl (omega arith) read)
 
 -- ---- a number that doesn't stand there yet
 
@@ -114,11 +130,6 @@ pub record IsReady (bundle : Bundle) (workers lock : ℕ) (runs : List Declared)
   pub few : length kept.entries.items < entries_of bundle run
   pub few_events : length kept.entries.items < most_events
   pub room : HasRoom bundle lock run kept
-
-entry_at : {A : Type 0} (xs : List A) (place : ℕ) → place < length xs → (x : A) × (slice_get xs place ≡ Some x)
-entry_at [] place inside = absurd (omega arith)
-entry_at (first ∷ rest) zero inside = (first, refl)
-entry_at (first ∷ rest) (suc place) inside = entry_at rest place (omega arith)
 
 pub ready : (named : Bundle) (workers lock : ℕ) (bundle : Bundle) (runs : List Declared) (places : List (Option ℕ)) (total number run : ℕ) (kept : Declared) (place : Option ℕ) → IsInside named workers lock bundle runs places total
     → IsUnder named lock number → number < length bundle.entries → run_of bundle number ≡ Some run → run < length bundle.runs → kept ≡ get_or runs run kept → place ≡ get_or places number place → place ≡ None

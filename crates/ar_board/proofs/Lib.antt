@@ -6,3 +6,4 @@ pub mod Sizes
 pub mod Places
 pub mod Cells
 pub mod Shows
+pub mod Opened

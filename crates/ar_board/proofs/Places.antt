@@ -7,7 +7,7 @@ use Rattle.ar_board.specs.Bundle.{Bundle, run_of}
 use Rattle.ar_board.specs.Lawful.{AreHistories, IsFound, IsHistory, numbers_of, times, times_in}
 use Rattle.ar_board.specs.declared.bundle.RunPart.{RunPart}
 use Rattle.ar_board.specs.declared.history.Entry.{Entry}
-use Rattle.ar_board.specs.Private.Kept.{place_in}
+use Rattle.ar_board.specs.Private.KeptRuns.{place_in}
 
 -- ---- among numbers
 

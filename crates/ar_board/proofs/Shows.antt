@@ -7,7 +7,7 @@ use Rattle.std.proofs.lemmas.List.{take_all}
 use Rattle.std.proofs.lemmas.Option.{get_or_from_slice_get, slice_get-get_or, slice_get_read}
 use Rattle.ar_limits.specs.declared.phase.Phase.{Phase}
 use Rattle.ar_board.specs.Receipts.{posted_from, posted_if, received, received_if}
-use Rattle.ar_board.specs.Private.Kept.{IsNextOwn, own_from}
+use Rattle.ar_board.specs.Private.KeptRuns.{IsNextOwn, own_from}
 use Rattle.ar_board.specs.declared.history.Entry.{Entry}
 use Rattle.ar_board.specs.declared.receipt.Receipt.{Receipt}
 

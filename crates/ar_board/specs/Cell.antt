@@ -14,6 +14,8 @@ use Rattle.ar_board.specs.declared.finding.Finding.{Finding}
 use Rattle.ar_board.specs.declared.history.Entry.{Entry}
 use Rattle.ar_board.specs.declared.posted.Posted.{Posted}
 use Rattle.ar_board.specs.declared.receipt.Receipt.{Receipt}
+use Rattle.ar_board.specs.declared.snapshot.LookFault.{LookFault}
+use Rattle.ar_board.specs.declared.snapshot.LookFault.TheVariants.{OutOfMemory, Stale}
 use Rattle.ar_board.specs.declared.snapshot.Snapshot.{Snapshot}
 
 -- what a cell keeps of a run: its history, the worker that posted each entry, how many each worker posted, and where the
@@ -35,10 +37,13 @@ lock_of run = 0
 
 -- ---- what is true of a cell
 
--- how many entries each of the workers posted
+-- how many entries a worker posted, and each of the workers
+abbrev pub posts_of : (worker : ℕ) → (authors : List ℕ) → ℕ
+posts_of worker authors = count_by (λ author. author == worker) authors
+
 pub record ArePosts (workers : ℕ) (authors posts : List ℕ) : Type 0 where
   pub each_worker : length posts ≡ workers
-  pub counted : (worker : ℕ) → worker < workers → slice_get posts worker ≡ Some (count_by (λ author. author == worker) authors)
+  pub counted : (worker : ℕ) → worker < workers → slice_get posts worker ≡ Some (posts_of worker authors)
 
 -- what the cell of a lock keeps of a run with these limits
 pub record IsKept (bundle : Bundle) (workers lock run : ℕ) (limits : List Limits) (kept : KeptRun) : Type 0 where
@@ -75,9 +80,6 @@ authors_of cell = map (λ kept. kept.authors) cell.runs
 abbrev pub authors_at : Cell → (run : ℕ) → List ℕ
 authors_at cell run = get_or (authors_of cell) run []
 
-abbrev pub posts_at : Cell → (run : ℕ) → List ℕ
-posts_at cell run = get_or (map (λ kept. kept.posts) cell.runs) run []
-
 -- nothing was posted yet
 pub record IsEmpty (cell : Cell) : Type 0 where
   pub histories : AllByRecursion (λ kept. kept.history ≡ []) cell.runs
@@ -106,11 +108,18 @@ pub record IsPosted (bundle : Bundle) (worker number : ℕ) (finding : Finding) 
 -- ---- a look
 
 -- what is shown of a run: the phases that its history leads to, and how many entries each worker posted
-pub record IsSnapshot (cell : Cell) (bundle : Bundle) (run : ℕ) (limits : List Limits) (shown : Snapshot) : Type 0 where
-  pub phase : shown.phase ≡ run_phase limits (events_of bundle (numbers_of (history_at cell run)))
-  pub metrics : shown.metrics.items ≡ metric_phases limits (events_of bundle (numbers_of (history_at cell run)))
-  pub posts : shown.posts.items ≡ posts_at cell run
+pub record IsSnapshot (bundle : Bundle) (run : ℕ) (cell : Cell) (shown : Snapshot) : Type 0 where
+  pub part : RunPart
+  pub there : slice_get bundle.runs run ≡ Some part
+  pub phase : shown.phase ≡ run_phase part.limits (events_of bundle (numbers_of (history_at cell run)))
+  pub metrics : shown.metrics.items ≡ metric_phases part.limits (events_of bundle (numbers_of (history_at cell run)))
+  pub posts : ArePosts (length shown.posts.items) (authors_at cell run) shown.posts.items
 
 -- the numbers and places of a worker's entries in a run's history are those of its receipts for the run
 abbrev pub IsFresh : Cell → (run worker : ℕ) → List Receipt → Type 0
 IsFresh cell run worker receipts = posted_by worker (history_at cell run) (authors_at cell run) ≡ received run receipts
+
+-- want of memory, or that there are so many entries by the worker
+abbrev pub CanBe : (worker : ℕ) → (authors : List ℕ) → LookFault → Type 0
+CanBe worker authors OutOfMemory = Unit {0}
+CanBe worker authors (Stale posts) = posts ≡ posts_of worker authors

@@ -1,2 +1,2 @@
 -- What private contracts speak of.
-pub mod Kept
+pub mod KeptRuns

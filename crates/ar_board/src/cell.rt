@@ -1,14 +1,20 @@
 //! What a board keeps under one of its locks.
 
-ghost use Rattle.std.specs.Prelude.{◌≡◌, ◌+◌, ◌<◌, ◌↔◌, IfOk, IsErr, OnErr, OnOk, Some, length};
-ghost use Rattle.ar_board.specs.Bundle.{found};
-ghost use Rattle.ar_board.specs.Cell.{IsEmpty, IsPosted, IsUnder, Stands};
+ghost use Rattle.std.specs.Prelude.{◌≡◌, ◌+◌, ◌<◌, ◌↔◌, Err, IfErr, IfOk, IsErr, None, OnErr, OnOk, Some, length, replicate};
+ghost use Rattle.ar_board.specs.Bundle.{IsBundle, found};
+ghost use Rattle.ar_board.specs.Cell.{CanBe, IsCell, IsEmpty, IsFresh, IsPosted, IsSnapshot, IsUnder, Stands, authors_at, history_at, lock_of, posts_of};
+ghost use Rattle.ar_board.specs.Private.KeptRuns.{AreOpened};
+ghost use Rattle.ar_board.specs.declared.snapshot.LookFault.TheVariants as LookFault;
 
 use crate::bundle::Bundle;
 use crate::finding::Finding;
+use crate::history::Entry;
 use crate::kept_run::KeptRun;
 use crate::names::{BundleName, LockName};
 use crate::posted::{Double, Posted};
+use crate::receipt::Receipt;
+use crate::snapshot::{LookFault, Snapshot};
+use std::alloc::{AllocError, Global};
 use std::marker::{Model, PhantomData};
 use std::sync::ledger::{Book, Share};
 
@@ -28,7 +34,7 @@ pub struct RunCell<'b, M: BundleName, L: LockName> {
 
 impl<'b, M: BundleName, L: LockName> Model for RunCell<'b, M, L> {
     ghost use Rattle.ar_board.specs.Cell.{Cell};
-    ghost use Rattle.ar_board.specs.Private.Kept.{IsInside, cell_of};
+    ghost use Rattle.ar_board.specs.Private.KeptRuns.{IsInside, cell_of};
 
     ghost Value = { Cell };
 
@@ -37,7 +43,99 @@ impl<'b, M: BundleName, L: LockName> Model for RunCell<'b, M, L> {
     ghost invariant = { λ c. IsInside M.bundle M.workers L.lock c.bundle.now c.runs.items c.places.items c.book.total };
 }
 
+/// Each run of a bundle, to which nothing has happened, with room for all of its entries.
+#[tactic(auto, using(crate::proofs::Opened::opened_next, crate::proofs::Opened::sizes_there))]
+fn open_runs(alloc: Global, bundle: &Bundle, workers: usize) -> Result<Vec<KeptRun>, AllocError>
+    ensures opened { IfOk result (λ runs. AreOpened bundle.now workers (length bundle.now.runs) runs.items) }
+    ensures bundle { IfOk result (λ _. IsBundle bundle.now) }
+{
+    let sizes = bundle.sizes(alloc)?;
+    let parts = bundle.runs();
+    let mut runs = Vec::with_capacity(alloc, parts.len())?;
+    for part in parts {
+        let room = sizes[runs.len()];
+        runs.push(KeptRun::open(alloc, part.limits.as_slice(), room, workers)?)?;
+    }
+    Ok(runs)
+}
+
+/// So many numbers, none of which has a place.
+fn no_places(alloc: Global, numbers: u64) -> Result<Vec<Option<usize>>, AllocError>
+    ensures { IfOk result (λ places. places.items ≡ replicate numbers None) }
+{
+    let mut places = Vec::with_capacity(alloc, numbers as usize)?;
+    for _number in 0..numbers {
+        places.push(None)?;
+    }
+    Ok(places)
+}
+
 impl<'b, M: BundleName, L: LockName> RunCell<'b, M, L> {
+    /// The cell of a lock to which nothing was posted, with the book of the lock's ledger. All that
+    /// posts want is reserved here.
+    ///
+    /// # Errors
+    ///
+    /// Want of memory alone.
+    pub fn new(
+        alloc: Global,
+        bundle: &'b Bundle,
+        workers: usize,
+        book: Book<L>,
+    ) -> Result<RunCell<'b, M, L>, AllocError>
+        requires bundle { bundle.now ≡ M.bundle }
+        requires workers { workers ≡ M.workers }
+        requires book { book.total ≡ 0 }
+        ensures empty { IfOk result IsEmpty }
+        ensures cell { IfOk result (IsCell M.bundle M.workers L.lock) }
+    {
+        Ok(RunCell {
+            bundle,
+            runs: open_runs(alloc, bundle, workers)?,
+            places: no_places(alloc, bundle.events())?,
+            book,
+            name: PhantomData,
+        })
+    }
+
+    /// The history of a run. `IsCell` is true of each cell, whatever was posted.
+    pub fn history(&self, run: usize) -> &[Entry]
+        requires { run < length M.bundle.runs }
+        ensures history { result.now ≡ history_at self.now run }
+        ensures cell { IsCell M.bundle M.workers L.lock self.now }
+    {
+        &self.runs[run].entries
+    }
+
+    /// A run as its history is now, where the worker's entries in it are those of its receipts for the
+    /// run. It takes time in proportion to these and to the run's entries.
+    ///
+    /// # Errors
+    ///
+    /// `Stale` where they aren't, or want of memory.
+    pub fn show(
+        &self,
+        alloc: Global,
+        run: usize,
+        worker: usize,
+        receipts: &[Receipt],
+    ) -> Result<Snapshot, LookFault>
+        requires there { run < length M.bundle.runs }
+        requires under { lock_of run ≡ L.lock }
+        requires worker { worker < M.workers }
+        ensures shown { IfOk result (IsSnapshot M.bundle run self.now) }
+        ensures fresh { IfOk result (λ _. IsFresh self.now run worker receipts.now) }
+        ensures stale { (IsFresh self.now run worker receipts.now → ⊥)
+            ↔ (result ≡ Err (LookFault.Stale (posts_of worker (authors_at self.now run)))) }
+        ensures fault { IfErr result (λ fault. CanBe worker (authors_at self.now run) fault) }
+    {
+        let kept = &self.runs[run];
+        if !kept.agrees(run, worker, receipts) {
+            return Err(LookFault::Stale(kept.posts[worker]));
+        }
+        Ok(kept.snapshot(alloc)?)
+    }
+
     /// A worker's finding of a number comes to the end of its run's history, which adds one to the share
     /// and to the book. No memory is taken.
     ///

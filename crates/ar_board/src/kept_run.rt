@@ -25,7 +25,7 @@ pub(crate) struct KeptRun {
 }
 
 impl KeptRun {
-    ghost use Rattle.ar_board.specs.Private.Kept.{CanTake, IsNextOwn, IsOpened, own_from};
+    ghost use Rattle.ar_board.specs.Private.KeptRuns.{CanTake, IsNextOwn, IsOpened, own_from};
     ghost use Rattle.ar_board.specs.Receipts.{posted_by, received};
 
     /// A run to which nothing has happened, with room for so many entries.

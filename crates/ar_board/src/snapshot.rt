@@ -1,5 +1,8 @@
 //! What a look at a run shows.
 
+ghost use Rattle.std.specs.Prelude.{◌≡◌};
+ghost use Rattle.ar_board.specs.declared.snapshot.LookFault.TheVariants.{OutOfMemory};
+
 use ar_limits::Phase;
 use std::alloc::AllocError;
 
@@ -23,7 +26,7 @@ pub enum LookFault {
 }
 
 impl From<AllocError> for LookFault {
-    ghost from_gives = { λ error fault. fault ≡ LookFault.OutOfMemory };
+    ghost from_gives = { λ _ fault. fault ≡ OutOfMemory };
 
     fn from(_error: AllocError) -> LookFault {
         LookFault::OutOfMemory

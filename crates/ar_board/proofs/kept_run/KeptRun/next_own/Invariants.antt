@@ -1,5 +1,5 @@
 use Rattle.std.proofs.Common.{◌≡◌}
-use Rattle.ar_board.specs.Private.Kept.{own_from}
+use Rattle.ar_board.specs.Private.KeptRuns.{own_from}
 use Rattle.ar_board.proofs.kept_run.KeptRun.next_own.Given as goal
 
 -- none of the entries so far is the worker's

@@ -7,6 +7,7 @@ use Rattle.ar_board.specs.Bundle.{Bundle, IsBundle, entries_of, most_events, run
 use Rattle.ar_board.specs.Cell.{Cell, IsCell, KeptRun, history_at, lock_of}
 use Rattle.ar_board.specs.Lawful.{numbers_of}
 use Rattle.ar_board.specs.Receipts.{posted_from}
+use Rattle.ar_board.specs.declared.bundle.RunPart.{RunPart}
 use Rattle.ar_board.specs.declared.history.Entry.{Entry}
 use Rattle.ar_board.specs.declared.kept_run.KeptRun.{KeptRun as Declared}
 
@@ -27,6 +28,12 @@ pub record IsOpened (limits : List Limits) (room workers : ℕ) (run : Declared)
   pub state : Replays limits [] run.state
   pub has_room : room ≤ vec_capacity run.entries
   pub has_room_for_authors : room ≤ vec_capacity run.authors
+
+-- so it is of the first so many runs of a bundle, with room for all of their entries
+pub record AreOpened (bundle : Bundle) (workers upto : ℕ) (runs : List Declared) : Type 0 where
+  pub as_many : length runs ≡ upto
+  pub each : (run : ℕ) (part : RunPart) (kept : Declared) → slice_get bundle.runs run ≡ Some part → slice_get runs run ≡ Some kept
+      → IsOpened part.limits (entries_of bundle run) workers kept
 
 -- a worker's entries from a place on
 abbrev pub own_from : (worker : ℕ) → List Entry → (authors : List ℕ) → (from : ℕ) → List (ℕ × ℕ)
