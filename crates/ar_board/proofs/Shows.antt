@@ -3,13 +3,23 @@ use Rattle.std.proofs.Common.{◌≡◌, ◌≢◌, ◌<◌, ◌≤◌, ℕ, zer
 use Rattle.std.specs.Prelude.{◌↔◌, IsTrue, slice_get, slice_index_or}
 use Rattle.std.proofs.Math.Seq.{take-suc}
 use Rattle.std.proofs.lemmas.Bool.Decides.{nat_tests}
-use Rattle.std.proofs.lemmas.List.{take_all}
+use Rattle.std.proofs.lemmas.List.{length-map, take_all}
 use Rattle.std.proofs.lemmas.Option.{get_or_from_slice_get, slice_get-get_or, slice_get_read}
+use Rattle.ar_limits.proofs.LawLemmas.{one_for_each_metric}
+use Rattle.ar_limits.specs.Run.{metric_phases, run_phase}
 use Rattle.ar_limits.specs.declared.phase.Phase.{Phase}
-use Rattle.ar_board.specs.Receipts.{posted_from, posted_if, received, received_if}
-use Rattle.ar_board.specs.Private.KeptRuns.{IsNextOwn, own_from}
+use Rattle.ar_board.specs.Bundle.{Bundle, events_of}
+use Rattle.ar_board.specs.Cell.{ArePosts, Cell, IsFresh, IsKept, IsSnapshot, authors_at, history_at, posts_of}
+use Rattle.ar_board.specs.Lawful.{numbers_of}
+use Rattle.ar_board.specs.Receipts.{posted_by, posted_from, posted_if, received, received_if}
+use Rattle.ar_board.specs.Private.KeptRuns.{IsInside, IsNextOwn, cell_of, kept_of, own_from}
 use Rattle.ar_board.specs.declared.history.Entry.{Entry}
+use Rattle.ar_board.specs.declared.bundle.RunPart.{RunPart}
+use Rattle.ar_board.specs.declared.kept_run.KeptRun.{KeptRun as Declared}
 use Rattle.ar_board.specs.declared.receipt.Receipt.{Receipt}
+use Rattle.ar_board.specs.declared.snapshot.Snapshot.{Snapshot}
+use Rattle.ar_board.proofs.Bundles.{entry_at as entry_of}
+use Rattle.ar_board.proofs.Cells.{authors_are, history_is, kept_at}
 
 -- ---- phases
 
@@ -165,3 +175,56 @@ pub differ_at_last : (run worker : ℕ) (entries : List Entry) (authors : List �
 differ_at_last run worker entries authors receipts from place at entry past next agree same =
     let empty : (entry.number, at) ∷ own_from worker entries authors (suc at) ≡ [] = sym next ∙ (agree.rest same ∙ received_past run receipts place past) in
     absurd cc
+
+-- ---- a run of a cell
+
+-- what a cell keeps of a run that is there
+pub record IsAt (named : Bundle) (workers lock : ℕ) (bundle : Bundle) (cell : Cell) (run : ℕ) (kept : Declared) : Type 0 where
+  pub part : RunPart
+  pub there : slice_get named.runs run ≡ Some part
+  pub is : IsKept bundle workers lock run part.limits (kept_of kept)
+  pub history : history_at cell run ≡ kept.entries.items
+  pub authors : authors_at cell run ≡ kept.authors.items
+  pub phases : length kept.state.phases ≡ length kept.state.limits
+
+pub kept_run : (named : Bundle) (workers lock : ℕ) (bundle : Bundle) (runs : List Declared) (places : List (Option ℕ)) (total run : ℕ) (kept : Declared) (cell : Cell) → IsInside named workers lock bundle runs places total → cell_of runs total ≡ cell → run < length named.runs → kept ≡ get_or runs run kept → IsAt named workers lock bundle cell run kept
+kept_run named workers lock bundle runs places total run kept cell inside seen below read =
+    let many : length runs ≡ length bundle.runs = sym (length-map runs kept_of) ∙ inside.cell.as_many in
+    let same = ap (λ (bundle : Bundle). length bundle.runs) inside.is_named in
+    let there : slice_get runs run ≡ Some kept = slice_get_read runs (length runs) run kept refl (omega arith) read in
+    let part = entry_of bundle.runs run (omega arith) in
+    let is : IsKept bundle workers lock run part.0.limits (kept_of kept) = inside.cell.each run part.0 (kept_of kept) part.1 (kept_at runs run kept there) in
+    let phases = ap length is.state.phases_are in
+    let limits = ap length is.state.limits_are in
+    let one = one_for_each_metric part.0.limits (events_of bundle (numbers_of kept.entries.items)) in
+    record {
+      part = part.0;
+      there = subst (λ (bundle : Bundle). slice_get bundle.runs run ≡ Some part.0) inside.is_named part.1;
+      is = is;
+      history = subst (λ (cell : Cell). history_at cell run ≡ kept.entries.items) seen (history_is runs total run kept there);
+      authors = subst (λ (cell : Cell). authors_at cell run ≡ kept.authors.items) seen (authors_are runs total run kept there);
+      phases = phases ∙ (one.0 ∙ sym limits);
+    }
+
+pub counted_by : (named : Bundle) (workers lock : ℕ) (bundle : Bundle) (cell : Cell) (run worker posts : ℕ) (kept : Declared) → IsAt named workers lock bundle cell run kept → worker < workers → posts ≡ get_or kept.posts.items worker posts → posts ≡ posts_of worker (authors_at cell run)
+counted_by named workers lock bundle cell run worker posts kept at inside read =
+    let counted = get_or_from_slice_get kept.posts.items worker (posts_of worker kept.authors.items) posts (at.is.posts.counted worker inside) in
+    read ∙ (counted ∙ ap (posts_of worker) (sym at.authors))
+
+pub fresh_of : (named : Bundle) (workers lock : ℕ) (bundle : Bundle) (cell : Cell) (run worker : ℕ) (kept : Declared) (receipts : List Receipt) → IsAt named workers lock bundle cell run kept → posted_by worker kept.entries.items kept.authors.items ≡ received run receipts → IsFresh cell run worker receipts
+fresh_of named workers lock bundle cell run worker kept receipts at same = rw (at.history, at.authors) same
+
+pub of_fresh : (named : Bundle) (workers lock : ℕ) (bundle : Bundle) (cell : Cell) (run worker : ℕ) (kept : Declared) (receipts : List Receipt) → IsAt named workers lock bundle cell run kept → IsFresh cell run worker receipts → posted_by worker kept.entries.items kept.authors.items ≡ received run receipts
+of_fresh named workers lock bundle cell run worker kept receipts at fresh = ap (λ (authors : List ℕ). posted_by worker kept.entries.items authors) (sym at.authors) ∙ (ap (λ (history : List Entry). posted_by worker history (authors_at cell run)) (sym at.history) ∙ fresh)
+
+pub shown_as : (named : Bundle) (workers lock : ℕ) (bundle : Bundle) (cell : Cell) (run : ℕ) (kept : Declared) (shown : Snapshot) → IsAt named workers lock bundle cell run kept → bundle ≡ named → shown.phase ≡ kept.state.phase → shown.metrics.items ≡ kept.state.phases → shown.posts.items ≡ kept.posts.items → IsSnapshot named run cell shown
+shown_as named workers lock bundle cell run kept shown at is_named phase metrics posts =
+    let events : events_of bundle (numbers_of kept.entries.items) ≡ events_of named (numbers_of (history_at cell run)) = ap (λ (bundle : Bundle). events_of bundle (numbers_of kept.entries.items)) is_named ∙ ap (λ (history : List Entry). events_of named (numbers_of history)) (sym at.history) in
+    let each_worker : length shown.posts.items ≡ workers = ap length posts ∙ at.is.posts.each_worker in
+    record {
+      part = at.part;
+      there = at.there;
+      phase = phase ∙ (at.is.state.phase_is ∙ ap (run_phase at.part.limits) events);
+      metrics = metrics ∙ (at.is.state.phases_are ∙ ap (metric_phases at.part.limits) events);
+      posts = subst (λ (workers : ℕ). ArePosts workers (authors_at cell run) shown.posts.items) (sym each_worker) (subst (λ (authors : List ℕ). ArePosts workers authors shown.posts.items) (sym at.authors) (subst (ArePosts workers kept.authors.items) (sym posts) at.is.posts));
+    }
