@@ -11,6 +11,7 @@ use Rattle.ar_limits.specs.declared.event.Event.{Event}
 use Rattle.ar_board.specs.Bundle.{Bundle, IsBundle, IsEntry, events_of, found, happened, run_of}
 use Rattle.ar_board.specs.Core.{HasEachOnce, IsAtRest, State, added, after, after_step, can_put, emptied, entry_behind, has_empty_hand, held, occurrences, opening, post_of, put, taken, times_held, times_to_put, with_number}
 use Rattle.ar_board.specs.Lawful.{AreHistories, AreLawful, IsHistory, numbers_of, times_in}
+use Rattle.ar_board.specs.Private.Kept.{IsSound}
 use Rattle.ar_board.specs.declared.bundle.EventPart.{EventPart}
 use Rattle.ar_board.specs.declared.bundle.RunPart.{RunPart}
 use Rattle.ar_board.specs.declared.core_step.CoreStep.{CoreStep}
@@ -19,12 +20,6 @@ use Rattle.ar_board.specs.declared.finding.Finding.{Finding}
 use Rattle.ar_board.specs.declared.history.Entry.{Entry}
 use Rattle.ar_board.proofs.Bundles.{of_each}
 use Rattle.ar_board.proofs.HistoryLemmas.{as_many, history_at, history_push, history_set, none_yet, times_added, times_none, times_push}
-
--- what holds in each state that steps lead to
-pub record IsSound (bundle : Bundle) (state : State) : Type 0 where
-  pub next : state.next ≤ length bundle.entries
-  pub once : (number : ℕ) → occurrences number state ≡ 1
-  pub histories : AreHistories bundle 0 bundle.runs state.histories
 
 -- ---- Put
 

@@ -1,7 +1,8 @@
 -- The core of a board: what it does to plain lists, one step after another. Whatever the workers of a board do, each
 -- section under its lock and each step at its queue is one of these steps.
-use Rattle.std.specs.Prelude.{◌≡◌, ◌<◌, ◌+◌, ◌++◌, ◌==◌, ◌&&◌, ℕ, suc, nat_lt, Bool, if◌then◌else◌, List, [], ◌∷◌, length, map, replicate, set, get_or, Option, Some, None, is_none, option_and_then, option_map, slice_get}
+use Rattle.std.specs.Prelude.{◌≡◌, ◌<◌, ◌+◌, ◌++◌, ◌==◌, ◌&&◌, ℕ, suc, nat_lt, Bool, if◌then◌else◌, List, [], ◌∷◌, length, map, replicate, set, get_or, Option, Some, None, is_none, IfSome, option_and_then, option_map, slice_get}
 use Rattle.std.specs.List.{AllByRecursion, sum_by}
+use Rattle.ar_limits.specs.Replay.{Replays, Standing}
 use Rattle.ar_limits.specs.Run.{effect_of}
 use Rattle.ar_limits.specs.declared.event.Event.{Event}
 use Rattle.ar_board.specs.Bundle.{Bundle, events_of, found, happened, run_of}
@@ -108,3 +109,24 @@ pub record IsAtRest (bundle : Bundle) (state : State) : Type 0 where
   pub put : state.next ≡ length bundle.entries
   pub queue : state.queue ≡ []
   pub hands : AllByRecursion (λ hand. hand ≡ None) state.hands
+
+-- ---- a core in memory
+
+-- the bundle, how many places its queue has, and the state
+pub record Core : Type 0 where
+  pub bundle : Bundle
+  pub places : ℕ
+  pub state : State
+
+-- the core behind a step
+abbrev pub stepped : Core → CoreStep → Core
+stepped core step = record { bundle = core.bundle; places = core.places; state = after_step core.bundle core.places core.state step }
+
+-- the core behind some steps of the opening state
+abbrev pub core_after : Bundle → (workers places : ℕ) → List CoreStep → Core
+core_after bundle workers places steps = record { bundle = bundle; places = places; state = after bundle places (opening bundle workers) steps }
+
+-- where a run stands behind its history
+abbrev pub IsStateOf : Core → (run : ℕ) → Standing → Type 0
+IsStateOf core run standing =
+    IfSome (slice_get core.bundle.runs run) (λ part. Replays part.limits (events_of core.bundle (numbers_of (get_or core.state.histories run []))) standing)

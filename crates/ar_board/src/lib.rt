@@ -16,6 +16,7 @@
 #![tactic(auto)]
 
 pub mod bundle;
+pub mod core_state;
 pub mod core_step;
 pub mod finding;
 pub mod history;

@@ -1,0 +1,71 @@
+//! The core of a board in memory.
+
+ghost use Rattle.std.specs.Prelude.{◌≡◌};
+
+use crate::bundle::Bundle;
+use crate::finding::Finding;
+use crate::history::Entry;
+use ar_limits::RunState;
+use std::collections::VecDeque;
+use std::marker::Model;
+
+/// A run's history, with room for all of the run's entries, and where the run stands behind it.
+#[derive(Debug, Drop)]
+struct RunCore {
+    entries: Vec<Entry>,
+    state: RunState,
+}
+
+/// The core of a board of a bundle. Contracts see it as the `Core` of `specs/Core`.
+#[derive(Debug, Drop)]
+pub struct CoreState<'b> {
+    bundle: &'b Bundle,
+    /// Of each number.
+    findings: Vec<Finding>,
+    places: usize,
+    next: u64,
+    /// With room for `places` numbers.
+    queue: VecDeque<u64>,
+    hands: Vec<Option<u64>>,
+    runs: Vec<RunCore>,
+}
+
+impl<'b> Model for CoreState<'b> {
+    ghost use Rattle.std.specs.Coded.{codes};
+    ghost use Rattle.ar_value.specs.contracts.shape.Shape as shape_row;
+    ghost use Rattle.ar_value.specs.contracts.value.Value as value_row;
+    ghost use Rattle.ar_board.specs.Core.{Core};
+
+    ghost Value = { Core };
+
+    ghost coded = { Prim.hlevel (codes, shape_row.the_row.coded, value_row.the_row.coded) };
+
+    ghost use Rattle.ar_board.specs.Private.Inside.{IsCore, core_of};
+
+    ghost view = { core_of };
+
+    ghost invariant = { IsCore };
+}
+
+impl<'b> CoreState<'b> {
+    /// The next number to put.
+    pub fn next(&self) -> u64
+        ensures { result ≡ self.now.state.next }
+    {
+        self.next
+    }
+
+    /// The queue, its first number in front.
+    pub fn queue(&self) -> &VecDeque<u64>
+        ensures { result.now.items ≡ self.now.state.queue }
+    {
+        &self.queue
+    }
+
+    /// What each worker holds.
+    pub fn hands(&self) -> &[Option<u64>]
+        ensures { result.now ≡ self.now.state.hands }
+    {
+        &self.hands
+    }
+}
