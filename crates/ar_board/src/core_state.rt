@@ -1,8 +1,12 @@
 //! The core of a board in memory.
 
-ghost use Rattle.std.specs.Prelude.{◌≡◌};
+ghost use Rattle.std.specs.Prelude.{◌≡◌, ◌↔◌};
+ghost use Rattle.ar_board.specs.Core.{stepped};
+ghost use Rattle.ar_board.specs.declared.core_step.CoreStep.TheVariants.{Put, Take, Post};
+ghost use Rattle.ar_board.specs.declared.core_step.Moved.TheVariants.{Idle};
 
 use crate::bundle::Bundle;
+use crate::core_step::{CoreStep, Moved};
 use crate::finding::Finding;
 use crate::history::Entry;
 use ar_limits::RunState;
@@ -67,5 +71,33 @@ impl<'b> CoreState<'b> {
         ensures { result.now ≡ self.now.state.hands }
     {
         &self.hands
+    }
+
+    /// The next number goes to the queue's end, where there is a place for it.
+    fn put(&mut self) -> Moved
+        ensures after { self.new ≡ stepped self.old Put }
+        ensures idle { (result ≡ Idle) ↔ (self.new.state ≡ self.old.state) }
+    {
+        if self.next >= self.bundle.events() || self.queue.len() >= self.places {
+            return Moved::Idle;
+        }
+        self.queue.push_back_reserved(self.next);
+        self.next += 1;
+        Moved::Done
+    }
+
+    /// The queue's first number goes into the worker's empty hand.
+    fn take(&mut self, worker: usize) -> Moved
+        ensures after { self.new ≡ stepped self.old (Take worker) }
+        ensures idle { (result ≡ Idle) ↔ (self.new.state ≡ self.old.state) }
+    {
+        let Some(None) = self.hands.get(worker) else {
+            return Moved::Idle;
+        };
+        let Some(number) = self.queue.pop_front() else {
+            return Moved::Idle;
+        };
+        self.hands[worker] = Some(number);
+        Moved::Done
     }
 }
