@@ -1,5 +1,5 @@
 -- What every step of the core keeps.
-use Rattle.std.proofs.Common.{◌≡◌, ◌<◌, ◌≤◌, ℕ, zero, suc, ◌+◌, ◌*◌, ◌==◌, Bool, true, false, if◌then◌else◌, List, [], ◌∷◌, ◌++◌, length, get_or, set, replicate, Option, Some, None, refl, sym, ◌∙◌, ap, subst, arith}
+use Rattle.std.proofs.Common.{◌≡◌, ◌<◌, ℕ, zero, suc, ◌+◌, ◌*◌, ◌==◌, Bool, true, false, if◌then◌else◌, List, [], ◌∷◌, ◌++◌, length, get_or, set, replicate, Option, Some, None, refl, sym, ◌∙◌, ap, subst, arith}
 use Rattle.std.specs.Prelude.{nat_lt, is_none, slice_get, option_and_then, option_map}
 use Rattle.std.specs.List.{AllByRecursion, sum_by}
 use Rattle.std.proofs.lemmas.Bool.Decides.{nat_tests}
@@ -36,11 +36,24 @@ put_once number state once =
     let pushed = times_push number state.next state.queue in
     omega arith
 
+-- the next number goes to the queue, however this is said
+pub puts_sound : (bundle : Bundle) (state : State) (next : ℕ) (queue : List ℕ) → IsSound bundle state → state.next < length bundle.entries → next ≡ state.next + 1 → queue ≡ state.queue ++ state.next ∷ []
+    → IsSound bundle (record { next = next; queue = queue; hands = state.hands; histories = state.histories })
+puts_sound bundle state next queue sound inside up is =
+    let later : next ≡ suc state.next = omega arith in
+    record {
+      next = omega arith;
+      once = λ number.
+          subst (λ (next : ℕ). occurrences number (record { next = next; queue = queue; hands = state.hands; histories = state.histories }) ≡ 1) (sym later)
+          (subst (λ (queue : List ℕ). occurrences number (record { next = suc state.next; queue = queue; hands = state.hands; histories = state.histories }) ≡ 1) (sym is) (put_once number state (sound.once number)));
+      histories = sound.histories;
+    }
+
 put_sound : (bundle : Bundle) (places : ℕ) (state : State) (can : Bool) → can_put bundle places state ≡ can → IsSound bundle state → IsSound bundle (if can then put state else state)
 put_sound bundle places state false is sound = sound
 put_sound bundle places state true is sound =
     let inside : nat_lt state.next (length bundle.entries) ≡ true = (and_parts (nat_lt state.next (length bundle.entries)) (nat_lt (length state.queue) places) is).0 in
-    record { next = grind (arith, nat_tests, inside); once = λ number. put_once number state (sound.once number); histories = sound.histories }
+    puts_sound bundle state (suc state.next) (state.queue ++ state.next ∷ []) sound (grind (arith, nat_tests, inside)) (omega arith) refl
 
 -- ---- hands
 
