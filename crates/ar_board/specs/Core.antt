@@ -5,6 +5,7 @@ use Rattle.std.specs.List.{AllByRecursion, sum_by}
 use Rattle.ar_limits.specs.Replay.{Replays, Standing}
 use Rattle.ar_limits.specs.Run.{effect_of}
 use Rattle.ar_limits.specs.declared.event.Event.{Event}
+use Rattle.ar_limits.specs.declared.limits.Limits.{Limits}
 use Rattle.ar_board.specs.Bundle.{Bundle, events_of, found, happened, run_of}
 use Rattle.ar_board.specs.Lawful.{numbers_of, times, times_in}
 use Rattle.ar_board.specs.declared.core_step.CoreStep.{CoreStep}
@@ -46,10 +47,14 @@ taken state worker (number ∷ queue) = record { next = state.next; queue = queu
 
 -- ---- Post: the number in a worker's hand goes to the end of its run's history
 
--- a number with its finding, and with its effect behind the whole of a history of its run
+-- a number with its finding, and with its effect behind events under its run's limits
+abbrev pub entry_with : (number : ℕ) → Finding → List Limits → List Event → Event → Entry
+entry_with number finding limits events event = record { number = number; finding = finding; effect = effect_of limits events event }
+
+-- behind the whole of a history of its run
 abbrev pub entry_of : Bundle → (run : ℕ) → List Entry → (number : ℕ) → Finding → Event → Option Entry
 entry_of bundle run history number finding event =
-    option_map (λ part. record { number = number; finding = finding; effect = effect_of part.limits (events_of bundle (numbers_of history)) event }) (slice_get bundle.runs run)
+    option_map (λ part. entry_with number finding part.limits (events_of bundle (numbers_of history)) event) (slice_get bundle.runs run)
 
 abbrev pub entry_behind : Bundle → (run : ℕ) → List Entry → (number : ℕ) → Option Entry
 entry_behind bundle run history number =

@@ -1,7 +1,9 @@
 //! The core of a board in memory.
 
-ghost use Rattle.std.specs.Prelude.{◌≡◌, ◌↔◌};
-ghost use Rattle.ar_board.specs.Core.{stepped};
+ghost use Rattle.std.specs.Prelude.{◌≡◌, ◌<◌, ◌↔◌, ◌++◌, ◌∷◌, [], length};
+ghost use Rattle.std.specs.Vec.{vec_capacity};
+ghost use Rattle.ar_limits.specs.Replay.{ForEachReplay, IsOfMetricBelow, Replays};
+ghost use Rattle.ar_board.specs.Core.{entry_with, stepped};
 ghost use Rattle.ar_board.specs.declared.core_step.CoreStep.TheVariants.{Put, Take, Post};
 ghost use Rattle.ar_board.specs.declared.core_step.Moved.TheVariants.{Idle};
 
@@ -9,7 +11,7 @@ use crate::bundle::Bundle;
 use crate::core_step::{CoreStep, Moved};
 use crate::finding::Finding;
 use crate::history::Entry;
-use ar_limits::RunState;
+use ar_limits::{Event, MOST_EVENTS, RunState};
 use std::collections::VecDeque;
 use std::marker::Model;
 
@@ -18,6 +20,27 @@ use std::marker::Model;
 struct RunCore {
     entries: Vec<Entry>,
     state: RunState,
+}
+
+impl RunCore {
+    /// A number goes to the end of the history, with its finding and the effect that it has there.
+    fn append(&mut self, number: u64, finding: Finding, event: Event)
+        requires room { length self.old.entries.items < vec_capacity self.old.entries }
+        requires few { self.old.state.handed < MOST_EVENTS }
+        requires metric { IsOfMetricBelow (length self.old.state.limits) event }
+        ensures appended { ForEachReplay self.old.state (λ limits events.
+            self.new.entries.items ≡ self.old.entries.items ++ entry_with number finding limits events event ∷ []) }
+        ensures replays { ForEachReplay self.old.state (λ limits events.
+            Replays limits (events ++ event ∷ []) self.new.state) }
+        ensures capacity { vec_capacity self.new.entries ≡ vec_capacity self.old.entries }
+    {
+        let effect = self.state.apply(event);
+        self.entries.push_reserved(Entry {
+            number,
+            finding,
+            effect,
+        });
+    }
 }
 
 /// The core of a board of a bundle. Contracts see it as the `Core` of `specs/Core`.
