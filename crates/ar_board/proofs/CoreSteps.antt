@@ -176,7 +176,7 @@ number_sound bundle state worker own (Some run) is inside full own_run sound =
     posted_sound bundle state worker own run (entry_behind bundle run (get_or state.histories run []) own) is inside full own_run refl sound
 
 -- a worker that holds something is there
-holder_inside : (worker own : ℕ) (hands : List (Option ℕ)) → get_or hands worker None ≡ Some own → worker < length hands
+pub holder_inside : (worker own : ℕ) (hands : List (Option ℕ)) → get_or hands worker None ≡ Some own → worker < length hands
 holder_inside worker own [] full = absurd cc
 holder_inside zero own (hand ∷ hands) full = omega arith
 holder_inside (suc worker) own (hand ∷ hands) full = let rest = holder_inside worker own hands full in omega arith
@@ -187,7 +187,7 @@ post_sound bundle state worker (Some own) is holds sound = number_sound bundle s
 
 -- ---- steps
 
-step_sound : (bundle : Bundle) (places : ℕ) (state : State) (step : CoreStep) → IsBundle bundle → IsSound bundle state → IsSound bundle (after_step bundle places state step)
+pub step_sound : (bundle : Bundle) (places : ℕ) (state : State) (step : CoreStep) → IsBundle bundle → IsSound bundle state → IsSound bundle (after_step bundle places state step)
 step_sound bundle places state Put is sound = put_sound bundle places state (can_put bundle places state) refl sound
 step_sound bundle places state (Take worker) is sound = take_sound bundle state worker (has_empty_hand state worker) refl sound
 step_sound bundle places state (Post worker) is sound = post_sound bundle state worker (held state worker) is refl sound

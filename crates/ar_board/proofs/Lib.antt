@@ -3,3 +3,4 @@ pub mod HistoryLemmas
 pub mod CoreSteps
 pub mod Room
 pub mod Sizes
+pub mod CorePost

@@ -3,7 +3,7 @@
 ghost use Rattle.std.specs.Prelude.{◌≡◌, ◌<◌, ◌↔◌, ◌++◌, ◌∷◌, [], length};
 ghost use Rattle.std.specs.Vec.{vec_capacity};
 ghost use Rattle.ar_limits.specs.Replay.{ForEachReplay, IsOfMetricBelow, Replays};
-ghost use Rattle.ar_board.specs.Core.{entry_with, stepped};
+ghost use Rattle.ar_board.specs.Core.{entry_with, held, stepped};
 ghost use Rattle.ar_board.specs.declared.core_step.CoreStep.TheVariants.{Put, Take, Post};
 ghost use Rattle.ar_board.specs.declared.core_step.Moved.TheVariants.{Idle};
 
@@ -121,6 +121,32 @@ impl<'b> CoreState<'b> {
             return Moved::Idle;
         };
         self.hands[worker] = Some(number);
+        Moved::Done
+    }
+
+    /// What a worker holds. One that isn't there holds nothing.
+    fn held(&self, worker: usize) -> Option<u64>
+        ensures { result ≡ held self.now.state worker }
+    {
+        match self.hands.get(worker) {
+            Some(hand) => *hand,
+            None => None,
+        }
+    }
+
+    /// The number in the worker's hand goes to the end of its run's history.
+    fn post(&mut self, worker: usize) -> Moved
+        ensures after { self.new ≡ stepped self.old (Post worker) }
+        ensures idle { (result ≡ Idle) ↔ (self.new.state ≡ self.old.state) }
+    {
+        let Some(number) = self.held(worker) else {
+            return Moved::Idle;
+        };
+        let finding = self.findings[number as usize];
+        let run = self.bundle.run_of(number);
+        let event = self.bundle.event(number, finding);
+        self.runs[run].append(number, finding, event);
+        self.hands[worker] = None;
         Moved::Done
     }
 }
