@@ -4,3 +4,4 @@ pub mod CoreSteps
 pub mod Room
 pub mod Sizes
 pub mod CorePost
+pub mod CoreOpening

@@ -1,9 +1,12 @@
 //! The core of a board in memory.
 
-ghost use Rattle.std.specs.Prelude.{◌≡◌, ◌<◌, ◌↔◌, ◌++◌, ◌∷◌, [], length};
+ghost use Rattle.std.specs.Prelude.{◌≡◌, ◌<◌, ◌↔◌, ◌++◌, ◌∷◌, [], IfOk, None, length, replicate};
 ghost use Rattle.std.specs.Vec.{vec_capacity};
+ghost use Rattle.ar_limits.specs.Metric.{HasPositiveCounts};
 ghost use Rattle.ar_limits.specs.Replay.{ForEachReplay, IsOfMetricBelow, Replays};
-ghost use Rattle.ar_board.specs.Core.{entry_with, held, stepped};
+ghost use Rattle.ar_board.specs.Bundle.{IsBundle};
+ghost use Rattle.ar_board.specs.Core.{core_after, entry_with, held, stepped};
+ghost use Rattle.ar_board.specs.Private.Inside.{AreJudged, AreOpened};
 ghost use Rattle.ar_board.specs.declared.core_step.CoreStep.TheVariants.{Put, Take, Post};
 ghost use Rattle.ar_board.specs.declared.core_step.Moved.TheVariants.{Idle};
 
@@ -11,7 +14,8 @@ use crate::bundle::Bundle;
 use crate::core_step::{CoreStep, Moved};
 use crate::finding::Finding;
 use crate::history::Entry;
-use ar_limits::{Event, MOST_EVENTS, RunState};
+use ar_limits::{Event, Limits, MOST_EVENTS, RunState};
+use std::alloc::{AllocError, Global};
 use std::collections::VecDeque;
 use std::marker::Model;
 
@@ -23,6 +27,19 @@ struct RunCore {
 }
 
 impl RunCore {
+    /// A run to which nothing has happened, with room for so many entries.
+    fn open(alloc: Global, limits: &[Limits], size: usize) -> Result<RunCore, AllocError>
+        requires { HasPositiveCounts limits.now }
+        ensures empty { IfOk result (λ run. run.entries.items ≡ []) }
+        ensures room { IfOk result (λ run. vec_capacity run.entries ≡ size) }
+        ensures replays { IfOk result (λ run. Replays limits.now [] run.state) }
+    {
+        Ok(RunCore {
+            entries: Vec::with_capacity(alloc, size)?,
+            state: RunState::new(alloc, limits)?,
+        })
+    }
+
     /// A number goes to the end of the history, with its finding and the effect that it has there.
     fn append(&mut self, number: u64, finding: Finding, event: Event)
         requires room { length self.old.entries.items < vec_capacity self.old.entries }
@@ -74,7 +91,73 @@ impl<'b> Model for CoreState<'b> {
     ghost invariant = { IsCore };
 }
 
+/// What each number comes to.
+#[tactic(auto, using(crate::proofs::CoreOpening::found_next))]
+fn findings_of(alloc: Global, bundle: &Bundle) -> Result<Vec<Finding>, AllocError>
+    ensures { IfOk result (λ findings. AreJudged bundle.now findings.items) }
+{
+    let events = bundle.events();
+    let mut findings = Vec::with_capacity(alloc, events as usize)?;
+    for number in 0..events {
+        findings.push(bundle.finding(alloc, number)?)?;
+    }
+    Ok(findings)
+}
+
+/// The runs, to which nothing has happened.
+#[tactic(auto, using(crate::proofs::CoreOpening::all_opened))]
+fn opened(alloc: Global, bundle: &Bundle) -> Result<Vec<RunCore>, AllocError>
+    ensures opened { IfOk result (λ runs. AreOpened bundle.now bundle.now.runs runs.items) }
+    ensures bundle { IfOk result (λ _. IsBundle bundle.now) }
+{
+    let sizes = bundle.sizes(alloc)?;
+    let parts = bundle.runs();
+    let mut runs = Vec::with_capacity(alloc, parts.len())?;
+    for part in parts {
+        let size = sizes[runs.len()];
+        runs.push(RunCore::open(alloc, part.limits.as_slice(), size)?)?;
+    }
+    Ok(runs)
+}
+
+/// The hands of so many workers, all empty.
+fn empty_hands(alloc: Global, workers: usize) -> Result<Vec<Option<u64>>, AllocError>
+    ensures { IfOk result (λ hands. hands.items ≡ replicate workers None) }
+{
+    let mut hands = Vec::with_capacity(alloc, workers)?;
+    for _worker in 0..workers {
+        hands.push(None)?;
+    }
+    Ok(hands)
+}
+
 impl<'b> CoreState<'b> {
+    /// The core to which nothing has happened, of so many workers and with so many places in its
+    /// queue. Every number is judged here, and all room made: no step takes memory.
+    ///
+    /// # Errors
+    ///
+    /// Want of memory alone.
+    pub fn new(
+        alloc: Global,
+        bundle: &'b Bundle,
+        workers: usize,
+        places: usize,
+    ) -> Result<CoreState<'b>, AllocError>
+        ensures exact { IfOk result (λ core. core ≡ core_after bundle.now workers places []) }
+        ensures bundle { IfOk result (λ _. IsBundle bundle.now) }
+    {
+        Ok(CoreState {
+            bundle,
+            findings: findings_of(alloc, bundle)?,
+            places,
+            next: 0,
+            queue: VecDeque::with_capacity(alloc, places)?,
+            hands: empty_hands(alloc, workers)?,
+            runs: opened(alloc, bundle)?,
+        })
+    }
+
     /// The next number to put.
     pub fn next(&self) -> u64
         ensures { result ≡ self.now.state.next }

@@ -33,10 +33,19 @@ AreKept bundle from [] [] = Unit {0}
 AreKept bundle from (part ∷ parts) (run ∷ runs) = IsKept bundle from part run × AreKept bundle (suc from) parts runs
 AreKept bundle from parts runs = ⊥
 
--- the finding of each number
-pub record AreJudged (bundle : Bundle) (findings : List Finding) : Type 0 where
-  pub all : length findings ≡ length bundle.entries
+-- the findings of the numbers below one
+pub record AreFound (bundle : Bundle) (upto : ℕ) (findings : List Finding) : Type 0 where
+  pub all : length findings ≡ upto
   pub found : (number : ℕ) (finding : Finding) → slice_get findings number ≡ Some finding → found bundle number ≡ Some finding
+
+-- the finding of each number
+abbrev pub AreJudged : Bundle → List Finding → Type 0
+AreJudged bundle findings = AreFound bundle (length bundle.entries) findings
+
+-- the runs, to which nothing has happened
+pub record AreOpened (bundle : Bundle) (parts : List RunPart) (runs : List RunCore) : Type 0 where
+  pub kept : AreKept bundle 0 parts runs
+  pub empty : histories_of runs ≡ map (λ run. []) parts
 
 pub record IsCore (core : Inside) : Type 0 where
   pub bundle : IsBundle core.bundle.now
