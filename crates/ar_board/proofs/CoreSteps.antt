@@ -1,5 +1,5 @@
 -- What every step of the core keeps.
-use Rattle.std.proofs.Common.{◌≡◌, ◌<◌, ℕ, zero, suc, ◌+◌, ◌*◌, ◌==◌, Bool, true, false, if◌then◌else◌, List, [], ◌∷◌, ◌++◌, length, get_or, set, replicate, Option, Some, None, refl, sym, ◌∙◌, ap, subst, arith}
+use Rattle.std.proofs.Common.{◌≡◌, ◌<◌, ℕ, zero, suc, ◌+◌, ◌*◌, ◌==◌, Bool, true, false, if◌then◌else◌, List, [], ◌∷◌, ◌++◌, length, map, get_or, set, replicate, Option, Some, None, refl, sym, ◌∙◌, ap, subst, arith}
 use Rattle.std.specs.Prelude.{nat_lt, is_none, slice_get, option_and_then, option_map}
 use Rattle.std.specs.List.{AllByRecursion, sum_by}
 use Rattle.std.proofs.lemmas.Bool.Decides.{nat_tests}
@@ -206,6 +206,14 @@ opening_once bundle workers number =
 
 opening_sound : (bundle : Bundle) (workers : ℕ) → IsSound bundle (opening bundle workers)
 opening_sound bundle workers = record { next = omega arith; once = opening_once bundle workers; histories = none_yet bundle 0 bundle.runs }
+
+-- the opening state, however it is said
+pub opened_sound : (bundle : Bundle) (workers : ℕ) (queue : List ℕ) (hands : List (Option ℕ)) (histories : List (List Entry)) → queue ≡ [] → hands ≡ replicate workers None → histories ≡ map (λ run. []) bundle.runs
+    → IsSound bundle (record { next = 0; queue = queue; hands = hands; histories = histories })
+opened_sound bundle workers queue hands histories no_queue no_hands no_histories =
+    subst (λ (queue : List ℕ). IsSound bundle (record { next = 0; queue = queue; hands = hands; histories = histories })) (sym no_queue)
+    (subst (λ (hands : List (Option ℕ)). IsSound bundle (record { next = 0; queue = []; hands = hands; histories = histories })) (sym no_hands)
+    (subst (λ (histories : List (List Entry)). IsSound bundle (record { next = 0; queue = []; hands = replicate workers None; histories = histories })) (sym no_histories) (opening_sound bundle workers)))
 
 -- ---- the laws
 

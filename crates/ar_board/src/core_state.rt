@@ -5,7 +5,8 @@ ghost use Rattle.std.specs.Vec.{vec_capacity};
 ghost use Rattle.ar_limits.specs.Metric.{HasPositiveCounts};
 ghost use Rattle.ar_limits.specs.Replay.{ForEachReplay, IsOfMetricBelow, Replays};
 ghost use Rattle.ar_board.specs.Bundle.{IsBundle};
-ghost use Rattle.ar_board.specs.Core.{core_after, entry_with, held, stepped};
+ghost use Rattle.ar_board.specs.Core.{HasEachOnce, core_after, entry_with, held, stepped};
+ghost use Rattle.ar_board.specs.Lawful.{AreHistories};
 ghost use Rattle.ar_board.specs.Private.Inside.{AreJudged, AreOpened};
 ghost use Rattle.ar_board.specs.declared.core_step.CoreStep.TheVariants.{Put, Take, Post};
 ghost use Rattle.ar_board.specs.declared.core_step.Moved.TheVariants.{Idle};
@@ -232,4 +233,43 @@ impl<'b> CoreState<'b> {
         self.hands[worker] = None;
         Moved::Done
     }
+}
+
+/// Makes a step, in constant time but for the event that closes a run. No memory is taken.
+pub fn core_step(core: &mut CoreState<'_>, step: CoreStep) -> Moved
+    ensures after { core.new ≡ stepped core.old step }
+    // Nothing was done exactly where the state stays.
+    ensures idle { (result ≡ Idle) ↔ (core.new.state ≡ core.old.state) }
+{
+    match step {
+        CoreStep::Put => core.put(),
+        CoreStep::Take(worker) => core.take(worker),
+        CoreStep::Post(worker) => core.post(worker),
+    }
+}
+
+/// The core of a bundle behind these steps, each made where it can be.
+///
+/// # Errors
+///
+/// Want of memory alone.
+#[tactic(auto, using(crate::proofs::CoreSteps::each_once, crate::proofs::CoreSteps::histories_of_runs))]
+pub fn core_run<'b>(
+    alloc: Global,
+    bundle: &'b Bundle,
+    workers: usize,
+    places: usize,
+    steps: &[CoreStep],
+) -> Result<CoreState<'b>, AllocError>
+    ensures exact { IfOk result (λ core. core ≡ core_after bundle.now workers places steps.now) }
+    // Each number stands just once in what is still to put, the queue, the hands and the histories.
+    ensures once { IfOk result (λ core. HasEachOnce bundle.now core.state) }
+    // Each run's history has its own numbers, each with its finding and its effect there.
+    ensures histories { IfOk result (λ core. AreHistories bundle.now 0 bundle.now.runs core.state.histories) }
+{
+    let mut core = CoreState::new(alloc, bundle, workers, places)?;
+    for step in steps {
+        core_step(&mut core, *step);
+    }
+    Ok(core)
 }
