@@ -1,15 +1,16 @@
 -- What every step of the core keeps.
-use Rattle.std.proofs.Common.{◌≡◌, ◌<◌, ℕ, zero, suc, ◌+◌, ◌*◌, ◌==◌, Bool, true, false, if◌then◌else◌, List, [], ◌∷◌, ◌++◌, length, map, get_or, set, replicate, Option, Some, None, refl, sym, ◌∙◌, ap, subst, arith}
+use Rattle.std.proofs.Common.{◌≡◌, ◌<◌, ℕ, zero, suc, ◌+◌, ◌*◌, ◌==◌, Bool, true, false, if◌then◌else◌, List, [], ◌∷◌, ◌++◌, length, map, get_or, set, take, replicate, Option, Some, None, refl, sym, ◌∙◌, ap, subst, arith}
 use Rattle.std.specs.Prelude.{nat_lt, is_none, slice_get, option_and_then, option_map}
 use Rattle.std.specs.List.{AllByRecursion, sum_by}
 use Rattle.std.proofs.lemmas.Bool.Decides.{nat_tests}
 use Rattle.std.proofs.lemmas.Bool.{and_parts}
+use Rattle.std.proofs.lemmas.List.{take_more}
 use Rattle.std.proofs.lemmas.List.Folds.{sum_by-replicate}
 use Rattle.std.proofs.lemmas.List.Sums.{sum_by-cons, sum_by-set}
 use Rattle.ar_limits.specs.Run.{effect_of}
 use Rattle.ar_limits.specs.declared.event.Event.{Event}
 use Rattle.ar_board.specs.Bundle.{Bundle, IsBundle, IsEntry, events_of, found, happened, run_of}
-use Rattle.ar_board.specs.Core.{HasEachOnce, IsAtRest, State, added, after, after_step, can_put, emptied, entry_behind, has_empty_hand, held, occurrences, opening, post_of, put, taken, times_held, times_to_put, with_number}
+use Rattle.ar_board.specs.Core.{Core, HasEachOnce, IsAtRest, State, added, after, after_step, can_put, core_after, emptied, entry_behind, has_empty_hand, held, occurrences, opening, post_of, put, stepped, taken, times_held, times_to_put, with_number}
 use Rattle.ar_board.specs.Lawful.{AreHistories, AreLawful, IsHistory, numbers_of, times_in}
 use Rattle.ar_board.specs.Private.Kept.{IsSound}
 use Rattle.ar_board.specs.declared.bundle.EventPart.{EventPart}
@@ -206,6 +207,19 @@ opening_once bundle workers number =
 
 opening_sound : (bundle : Bundle) (workers : ℕ) → IsSound bundle (opening bundle workers)
 opening_sound bundle workers = record { next = omega arith; once = opening_once bundle workers; histories = none_yet bundle 0 bundle.runs }
+
+after_push : (bundle : Bundle) (places : ℕ) (state : State) (steps : List CoreStep) (last : CoreStep) → after bundle places state (steps ++ last ∷ []) ≡ after_step bundle places (after bundle places state steps) last
+after_push bundle places state [] last = refl
+after_push bundle places state (step ∷ steps) last = after_push bundle places (after_step bundle places state step) steps last
+
+-- one step more
+pub core_next : (bundle : Bundle) (workers places : ℕ) (steps : List CoreStep) (made : ℕ) (core later : Core) (d : CoreStep) → made < length steps → core ≡ core_after bundle workers places (take made steps) → later ≡ stepped core (get_or steps made d)
+    → later ≡ core_after bundle workers places (take (made + 1) steps)
+core_next bundle workers places steps made core later d inside before is =
+    is
+    ∙ (ap (λ (core : Core). stepped core (get_or steps made d)) before
+    ∙ (ap (λ (state : State). record { bundle = bundle; places = places; state = state }) (sym (after_push bundle places (opening bundle workers) (take made steps) (get_or steps made d)))
+    ∙ ap (core_after bundle workers places) (sym (take_more steps made d inside))))
 
 -- the opening state, however it is said
 pub opened_sound : (bundle : Bundle) (workers : ℕ) (queue : List ℕ) (hands : List (Option ℕ)) (histories : List (List Entry)) → queue ≡ [] → hands ≡ replicate workers None → histories ≡ map (λ run. []) bundle.runs
