@@ -114,7 +114,7 @@ pub record IsNext (bundle : Bundle) (runs : List RunCore) (run : ℕ) : Type 0 w
   pub few : core.state.handed < 100000
   pub metrics : length core.state.limits ≡ length bundle.metrics
 
-history_is : (runs : List RunCore) (run : ℕ) (core : RunCore) → slice_get runs run ≡ Some core → get_or (histories_of runs) run [] ≡ core.entries.items
+pub history_is : (runs : List RunCore) (run : ℕ) (core : RunCore) → slice_get runs run ≡ Some core → get_or (histories_of runs) run [] ≡ core.entries.items
 history_is runs run core there =
     get_or-map (λ (core : RunCore). core.entries.items) runs run core [] (slice_get_within runs run core there) ∙ ap (λ (core : RunCore). core.entries.items) (get_or_from_slice_get runs run core core there)
 

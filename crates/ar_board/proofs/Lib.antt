@@ -5,3 +5,4 @@ pub mod Room
 pub mod Sizes
 pub mod CorePost
 pub mod CoreOpening
+pub mod CoreShown

@@ -1,11 +1,11 @@
 //! The core of a board in memory.
 
-ghost use Rattle.std.specs.Prelude.{◌≡◌, ◌<◌, ◌↔◌, ◌++◌, ◌∷◌, [], IfOk, None, length, replicate};
+ghost use Rattle.std.specs.Prelude.{◌≡◌, ◌<◌, ◌↔◌, ◌++◌, ◌∷◌, [], IfOk, None, Some, length, replicate, slice_get};
 ghost use Rattle.std.specs.Vec.{vec_capacity};
 ghost use Rattle.ar_limits.specs.Metric.{HasPositiveCounts};
 ghost use Rattle.ar_limits.specs.Replay.{ForEachReplay, IsOfMetricBelow, Replays};
 ghost use Rattle.ar_board.specs.Bundle.{IsBundle};
-ghost use Rattle.ar_board.specs.Core.{HasEachOnce, core_after, entry_with, held, stepped};
+ghost use Rattle.ar_board.specs.Core.{HasEachOnce, IsStateOf, core_after, entry_with, held, stepped};
 ghost use Rattle.ar_board.specs.Lawful.{AreHistories};
 ghost use Rattle.ar_board.specs.Private.Inside.{AreJudged, AreOpened};
 ghost use Rattle.ar_board.specs.declared.core_step.CoreStep.TheVariants.{Put, Take, Post};
@@ -178,6 +178,23 @@ impl<'b> CoreState<'b> {
         ensures { result.now ≡ self.now.state.hands }
     {
         &self.hands
+    }
+
+    /// The history of a run.
+    pub fn history(&self, run: usize) -> &[Entry]
+        requires { run < length self.now.bundle.runs }
+        ensures { slice_get self.now.state.histories run ≡ Some result.now }
+    {
+        &self.runs[run].entries
+    }
+
+    /// Where a run stands behind its history: its phases and counts are those of the events that its
+    /// history's numbers are.
+    pub fn run_state(&self, run: usize) -> &RunState
+        requires { run < length self.now.bundle.runs }
+        ensures { IsStateOf self.now run result.now }
+    {
+        &self.runs[run].state
     }
 
     /// The next number goes to the queue's end, where there is a place for it.
