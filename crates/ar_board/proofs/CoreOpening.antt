@@ -7,15 +7,15 @@ use Rattle.std.proofs.lemmas.List.{length-take-le, map_push, take_all}
 use Rattle.std.proofs.lemmas.Option.{slice_get_read}
 use Rattle.ar_limits.specs.Metric.{HasPositiveCounts}
 use Rattle.ar_limits.specs.Replay.{Replays}
-use Rattle.ar_board.specs.Bundle.{Bundle, IsBundle, IsRun, count_of, counts_of, entries_of, events_of, found, sizes_of}
+use Rattle.ar_board.specs.Bundle.{Bundle, IsBundle, IsRun, entries_of, events_of, found, sizes_of}
 use Rattle.ar_board.specs.Lawful.{numbers_of}
 use Rattle.ar_board.specs.Private.Inside.{AreFound, AreKept, AreOpened, IsKept, histories_of}
-use Rattle.ar_board.specs.declared.bundle.EventPart.{EventPart}
 use Rattle.ar_board.specs.declared.bundle.RunPart.{RunPart}
 use Rattle.ar_board.specs.declared.core_state.RunCore.{RunCore}
 use Rattle.ar_board.specs.declared.finding.Finding.{Finding}
 use Rattle.ar_board.specs.declared.history.Entry.{Entry}
 use Rattle.ar_board.proofs.Bundles.{of_each}
+use Rattle.ar_board.proofs.Sizes.{as_many_counts, count_at}
 
 -- ---- findings
 
@@ -30,8 +30,8 @@ found_push bundle from (first ∷ findings) last all is (suc place) finding ther
     let next : suc from + place ≡ from + suc place = omega arith in
     let at_end : from + suc (length findings) ≡ suc from + length findings = omega arith in
     let later = found_push bundle (suc from) findings last
-        (λ place finding there. subst (λ (at : ℕ). found bundle at ≡ Some finding) (let up : from + suc place ≡ suc from + place = omega arith in up) (all (suc place) finding there))
-        (subst (λ (at : ℕ). found bundle at ≡ Some last) at_end is) place finding there in
+    (λ place finding there. subst (λ (at : ℕ). found bundle at ≡ Some finding) (let up : from + suc place ≡ suc from + place = omega arith in up) (all (suc place) finding there))
+    (subst (λ (at : ℕ). found bundle at ≡ Some last) at_end is) place finding there in
     subst (λ (at : ℕ). found bundle at ≡ Some finding) next later
 
 -- one number more is judged
@@ -63,15 +63,6 @@ kept_push bundle from (first ∷ parts) (other ∷ runs) part run kept is =
     let next : from + suc (length parts) ≡ suc from + length parts = omega arith in
     (kept.0, kept_push bundle (suc from) parts runs part run kept.1 (subst (λ (at : ℕ). IsKept bundle at part run) next is))
 
-size_at : (entries : List EventPart) (from place d : ℕ) (runs : List RunPart) → place < length runs → get_or (counts_of entries from runs) place d ≡ count_of entries (from + place)
-size_at entries from place d [] inside = absurd (omega arith)
-size_at entries from zero d (run ∷ runs) inside = ap (count_of entries) (let here : from ≡ from + zero = omega arith in here)
-size_at entries from (suc place) d (run ∷ runs) inside = size_at entries (suc from) place d runs (omega arith) ∙ ap (count_of entries) (let next : suc from + place ≡ from + suc place = omega arith in next)
-
-as_many_sizes : (entries : List EventPart) (from : ℕ) (runs : List RunPart) → length (counts_of entries from runs) ≡ length runs
-as_many_sizes entries from [] = refl
-as_many_sizes entries from (run ∷ runs) = ap suc (as_many_sizes entries (suc from) runs)
-
 -- what is known of the next run
 pub record NextRun (bundle : Bundle) (place : ℕ) (part : RunPart) (sizes : List ℕ) (runs : List RunCore) : Type 0 where
   pub inside : length runs < length sizes
@@ -83,7 +74,7 @@ next_of_bundle bundle place part sizes runs is inside read are opened =
     let before : List RunPart = take place bundle.runs in
     let short = length-take-le place bundle.runs (omega arith) in
     let many = as_many_kept bundle 0 before runs opened.kept in
-    let as_many = as_many_sizes bundle.entries 0 bundle.runs in
+    let as_many = as_many_counts bundle.entries 0 bundle.runs in
     let as_long = ap length are in
     let longer : take (suc place) bundle.runs ≡ before ++ part ∷ [] = take-suc bundle.runs place part inside ∙ ap (λ (part : RunPart). before ++ part ∷ []) (sym read) in
     record {
@@ -91,14 +82,14 @@ next_of_bundle bundle place part sizes runs is inside read are opened =
       positive = (of_each (IsRun bundle.metrics) bundle.runs place part is.runs (slice_get_read bundle.runs (length bundle.runs) place part refl inside read)).counts;
       more = λ size run size_read empty room replays.
           let size_is : size ≡ entries_of bundle (0 + length before) =
-              size_read ∙ (ap (λ (sizes : List ℕ). get_or sizes (length runs) size) are ∙ (size_at bundle.entries 0 (length runs) size bundle.runs (omega arith) ∙ ap (λ (at : ℕ). entries_of bundle (0 + at)) many)) in
+          size_read ∙ (ap (λ (sizes : List ℕ). get_or sizes (length runs) size) are ∙ (count_at bundle.entries 0 (length runs) size bundle.runs (omega arith) ∙ ap (λ (at : ℕ). entries_of bundle (0 + at)) many)) in
           let fits : entries_of bundle (0 + length before) ≤ vec_capacity run.entries = omega arith in
           let kept : IsKept bundle (0 + length before) part run = record { replays = subst (λ (history : List Entry). Replays part.limits (events_of bundle (numbers_of history)) run.state) (sym empty) replays; room = fits } in
           let histories : histories_of (runs ++ run ∷ []) ≡ map (λ run. []) (before ++ part ∷ []) =
-              map_push (λ (run : RunCore). run.entries.items) runs run
-              ∙ (ap (λ (histories : List (List Entry)). histories ++ run.entries.items ∷ []) opened.empty
-              ∙ (ap (λ (history : List Entry). map (λ run. []) before ++ history ∷ []) empty
-              ∙ sym (map_push (λ (run : RunPart). []) before part))) in
+          map_push (λ (run : RunCore). run.entries.items) runs run
+          ∙ (ap (λ (histories : List (List Entry)). histories ++ run.entries.items ∷ []) opened.empty
+          ∙ (ap (λ (history : List Entry). map (λ run. []) before ++ history ∷ []) empty
+          ∙ sym (map_push (λ (run : RunPart). []) before part))) in
           subst (λ (parts : List RunPart). AreOpened bundle parts (runs ++ run ∷ [])) (sym longer) (record { kept = kept_push bundle 0 before runs part run opened.kept kept; empty = histories });
     }
 

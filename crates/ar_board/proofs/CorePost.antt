@@ -5,26 +5,26 @@ use Rattle.std.specs.List.{cons_option}
 use Rattle.std.specs.Vec.{vec_capacity}
 use Rattle.std.proofs.lemmas.Bool.Decides.{nat_tests}
 use Rattle.std.proofs.lemmas.List.{get_or-map, length-map, map-set}
-use Rattle.std.proofs.lemmas.List.Sums.{count_by-le-length, get_or-le-sum_by}
+use Rattle.std.proofs.lemmas.List.Sums.{get_or-le-sum_by}
 use Rattle.std.proofs.lemmas.Option.{get_or_from_slice_get, slice_get_read, slice_get_within}
 use Rattle.ar_limits.specs.Replay.{ForEachReplay, Replays}
 use Rattle.ar_limits.specs.declared.event.Event.{Event}
-use Rattle.ar_board.specs.Bundle.{Bundle, IsBundle, IsRun, entries_of, events_of, found, happened, run_of}
+use Rattle.ar_board.specs.Bundle.{Bundle, IsBundle, IsRun, events_of, found, happened, run_of}
 use Rattle.ar_board.specs.Core.{Core, State, after_step, entry_with, held, post_of, times_held, times_to_put}
 use Rattle.ar_board.specs.Lawful.{IsHistory, numbers_of, times, times_in}
 use Rattle.ar_board.specs.Private.Inside.{AreJudged, AreKept, IsCore, IsKept, core_of, histories_of, state_of}
 use Rattle.ar_board.specs.Private.Kept.{IsSound}
-use Rattle.ar_board.specs.declared.bundle.EventPart.{EventPart}
 use Rattle.ar_board.specs.declared.bundle.RunPart.{RunPart}
 use Rattle.ar_board.specs.declared.core_state.CoreState.TheInside.{Inside}
 use Rattle.ar_board.specs.declared.core_state.RunCore.{RunCore}
-use Rattle.ar_board.specs.declared.core_step.CoreStep.TheVariants.{Post}
+use Rattle.ar_board.specs.declared.core_steps.CoreStep.TheVariants.{Post}
 use Rattle.ar_board.specs.declared.finding.Finding.{Finding}
 use Rattle.ar_board.specs.declared.history.Entry.{Entry}
 use Rattle.ar_board.proofs.Bundles.{entry_at, of_each}
 use Rattle.ar_board.proofs.CoreSteps.{holder_inside, step_sound}
 use Rattle.ar_board.proofs.HistoryLemmas.{events_push, history_at, numbers_push}
 use Rattle.ar_board.proofs.Room.{has_room}
+use Rattle.ar_board.proofs.Sizes.{few_counted}
 
 -- ---- a number in a hand
 
@@ -98,9 +98,6 @@ few_happen : (bundle : Bundle) (numbers : List ℕ) → length (events_of bundle
 few_happen bundle [] = omega arith
 few_happen bundle (number ∷ numbers) = one_happens (happened bundle number) (events_of bundle numbers) (length numbers) (few_happen bundle numbers)
 
-few_entries : (bundle : Bundle) (run : ℕ) → entries_of bundle run ≤ length bundle.entries
-few_entries bundle run = count_by-le-length (λ (entry : EventPart). entry.run == run) bundle.entries
-
 -- ---- the run of a number in a hand
 
 pub record IsNext (bundle : Bundle) (runs : List RunCore) (run : ℕ) : Type 0 where
@@ -130,7 +127,7 @@ next_of bundle state runs run number is sound kept histories holds own below =
     let lacks : times_in number (numbers_of history) ≡ 0 = (let most = times_at number run state.histories in let nowhere = holds.nowhere in omega arith) in
     let shorter = has_room bundle run number history found.found (λ other. let most = times_at other run state.histories in let once = sound.once other in omega arith) lacks own in
     let long : length history ≡ length at.core.entries.items = ap length same in
-    let few = few_entries bundle run in
+    let few = few_counted bundle.entries run in
     let events = is.few_events in
     let of_run = of_each (IsRun bundle.metrics) bundle.runs run part.0 is.runs part.1 in
     let room = at.kept.room in

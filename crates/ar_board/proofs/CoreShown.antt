@@ -1,13 +1,12 @@
 -- What the core in memory shows of a run.
-use Rattle.std.proofs.Common.{◌≡◌, ◌<◌, ℕ, ◌+◌, List, [], length, get_or, Some, refl, sym, ◌∙◌, ap, subst, arith}
-use Rattle.std.specs.Prelude.{IfSome, slice_get}
+use Rattle.std.proofs.Common.{◌≡◌, ◌<◌, ℕ, ◌+◌, List, [], length, get_or, Some, refl, sym, ◌∙◌, subst, arith}
+use Rattle.std.specs.Prelude.{slice_get}
 use Rattle.std.proofs.lemmas.Option.{slice_get-map, slice_get_read}
 use Rattle.ar_limits.specs.Replay.{Replays}
 use Rattle.ar_board.specs.Bundle.{events_of}
 use Rattle.ar_board.specs.Core.{Core, IsStateOf}
 use Rattle.ar_board.specs.Lawful.{numbers_of}
 use Rattle.ar_board.specs.Private.Inside.{IsCore, IsKept, core_of, histories_of}
-use Rattle.ar_board.specs.declared.bundle.RunPart.{RunPart}
 use Rattle.ar_board.specs.declared.core_state.CoreState.TheInside.{Inside}
 use Rattle.ar_board.specs.declared.core_state.RunCore.{RunCore}
 use Rattle.ar_board.specs.declared.history.Entry.{Entry}
@@ -39,7 +38,7 @@ shows core seen run shown is view below read =
     let kept : IsKept core.bundle.now run part.0 shown = subst (λ (shown : RunCore). IsKept core.bundle.now run part.0 shown) same at.kept in
     let history = history_is core.runs.items run shown there in
     let replays : Replays part.0.limits (events_of core.bundle.now (numbers_of (get_or (histories_of core.runs.items) run []))) shown.state =
-        subst (λ (history : List Entry). Replays part.0.limits (events_of core.bundle.now (numbers_of history)) shown.state) (sym history) kept.replays in
+    subst (λ (history : List Entry). Replays part.0.limits (events_of core.bundle.now (numbers_of history)) shown.state) (sym history) kept.replays in
     subst (λ (seen : Core). Shows seen run shown) view (record {
       history = slice_get-map (λ (run : RunCore). run.entries.items) core.runs.items run ∙ rw there refl;
       standing = rw part.1 replays;

@@ -15,8 +15,8 @@ use Rattle.ar_board.specs.Lawful.{AreHistories, AreLawful, IsHistory, numbers_of
 use Rattle.ar_board.specs.Private.Kept.{IsSound}
 use Rattle.ar_board.specs.declared.bundle.EventPart.{EventPart}
 use Rattle.ar_board.specs.declared.bundle.RunPart.{RunPart}
-use Rattle.ar_board.specs.declared.core_step.CoreStep.{CoreStep}
-use Rattle.ar_board.specs.declared.core_step.CoreStep.TheVariants.{Put, Take, Post}
+use Rattle.ar_board.specs.declared.core_steps.CoreStep.{CoreStep}
+use Rattle.ar_board.specs.declared.core_steps.CoreStep.TheVariants.{Put, Take, Post}
 use Rattle.ar_board.specs.declared.finding.Finding.{Finding}
 use Rattle.ar_board.specs.declared.history.Entry.{Entry}
 use Rattle.ar_board.proofs.Bundles.{of_each}

@@ -8,8 +8,8 @@ use Rattle.ar_limits.specs.declared.event.Event.{Event}
 use Rattle.ar_limits.specs.declared.limits.Limits.{Limits}
 use Rattle.ar_board.specs.Bundle.{Bundle, events_of, found, happened, run_of}
 use Rattle.ar_board.specs.Lawful.{numbers_of, times, times_in}
-use Rattle.ar_board.specs.declared.core_step.CoreStep.{CoreStep}
-use Rattle.ar_board.specs.declared.core_step.CoreStep.TheVariants.{Put, Take, Post}
+use Rattle.ar_board.specs.declared.core_steps.CoreStep.{CoreStep}
+use Rattle.ar_board.specs.declared.core_steps.CoreStep.TheVariants.{Put, Take, Post}
 use Rattle.ar_board.specs.declared.finding.Finding.{Finding}
 use Rattle.ar_board.specs.declared.history.Entry.{Entry}
 

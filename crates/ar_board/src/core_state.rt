@@ -8,11 +8,11 @@ ghost use Rattle.ar_board.specs.Bundle.{IsBundle};
 ghost use Rattle.ar_board.specs.Core.{HasEachOnce, IsStateOf, core_after, entry_with, held, stepped};
 ghost use Rattle.ar_board.specs.Lawful.{AreHistories};
 ghost use Rattle.ar_board.specs.Private.Inside.{AreJudged, AreOpened};
-ghost use Rattle.ar_board.specs.declared.core_step.CoreStep.TheVariants.{Put, Take, Post};
-ghost use Rattle.ar_board.specs.declared.core_step.Moved.TheVariants.{Idle};
+ghost use Rattle.ar_board.specs.declared.core_steps.CoreStep.TheVariants.{Put, Take, Post};
+ghost use Rattle.ar_board.specs.declared.core_steps.Moved.TheVariants.{Idle};
 
 use crate::bundle::Bundle;
-use crate::core_step::{CoreStep, Moved};
+use crate::core_steps::{CoreStep, Moved};
 use crate::finding::Finding;
 use crate::history::Entry;
 use ar_limits::{Event, Limits, MOST_EVENTS, RunState};

@@ -1,4 +1,4 @@
-use Rattle.ar_board.specs.declared.core_step.CoreStep.TheVariants.{Put}
+use Rattle.ar_board.specs.declared.core_steps.CoreStep.TheVariants.{Put}
 use Rattle.ar_board.proofs.CoreSteps.{core_next}
 use Rattle.ar_board.proofs.core_state.core_run.Goals as goal
 

@@ -4,7 +4,7 @@ use Rattle.ar_limits.specs.Replay.{IsOfMetricBelow}
 use Rattle.ar_board.specs.Core.{Core, State, stepped}
 use Rattle.ar_board.specs.Private.Inside.{state_of}
 use Rattle.ar_board.specs.declared.core_state.RunCore.{RunCore}
-use Rattle.ar_board.specs.declared.core_step.CoreStep.TheVariants.{Post}
+use Rattle.ar_board.specs.declared.core_steps.CoreStep.TheVariants.{Post}
 use Rattle.ar_board.proofs.CorePost.{holding, judged_as, next_in, posts, read_next}
 use Rattle.ar_board.proofs.core_state.CoreState.post.Goals as goal
 
