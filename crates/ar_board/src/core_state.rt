@@ -69,7 +69,7 @@ pub struct CoreState<'b> {
     findings: Vec<Finding>,
     places: usize,
     next: u64,
-    /// With room for `places` numbers.
+    /// With room for `places` numbers, or for all of the bundle's where these are fewer.
     queue: VecDeque<u64>,
     hands: Vec<Option<u64>>,
     runs: Vec<RunCore>,
@@ -153,7 +153,7 @@ impl<'b> CoreState<'b> {
             findings: findings_of(alloc, bundle)?,
             places,
             next: 0,
-            queue: VecDeque::with_capacity(alloc, places)?,
+            queue: VecDeque::with_capacity(alloc, places.min(bundle.entries().len()))?,
             hands: empty_hands(alloc, workers)?,
             runs: opened(alloc, bundle)?,
         })

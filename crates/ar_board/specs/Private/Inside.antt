@@ -1,5 +1,5 @@
 -- How the core lies in memory.
-use Rattle.std.specs.Prelude.{◌≡◌, ◌≤◌, ℕ, suc, List, [], ◌∷◌, length, map, slice_get, Some}
+use Rattle.std.specs.Prelude.{◌≡◌, ◌≤◌, ℕ, suc, min, List, [], ◌∷◌, length, map, slice_get, Some}
 use Rattle.std.specs.Vec.{vec_capacity}
 use Rattle.std.specs.VecDeque.{deque_capacity}
 use Rattle.ar_limits.specs.Replay.{Replays}
@@ -53,4 +53,5 @@ pub record IsCore (core : Inside) : Type 0 where
   pub sound : IsSound core.bundle.now (state_of core)
   pub runs : AreKept core.bundle.now 0 core.bundle.now.runs core.runs.items
   pub queued : length core.queue.items ≤ core.places
-  pub places : core.places ≤ deque_capacity core.queue
+  pub put : length core.queue.items ≤ core.next
+  pub room : min core.places (length core.bundle.now.entries) ≤ deque_capacity core.queue

@@ -66,7 +66,8 @@ invariant_of-self c =
       sound = made.sound;
       runs = made.kept;
       queued = c.self.invariant.queued;
-      places = c.self.invariant.places;
+      put = c.self.invariant.put;
+      room = c.self.invariant.room;
     }
 
 pub returns-clause-after : goal.returns-clause-after
