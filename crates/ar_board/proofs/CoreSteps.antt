@@ -1,30 +1,26 @@
 -- What every step of the core keeps.
-use Rattle.std.proofs.Common.{◌≡◌, ◌<◌, ◌≤◌, ℕ, zero, suc, ◌+◌, ◌*◌, ◌==◌, Bool, true, false, if◌then◌else◌, List, [], ◌∷◌, ◌++◌, length, get_or, set, replicate, Option, Some, None, refl, sym, ◌∙◌, ap, subst, arith}
+use Rattle.std.proofs.Common.{◌≡◌, ◌<◌, ℕ, zero, suc, ◌+◌, ◌*◌, ◌==◌, Bool, true, false, if◌then◌else◌, List, [], ◌∷◌, ◌++◌, length, map, get_or, set, take, replicate, Option, Some, None, refl, sym, ◌∙◌, ap, subst, arith}
 use Rattle.std.specs.Prelude.{nat_lt, is_none, slice_get, option_and_then, option_map}
 use Rattle.std.specs.List.{AllByRecursion, sum_by}
 use Rattle.std.proofs.lemmas.Bool.Decides.{nat_tests}
 use Rattle.std.proofs.lemmas.Bool.{and_parts}
+use Rattle.std.proofs.lemmas.List.{take_more}
 use Rattle.std.proofs.lemmas.List.Folds.{sum_by-replicate}
 use Rattle.std.proofs.lemmas.List.Sums.{sum_by-cons, sum_by-set}
 use Rattle.ar_limits.specs.Run.{effect_of}
 use Rattle.ar_limits.specs.declared.event.Event.{Event}
 use Rattle.ar_board.specs.Bundle.{Bundle, IsBundle, IsEntry, events_of, found, happened, run_of}
-use Rattle.ar_board.specs.Core.{HasEachOnce, IsAtRest, State, added, after, after_step, can_put, emptied, entry_behind, has_empty_hand, held, occurrences, opening, post_of, put, taken, times_held, times_to_put, with_number}
+use Rattle.ar_board.specs.Core.{Core, HasEachOnce, IsAtRest, State, added, after, after_step, can_put, core_after, emptied, entry_behind, has_empty_hand, held, occurrences, opening, post_of, put, stepped, taken, times_held, times_to_put, with_number}
 use Rattle.ar_board.specs.Lawful.{AreHistories, AreLawful, IsHistory, numbers_of, times_in}
+use Rattle.ar_board.specs.Private.Kept.{IsSound}
 use Rattle.ar_board.specs.declared.bundle.EventPart.{EventPart}
 use Rattle.ar_board.specs.declared.bundle.RunPart.{RunPart}
-use Rattle.ar_board.specs.declared.core_step.CoreStep.{CoreStep}
-use Rattle.ar_board.specs.declared.core_step.CoreStep.TheVariants.{Put, Take, Post}
+use Rattle.ar_board.specs.declared.core_steps.CoreStep.{CoreStep}
+use Rattle.ar_board.specs.declared.core_steps.CoreStep.TheVariants.{Put, Take, Post}
 use Rattle.ar_board.specs.declared.finding.Finding.{Finding}
 use Rattle.ar_board.specs.declared.history.Entry.{Entry}
 use Rattle.ar_board.proofs.Bundles.{of_each}
 use Rattle.ar_board.proofs.HistoryLemmas.{as_many, history_at, history_push, history_set, none_yet, times_added, times_none, times_push}
-
--- what holds in each state that steps lead to
-pub record IsSound (bundle : Bundle) (state : State) : Type 0 where
-  pub next : state.next ≤ length bundle.entries
-  pub once : (number : ℕ) → occurrences number state ≡ 1
-  pub histories : AreHistories bundle 0 bundle.runs state.histories
 
 -- ---- Put
 
@@ -41,11 +37,24 @@ put_once number state once =
     let pushed = times_push number state.next state.queue in
     omega arith
 
+-- the next number goes to the queue, however this is said
+pub puts_sound : (bundle : Bundle) (state : State) (next : ℕ) (queue : List ℕ) → IsSound bundle state → state.next < length bundle.entries → next ≡ state.next + 1 → queue ≡ state.queue ++ state.next ∷ []
+    → IsSound bundle (record { next = next; queue = queue; hands = state.hands; histories = state.histories })
+puts_sound bundle state next queue sound inside up is =
+    let later : next ≡ suc state.next = omega arith in
+    record {
+      next = omega arith;
+      once = λ number.
+          subst (λ (next : ℕ). occurrences number (record { next = next; queue = queue; hands = state.hands; histories = state.histories }) ≡ 1) (sym later)
+          (subst (λ (queue : List ℕ). occurrences number (record { next = suc state.next; queue = queue; hands = state.hands; histories = state.histories }) ≡ 1) (sym is) (put_once number state (sound.once number)));
+      histories = sound.histories;
+    }
+
 put_sound : (bundle : Bundle) (places : ℕ) (state : State) (can : Bool) → can_put bundle places state ≡ can → IsSound bundle state → IsSound bundle (if can then put state else state)
 put_sound bundle places state false is sound = sound
 put_sound bundle places state true is sound =
     let inside : nat_lt state.next (length bundle.entries) ≡ true = (and_parts (nat_lt state.next (length bundle.entries)) (nat_lt (length state.queue) places) is).0 in
-    record { next = grind (arith, nat_tests, inside); once = λ number. put_once number state (sound.once number); histories = sound.histories }
+    puts_sound bundle state (suc state.next) (state.queue ++ state.next ∷ []) sound (grind (arith, nat_tests, inside)) (omega arith) refl
 
 -- ---- hands
 
@@ -168,7 +177,7 @@ number_sound bundle state worker own (Some run) is inside full own_run sound =
     posted_sound bundle state worker own run (entry_behind bundle run (get_or state.histories run []) own) is inside full own_run refl sound
 
 -- a worker that holds something is there
-holder_inside : (worker own : ℕ) (hands : List (Option ℕ)) → get_or hands worker None ≡ Some own → worker < length hands
+pub holder_inside : (worker own : ℕ) (hands : List (Option ℕ)) → get_or hands worker None ≡ Some own → worker < length hands
 holder_inside worker own [] full = absurd cc
 holder_inside zero own (hand ∷ hands) full = omega arith
 holder_inside (suc worker) own (hand ∷ hands) full = let rest = holder_inside worker own hands full in omega arith
@@ -179,7 +188,7 @@ post_sound bundle state worker (Some own) is holds sound = number_sound bundle s
 
 -- ---- steps
 
-step_sound : (bundle : Bundle) (places : ℕ) (state : State) (step : CoreStep) → IsBundle bundle → IsSound bundle state → IsSound bundle (after_step bundle places state step)
+pub step_sound : (bundle : Bundle) (places : ℕ) (state : State) (step : CoreStep) → IsBundle bundle → IsSound bundle state → IsSound bundle (after_step bundle places state step)
 step_sound bundle places state Put is sound = put_sound bundle places state (can_put bundle places state) refl sound
 step_sound bundle places state (Take worker) is sound = take_sound bundle state worker (has_empty_hand state worker) refl sound
 step_sound bundle places state (Post worker) is sound = post_sound bundle state worker (held state worker) is refl sound
@@ -198,6 +207,27 @@ opening_once bundle workers number =
 
 opening_sound : (bundle : Bundle) (workers : ℕ) → IsSound bundle (opening bundle workers)
 opening_sound bundle workers = record { next = omega arith; once = opening_once bundle workers; histories = none_yet bundle 0 bundle.runs }
+
+after_push : (bundle : Bundle) (places : ℕ) (state : State) (steps : List CoreStep) (last : CoreStep) → after bundle places state (steps ++ last ∷ []) ≡ after_step bundle places (after bundle places state steps) last
+after_push bundle places state [] last = refl
+after_push bundle places state (step ∷ steps) last = after_push bundle places (after_step bundle places state step) steps last
+
+-- one step more
+pub core_next : (bundle : Bundle) (workers places : ℕ) (steps : List CoreStep) (made : ℕ) (core later : Core) (d : CoreStep) → made < length steps → core ≡ core_after bundle workers places (take made steps) → later ≡ stepped core (get_or steps made d)
+    → later ≡ core_after bundle workers places (take (made + 1) steps)
+core_next bundle workers places steps made core later d inside before is =
+    is
+    ∙ (ap (λ (core : Core). stepped core (get_or steps made d)) before
+    ∙ (ap (λ (state : State). record { bundle = bundle; places = places; state = state }) (sym (after_push bundle places (opening bundle workers) (take made steps) (get_or steps made d)))
+    ∙ ap (core_after bundle workers places) (sym (take_more steps made d inside))))
+
+-- the opening state, however it is said
+pub opened_sound : (bundle : Bundle) (workers : ℕ) (queue : List ℕ) (hands : List (Option ℕ)) (histories : List (List Entry)) → queue ≡ [] → hands ≡ replicate workers None → histories ≡ map (λ run. []) bundle.runs
+    → IsSound bundle (record { next = 0; queue = queue; hands = hands; histories = histories })
+opened_sound bundle workers queue hands histories no_queue no_hands no_histories =
+    subst (λ (queue : List ℕ). IsSound bundle (record { next = 0; queue = queue; hands = hands; histories = histories })) (sym no_queue)
+    (subst (λ (hands : List (Option ℕ)). IsSound bundle (record { next = 0; queue = []; hands = hands; histories = histories })) (sym no_hands)
+    (subst (λ (histories : List (List Entry)). IsSound bundle (record { next = 0; queue = []; hands = replicate workers None; histories = histories })) (sym no_histories) (opening_sound bundle workers)))
 
 -- ---- the laws
 

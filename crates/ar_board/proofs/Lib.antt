@@ -7,3 +7,6 @@ pub mod Places
 pub mod Cells
 pub mod Shows
 pub mod Opened
+pub mod CorePost
+pub mod CoreOpening
+pub mod CoreShown

@@ -68,10 +68,15 @@ pub as_many_counts : (entries : List EventPart) (from : ℕ) (runs : List RunPar
 as_many_counts entries from [] = refl
 as_many_counts entries from (run ∷ runs) = ap suc (as_many_counts entries (suc from) runs)
 
-few_counted : (entries : List EventPart) (from place d : ℕ) (runs : List RunPart) → place < length runs → get_or (counts_of entries from runs) place d ≤ length entries
-few_counted entries from place d [] inside = absurd (omega arith)
-few_counted entries from zero d (run ∷ runs) inside = count_by-le-length (λ (entry : EventPart). entry.run == from) entries
-few_counted entries from (suc place) d (run ∷ runs) inside = few_counted entries (suc from) place d runs (omega arith)
+pub count_at : (entries : List EventPart) (from place d : ℕ) (runs : List RunPart) → place < length runs → get_or (counts_of entries from runs) place d ≡ count_of entries (from + place)
+count_at entries from place d [] inside = absurd (omega arith)
+count_at entries from zero d (run ∷ runs) inside = let here : from ≡ from + zero = omega arith in ap (count_of entries) here
+count_at entries from (suc place) d (run ∷ runs) inside =
+    let next : suc from + place ≡ from + suc place = omega arith in
+    count_at entries (suc from) place d runs (omega arith) ∙ ap (count_of entries) next
+
+pub few_counted : (entries : List EventPart) (run : ℕ) → count_of entries run ≤ length entries
+few_counted entries run = count_by-le-length (λ (entry : EventPart). entry.run == run) entries
 
 -- what is known of the next entry, and of the sizes so far
 pub record NextSize (runs : List RunPart) (entries : List EventPart) (upto run : ℕ) (sizes : List ℕ) : Type 0 where
@@ -90,7 +95,8 @@ next_of_bundle bundle upto entry sizes is inside read are =
     record {
       inside = omega arith;
       few = λ d.
-          let counted = few_counted before 0 entry.run d bundle.runs below in
+          let counted = count_at before 0 entry.run d bundle.runs below in
+          let few = few_counted before (0 + entry.run) in
           let same = ap (λ (sizes : List ℕ). get_or sizes entry.run d) are in
           omega arith;
       more = λ d.

@@ -1,13 +1,15 @@
 -- The core of a board: what it does to plain lists, one step after another. Whatever the workers of a board do, each
 -- section under its lock and each step at its queue is one of these steps.
-use Rattle.std.specs.Prelude.{◌≡◌, ◌<◌, ◌+◌, ◌++◌, ◌==◌, ◌&&◌, ℕ, suc, nat_lt, Bool, if◌then◌else◌, List, [], ◌∷◌, length, map, replicate, set, get_or, Option, Some, None, is_none, option_and_then, option_map, slice_get}
+use Rattle.std.specs.Prelude.{◌≡◌, ◌<◌, ◌+◌, ◌++◌, ◌==◌, ◌&&◌, ℕ, suc, nat_lt, Bool, if◌then◌else◌, List, [], ◌∷◌, length, map, replicate, set, get_or, Option, Some, None, is_none, IfSome, option_and_then, option_map, slice_get}
 use Rattle.std.specs.List.{AllByRecursion, sum_by}
+use Rattle.ar_limits.specs.Replay.{Replays, Standing}
 use Rattle.ar_limits.specs.Run.{effect_of}
 use Rattle.ar_limits.specs.declared.event.Event.{Event}
+use Rattle.ar_limits.specs.declared.limits.Limits.{Limits}
 use Rattle.ar_board.specs.Bundle.{Bundle, events_of, found, happened, run_of}
 use Rattle.ar_board.specs.Lawful.{numbers_of, times, times_in}
-use Rattle.ar_board.specs.declared.core_step.CoreStep.{CoreStep}
-use Rattle.ar_board.specs.declared.core_step.CoreStep.TheVariants.{Put, Take, Post}
+use Rattle.ar_board.specs.declared.core_steps.CoreStep.{CoreStep}
+use Rattle.ar_board.specs.declared.core_steps.CoreStep.TheVariants.{Put, Take, Post}
 use Rattle.ar_board.specs.declared.finding.Finding.{Finding}
 use Rattle.ar_board.specs.declared.history.Entry.{Entry}
 
@@ -45,10 +47,14 @@ taken state worker (number ∷ queue) = record { next = state.next; queue = queu
 
 -- ---- Post: the number in a worker's hand goes to the end of its run's history
 
--- a number with its finding, and with its effect behind the whole of a history of its run
+-- a number with its finding, and with its effect behind events under its run's limits
+abbrev pub entry_with : (number : ℕ) → Finding → List Limits → List Event → Event → Entry
+entry_with number finding limits events event = record { number = number; finding = finding; effect = effect_of limits events event }
+
+-- behind the whole of a history of its run
 abbrev pub entry_of : Bundle → (run : ℕ) → List Entry → (number : ℕ) → Finding → Event → Option Entry
 entry_of bundle run history number finding event =
-    option_map (λ part. record { number = number; finding = finding; effect = effect_of part.limits (events_of bundle (numbers_of history)) event }) (slice_get bundle.runs run)
+    option_map (λ part. entry_with number finding part.limits (events_of bundle (numbers_of history)) event) (slice_get bundle.runs run)
 
 abbrev pub entry_behind : Bundle → (run : ℕ) → List Entry → (number : ℕ) → Option Entry
 entry_behind bundle run history number =
@@ -108,3 +114,24 @@ pub record IsAtRest (bundle : Bundle) (state : State) : Type 0 where
   pub put : state.next ≡ length bundle.entries
   pub queue : state.queue ≡ []
   pub hands : AllByRecursion (λ hand. hand ≡ None) state.hands
+
+-- ---- a core in memory
+
+-- the bundle, how many places its queue has, and the state
+pub record Core : Type 0 where
+  pub bundle : Bundle
+  pub places : ℕ
+  pub state : State
+
+-- the core behind a step
+abbrev pub stepped : Core → CoreStep → Core
+stepped core step = record { bundle = core.bundle; places = core.places; state = after_step core.bundle core.places core.state step }
+
+-- the core behind some steps of the opening state
+abbrev pub core_after : Bundle → (workers places : ℕ) → List CoreStep → Core
+core_after bundle workers places steps = record { bundle = bundle; places = places; state = after bundle places (opening bundle workers) steps }
+
+-- where a run stands behind its history
+abbrev pub IsStateOf : Core → (run : ℕ) → Standing → Type 0
+IsStateOf core run standing =
+    IfSome (slice_get core.bundle.runs run) (λ part. Replays part.limits (events_of core.bundle (numbers_of (get_or core.state.histories run []))) standing)

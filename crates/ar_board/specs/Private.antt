@@ -1,2 +1,4 @@
--- What private contracts speak of.
+-- Definitions of private contracts, which follow the code: a reader need not believe them.
+pub mod Kept
+pub mod Inside
 pub mod KeptRuns

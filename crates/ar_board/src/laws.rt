@@ -5,7 +5,7 @@ ghost use Rattle.std.specs.Prelude.{ℕ, List};
 ghost use Rattle.ar_board.specs.Bundle.{Bundle, IsBundle};
 ghost use Rattle.ar_board.specs.Core.{HasEachOnce, IsAtRest, after, opening};
 ghost use Rattle.ar_board.specs.Lawful.{AreHistories, AreLawful};
-ghost use Rattle.ar_board.specs.declared.core_step.CoreStep.{CoreStep};
+ghost use Rattle.ar_board.specs.declared.core_steps.CoreStep.{CoreStep};
 
 /// Each number of the bundle stands just once in what is still to put, the queue, the hands and the
 /// histories.

@@ -8,16 +8,19 @@
 //!
 //! The core of a board (`specs/Core`) is what a board does to plain lists, one [`CoreStep`] after
 //! another: a number is put into the queue, a worker takes it, and posts it to its run's history.
-//! [`laws`] say what holds behind every list of steps.
+//! [`CoreState`] is that core in memory: [`CoreState::new`] judges every number and makes all room,
+//! [`core_step`] makes one step and takes no memory, and [`core_run`] makes a list of them. [`laws`]
+//! say what holds behind every list of steps.
 //!
 //! - [`bundle`]: bundles and their parts; [`finding`]: what a number comes to
 //! - [`history`]: histories of runs
-//! - [`core_step`]: steps of the core
+//! - [`core_steps`]: steps of the core; [`core_state`]: the core in memory
 #![tactic(auto)]
 
 pub mod bundle;
 pub mod cell;
-pub mod core_step;
+pub mod core_state;
+pub mod core_steps;
 pub mod finding;
 pub mod history;
 mod kept_run;
@@ -28,6 +31,12 @@ pub mod receipt;
 pub mod snapshot;
 
 pub use bundle::{Bundle, EventPart, Judges, MetricPart, RunLimits, RunPart, What};
-pub use core_step::CoreStep;
+pub use cell::RunCell;
+pub use core_state::{CoreState, core_run, core_step};
+pub use core_steps::{CoreStep, Moved};
 pub use finding::Finding;
 pub use history::{Entry, Histories, History};
+pub use names::{BundleName, LockName};
+pub use posted::{Double, Posted};
+pub use receipt::Receipt;
+pub use snapshot::{LookFault, Snapshot};

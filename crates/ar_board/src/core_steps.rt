@@ -10,3 +10,12 @@ pub enum CoreStep {
     /// The number in the worker's hand goes to the end of its run's history.
     Post(usize),
 }
+
+/// Whether a step was made.
+#[derive(Clone, Copy, Debug, PartialEq, Eq)]
+pub enum Moved {
+    /// It was.
+    Done,
+    /// It can't be made now, or its worker isn't there. Nothing has changed.
+    Idle,
+}
