@@ -1,20 +1,20 @@
 -- A cell that gets one entry more.
-use Rattle.std.proofs.Common.{◌≡◌, ◌≢◌, ◌<◌, ◌≤◌, ℕ, zero, suc, ◌+◌, ◌^◌, ◌==◌, Bool, true, false, if◌then◌else◌, List, [], ◌∷◌, ◌++◌, length, map, set, get_or, Option, Some, None, is_some, refl, sym, ◌∙◌, ap, subst, arith}
-use Rattle.std.specs.Prelude.{cond, option_and_then, option_map, slice_get, vec_capacity}
+use Rattle.std.proofs.Common.{◌≡◌, ◌≢◌, ◌<◌, ◌≤◌, ℕ, zero, suc, ◌+◌, ◌==◌, Bool, true, false, List, [], ◌∷◌, ◌++◌, length, map, set, get_or, Option, Some, None, is_some, refl, sym, ◌∙◌, ap, subst, arith}
+use Rattle.std.specs.Prelude.{cond, option_map, slice_get, vec_capacity}
 use Rattle.std.specs.List.{AllByRecursion, cons_option, count_by, sum_by}
 use Rattle.std.proofs.lemmas.Bool.Decides.{nat_tests}
-use Rattle.std.proofs.lemmas.List.{get_or-set_other, get_or-set_same, length-map, length-set, length_push, map-set, map_push}
+use Rattle.std.proofs.lemmas.List.{get_or-set_other, length-map, length-set, length_push, map-set}
 use Rattle.std.proofs.lemmas.List.Sums.{count_by-le-length, sum_by-set, sum_by_push}
-use Rattle.std.proofs.lemmas.Option.{get_or_from_slice_get, slice_get-get_or, slice_get-map, slice_get_read, slice_get_within}
+use Rattle.std.proofs.lemmas.Option.{get_or_from_slice_get, slice_get-map, slice_get_read, slice_get_within}
 use Rattle.ar_limits.specs.Replay.{ForEachReplay, IsOfMetricBelow, Replays}
 use Rattle.ar_limits.specs.Run.{effect_of}
 use Rattle.ar_limits.specs.declared.event.Effect.{Effect}
 use Rattle.ar_limits.specs.declared.event.Event.{Event}
 use Rattle.ar_limits.specs.declared.limits.Limits.{Limits}
-use Rattle.ar_board.specs.Bundle.{Bundle, IsBundle, IsRun, count_of, counts_of, entries_of, events_of, found, happened, most_events, run_of, sizes_of}
+use Rattle.ar_board.specs.Bundle.{Bundle, IsRun, count_of, counts_of, entries_of, events_of, found, happened, most_events, run_of, sizes_of}
 use Rattle.ar_board.specs.Cell.{ArePosts, Cell, IsCell, IsKept, IsPosted, IsUnder, KeptRun, Stands, authors_at, authors_of, histories_of, history_at, lock_of}
 use Rattle.ar_board.specs.Core.{added, posted}
-use Rattle.ar_board.specs.Lawful.{AreHistories, AtMostOnce, IsFound, IsHistory, numbers_of, times, times_in}
+use Rattle.ar_board.specs.Lawful.{AreHistories, AtMostOnce, IsHistory, numbers_of, times_in}
 use Rattle.ar_board.specs.Private.KeptRuns.{CanTake, HasRoom, IsInside, IsTable, cell_of, kept_of, place_in}
 use Rattle.ar_board.specs.declared.bundle.EventPart.{EventPart}
 use Rattle.ar_board.specs.declared.bundle.RunPart.{RunPart}

@@ -1,17 +1,17 @@
 -- A cell to which nothing was posted.
-use Rattle.std.proofs.Common.{◌≡◌, ◌≢◌, ◌<◌, ◌≤◌, ℕ, zero, suc, ◌+◌, ◌==◌, Bool, true, false, List, [], ◌∷◌, ◌++◌, length, map, get_or, replicate, Option, Some, None, refl, sym, ◌∙◌, ap, subst, arith}
+use Rattle.std.proofs.Common.{◌≡◌, ◌<◌, ℕ, zero, suc, ◌+◌, List, [], ◌∷◌, ◌++◌, length, map, get_or, replicate, Option, Some, None, refl, sym, ◌∙◌, ap, subst, arith}
 use Rattle.std.specs.Prelude.{slice_get, slice_index_or}
-use Rattle.std.specs.List.{AllByRecursion, count_by, sum_by}
+use Rattle.std.specs.List.{AllByRecursion, sum_by}
 use Rattle.std.proofs.lemmas.List.{length-map, length-replicate, length_push}
 use Rattle.std.proofs.lemmas.List.Sums.{sum_by-cons}
 use Rattle.std.proofs.lemmas.Option.{slice_get_read, slice_get_within}
 use Rattle.ar_limits.specs.Prefixes.{with_earlier}
 use Rattle.ar_limits.specs.Replay.{Replays}
 use Rattle.ar_limits.specs.Run.{effects}
-use Rattle.ar_board.specs.Bundle.{Bundle, IsBundle, entries_of, events_of, run_of, sizes_of}
-use Rattle.ar_board.specs.Cell.{ArePosts, Cell, IsCell, IsEmpty, IsKept, KeptRun, history_at}
+use Rattle.ar_board.specs.Bundle.{Bundle, IsBundle, entries_of, events_of, sizes_of}
+use Rattle.ar_board.specs.Cell.{ArePosts, IsCell, IsEmpty, IsKept, KeptRun, history_at}
 use Rattle.ar_board.specs.Lawful.{AtMostOnce, IsHistory, numbers_of}
-use Rattle.ar_board.specs.Private.KeptRuns.{AreOpened, HasRoom, IsInside, IsOpened, IsTable, cell_of, kept_of, place_in}
+use Rattle.ar_board.specs.Private.KeptRuns.{AreOpened, IsInside, IsOpened, IsTable, cell_of, kept_of, place_in}
 use Rattle.ar_board.specs.declared.bundle.RunPart.{RunPart}
 use Rattle.ar_board.specs.declared.kept_run.KeptRun.{KeptRun as Declared}
 use Rattle.ar_board.specs.declared.history.Entry.{Entry}

@@ -1,10 +1,10 @@
 -- Where a number stands in the histories of runs.
-use Rattle.std.proofs.Common.{◌≡◌, ◌≢◌, ◌<◌, ◌≤◌, ℕ, zero, suc, ◌+◌, ◌==◌, Bool, true, false, if◌then◌else◌, List, [], ◌∷◌, ◌++◌, length, map, get_or, Option, Some, None, refl, sym, ◌∙◌, ap, subst, arith}
-use Rattle.std.specs.Prelude.{option_map, slice_get}
+use Rattle.std.proofs.Common.{◌≡◌, ◌≢◌, ◌<◌, ℕ, zero, suc, ◌+◌, ◌==◌, Bool, true, false, if◌then◌else◌, List, [], ◌∷◌, ◌++◌, length, get_or, Option, Some, None, refl, sym, ◌∙◌, ap, arith}
+use Rattle.std.specs.Prelude.{option_map}
 use Rattle.std.specs.List.{AllByRecursion}
 use Rattle.std.proofs.lemmas.Bool.Decides.{nat_tests}
 use Rattle.ar_board.specs.Bundle.{Bundle, run_of}
-use Rattle.ar_board.specs.Lawful.{AreHistories, IsFound, IsHistory, numbers_of, times, times_in}
+use Rattle.ar_board.specs.Lawful.{AreHistories, IsFound, numbers_of, times, times_in}
 use Rattle.ar_board.specs.declared.bundle.RunPart.{RunPart}
 use Rattle.ar_board.specs.declared.history.Entry.{Entry}
 use Rattle.ar_board.specs.Private.KeptRuns.{place_in}

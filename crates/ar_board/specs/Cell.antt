@@ -4,7 +4,6 @@ use Rattle.std.specs.List.{AllByRecursion, count_by, sum_by}
 use Rattle.ar_limits.specs.Replay.{Replays, Standing}
 use Rattle.ar_limits.specs.Run.{metric_phases, run_phase}
 use Rattle.ar_limits.specs.declared.limits.Limits.{Limits}
-use Rattle.ar_limits.specs.declared.phase.Phase.{Phase}
 use Rattle.ar_board.specs.Bundle.{Bundle, events_of, run_of}
 use Rattle.ar_board.specs.Core.{posted}
 use Rattle.ar_board.specs.Receipts.{posted_by, received}

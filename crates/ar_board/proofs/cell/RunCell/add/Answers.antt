@@ -1,4 +1,4 @@
-use Rattle.std.proofs.Common.{set, rules, arith, refl, subst, sym}
+use Rattle.std.proofs.Common.{set, rules, refl, subst, sym}
 use Rattle.ar_board.specs.Cell.{Cell, IsPosted, Stands}
 use Rattle.ar_board.specs.Private.KeptRuns.{cell_of}
 use Rattle.ar_board.proofs.Cells.{IsPushed, IsReady, can_take, inside_push, is_posted, not_there, ready, stands}

@@ -1,4 +1,4 @@
-use Rattle.std.proofs.Common.{rules, length}
+use Rattle.std.proofs.Common.{rules}
 use Rattle.ar_board.proofs.Opened.{inside_opened, is_empty, named_cell}
 use Rattle.ar_board.proofs.cell.RunCell.new.Goals as goal
 

@@ -1,6 +1,6 @@
-use Rattle.std.proofs.Common.{◌≡◌, ℕ, Err, rules, arith, ap, sym}
+use Rattle.std.proofs.Common.{ℕ, Err, rules, arith, ap}
 use Rattle.ar_board.specs.declared.snapshot.LookFault.TheVariants as fault
-use Rattle.ar_board.proofs.Shows.{IsAt, counted_by, fresh_of, kept_run, of_fresh, shown_as}
+use Rattle.ar_board.proofs.Shows.{counted_by, fresh_of, kept_run, of_fresh, shown_as}
 use Rattle.ar_board.proofs.cell.RunCell.show.Goals as goal
 
 pub agrees-requires : goal.agrees-requires

@@ -1,4 +1,4 @@
-use Rattle.std.proofs.Common.{get_or, rules, arith, subst, sym}
+use Rattle.std.proofs.Common.{get_or, subst, sym}
 use Rattle.std.proofs.lemmas.Option.{get_or_from_slice_get, slice_get-get_or}
 use Rattle.ar_board.specs.Private.KeptRuns.{IsNextOwn}
 use Rattle.ar_board.specs.declared.receipt.Receipt.{Receipt}
