@@ -98,9 +98,9 @@ histories_are bundle workers lock cell is =
 pub kept_at : (runs : List Declared) (run : ℕ) (kept : Declared) → slice_get runs run ≡ Some kept → slice_get (map kept_of runs) run ≡ Some (kept_of kept)
 kept_at runs run kept there = slice_get-map kept_of runs run ∙ ap (option_map kept_of) there
 
-pub history_is : (runs : List Declared) (total run : ℕ) (kept : Declared) → slice_get runs run ≡ Some kept → history_at (cell_of runs total) run ≡ kept.entries.items
+pub history_is : (runs : List Declared) (total run : ℕ) (kept : Declared) → slice_get runs run ≡ Some kept → history_at (cell_of runs total) run ≡ kept.run.entries.items
 history_is runs total run kept there =
-    get_or_from_slice_get (histories_of (cell_of runs total)) run kept.entries.items []
+    get_or_from_slice_get (histories_of (cell_of runs total)) run kept.run.entries.items []
     (slice_get-map (λ (kept : KeptRun). kept.history) (map kept_of runs) run ∙ ap (option_map (λ (kept : KeptRun). kept.history)) (kept_at runs run kept there))
 
 pub authors_are : (runs : List Declared) (total run : ℕ) (kept : Declared) → slice_get runs run ≡ Some kept → authors_at (cell_of runs total) run ≡ kept.authors.items
@@ -108,7 +108,7 @@ authors_are runs total run kept there =
     get_or_from_slice_get (authors_of (cell_of runs total)) run kept.authors.items []
     (slice_get-map (λ (kept : KeptRun). kept.authors) (map kept_of runs) run ∙ ap (option_map (λ (kept : KeptRun). kept.authors)) (kept_at runs run kept there))
 
-pub read_history : (named : Bundle) (workers lock : ℕ) (bundle : Bundle) (runs : List Declared) (places : List (Option ℕ)) (total run : ℕ) (kept : Declared) → IsInside named workers lock bundle runs places total → run < length named.runs → kept ≡ get_or runs run kept → history_at (cell_of runs total) run ≡ kept.entries.items
+pub read_history : (named : Bundle) (workers lock : ℕ) (bundle : Bundle) (runs : List Declared) (places : List (Option ℕ)) (total run : ℕ) (kept : Declared) → IsInside named workers lock bundle runs places total → run < length named.runs → kept ≡ get_or runs run kept → history_at (cell_of runs total) run ≡ kept.run.entries.items
 read_history named workers lock bundle runs places total run kept inside below read =
     let many : length runs ≡ length bundle.runs = sym (length-map runs kept_of) ∙ inside.cell.as_many in
     let same = ap (λ (bundle : Bundle). length bundle.runs) inside.is_named in
@@ -122,13 +122,13 @@ pub record IsReady (bundle : Bundle) (workers lock : ℕ) (runs : List Declared)
   pub kept_there : slice_get runs run ≡ Some kept
   pub inside : run < length runs
   pub is : IsKept bundle workers lock run part.limits (kept_of kept)
-  pub absent : times_in number (numbers_of kept.entries.items) ≡ 0
+  pub absent : times_in number (numbers_of kept.run.entries.items) ≡ 0
   pub own : run_of bundle number ≡ Some run
   pub under : lock_of run ≡ lock
-  pub limits : length kept.state.limits ≡ length bundle.metrics
+  pub limits : length kept.run.state.limits ≡ length bundle.metrics
   -- fewer entries than the run has
-  pub few : length kept.entries.items < entries_of bundle run
-  pub few_events : length kept.entries.items < most_events
+  pub few : length kept.run.entries.items < entries_of bundle run
+  pub few_events : length kept.run.entries.items < most_events
   pub room : HasRoom bundle lock run kept
 
 pub ready : (named : Bundle) (workers lock : ℕ) (bundle : Bundle) (runs : List Declared) (places : List (Option ℕ)) (total number run : ℕ) (kept : Declared) (place : Option ℕ) → IsInside named workers lock bundle runs places total
@@ -144,9 +144,9 @@ ready named workers lock bundle runs places total number run kept place inside u
     let placed : slice_get places number ≡ Some place = slice_get_read places (length places) number place refl table_there read_place in
     let by_table : Some place ≡ Some (place_in number (numbers_of (history_at (cell_of runs total) run))) = sym placed ∙ inside.table.each number run own in
     let no_place : place_in number (numbers_of (history_at (cell_of runs total) run)) ≡ None = (let same : place ≡ place_in number (numbers_of (history_at (cell_of runs total) run)) = cc in sym same ∙ none) in
-    let here : history_at (cell_of runs total) run ≡ kept.entries.items = history_is runs total run kept kept_there in
-    let not_there : times_in number (numbers_of kept.entries.items) ≡ 0 = absent number (numbers_of kept.entries.items) (subst (λ (history : List Entry). place_in number (numbers_of history) ≡ None) here no_place) in
-    let few : length kept.entries.items < entries_of bundle run = has_room bundle run number kept.entries.items is.history.found is.once not_there own in
+    let here : history_at (cell_of runs total) run ≡ kept.run.entries.items = history_is runs total run kept kept_there in
+    let not_there : times_in number (numbers_of kept.run.entries.items) ≡ 0 = absent number (numbers_of kept.run.entries.items) (subst (λ (history : List Entry). place_in number (numbers_of history) ≡ None) here no_place) in
+    let few : length kept.run.entries.items < entries_of bundle run = has_room bundle run number kept.run.entries.items is.history.found is.once not_there own in
     let of_all = count_by-le-length (λ (entry : EventPart). entry.run == run) bundle.entries in
     let most = inside.is_bundle.few_events in
     record {
@@ -179,8 +179,8 @@ can_take bundle workers lock runs number run worker kept event ready inside metr
     let few_events = ready.few_events in
     let each_worker = ready.is.posts.each_worker in
     let handed = ready.is.state.handed_is in
-    let happen = few_happen bundle (numbers_of kept.entries.items) in
-    let numbers = length-map kept.entries.items (λ (entry : Entry). entry.number) in
+    let happen = few_happen bundle (numbers_of kept.run.entries.items) in
+    let numbers = length-map kept.run.entries.items (λ (entry : Entry). entry.number) in
     record {
       entry = omega arith;
       author = omega arith;
@@ -194,13 +194,13 @@ can_take bundle workers lock runs number run worker kept event ready inside metr
 
 -- what `KeptRun::push` makes of a run
 pub record IsPushed (old new : Declared) (worker number : ℕ) (finding : Finding) (event : Event) (answer : Posted) : Type 0 where
-  pub place : answer.place ≡ length old.entries.items
-  pub entry : new.entries.items ≡ old.entries.items ++ record { number = number; finding = finding; effect = answer.effect } ∷ []
+  pub place : answer.place ≡ length old.run.entries.items
+  pub entry : new.run.entries.items ≡ old.run.entries.items ++ record { number = number; finding = finding; effect = answer.effect } ∷ []
   pub author : new.authors.items ≡ old.authors.items ++ worker ∷ []
   pub posts : new.posts.items ≡ set old.posts.items worker (get_or old.posts.items worker 0 + 1)
-  pub replays : ForEachReplay old.state (λ limits events. Replays limits (events ++ event ∷ []) new.state)
-  pub effect : ForEachReplay old.state (λ limits events. answer.effect ≡ effect_of limits events event)
-  pub places : vec_capacity new.entries ≡ vec_capacity old.entries
+  pub replays : ForEachReplay old.run.state (λ limits events. Replays limits (events ++ event ∷ []) new.run.state)
+  pub effect : ForEachReplay old.run.state (λ limits events. answer.effect ≡ effect_of limits events event)
+  pub places : vec_capacity new.run.entries ≡ vec_capacity old.run.entries
   pub author_places : vec_capacity new.authors ≡ vec_capacity old.authors
 
 abbrev one_if : Bool → ℕ
@@ -258,26 +258,26 @@ pub kept_push : (bundle : Bundle) (workers lock : ℕ) (runs : List Declared) (w
     → IsPushed old new worker number finding event answer → IsKept bundle workers lock run ready.part.limits (kept_of new)
 kept_push bundle workers lock runs worker number run old new finding event answer ready inside finds happens pushed =
     let limits : List Limits = ready.part.limits in
-    let events : List Event = events_of bundle (numbers_of old.entries.items) in
+    let events : List Event = events_of bundle (numbers_of old.run.entries.items) in
     let last : Entry = record { number = number; finding = finding; effect = effect_of limits events event } in
-    let entries : new.entries.items ≡ old.entries.items ++ last ∷ [] = pushed.entry ∙ ap (λ (effect : Effect). old.entries.items ++ record { number = number; finding = finding; effect = effect } ∷ []) (pushed.effect limits events ready.is.state) in
-    let numbers : numbers_of new.entries.items ≡ numbers_of old.entries.items ++ number ∷ [] = ap numbers_of entries ∙ numbers_push old.entries.items last in
-    let more_entries = ap length entries ∙ length_push old.entries.items last in
+    let entries : new.run.entries.items ≡ old.run.entries.items ++ last ∷ [] = pushed.entry ∙ ap (λ (effect : Effect). old.run.entries.items ++ record { number = number; finding = finding; effect = effect } ∷ []) (pushed.effect limits events ready.is.state) in
+    let numbers : numbers_of new.run.entries.items ≡ numbers_of old.run.entries.items ++ number ∷ [] = ap numbers_of entries ∙ numbers_push old.run.entries.items last in
+    let more_entries = ap length entries ∙ length_push old.run.entries.items last in
     let more_authors = ap length pushed.author ∙ length_push old.authors.items worker in
     let as_many = ready.is.authors in
     record {
-      history = subst (IsHistory bundle run limits) (sym entries) (history_push bundle run limits old.entries.items number finding event ready.own finds happens ready.is.history);
-      once = subst AtMostOnce (sym numbers) (once_push number (numbers_of old.entries.items) ready.is.once ready.absent);
+      history = subst (IsHistory bundle run limits) (sym entries) (history_push bundle run limits old.run.entries.items number finding event ready.own finds happens ready.is.history);
+      once = subst AtMostOnce (sym numbers) (once_push number (numbers_of old.run.entries.items) ready.is.once ready.absent);
       own = λ elsewhere. absurd (elsewhere ready.under);
       authors = omega arith;
       are_workers = subst (AllByRecursion (λ (author : ℕ). author < workers)) (sym pushed.author) (all_push (λ (author : ℕ). author < workers) old.authors.items worker ready.is.are_workers inside);
       posts = subst (ArePosts workers new.authors.items) (sym pushed.posts) (subst (λ (authors : List ℕ). ArePosts workers authors (set old.posts.items worker (get_or old.posts.items worker 0 + 1))) (sym pushed.author) (posts_push workers worker old.authors.items old.posts.items inside ready.is.posts));
-      state = subst (λ (events : List Event). Replays limits events new.state) (sym (ap (events_of bundle) numbers ∙ events_push bundle (numbers_of old.entries.items) number event happens)) (pushed.replays limits events ready.is.state);
+      state = subst (λ (events : List Event). Replays limits events new.run.state) (sym (ap (events_of bundle) numbers ∙ events_push bundle (numbers_of old.run.entries.items) number event happens)) (pushed.replays limits events ready.is.state);
     }
 
 -- ---- a cell with one entry more
 
-histories_set : (runs : List Declared) (total run : ℕ) (new : Declared) → histories_of (cell_of (set runs run new) total) ≡ set (histories_of (cell_of runs total)) run new.entries.items
+histories_set : (runs : List Declared) (total run : ℕ) (new : Declared) → histories_of (cell_of (set runs run new) total) ≡ set (histories_of (cell_of runs total)) run new.run.entries.items
 histories_set runs total run new =
     ap (λ (kept : List KeptRun). map (λ (kept : KeptRun). kept.history) kept) (map-set kept_of runs run new)
     ∙ map-set (λ (kept : KeptRun). kept.history) (map kept_of runs) run (kept_of new)
@@ -296,8 +296,8 @@ cell_push bundle workers lock runs total after worker number run old new finding
     let kept_inside : run < length (map kept_of runs) = omega arith in
     let sums = sum_by-set (λ (kept : KeptRun). length kept.history) (map kept_of runs) run (kept_of new) (kept_of old) kept_inside in
     let before : get_or (map kept_of runs) run (kept_of old) ≡ kept_of old = get_or_from_slice_get (map kept_of runs) run (kept_of old) (kept_of old) (kept_at runs run old ready.kept_there) in
-    let before_length : length (get_or (map kept_of runs) run (kept_of old)).history ≡ length old.entries.items = ap (λ (kept : KeptRun). length kept.history) before in
-    let longer : length new.entries.items ≡ length old.entries.items + 1 = ap length pushed.entry ∙ length_push old.entries.items (record { number = number; finding = finding; effect = answer.effect }) in
+    let before_length : length (get_or (map kept_of runs) run (kept_of old)).history ≡ length old.run.entries.items = ap (λ (kept : KeptRun). length kept.history) before in
+    let longer : length new.run.entries.items ≡ length old.run.entries.items + 1 = ap length pushed.entry ∙ length_push old.run.entries.items (record { number = number; finding = finding; effect = answer.effect }) in
     let counted = is.counted in
     let summed : after ≡ sum_by (λ (kept : KeptRun). length kept.history) (set (map kept_of runs) run (kept_of new)) = omega arith in
     record {
@@ -320,21 +320,21 @@ table_push bundle workers lock runs places total after worker number run old new
   where
     last : Entry
     last = record { number = number; finding = finding; effect = answer.effect }
-    numbers : numbers_of new.entries.items ≡ numbers_of old.entries.items ++ number ∷ []
-    numbers = ap numbers_of pushed.entry ∙ numbers_push old.entries.items last
-    at_run : history_at (cell_of (set runs run new) after) run ≡ new.entries.items
+    numbers : numbers_of new.run.entries.items ≡ numbers_of old.run.entries.items ++ number ∷ []
+    numbers = ap numbers_of pushed.entry ∙ numbers_push old.run.entries.items last
+    at_run : history_at (cell_of (set runs run new) after) run ≡ new.run.entries.items
     at_run = history_is (set runs run new) after run new (at_set_same runs run new ready.inside)
-    before_run : history_at (cell_of runs total) run ≡ old.entries.items
+    before_run : history_at (cell_of runs total) run ≡ old.run.entries.items
     before_run = history_is runs total run old ready.kept_there
     elsewhere : (other : ℕ) → other ≢ run → history_at (cell_of (set runs run new) after) other ≡ history_at (cell_of runs total) other
-    elsewhere other away = ap (λ (histories : List (List Entry)). get_or histories other []) (histories_set runs after run new) ∙ get_or-set_other (histories_of (cell_of runs after)) run other new.entries.items [] away
+    elsewhere other away = ap (λ (histories : List (List Entry)). get_or histories other []) (histories_set runs after run new) ∙ get_or-set_other (histories_of (cell_of runs after)) run other new.run.entries.items [] away
     own_place : (other own : ℕ) → run_of bundle other ≡ Some own → other ≡ number → slice_get (set places number (Some answer.place)) other ≡ Some (place_in other (numbers_of (history_at (cell_of (set runs run new) after) own)))
     own_place other own own_is same =
         let same_run : own ≡ run = (let both : Some own ≡ Some run = sym own_is ∙ (ap (run_of bundle) same ∙ ready.own) in cc) in
         let many = is.as_many in
         let put : slice_get (set places number (Some answer.place)) number ≡ Some (Some answer.place) = at_set_same places number (Some answer.place) (omega arith) in
-        let long : length (numbers_of old.entries.items) ≡ answer.place = length-map old.entries.items (λ (entry : Entry). entry.number) ∙ sym pushed.place in
-        let placed : place_in number (numbers_of new.entries.items) ≡ Some answer.place = ap (place_in number) numbers ∙ (place_last number (numbers_of old.entries.items) ready.absent ∙ ap Some long) in
+        let long : length (numbers_of old.run.entries.items) ≡ answer.place = length-map old.run.entries.items (λ (entry : Entry). entry.number) ∙ sym pushed.place in
+        let placed : place_in number (numbers_of new.run.entries.items) ≡ Some answer.place = ap (place_in number) numbers ∙ (place_last number (numbers_of old.run.entries.items) ready.absent ∙ ap Some long) in
         let here : place_in number (numbers_of (history_at (cell_of (set runs run new) after) run)) ≡ Some answer.place = ap (λ (history : List Entry). place_in number (numbers_of history)) at_run ∙ placed in
         let all : slice_get (set places number (Some answer.place)) number ≡ Some (place_in number (numbers_of (history_at (cell_of (set runs run new) after) run))) = put ∙ ap Some (sym here) in
         subst (λ (own : ℕ). slice_get (set places number (Some answer.place)) other ≡ Some (place_in other (numbers_of (history_at (cell_of (set runs run new) after) own)))) (sym same_run)
@@ -347,7 +347,7 @@ table_push bundle workers lock runs places total after worker number run old new
         let away : other ≢ number = grind (arith, nat_tests) in
         let same_run : run ≡ own = grind (arith, nat_tests) in
         let stays : place_in other (numbers_of (history_at (cell_of (set runs run new) after) run)) ≡ place_in other (numbers_of (history_at (cell_of runs total) run)) = ap (λ (history : List Entry). place_in other (numbers_of history)) at_run
-            ∙ (ap (place_in other) numbers ∙ (place_other other number (numbers_of old.entries.items) (λ same. away (sym same)) ∙ ap (λ (history : List Entry). place_in other (numbers_of history)) (sym before_run))) in
+            ∙ (ap (place_in other) numbers ∙ (place_other other number (numbers_of old.run.entries.items) (λ same. away (sym same)) ∙ ap (λ (history : List Entry). place_in other (numbers_of history)) (sym before_run))) in
         other_place other own own_is away (subst (λ (own : ℕ). place_in other (numbers_of (history_at (cell_of (set runs run new) after) own)) ≡ place_in other (numbers_of (history_at (cell_of runs total) own))) same_run stays)
     by_test other own own_is false is_other false in_run_is =
         let away : other ≢ number = grind (arith, nat_tests) in
@@ -383,13 +383,13 @@ pub is_posted : (named : Bundle) (workers lock : ℕ) (bundle : Bundle) (runs : 
     → found bundle number ≡ Some finding → happened bundle number ≡ Some event → IsPushed old new worker number finding event answer → after ≡ total + 1 → IsPosted named worker number finding (cell_of runs total) (cell_of (set runs run new) after) answer
 is_posted named workers lock bundle runs total after worker number run old new finding event answer is_named ready finds happens pushed more =
     let before : List (List Entry) = histories_of (cell_of runs total) in
-    let here : history_at (cell_of runs total) run ≡ old.entries.items = history_is runs total run old ready.kept_there in
-    let now : history_at (cell_of (set runs run new) after) run ≡ new.entries.items = history_is (set runs run new) after run new (at_set_same runs run new ready.inside) in
+    let here : history_at (cell_of runs total) run ≡ old.run.entries.items = history_is runs total run old ready.kept_there in
+    let now : history_at (cell_of (set runs run new) after) run ≡ new.run.entries.items = history_is (set runs run new) after run new (at_set_same runs run new ready.inside) in
     let last : Entry = record { number = number; finding = finding; effect = answer.effect } in
-    let does : effect_of ready.part.limits (events_of bundle (numbers_of (history_at (cell_of runs total) run))) event ≡ answer.effect = ap (λ (history : List Entry). effect_of ready.part.limits (events_of bundle (numbers_of history)) event) here ∙ sym (pushed.effect ready.part.limits (events_of bundle (numbers_of old.entries.items)) ready.is.state) in
+    let does : effect_of ready.part.limits (events_of bundle (numbers_of (history_at (cell_of runs total) run))) event ≡ answer.effect = ap (λ (history : List Entry). effect_of ready.part.limits (events_of bundle (numbers_of history)) event) here ∙ sym (pushed.effect ready.part.limits (events_of bundle (numbers_of old.run.entries.items)) ready.is.state) in
     let core = core_push bundle number run before ready.part finding event ready.own finds happens ready.there in
     let by_core : posted bundle before number ≡ Some (added before run last) = core ∙ ap (λ (effect : Effect). Some (added before run (record { number = number; finding = finding; effect = effect }))) does in
-    let entries : history_at (cell_of runs total) run ++ last ∷ [] ≡ new.entries.items = ap (λ (history : List Entry). history ++ last ∷ []) here ∙ sym pushed.entry in
+    let entries : history_at (cell_of runs total) run ++ last ∷ [] ≡ new.run.entries.items = ap (λ (history : List Entry). history ++ last ∷ []) here ∙ sym pushed.entry in
     let histories : added before run last ≡ histories_of (cell_of (set runs run new) after) = ap (set before run) entries ∙ sym (histories_set runs after run new) in
     let authors : old.authors.items ++ worker ∷ [] ≡ authors_at (cell_of runs total) run ++ worker ∷ [] = ap (λ (authors : List ℕ). authors ++ worker ∷ []) (sym (authors_are runs total run old ready.kept_there)) in
     subst (λ (bundle : Bundle). IsPosted bundle worker number finding (cell_of runs total) (cell_of (set runs run new) after) answer) is_named (record {

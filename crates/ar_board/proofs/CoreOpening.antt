@@ -11,7 +11,7 @@ use Rattle.ar_board.specs.Bundle.{Bundle, IsBundle, IsRun, entries_of, events_of
 use Rattle.ar_board.specs.Lawful.{numbers_of}
 use Rattle.ar_board.specs.Private.Inside.{AreFound, AreKept, AreOpened, IsKept, histories_of}
 use Rattle.ar_board.specs.declared.bundle.RunPart.{RunPart}
-use Rattle.ar_board.specs.declared.core_state.RunCore.{RunCore}
+use Rattle.ar_board.specs.declared.run_history.RunHistory.{RunHistory}
 use Rattle.ar_board.specs.declared.finding.Finding.{Finding}
 use Rattle.ar_board.specs.declared.history.Entry.{Entry}
 use Rattle.ar_board.proofs.Bundles.{of_each}
@@ -49,13 +49,13 @@ found_next bundle upto findings last are is =
 
 -- ---- runs
 
-pub as_many_kept : (bundle : Bundle) (from : ℕ) (parts : List RunPart) (runs : List RunCore) → AreKept bundle from parts runs → length runs ≡ length parts
+pub as_many_kept : (bundle : Bundle) (from : ℕ) (parts : List RunPart) (runs : List RunHistory) → AreKept bundle from parts runs → length runs ≡ length parts
 as_many_kept bundle from [] [] kept = refl
 as_many_kept bundle from [] (run ∷ runs) kept = absurd kept
 as_many_kept bundle from (part ∷ parts) [] kept = absurd kept
 as_many_kept bundle from (part ∷ parts) (run ∷ runs) kept = ap suc (as_many_kept bundle (suc from) parts runs kept.1)
 
-kept_push : (bundle : Bundle) (from : ℕ) (parts : List RunPart) (runs : List RunCore) (part : RunPart) (run : RunCore) → AreKept bundle from parts runs → IsKept bundle (from + length parts) part run → AreKept bundle from (parts ++ part ∷ []) (runs ++ run ∷ [])
+kept_push : (bundle : Bundle) (from : ℕ) (parts : List RunPart) (runs : List RunHistory) (part : RunPart) (run : RunHistory) → AreKept bundle from parts runs → IsKept bundle (from + length parts) part run → AreKept bundle from (parts ++ part ∷ []) (runs ++ run ∷ [])
 kept_push bundle from [] [] part run kept is = let here : from + 0 ≡ from = omega arith in (subst (λ (at : ℕ). IsKept bundle at part run) here is, tt)
 kept_push bundle from [] (other ∷ runs) part run kept is = absurd kept
 kept_push bundle from (first ∷ parts) [] part run kept is = absurd kept
@@ -64,12 +64,12 @@ kept_push bundle from (first ∷ parts) (other ∷ runs) part run kept is =
     (kept.0, kept_push bundle (suc from) parts runs part run kept.1 (subst (λ (at : ℕ). IsKept bundle at part run) next is))
 
 -- what is known of the next run
-pub record NextRun (bundle : Bundle) (place : ℕ) (part : RunPart) (sizes : List ℕ) (runs : List RunCore) : Type 0 where
+pub record NextRun (bundle : Bundle) (place : ℕ) (part : RunPart) (sizes : List ℕ) (runs : List RunHistory) : Type 0 where
   pub inside : length runs < length sizes
   pub positive : HasPositiveCounts part.limits
-  pub more : (size : ℕ) (run : RunCore) → size ≡ get_or sizes (length runs) size → run.entries.items ≡ [] → vec_capacity run.entries ≡ size → Replays part.limits [] run.state → AreOpened bundle (take (suc place) bundle.runs) (runs ++ run ∷ [])
+  pub more : (size : ℕ) (run : RunHistory) → size ≡ get_or sizes (length runs) size → run.entries.items ≡ [] → vec_capacity run.entries ≡ size → Replays part.limits [] run.state → AreOpened bundle (take (suc place) bundle.runs) (runs ++ run ∷ [])
 
-next_of_bundle : (bundle : Bundle) (place : ℕ) (part : RunPart) (sizes : List ℕ) (runs : List RunCore) → IsBundle bundle → place < length bundle.runs → part ≡ slice_index_or bundle.runs place part → sizes ≡ sizes_of bundle → AreOpened bundle (take place bundle.runs) runs → NextRun bundle place part sizes runs
+next_of_bundle : (bundle : Bundle) (place : ℕ) (part : RunPart) (sizes : List ℕ) (runs : List RunHistory) → IsBundle bundle → place < length bundle.runs → part ≡ slice_index_or bundle.runs place part → sizes ≡ sizes_of bundle → AreOpened bundle (take place bundle.runs) runs → NextRun bundle place part sizes runs
 next_of_bundle bundle place part sizes runs is inside read are opened =
     let before : List RunPart = take place bundle.runs in
     let short = length-take-le place bundle.runs (omega arith) in
@@ -86,7 +86,7 @@ next_of_bundle bundle place part sizes runs is inside read are opened =
           let fits : entries_of bundle (0 + length before) ≤ vec_capacity run.entries = omega arith in
           let kept : IsKept bundle (0 + length before) part run = record { replays = subst (λ (history : List Entry). Replays part.limits (events_of bundle (numbers_of history)) run.state) (sym empty) replays; room = fits } in
           let histories : histories_of (runs ++ run ∷ []) ≡ map (λ run. []) (before ++ part ∷ []) =
-          map_push (λ (run : RunCore). run.entries.items) runs run
+          map_push (λ (run : RunHistory). run.entries.items) runs run
           ∙ (ap (λ (histories : List (List Entry)). histories ++ run.entries.items ∷ []) opened.empty
           ∙ (ap (λ (history : List Entry). map (λ run. []) before ++ history ∷ []) empty
           ∙ sym (map_push (λ (run : RunPart). []) before part))) in
@@ -94,7 +94,7 @@ next_of_bundle bundle place part sizes runs is inside read are opened =
     }
 
 -- the same, of the runs as they are read
-pub next_run : (bundle : Bundle) (parts : List RunPart) (place : ℕ) (part : RunPart) (sizes : List ℕ) (runs : List RunCore) → IsBundle bundle → bundle.runs ≡ parts → place < length parts → part ≡ slice_index_or parts place part → sizes ≡ sizes_of bundle → AreOpened bundle (take place parts) runs → NextRun bundle place part sizes runs
+pub next_run : (bundle : Bundle) (parts : List RunPart) (place : ℕ) (part : RunPart) (sizes : List ℕ) (runs : List RunHistory) → IsBundle bundle → bundle.runs ≡ parts → place < length parts → part ≡ slice_index_or parts place part → sizes ≡ sizes_of bundle → AreOpened bundle (take place parts) runs → NextRun bundle place part sizes runs
 next_run bundle parts place part sizes runs is same inside read are opened =
     next_of_bundle bundle place part sizes runs is
     (subst (λ (parts : List RunPart). place < length parts) (sym same) inside)
@@ -102,6 +102,6 @@ next_run bundle parts place part sizes runs is same inside read are opened =
     are
     (subst (λ (parts : List RunPart). AreOpened bundle (take place parts) runs) (sym same) opened)
 
-pub all_opened : (bundle : Bundle) (parts : List RunPart) (place : ℕ) (runs : List RunCore) → bundle.runs ≡ parts → length parts ≤ place → AreOpened bundle (take place parts) runs → AreOpened bundle bundle.runs runs
+pub all_opened : (bundle : Bundle) (parts : List RunPart) (place : ℕ) (runs : List RunHistory) → bundle.runs ≡ parts → length parts ≤ place → AreOpened bundle (take place parts) runs → AreOpened bundle bundle.runs runs
 all_opened bundle parts place runs same past opened =
     subst (λ (parts : List RunPart). AreOpened bundle parts runs) (take_all place parts past ∙ sym same) opened

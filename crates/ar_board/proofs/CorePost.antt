@@ -16,7 +16,7 @@ use Rattle.ar_board.specs.Private.Inside.{AreJudged, AreKept, IsCore, IsKept, co
 use Rattle.ar_board.specs.Private.Kept.{IsSound}
 use Rattle.ar_board.specs.declared.bundle.RunPart.{RunPart}
 use Rattle.ar_board.specs.declared.core_state.CoreState.TheInside.{Inside}
-use Rattle.ar_board.specs.declared.core_state.RunCore.{RunCore}
+use Rattle.ar_board.specs.declared.run_history.RunHistory.{RunHistory}
 use Rattle.ar_board.specs.declared.core_steps.CoreStep.TheVariants.{Post}
 use Rattle.ar_board.specs.declared.finding.Finding.{Finding}
 use Rattle.ar_board.specs.declared.history.Entry.{Entry}
@@ -55,13 +55,13 @@ judged_as bundle findings number finding judged inside read =
 
 -- ---- runs
 
-pub record KeptAt (bundle : Bundle) (run : ℕ) (part : RunPart) (runs : List RunCore) (place : ℕ) : Type 0 where
-  pub core : RunCore
+pub record KeptAt (bundle : Bundle) (run : ℕ) (part : RunPart) (runs : List RunHistory) (place : ℕ) : Type 0 where
+  pub core : RunHistory
   pub there : slice_get runs place ≡ Some core
   pub kept : IsKept bundle run part core
 
 module _ (bundle : Bundle) where
-  pub kept_at : (from place : ℕ) (parts : List RunPart) (runs : List RunCore) (part : RunPart) → AreKept bundle from parts runs → slice_get parts place ≡ Some part → KeptAt bundle (from + place) part runs place
+  pub kept_at : (from place : ℕ) (parts : List RunPart) (runs : List RunHistory) (part : RunPart) → AreKept bundle from parts runs → slice_get parts place ≡ Some part → KeptAt bundle (from + place) part runs place
   kept_at from place [] runs part kept there = absurd cc
   kept_at from place (first ∷ parts) [] part kept there = absurd kept
   kept_at from zero (first ∷ parts) (run ∷ runs) part kept there =
@@ -73,7 +73,7 @@ module _ (bundle : Bundle) where
       let later = kept_at (suc from) place parts runs part kept.1 there in
       record { core = later.core; there = later.there; kept = subst (λ (at : ℕ). IsKept bundle at part later.core) next later.kept }
 
-  pub kept_set : (from place : ℕ) (parts : List RunPart) (runs : List RunCore) (part : RunPart) (later : RunCore) → AreKept bundle from parts runs → slice_get parts place ≡ Some part → IsKept bundle (from + place) part later → AreKept bundle from parts (set runs place later)
+  pub kept_set : (from place : ℕ) (parts : List RunPart) (runs : List RunHistory) (part : RunPart) (later : RunHistory) → AreKept bundle from parts runs → slice_get parts place ≡ Some part → IsKept bundle (from + place) part later → AreKept bundle from parts (set runs place later)
   kept_set from place [] runs part later kept there is = absurd cc
   kept_set from place (first ∷ parts) [] part later kept there is = absurd kept
   kept_set from zero (first ∷ parts) (run ∷ runs) part later kept there is =
@@ -100,10 +100,10 @@ few_happen bundle (number ∷ numbers) = one_happens (happened bundle number) (e
 
 -- ---- the run of a number in a hand
 
-pub record IsNext (bundle : Bundle) (runs : List RunCore) (run : ℕ) : Type 0 where
+pub record IsNext (bundle : Bundle) (runs : List RunHistory) (run : ℕ) : Type 0 where
   pub part : RunPart
   pub part_there : slice_get bundle.runs run ≡ Some part
-  pub core : RunCore
+  pub core : RunHistory
   pub core_there : slice_get runs run ≡ Some core
   pub inside : run < length runs
   pub kept : IsKept bundle run part core
@@ -111,11 +111,11 @@ pub record IsNext (bundle : Bundle) (runs : List RunCore) (run : ℕ) : Type 0 w
   pub few : core.state.handed < 100000
   pub metrics : length core.state.limits ≡ length bundle.metrics
 
-pub history_is : (runs : List RunCore) (run : ℕ) (core : RunCore) → slice_get runs run ≡ Some core → get_or (histories_of runs) run [] ≡ core.entries.items
+pub history_is : (runs : List RunHistory) (run : ℕ) (core : RunHistory) → slice_get runs run ≡ Some core → get_or (histories_of runs) run [] ≡ core.entries.items
 history_is runs run core there =
-    get_or-map (λ (core : RunCore). core.entries.items) runs run core [] (slice_get_within runs run core there) ∙ ap (λ (core : RunCore). core.entries.items) (get_or_from_slice_get runs run core core there)
+    get_or-map (λ (core : RunHistory). core.entries.items) runs run core [] (slice_get_within runs run core there) ∙ ap (λ (core : RunHistory). core.entries.items) (get_or_from_slice_get runs run core core there)
 
-pub next_of : (bundle : Bundle) (state : State) (runs : List RunCore) (run number : ℕ) → IsBundle bundle → IsSound bundle state → AreKept bundle 0 bundle.runs runs → state.histories ≡ histories_of runs → IsHeld bundle state number → run_of bundle number ≡ Some run → run < length bundle.runs → IsNext bundle runs run
+pub next_of : (bundle : Bundle) (state : State) (runs : List RunHistory) (run number : ℕ) → IsBundle bundle → IsSound bundle state → AreKept bundle 0 bundle.runs runs → state.histories ≡ histories_of runs → IsHeld bundle state number → run_of bundle number ≡ Some run → run < length bundle.runs → IsNext bundle runs run
 next_of bundle state runs run number is sound kept histories holds own below =
     let part = entry_at bundle.runs run below in
     let here : 0 + run ≡ run = omega arith in
@@ -148,7 +148,7 @@ next_of bundle state runs run number is sound kept histories holds own below =
     }
 
 -- the run that was read
-pub read_next : (bundle : Bundle) (runs : List RunCore) (run : ℕ) (core : RunCore) (next : IsNext bundle runs run) → core ≡ get_or runs run core → next.core ≡ core
+pub read_next : (bundle : Bundle) (runs : List RunHistory) (run : ℕ) (core : RunHistory) (next : IsNext bundle runs run) → core ≡ get_or runs run core → next.core ≡ core
 read_next bundle runs run core next read =
     let there : slice_get runs run ≡ Some core = slice_get_read runs (length runs) run core refl next.inside read in
     let same : Some next.core ≡ Some core = sym next.core_there ∙ there in
@@ -160,16 +160,16 @@ posted_is : (bundle : Bundle) (state : State) (worker run number : ℕ) (part : 
     → post_of bundle state worker (held state worker) ≡ record { next = state.next; queue = state.queue; hands = set state.hands worker None; histories = set state.histories run (get_or state.histories run [] ++ entry_with number finding part.limits (events_of bundle (numbers_of (get_or state.histories run []))) event ∷ []) }
 posted_is bundle state worker run number part finding event holds own finds happens there = rw (holds, own, finds, happens, there) refl
 
-abbrev pub emptied_with : State → (worker : ℕ) → List RunCore → State
+abbrev pub emptied_with : State → (worker : ℕ) → List RunHistory → State
 emptied_with state worker runs = record { next = state.next; queue = state.queue; hands = set state.hands worker None; histories = histories_of runs }
 
 -- the state with the number in its run's history
-pub record Posts (bundle : Bundle) (places : ℕ) (state : State) (worker : ℕ) (runs : List RunCore) : Type 0 where
+pub record Posts (bundle : Bundle) (places : ℕ) (state : State) (worker : ℕ) (runs : List RunHistory) : Type 0 where
   pub after : after_step bundle places state (Post worker) ≡ emptied_with state worker runs
   pub sound : IsSound bundle (emptied_with state worker runs)
   pub kept : AreKept bundle 0 bundle.runs runs
 
-later_kept : (bundle : Bundle) (run number : ℕ) (part : RunPart) (finding : Finding) (event : Event) (core later : RunCore) → happened bundle number ≡ Some event → IsKept bundle run part core
+later_kept : (bundle : Bundle) (run number : ℕ) (part : RunPart) (finding : Finding) (event : Event) (core later : RunHistory) → happened bundle number ≡ Some event → IsKept bundle run part core
     → later.entries.items ≡ core.entries.items ++ entry_with number finding part.limits (events_of bundle (numbers_of core.entries.items)) event ∷ [] → Replays part.limits (events_of bundle (numbers_of core.entries.items) ++ event ∷ []) later.state → vec_capacity later.entries ≡ vec_capacity core.entries
     → IsKept bundle run part later
 later_kept bundle run number part finding event core later happens kept appended replays capacity =
@@ -180,14 +180,14 @@ later_kept bundle run number part finding event core later happens kept appended
     let room = kept.room in
     record { replays = subst (λ (events : List Event). Replays part.limits events later.state) (sym events) replays; room = omega arith }
 
-pub posts : (bundle : Bundle) (places : ℕ) (state : State) (runs : List RunCore) (worker run number : ℕ) (finding : Finding) (event : Event) (core later : RunCore) → IsBundle bundle → IsSound bundle state → AreKept bundle 0 bundle.runs runs → state.histories ≡ histories_of runs → IsNext bundle runs run
+pub posts : (bundle : Bundle) (places : ℕ) (state : State) (runs : List RunHistory) (worker run number : ℕ) (finding : Finding) (event : Event) (core later : RunHistory) → IsBundle bundle → IsSound bundle state → AreKept bundle 0 bundle.runs runs → state.histories ≡ histories_of runs → IsNext bundle runs run
     → held state worker ≡ Some number → run_of bundle number ≡ Some run → found bundle number ≡ Some finding → happened bundle number ≡ Some event → core ≡ get_or runs run core
     → ForEachReplay core.state (λ limits events. later.entries.items ≡ core.entries.items ++ entry_with number finding limits events event ∷ []) → ForEachReplay core.state (λ limits events. Replays limits (events ++ event ∷ []) later.state) → vec_capacity later.entries ≡ vec_capacity core.entries
     → Posts bundle places state worker (set runs run later)
 posts bundle places state runs worker run number finding event core later is sound kept histories next holds own finds happens read appended replays capacity =
     let part = next.part in
     let same = read_next bundle runs run core next read in
-    let core_kept : IsKept bundle run part core = subst (λ (core : RunCore). IsKept bundle run part core) same next.kept in
+    let core_kept : IsKept bundle run part core = subst (λ (core : RunHistory). IsKept bundle run part core) same next.kept in
     let before : List Event = events_of bundle (numbers_of core.entries.items) in
     let entry : Entry = entry_with number finding part.limits before event in
     let longer : later.entries.items ≡ core.entries.items ++ entry ∷ [] = appended part.limits before core_kept.replays in
@@ -198,7 +198,7 @@ posts bundle places state runs worker run number finding event core later is sou
     let added : set state.histories run (get_or state.histories run [] ++ entry_with number finding part.limits (events_of bundle (numbers_of (get_or state.histories run []))) event ∷ []) ≡ histories_of (set runs run later) =
     ap (λ (history : List Entry). set state.histories run (history ++ entry_with number finding part.limits (events_of bundle (numbers_of history)) event ∷ [])) history
     ∙ (ap (λ (history : List Entry). set state.histories run history) (sym longer)
-    ∙ (ap (λ (histories : List (List Entry)). set histories run later.entries.items) histories ∙ sym (map-set (λ (core : RunCore). core.entries.items) runs run later))) in
+    ∙ (ap (λ (histories : List (List Entry)). set histories run later.entries.items) histories ∙ sym (map-set (λ (core : RunHistory). core.entries.items) runs run later))) in
     let after : after_step bundle places state (Post worker) ≡ emptied_with state worker (set runs run later) =
     posted_is bundle state worker run number part finding event holds own finds happens next.part_there
     ∙ ap (λ (histories : List (List Entry)). record { next = state.next; queue = state.queue; hands = set state.hands worker None; histories = histories }) added in

@@ -8,7 +8,7 @@ use Rattle.ar_board.specs.Core.{Core, IsStateOf}
 use Rattle.ar_board.specs.Lawful.{numbers_of}
 use Rattle.ar_board.specs.Private.Inside.{IsCore, IsKept, core_of, histories_of}
 use Rattle.ar_board.specs.declared.core_state.CoreState.TheInside.{Inside}
-use Rattle.ar_board.specs.declared.core_state.RunCore.{RunCore}
+use Rattle.ar_board.specs.declared.run_history.RunHistory.{RunHistory}
 use Rattle.ar_board.specs.declared.history.Entry.{Entry}
 use Rattle.ar_board.proofs.Bundles.{entry_at}
 use Rattle.ar_board.proofs.CoreOpening.{as_many_kept}
@@ -22,11 +22,11 @@ run_inside core seen run is view below =
     omega arith
 
 -- the run that was read
-pub record Shows (seen : Core) (run : ℕ) (shown : RunCore) : Type 0 where
+pub record Shows (seen : Core) (run : ℕ) (shown : RunHistory) : Type 0 where
   pub history : slice_get seen.state.histories run ≡ Some shown.entries.items
   pub standing : IsStateOf seen run shown.state
 
-pub shows : (core : Inside) (seen : Core) (run : ℕ) (shown : RunCore) → IsCore core → core_of core ≡ seen → run < length seen.bundle.runs → shown ≡ get_or core.runs.items run shown → Shows seen run shown
+pub shows : (core : Inside) (seen : Core) (run : ℕ) (shown : RunHistory) → IsCore core → core_of core ≡ seen → run < length seen.bundle.runs → shown ≡ get_or core.runs.items run shown → Shows seen run shown
 shows core seen run shown is view below read =
     let there : slice_get core.runs.items run ≡ Some shown = slice_get_read core.runs.items (length core.runs.items) run shown refl (run_inside core seen run is view below) read in
     let inside : run < length core.bundle.now.runs = subst (λ (seen : Core). run < length seen.bundle.runs) (sym view) below in
@@ -35,11 +35,11 @@ shows core seen run shown is view below read =
     let at = subst (λ (at : ℕ). KeptAt core.bundle.now at part.0 core.runs.items run) here (kept_at core.bundle.now 0 run core.bundle.now.runs core.runs.items part.0 is.runs part.1) in
     let some_same : Some at.core ≡ Some shown = sym at.there ∙ there in
     let same : at.core ≡ shown = cc in
-    let kept : IsKept core.bundle.now run part.0 shown = subst (λ (shown : RunCore). IsKept core.bundle.now run part.0 shown) same at.kept in
+    let kept : IsKept core.bundle.now run part.0 shown = subst (λ (shown : RunHistory). IsKept core.bundle.now run part.0 shown) same at.kept in
     let history = history_is core.runs.items run shown there in
     let replays : Replays part.0.limits (events_of core.bundle.now (numbers_of (get_or (histories_of core.runs.items) run []))) shown.state =
     subst (λ (history : List Entry). Replays part.0.limits (events_of core.bundle.now (numbers_of history)) shown.state) (sym history) kept.replays in
     subst (λ (seen : Core). Shows seen run shown) view (record {
-      history = slice_get-map (λ (run : RunCore). run.entries.items) core.runs.items run ∙ rw there refl;
+      history = slice_get-map (λ (run : RunHistory). run.entries.items) core.runs.items run ∙ rw there refl;
       standing = rw part.1 replays;
     })

@@ -66,7 +66,7 @@ empty_run bundle workers lock run room part kept opened =
       authors = ap length opened.authors ∙ sym (ap length opened.entries);
       are_workers = subst (AllByRecursion (λ (author : ℕ). author < workers)) (sym opened.authors) tt;
       posts = subst (ArePosts workers kept.authors.items) (sym opened.posts) (subst (λ (authors : List ℕ). ArePosts workers authors (replicate workers 0)) (sym opened.authors) (no_posts workers));
-      state = subst (λ (history : List Entry). Replays part.limits (events_of bundle (numbers_of history)) kept.state) (sym opened.entries) opened.state;
+      state = subst (λ (history : List Entry). Replays part.limits (events_of bundle (numbers_of history)) kept.run.state) (sym opened.entries) opened.state;
     }
 
 none_counted : (kept : List KeptRun) → ((run : ℕ) (own : KeptRun) → slice_get kept run ≡ Some own → own.history ≡ []) → sum_by (λ (kept : KeptRun). length kept.history) kept ≡ 0

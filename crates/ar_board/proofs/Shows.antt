@@ -182,9 +182,9 @@ pub record IsAt (named : Bundle) (workers lock : ℕ) (bundle : Bundle) (cell : 
   pub part : RunPart
   pub there : slice_get named.runs run ≡ Some part
   pub is : IsKept bundle workers lock run part.limits (kept_of kept)
-  pub history : history_at cell run ≡ kept.entries.items
+  pub history : history_at cell run ≡ kept.run.entries.items
   pub authors : authors_at cell run ≡ kept.authors.items
-  pub phases : length kept.state.phases ≡ length kept.state.limits
+  pub phases : length kept.run.state.phases ≡ length kept.run.state.limits
 
 pub kept_run : (named : Bundle) (workers lock : ℕ) (bundle : Bundle) (runs : List Declared) (places : List (Option ℕ)) (total run : ℕ) (kept : Declared) (cell : Cell) → IsInside named workers lock bundle runs places total → cell_of runs total ≡ cell → run < length named.runs → kept ≡ get_or runs run kept → IsAt named workers lock bundle cell run kept
 kept_run named workers lock bundle runs places total run kept cell inside seen below read =
@@ -195,12 +195,12 @@ kept_run named workers lock bundle runs places total run kept cell inside seen b
     let is : IsKept bundle workers lock run part.0.limits (kept_of kept) = inside.cell.each run part.0 (kept_of kept) part.1 (kept_at runs run kept there) in
     let phases = ap length is.state.phases_are in
     let limits = ap length is.state.limits_are in
-    let one = one_for_each_metric part.0.limits (events_of bundle (numbers_of kept.entries.items)) in
+    let one = one_for_each_metric part.0.limits (events_of bundle (numbers_of kept.run.entries.items)) in
     record {
       part = part.0;
       there = subst (λ (bundle : Bundle). slice_get bundle.runs run ≡ Some part.0) inside.is_named part.1;
       is = is;
-      history = subst (λ (cell : Cell). history_at cell run ≡ kept.entries.items) seen (history_is runs total run kept there);
+      history = subst (λ (cell : Cell). history_at cell run ≡ kept.run.entries.items) seen (history_is runs total run kept there);
       authors = subst (λ (cell : Cell). authors_at cell run ≡ kept.authors.items) seen (authors_are runs total run kept there);
       phases = phases ∙ (one.0 ∙ sym limits);
     }
@@ -210,15 +210,15 @@ counted_by named workers lock bundle cell run worker posts kept at inside read =
     let counted = get_or_from_slice_get kept.posts.items worker (posts_of worker kept.authors.items) posts (at.is.posts.counted worker inside) in
     read ∙ (counted ∙ ap (posts_of worker) (sym at.authors))
 
-pub fresh_of : (named : Bundle) (workers lock : ℕ) (bundle : Bundle) (cell : Cell) (run worker : ℕ) (kept : Declared) (receipts : List Receipt) → IsAt named workers lock bundle cell run kept → posted_by worker kept.entries.items kept.authors.items ≡ received run receipts → IsFresh cell run worker receipts
+pub fresh_of : (named : Bundle) (workers lock : ℕ) (bundle : Bundle) (cell : Cell) (run worker : ℕ) (kept : Declared) (receipts : List Receipt) → IsAt named workers lock bundle cell run kept → posted_by worker kept.run.entries.items kept.authors.items ≡ received run receipts → IsFresh cell run worker receipts
 fresh_of named workers lock bundle cell run worker kept receipts at same = rw (at.history, at.authors) same
 
-pub of_fresh : (named : Bundle) (workers lock : ℕ) (bundle : Bundle) (cell : Cell) (run worker : ℕ) (kept : Declared) (receipts : List Receipt) → IsAt named workers lock bundle cell run kept → IsFresh cell run worker receipts → posted_by worker kept.entries.items kept.authors.items ≡ received run receipts
-of_fresh named workers lock bundle cell run worker kept receipts at fresh = ap (λ (authors : List ℕ). posted_by worker kept.entries.items authors) (sym at.authors) ∙ (ap (λ (history : List Entry). posted_by worker history (authors_at cell run)) (sym at.history) ∙ fresh)
+pub of_fresh : (named : Bundle) (workers lock : ℕ) (bundle : Bundle) (cell : Cell) (run worker : ℕ) (kept : Declared) (receipts : List Receipt) → IsAt named workers lock bundle cell run kept → IsFresh cell run worker receipts → posted_by worker kept.run.entries.items kept.authors.items ≡ received run receipts
+of_fresh named workers lock bundle cell run worker kept receipts at fresh = ap (λ (authors : List ℕ). posted_by worker kept.run.entries.items authors) (sym at.authors) ∙ (ap (λ (history : List Entry). posted_by worker history (authors_at cell run)) (sym at.history) ∙ fresh)
 
-pub shown_as : (named : Bundle) (workers lock : ℕ) (bundle : Bundle) (cell : Cell) (run : ℕ) (kept : Declared) (shown : Snapshot) → IsAt named workers lock bundle cell run kept → bundle ≡ named → shown.phase ≡ kept.state.phase → shown.metrics.items ≡ kept.state.phases → shown.posts.items ≡ kept.posts.items → IsSnapshot named run cell shown
+pub shown_as : (named : Bundle) (workers lock : ℕ) (bundle : Bundle) (cell : Cell) (run : ℕ) (kept : Declared) (shown : Snapshot) → IsAt named workers lock bundle cell run kept → bundle ≡ named → shown.phase ≡ kept.run.state.phase → shown.metrics.items ≡ kept.run.state.phases → shown.posts.items ≡ kept.posts.items → IsSnapshot named run cell shown
 shown_as named workers lock bundle cell run kept shown at is_named phase metrics posts =
-    let events : events_of bundle (numbers_of kept.entries.items) ≡ events_of named (numbers_of (history_at cell run)) = ap (λ (bundle : Bundle). events_of bundle (numbers_of kept.entries.items)) is_named ∙ ap (λ (history : List Entry). events_of named (numbers_of history)) (sym at.history) in
+    let events : events_of bundle (numbers_of kept.run.entries.items) ≡ events_of named (numbers_of (history_at cell run)) = ap (λ (bundle : Bundle). events_of bundle (numbers_of kept.run.entries.items)) is_named ∙ ap (λ (history : List Entry). events_of named (numbers_of history)) (sym at.history) in
     let each_worker : length shown.posts.items ≡ workers = ap length posts ∙ at.is.posts.each_worker in
     record {
       part = at.part;

@@ -104,7 +104,7 @@ impl<'b, M: BundleName, L: LockName> RunCell<'b, M, L> {
         ensures history { result.now ≡ history_at self.now run }
         ensures cell { IsCell M.bundle M.workers L.lock self.now }
     {
-        &self.runs[run].entries
+        &self.runs[run].run.entries
     }
 
     /// A run as its history is now, where the worker's entries in it are those of its receipts for the

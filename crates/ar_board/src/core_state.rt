@@ -1,11 +1,8 @@
 //! The core of a board in memory.
 
-ghost use Rattle.std.specs.Prelude.{◌≡◌, ◌<◌, ◌↔◌, ◌++◌, ◌∷◌, [], IfOk, None, Some, length, replicate, slice_get};
-ghost use Rattle.std.specs.Vec.{vec_capacity};
-ghost use Rattle.ar_limits.specs.Metric.{HasPositiveCounts};
-ghost use Rattle.ar_limits.specs.Replay.{ForEachReplay, IsOfMetricBelow, Replays};
+ghost use Rattle.std.specs.Prelude.{◌≡◌, ◌<◌, ◌↔◌, [], IfOk, None, Some, length, replicate, slice_get};
 ghost use Rattle.ar_board.specs.Bundle.{IsBundle};
-ghost use Rattle.ar_board.specs.Core.{HasEachOnce, IsStateOf, core_after, entry_with, held, stepped};
+ghost use Rattle.ar_board.specs.Core.{HasEachOnce, IsStateOf, core_after, held, stepped};
 ghost use Rattle.ar_board.specs.Lawful.{AreHistories};
 ghost use Rattle.ar_board.specs.Private.Inside.{AreJudged, AreOpened};
 ghost use Rattle.ar_board.specs.declared.core_steps.CoreStep.TheVariants.{Put, Take, Post};
@@ -15,51 +12,11 @@ use crate::bundle::Bundle;
 use crate::core_steps::{CoreStep, Moved};
 use crate::finding::Finding;
 use crate::history::Entry;
-use ar_limits::{Event, Limits, MOST_EVENTS, RunState};
+use crate::run_history::RunHistory;
+use ar_limits::RunState;
 use std::alloc::{AllocError, Global};
 use std::collections::VecDeque;
 use std::marker::Model;
-
-/// A run's history, with room for all of the run's entries, and where the run stands behind it.
-#[derive(Debug, Drop)]
-struct RunCore {
-    entries: Vec<Entry>,
-    state: RunState,
-}
-
-impl RunCore {
-    /// A run to which nothing has happened, with room for so many entries.
-    fn open(alloc: Global, limits: &[Limits], size: usize) -> Result<RunCore, AllocError>
-        requires { HasPositiveCounts limits.now }
-        ensures empty { IfOk result (λ run. run.entries.items ≡ []) }
-        ensures room { IfOk result (λ run. vec_capacity run.entries ≡ size) }
-        ensures replays { IfOk result (λ run. Replays limits.now [] run.state) }
-    {
-        Ok(RunCore {
-            entries: Vec::with_capacity(alloc, size)?,
-            state: RunState::new(alloc, limits)?,
-        })
-    }
-
-    /// A number goes to the end of the history, with its finding and the effect that it has there.
-    fn append(&mut self, number: u64, finding: Finding, event: Event)
-        requires room { length self.old.entries.items < vec_capacity self.old.entries }
-        requires few { self.old.state.handed < MOST_EVENTS }
-        requires metric { IsOfMetricBelow (length self.old.state.limits) event }
-        ensures appended { ForEachReplay self.old.state (λ limits events.
-            self.new.entries.items ≡ self.old.entries.items ++ entry_with number finding limits events event ∷ []) }
-        ensures replays { ForEachReplay self.old.state (λ limits events.
-            Replays limits (events ++ event ∷ []) self.new.state) }
-        ensures capacity { vec_capacity self.new.entries ≡ vec_capacity self.old.entries }
-    {
-        let effect = self.state.apply(event);
-        self.entries.push_reserved(Entry {
-            number,
-            finding,
-            effect,
-        });
-    }
-}
 
 /// The core of a board of a bundle. Contracts see it as the `Core` of `specs/Core`.
 #[derive(Debug, Drop)]
@@ -72,7 +29,7 @@ pub struct CoreState<'b> {
     /// With room for `places` numbers, or for all of the bundle's where these are fewer.
     queue: VecDeque<u64>,
     hands: Vec<Option<u64>>,
-    runs: Vec<RunCore>,
+    runs: Vec<RunHistory>,
 }
 
 impl<'b> Model for CoreState<'b> {
@@ -107,7 +64,7 @@ fn findings_of(alloc: Global, bundle: &Bundle) -> Result<Vec<Finding>, AllocErro
 
 /// The runs, to which nothing has happened.
 #[tactic(auto, using(crate::proofs::CoreOpening::all_opened))]
-fn opened(alloc: Global, bundle: &Bundle) -> Result<Vec<RunCore>, AllocError>
+fn opened(alloc: Global, bundle: &Bundle) -> Result<Vec<RunHistory>, AllocError>
     ensures opened { IfOk result (λ runs. AreOpened bundle.now bundle.now.runs runs.items) }
     ensures bundle { IfOk result (λ _. IsBundle bundle.now) }
 {
@@ -116,7 +73,7 @@ fn opened(alloc: Global, bundle: &Bundle) -> Result<Vec<RunCore>, AllocError>
     let mut runs = Vec::with_capacity(alloc, parts.len())?;
     for part in parts {
         let size = sizes[runs.len()];
-        runs.push(RunCore::open(alloc, part.limits.as_slice(), size)?)?;
+        runs.push(RunHistory::open(alloc, part.limits.as_slice(), size)?)?;
     }
     Ok(runs)
 }

@@ -7,21 +7,20 @@ ghost use Rattle.ar_limits.specs.Replay.{ForEachReplay, Replays};
 ghost use Rattle.ar_limits.specs.Run.{effect_of};
 
 use crate::finding::Finding;
-use crate::history::Entry;
 use crate::posted::Posted;
 use crate::receipt::Receipt;
+use crate::run_history::RunHistory;
 use crate::snapshot::Snapshot;
-use ar_limits::{Event, Limits, Phase, RunState};
+use ar_limits::{Event, Limits, Phase};
 use std::alloc::{AllocError, Global};
 
 /// The history of a run, the worker that posted each of its entries, how many each worker posted, and
 /// where the run stands.
 #[derive(Debug, Drop)]
 pub(crate) struct KeptRun {
-    pub(crate) entries: Vec<Entry>,
+    pub(crate) run: RunHistory,
     pub(crate) authors: Vec<usize>,
     pub(crate) posts: Vec<u64>,
-    pub(crate) state: RunState,
 }
 
 impl KeptRun {
@@ -39,10 +38,9 @@ impl KeptRun {
         ensures { IfOk result (IsOpened limits.now room workers) }
     {
         Ok(KeptRun {
-            entries: Vec::with_capacity(alloc, room)?,
+            run: RunHistory::open(alloc, limits, room)?,
             authors: Vec::with_capacity(alloc, room)?,
             posts: vec![in alloc; 0; workers]?,
-            state: RunState::new(alloc, limits)?,
         })
     }
 
@@ -55,26 +53,21 @@ impl KeptRun {
         event: Event,
     ) -> Posted
         requires { CanTake self.old worker event }
-        ensures place { result.place ≡ length self.old.entries.items }
-        ensures entry { self.new.entries.items ≡ self.old.entries.items
+        ensures place { result.place ≡ length self.old.run.entries.items }
+        ensures entry { self.new.run.entries.items ≡ self.old.run.entries.items
             ++ record { number = number; finding = finding; effect = result.effect } ∷ [] }
         ensures author { self.new.authors.items ≡ self.old.authors.items ++ worker ∷ [] }
         ensures posts { self.new.posts.items
             ≡ slice_set self.old.posts.items worker (slice_index_or self.old.posts.items worker 0 + 1) }
-        ensures replays { ForEachReplay self.old.state (λ limits events.
-            Replays limits (events ++ event ∷ []) self.new.state) }
-        ensures effect { ForEachReplay self.old.state (λ limits events.
+        ensures replays { ForEachReplay self.old.run.state (λ limits events.
+            Replays limits (events ++ event ∷ []) self.new.run.state) }
+        ensures effect { ForEachReplay self.old.run.state (λ limits events.
             result.effect ≡ effect_of limits events event) }
-        ensures places { vec_capacity self.new.entries ≡ vec_capacity self.old.entries }
+        ensures places { vec_capacity self.new.run.entries ≡ vec_capacity self.old.run.entries }
         ensures author_places { vec_capacity self.new.authors ≡ vec_capacity self.old.authors }
     {
-        let place = self.entries.len();
-        let effect = self.state.apply(event);
-        self.entries.push_reserved(Entry {
-            number,
-            finding,
-            effect,
-        });
+        let place = self.run.entries.len();
+        let effect = self.run.append(number, finding, event);
         self.authors.push_reserved(worker);
         self.posts[worker] += 1;
         Posted { place, effect }
@@ -83,9 +76,9 @@ impl KeptRun {
     /// Whether the numbers and places of a worker's entries are those of its receipts for the run.
     #[tactic(auto, using(crate::proofs::Shows::agree_at_first, crate::proofs::Shows::agree_skip))]
     pub(crate) fn agrees(&self, run: usize, worker: usize, receipts: &[Receipt]) -> bool
-        requires { length self.now.authors.items ≡ length self.now.entries.items }
+        requires { length self.now.authors.items ≡ length self.now.run.entries.items }
         ensures { IsTrue result
-            ↔ (posted_by worker self.now.entries.items self.now.authors.items ≡ received run receipts.now) }
+            ↔ (posted_by worker self.now.run.entries.items self.now.authors.items ≡ received run receipts.now) }
     {
         let mut from = 0;
         for receipt in receipts {
@@ -102,18 +95,18 @@ impl KeptRun {
 
     /// Whether the entry at a place is that of a receipt.
     fn is_of(&self, place: usize, receipt: &Receipt) -> bool
-        requires { place < length self.now.entries.items }
-        ensures { (entry : Entry) → slice_get self.now.entries.items place ≡ Some entry
+        requires { place < length self.now.run.entries.items }
+        ensures { (entry : Entry) → slice_get self.now.run.entries.items place ≡ Some entry
             → IsTrue result ↔ ((entry.number ≡ receipt.now.number) × (place ≡ receipt.now.place)) }
     {
-        place == receipt.place && self.entries[place].number == receipt.number
+        place == receipt.place && self.run.entries[place].number == receipt.number
     }
 
     /// The first place from one on with an entry of the worker.
     #[tactic(auto, using(crate::proofs::Shows::next_skip, crate::proofs::Shows::next_here, crate::proofs::Shows::next_end))]
     fn next_own(&self, worker: usize, from: usize) -> Option<usize>
-        requires { length self.now.authors.items ≡ length self.now.entries.items }
-        ensures { IsNextOwn worker self.now.entries.items self.now.authors.items from result }
+        requires { length self.now.authors.items ≡ length self.now.run.entries.items }
+        ensures { IsNextOwn worker self.now.run.entries.items self.now.authors.items from result }
     {
         for place in from..self.authors.len() {
             if self.authors[place] == worker {
@@ -125,13 +118,13 @@ impl KeptRun {
 
     /// What is shown of the run.
     pub(crate) fn snapshot(&self, alloc: Global) -> Result<Snapshot, AllocError>
-        requires { length self.now.state.phases ≡ length self.now.state.limits }
-        ensures phase { IfOk result (λ shown. shown.phase ≡ self.now.state.phase) }
-        ensures metrics { IfOk result (λ shown. shown.metrics.items ≡ self.now.state.phases) }
+        requires { length self.now.run.state.phases ≡ length self.now.run.state.limits }
+        ensures phase { IfOk result (λ shown. shown.phase ≡ self.now.run.state.phase) }
+        ensures metrics { IfOk result (λ shown. shown.metrics.items ≡ self.now.run.state.phases) }
         ensures posts { IfOk result (λ shown. shown.posts.items ≡ self.now.posts.items) }
     {
         Ok(Snapshot {
-            phase: self.state.phase(),
+            phase: self.run.state.phase(),
             metrics: self.metric_phases(alloc)?,
             posts: self.posts.to_vec(alloc)?,
         })
@@ -140,13 +133,13 @@ impl KeptRun {
     /// The phase of each metric.
     #[tactic(auto, using(crate::proofs::Shows::phases_next, crate::proofs::Shows::phases_all))]
     fn metric_phases(&self, alloc: Global) -> Result<Vec<Phase>, AllocError>
-        requires { length self.now.state.phases ≡ length self.now.state.limits }
-        ensures { IfOk result (λ phases. phases.items ≡ self.now.state.phases) }
+        requires { length self.now.run.state.phases ≡ length self.now.run.state.limits }
+        ensures { IfOk result (λ phases. phases.items ≡ self.now.run.state.phases) }
     {
-        let metrics = self.state.metrics();
+        let metrics = self.run.state.metrics();
         let mut phases = Vec::with_capacity(alloc, metrics)?;
         for metric in 0..metrics {
-            phases.push(self.state.metric_phase(metric))?;
+            phases.push(self.run.state.metric_phase(metric))?;
         }
         Ok(phases)
     }

@@ -28,6 +28,7 @@ pub mod laws;
 pub mod names;
 pub mod posted;
 pub mod receipt;
+mod run_history;
 pub mod snapshot;
 
 pub use bundle::{Bundle, EventPart, Judges, MetricPart, RunLimits, RunPart, What};

@@ -10,10 +10,10 @@ use Rattle.ar_board.specs.Private.Kept.{IsSound}
 use Rattle.ar_board.specs.declared.bundle.RunPart.{RunPart}
 use Rattle.ar_board.specs.declared.finding.Finding.{Finding}
 use Rattle.ar_board.specs.declared.history.Entry.{Entry}
-use Rattle.ar_board.specs.declared.core_state.RunCore.{RunCore}
+use Rattle.ar_board.specs.declared.run_history.RunHistory.{RunHistory}
 use Rattle.ar_board.specs.declared.core_state.CoreState.TheInside.{Inside}
 
-abbrev pub histories_of : List RunCore → List (List Entry)
+abbrev pub histories_of : List RunHistory → List (List Entry)
 histories_of runs = map (λ run. run.entries.items) runs
 
 abbrev pub state_of : Inside → State
@@ -23,12 +23,12 @@ abbrev pub core_of : Inside → Core
 core_of core = record { bundle = core.bundle.now; places = core.places; state = state_of core }
 
 -- a run's state is that of its history, which has room for all entries of the run
-pub record IsKept (bundle : Bundle) (run : ℕ) (part : RunPart) (core : RunCore) : Type 0 where
+pub record IsKept (bundle : Bundle) (run : ℕ) (part : RunPart) (core : RunHistory) : Type 0 where
   pub replays : Replays part.limits (events_of bundle (numbers_of core.entries.items)) core.state
   pub room : entries_of bundle run ≤ vec_capacity core.entries
 
 -- so it is of each run, counting from a run
-abbrev pub AreKept : Bundle → (from : ℕ) → List RunPart → List RunCore → Type 0
+abbrev pub AreKept : Bundle → (from : ℕ) → List RunPart → List RunHistory → Type 0
 AreKept bundle from [] [] = Unit {0}
 AreKept bundle from (part ∷ parts) (run ∷ runs) = IsKept bundle from part run × AreKept bundle (suc from) parts runs
 AreKept bundle from parts runs = ⊥
@@ -43,7 +43,7 @@ abbrev pub AreJudged : Bundle → List Finding → Type 0
 AreJudged bundle findings = AreFound bundle (length bundle.entries) findings
 
 -- the runs, to which nothing has happened
-pub record AreOpened (bundle : Bundle) (parts : List RunPart) (runs : List RunCore) : Type 0 where
+pub record AreOpened (bundle : Bundle) (parts : List RunPart) (runs : List RunHistory) : Type 0 where
   pub kept : AreKept bundle 0 parts runs
   pub empty : histories_of runs ≡ map (λ run. []) parts
 

@@ -12,22 +12,22 @@ use Rattle.ar_board.specs.declared.history.Entry.{Entry}
 use Rattle.ar_board.specs.declared.kept_run.KeptRun.{KeptRun as Declared}
 
 -- a run can take one entry more, by a worker
-pub record CanTake (run : Declared) (worker : ℕ) (event : Event) : Type 0 where
-  pub entry : length run.entries.items < vec_capacity run.entries
-  pub author : length run.authors.items < vec_capacity run.authors
-  pub there : worker < length run.posts.items
-  pub few : get_or run.posts.items worker 0 < most_events
-  pub room : run.state.handed < most_events
-  pub metric : IsOfMetricBelow (length run.state.limits) event
+pub record CanTake (kept : Declared) (worker : ℕ) (event : Event) : Type 0 where
+  pub entry : length kept.run.entries.items < vec_capacity kept.run.entries
+  pub author : length kept.authors.items < vec_capacity kept.authors
+  pub there : worker < length kept.posts.items
+  pub few : get_or kept.posts.items worker 0 < most_events
+  pub room : kept.run.state.handed < most_events
+  pub metric : IsOfMetricBelow (length kept.run.state.limits) event
 
 -- a run to which nothing has happened, with room for so many entries
-pub record IsOpened (limits : List Limits) (room workers : ℕ) (run : Declared) : Type 0 where
-  pub entries : run.entries.items ≡ []
-  pub authors : run.authors.items ≡ []
-  pub posts : run.posts.items ≡ replicate workers 0
-  pub state : Replays limits [] run.state
-  pub has_room : room ≤ vec_capacity run.entries
-  pub has_room_for_authors : room ≤ vec_capacity run.authors
+pub record IsOpened (limits : List Limits) (room workers : ℕ) (kept : Declared) : Type 0 where
+  pub entries : kept.run.entries.items ≡ []
+  pub authors : kept.authors.items ≡ []
+  pub posts : kept.posts.items ≡ replicate workers 0
+  pub state : Replays limits [] kept.run.state
+  pub has_room : room ≤ vec_capacity kept.run.entries
+  pub has_room_for_authors : room ≤ vec_capacity kept.authors
 
 -- so it is of the first so many runs of a bundle, with room for all of their entries
 pub record AreOpened (bundle : Bundle) (workers upto : ℕ) (runs : List Declared) : Type 0 where
@@ -46,7 +46,7 @@ IsNextOwn worker entries authors from (Some place) =
     (entry : Entry) × (slice_get entries place ≡ Some entry) × (own_from worker entries authors from ≡ (entry.number, place) ∷ own_from worker entries authors (suc place))
 
 abbrev pub kept_of : Declared → KeptRun
-kept_of run = record { history = run.entries.items; authors = run.authors.items; posts = run.posts.items; state = run.state }
+kept_of kept = record { history = kept.run.entries.items; authors = kept.authors.items; posts = kept.posts.items; state = kept.run.state }
 
 abbrev pub cell_of : List Declared → (total : ℕ) → Cell
 cell_of runs total = record { runs = map kept_of runs; total = total }
@@ -63,7 +63,7 @@ pub record IsTable (bundle : Bundle) (cell : Cell) (places : List (Option ℕ)) 
 
 -- room for all entries of a run that is under the lock
 pub record HasRoom (bundle : Bundle) (lock run : ℕ) (kept : Declared) : Type 0 where
-  pub entries : lock_of run ≡ lock → entries_of bundle run ≤ vec_capacity kept.entries
+  pub entries : lock_of run ≡ lock → entries_of bundle run ≤ vec_capacity kept.run.entries
   pub authors : lock_of run ≡ lock → entries_of bundle run ≤ vec_capacity kept.authors
 
 -- what always holds of a cell

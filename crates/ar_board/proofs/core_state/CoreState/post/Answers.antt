@@ -1,9 +1,10 @@
-use Rattle.std.proofs.Common.{rules, ◌≡◌, ◌<◌, ◌∙◌, ap, refl, sym, length, subst}
+use Rattle.std.proofs.Common.{rules, ◌≡◌, ◌<◌, ◌∙◌, [], ◌∷◌, ◌++◌, ap, refl, sym, length, subst}
 use Rattle.std.specs.Vec.{vec_capacity}
 use Rattle.ar_limits.specs.Replay.{IsOfMetricBelow}
+use Rattle.ar_limits.specs.declared.event.Effect.{Effect}
 use Rattle.ar_board.specs.Core.{Core, State, stepped}
 use Rattle.ar_board.specs.Private.Inside.{state_of}
-use Rattle.ar_board.specs.declared.core_state.RunCore.{RunCore}
+use Rattle.ar_board.specs.declared.run_history.RunHistory.{RunHistory}
 use Rattle.ar_board.specs.declared.core_steps.CoreStep.TheVariants.{Post}
 use Rattle.ar_board.proofs.CorePost.{holding, judged_as, next_in, posts, read_next}
 use Rattle.ar_board.proofs.core_state.CoreState.post.Goals as goal
@@ -37,21 +38,21 @@ append-requires-clause-room c =
     let holds = holding c.self.inside c.args.self.now c.args.worker c.in-Some.number c.held.result c.self.invariant c.self.view_is c.in-Some.is c.held.ensures in
     let next = next_in c.self.inside c.args.worker c.run_of-run.result c.in-Some.number c.self.invariant holds c.run_of-run.ensures.own c.run_of-run.ensures.there in
     let same = read_next c.self.inside.bundle.now c.self.inside.runs.items c.run_of-run.result c.index_mut.result.now next c.index_mut.ensures.value in
-    subst (λ (core : RunCore). length core.entries.items < vec_capacity core.entries) same next.room
+    subst (λ (core : RunHistory). length core.entries.items < vec_capacity core.entries) same next.room
 
 pub append-requires-clause-few : goal.append-requires-clause-few
 append-requires-clause-few c =
     let holds = holding c.self.inside c.args.self.now c.args.worker c.in-Some.number c.held.result c.self.invariant c.self.view_is c.in-Some.is c.held.ensures in
     let next = next_in c.self.inside c.args.worker c.run_of-run.result c.in-Some.number c.self.invariant holds c.run_of-run.ensures.own c.run_of-run.ensures.there in
     let same = read_next c.self.inside.bundle.now c.self.inside.runs.items c.run_of-run.result c.index_mut.result.now next c.index_mut.ensures.value in
-    subst (λ (core : RunCore). core.state.handed < 100000) same next.few
+    subst (λ (core : RunHistory). core.state.handed < 100000) same next.few
 
 pub append-requires-clause-metric : goal.append-requires-clause-metric
 append-requires-clause-metric c =
     let holds = holding c.self.inside c.args.self.now c.args.worker c.in-Some.number c.held.result c.self.invariant c.self.view_is c.in-Some.is c.held.ensures in
     let next = next_in c.self.inside c.args.worker c.run_of-run.result c.in-Some.number c.self.invariant holds c.run_of-run.ensures.own c.run_of-run.ensures.there in
     let same = read_next c.self.inside.bundle.now c.self.inside.runs.items c.run_of-run.result c.index_mut.result.now next c.index_mut.ensures.value in
-    subst (λ (metrics : _). IsOfMetricBelow metrics c.event-event.result) (sym (subst (λ (core : RunCore). length core.state.limits ≡ length c.self.inside.bundle.now.metrics) same next.metrics)) c.event-event.ensures.metric
+    subst (λ (metrics : _). IsOfMetricBelow metrics c.event-event.result) (sym (subst (λ (core : RunHistory). length core.state.limits ≡ length c.self.inside.bundle.now.metrics) same next.metrics)) c.event-event.ensures.metric
 
 pub invariant_of-self : goal.invariant_of-self
 invariant_of-self c =
@@ -59,7 +60,7 @@ invariant_of-self c =
     let finds = judged_as c.self.inside.bundle.now c.self.inside.findings.items c.in-Some.number c.index-finding.result.now c.self.invariant.findings holds.is.inside c.index-finding.ensures in
     let next = next_in c.self.inside c.args.worker c.run_of-run.result c.in-Some.number c.self.invariant holds c.run_of-run.ensures.own c.run_of-run.ensures.there in
     let made = posts c.self.inside.bundle.now c.self.inside.places (state_of c.self.inside) c.self.inside.runs.items c.args.worker c.run_of-run.result c.in-Some.number c.index-finding.result.now c.event-event.result c.index_mut.result.now c.append.new.self
-    c.self.invariant.bundle c.self.invariant.sound c.self.invariant.runs refl next holds.full c.run_of-run.ensures.own finds c.event-event.ensures.exact c.index_mut.ensures.value c.append.ensures.appended c.append.ensures.replays c.append.ensures.capacity in
+    c.self.invariant.bundle c.self.invariant.sound c.self.invariant.runs refl next holds.full c.run_of-run.ensures.own finds c.event-event.ensures.exact c.index_mut.ensures.value (λ limits events replays. c.append.ensures.entry ∙ ap (λ (effect : Effect). c.index_mut.result.now.entries.items ++ record { number = c.in-Some.number; finding = c.index-finding.result.now; effect = effect } ∷ []) (c.append.ensures.effect limits events replays)) c.append.ensures.replays c.append.ensures.capacity in
     record {
       bundle = c.self.invariant.bundle;
       findings = c.self.invariant.findings;
@@ -76,6 +77,6 @@ returns-clause-after c =
     let finds = judged_as c.self.inside.bundle.now c.self.inside.findings.items c.in-Some.number c.index-finding.result.now c.self.invariant.findings holds.is.inside c.index-finding.ensures in
     let next = next_in c.self.inside c.args.worker c.run_of-run.result c.in-Some.number c.self.invariant holds c.run_of-run.ensures.own c.run_of-run.ensures.there in
     let made = posts c.self.inside.bundle.now c.self.inside.places (state_of c.self.inside) c.self.inside.runs.items c.args.worker c.run_of-run.result c.in-Some.number c.index-finding.result.now c.event-event.result c.index_mut.result.now c.append.new.self
-    c.self.invariant.bundle c.self.invariant.sound c.self.invariant.runs refl next holds.full c.run_of-run.ensures.own finds c.event-event.ensures.exact c.index_mut.ensures.value c.append.ensures.appended c.append.ensures.replays c.append.ensures.capacity in
+    c.self.invariant.bundle c.self.invariant.sound c.self.invariant.runs refl next holds.full c.run_of-run.ensures.own finds c.event-event.ensures.exact c.index_mut.ensures.value (λ limits events replays. c.append.ensures.entry ∙ ap (λ (effect : Effect). c.index_mut.result.now.entries.items ++ record { number = c.in-Some.number; finding = c.index-finding.result.now; effect = effect } ∷ []) (c.append.ensures.effect limits events replays)) c.append.ensures.replays c.append.ensures.capacity in
     ap (λ (state : State). record { bundle = c.self.inside.bundle.now; places = c.self.inside.places; state = state }) (sym made.after)
     ∙ ap (λ (core : Core). stepped core (Post c.args.worker)) c.self.view_is
