@@ -7,6 +7,7 @@ pub mod Places
 pub mod Cells
 pub mod Shows
 pub mod Opened
+pub mod ReceiptLemmas
 pub mod CorePost
 pub mod CoreOpening
 pub mod CoreShown

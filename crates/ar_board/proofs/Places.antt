@@ -11,7 +11,7 @@ use Rattle.ar_board.specs.Private.KeptRuns.{place_in}
 
 -- ---- among numbers
 
-times_by : (number first : ℕ) (numbers : List ℕ) (test : Bool) → (first == number) ≡ test → times_in number (first ∷ numbers) ≡ (if test then suc (times_in number numbers) else times_in number numbers)
+pub times_by : (number first : ℕ) (numbers : List ℕ) (test : Bool) → (first == number) ≡ test → times_in number (first ∷ numbers) ≡ (if test then suc (times_in number numbers) else times_in number numbers)
 times_by number first numbers test is = rw is refl
 
 place_by : (number first : ℕ) (numbers : List ℕ) (test : Bool) → (first == number) ≡ test → place_in number (first ∷ numbers) ≡ (if test then Some 0 else option_map suc (place_in number numbers))

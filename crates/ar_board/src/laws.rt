@@ -1,11 +1,15 @@
-//! Laws of the core: what holds in each state that a list of steps leads to, whoever makes them and in
-//! whatever order. A law is the contract of a function that does nothing.
+//! Laws. Of the core: what holds in each state that a list of steps leads to, whoever makes them and in
+//! whatever order. Of receipts: a receipt is met, or isn't for a cause that has a name. A law is the
+//! contract of a function that does nothing.
 
-ghost use Rattle.std.specs.Prelude.{ℕ, List};
+ghost use Rattle.std.specs.Prelude.{◌⊎◌, ℕ, List};
 ghost use Rattle.ar_board.specs.Bundle.{Bundle, IsBundle};
 ghost use Rattle.ar_board.specs.Core.{HasEachOnce, IsAtRest, after, opening};
 ghost use Rattle.ar_board.specs.Lawful.{AreHistories, AreLawful};
+ghost use Rattle.ar_board.specs.Receipts.{IsElsewhere, IsMet, IsMissing, IsOutOfOrder};
 ghost use Rattle.ar_board.specs.declared.core_steps.CoreStep.{CoreStep};
+ghost use Rattle.ar_board.specs.declared.history.Entry.{Entry};
+ghost use Rattle.ar_board.specs.declared.receipt.Receipt.{Receipt};
 
 /// Each number of the bundle stands just once in what is still to put, the queue, the hands and the
 /// histories.
@@ -29,4 +33,14 @@ pub fn lawful_at_rest()
     ensures { (bundle : Bundle) (workers places : ℕ) (steps : List CoreStep) → IsBundle bundle
         → IsAtRest bundle (after bundle places (opening bundle workers) steps)
         → AreLawful bundle (after bundle places (opening bundle workers) steps).histories }
+{}
+
+/// A receipt that histories don't meet has one of three causes, and one that they meet has none.
+pub fn receipts_are_met_or_not()
+    ensures met_or_not { (histories : List (List Entry)) (earlier : List Receipt) (receipt : Receipt)
+        → IsMet histories earlier receipt
+        ⊎ (IsMissing histories receipt ⊎ (IsElsewhere histories receipt ⊎ IsOutOfOrder earlier receipt)) }
+    ensures not_both { (histories : List (List Entry)) (earlier : List Receipt) (receipt : Receipt)
+        → IsMet histories earlier receipt
+        → IsMissing histories receipt ⊎ (IsElsewhere histories receipt ⊎ IsOutOfOrder earlier receipt) → ⊥ }
 {}
