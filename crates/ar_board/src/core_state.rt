@@ -82,11 +82,7 @@ fn opened(alloc: Global, bundle: &Bundle) -> Result<Vec<RunHistory>, AllocError>
 fn empty_hands(alloc: Global, workers: usize) -> Result<Vec<Option<u64>>, AllocError>
     ensures { IfOk result (λ hands. hands.items ≡ replicate workers None) }
 {
-    let mut hands = Vec::with_capacity(alloc, workers)?;
-    for _worker in 0..workers {
-        hands.push(None)?;
-    }
-    Ok(hands)
+    vec![in alloc; None; workers]
 }
 
 impl<'b> CoreState<'b> {
