@@ -8,6 +8,7 @@ pub mod Cells
 pub mod Shows
 pub mod Opened
 pub mod ReceiptLemmas
+pub mod SoFar
 pub mod CorePost
 pub mod CoreOpening
 pub mod CoreShown

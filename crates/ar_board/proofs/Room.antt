@@ -150,7 +150,7 @@ inside_by_entry bundle number run (Some entry) there own = slice_get_within bund
 pub number_inside : (bundle : Bundle) (number run : ℕ) → run_of bundle number ≡ Some run → number < length bundle.entries
 number_inside bundle number run own = inside_by_entry bundle number run (slice_get bundle.entries number) refl own
 
-all_inside : (bundle : Bundle) (run : ℕ) (history : List Entry) → AllByRecursion (IsFound bundle run) history → AllByRecursion (λ number. number < length bundle.entries) (numbers_of history)
+pub all_inside : (bundle : Bundle) (run : ℕ) (history : List Entry) → AllByRecursion (IsFound bundle run) history → AllByRecursion (λ number. number < length bundle.entries) (numbers_of history)
 all_inside bundle run [] all = tt
 all_inside bundle run (entry ∷ history) all = let found = all.0 in (number_inside bundle entry.number run found.own, all_inside bundle run history all.1)
 
@@ -183,6 +183,16 @@ has_room bundle run number history all once lacks own =
     let one = own_counts run (run_of bundle number) own in
     let less = less_below (λ (other : ℕ). times_in other numbers) (λ (other : ℕ). of_run run (run_of bundle other)) number (length bundle.entries)
     (λ other. most_by_times bundle run other (times_in other numbers) history all refl (once other)) (omega arith) (number_inside bundle number run own) in
+    let as_long = as_long (length bundle.entries) numbers (all_inside bundle run history all) in
+    let as_many = as_many_numbers bundle run in
+    let as_numbers : length numbers ≡ length history = length-map history (λ (entry : Entry). entry.number) in
+    omega arith
+
+-- and no history has more
+pub at_most : (bundle : Bundle) (run : ℕ) (history : List Entry) → AllByRecursion (IsFound bundle run) history → ((other : ℕ) → times_in other (numbers_of history) ≤ 1) → length history ≤ entries_of bundle run
+at_most bundle run history all once =
+    let numbers : List ℕ = numbers_of history in
+    let most = most_below (λ (other : ℕ). times_in other numbers) (λ (other : ℕ). of_run run (run_of bundle other)) (length bundle.entries) (λ other. most_by_times bundle run other (times_in other numbers) history all refl (once other)) in
     let as_long = as_long (length bundle.entries) numbers (all_inside bundle run history all) in
     let as_many = as_many_numbers bundle run in
     let as_numbers : length numbers ≡ length history = length-map history (λ (entry : Entry). entry.number) in

@@ -5,7 +5,7 @@
 ghost use Rattle.std.specs.Prelude.{◌⊎◌, ℕ, List};
 ghost use Rattle.ar_board.specs.Bundle.{Bundle, IsBundle};
 ghost use Rattle.ar_board.specs.Core.{HasEachOnce, IsAtRest, after, opening};
-ghost use Rattle.ar_board.specs.Lawful.{AreHistories, AreLawful};
+ghost use Rattle.ar_board.specs.Lawful.{AreHistories, AreHistoriesSoFar, AreLawful};
 ghost use Rattle.ar_board.specs.Receipts.{IsElsewhere, IsMet, IsMissing, IsOutOfOrder};
 ghost use Rattle.ar_board.specs.declared.core_steps.CoreStep.{CoreStep};
 ghost use Rattle.ar_board.specs.declared.history.Entry.{Entry};
@@ -33,6 +33,13 @@ pub fn lawful_at_rest()
     ensures { (bundle : Bundle) (workers places : ℕ) (steps : List CoreStep) → IsBundle bundle
         → IsAtRest bundle (after bundle places (opening bundle workers) steps)
         → AreLawful bundle (after bundle places (opening bundle workers) steps).histories }
+{}
+
+/// Lawful histories have each number at most once.
+#[tactic(auto, using(crate::proofs::SoFar::lawful_are_so_far))]
+pub fn lawful_are_so_far()
+    ensures { (bundle : Bundle) (histories : List (List Entry)) → AreLawful bundle histories
+        → AreHistoriesSoFar bundle histories }
 {}
 
 /// A receipt that histories don't meet has one of three causes, and one that they meet has none.

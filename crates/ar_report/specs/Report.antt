@@ -7,7 +7,7 @@ use Rattle.ar_limits.specs.declared.counts.Counts.{Counts}
 use Rattle.ar_limits.specs.declared.event.Effect.{Effect}
 use Rattle.ar_limits.specs.declared.phase.Phase.{Phase}
 use Rattle.ar_board.specs.Bundle.{Bundle, events_of, found_of}
-use Rattle.ar_board.specs.Lawful.{AreHistories, numbers_of, times_in}
+use Rattle.ar_board.specs.Lawful.{numbers_of}
 use Rattle.ar_board.specs.declared.bundle.MetricPart.{MetricPart}
 use Rattle.ar_board.specs.declared.bundle.RunPart.{RunPart}
 use Rattle.ar_board.specs.declared.bundle.What.{What}
@@ -84,13 +84,3 @@ phases_of bundle runs numbers = []
 
 abbrev pub run_phases : Bundle → List (List ℕ) → List Phase
 run_phases bundle numbers = phases_of bundle bundle.runs numbers
-
--- ---- what can be reported
-
-abbrev pub AtMostOnce : List ℕ → Type 0
-AtMostOnce numbers = (number : ℕ) → times_in number numbers ≤ 1
-
--- a history for each run, of its own numbers, each at most once, with their findings and effects
-pub record CanBeReported (bundle : Bundle) (histories : List (List Entry)) : Type 0 where
-  pub of_runs : AreHistories bundle 0 bundle.runs histories
-  pub once : AllByRecursion (λ history. AtMostOnce (numbers_of history)) histories

@@ -9,11 +9,9 @@
 //! - `conditions`: the lines of conditions
 //! - `names`: phases, faults, verdicts and effects as they are printed
 //! - `reports`: the lines of a report, and the phases of runs
-//! - [`laws`]: what can be reported
 #![tactic(auto)]
 
 mod conditions;
-pub mod laws;
 mod names;
 mod reports;
 

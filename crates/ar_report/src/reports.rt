@@ -5,9 +5,9 @@ ghost use Rattle.ar_limits.specs.Replay.{Replays};
 ghost use Rattle.ar_board.specs.Bundle.{IsRun, events_of, found, most_events};
 ghost use Rattle.ar_limits.specs.Run.{effects};
 ghost use Rattle.ar_report.specs.Private.Entries.{AreFound, entry_lines};
-ghost use Rattle.ar_board.specs.Lawful.{numbers_of};
+ghost use Rattle.ar_board.specs.Lawful.{AreHistoriesSoFar, numbers_of};
 ghost use Rattle.ar_report.specs.Names.{effect_text};
-ghost use Rattle.ar_report.specs.Report.{CanBeReported, counted, counts_text, errors_text, event_line, finding_text, name_at, metric_line, metric_lines, report, run_line, run_phases, run_text};
+ghost use Rattle.ar_report.specs.Report.{counted, counts_text, errors_text, event_line, finding_text, name_at, metric_line, metric_lines, report, run_line, run_phases, run_text};
 
 use crate::names::{phase_name, put_effect, put_verdict};
 use ar_board::{Bundle, Entry, Finding, Histories, MetricPart, RunPart, What};
@@ -214,7 +214,7 @@ fn put_run(
 /// Want of memory alone.
 #[tactic(auto, using(crate::proofs::Runs::has_history, crate::proofs::Runs::next_run, crate::proofs::Runs::no_run, crate::proofs::Runs::run_is_run))]
 pub fn report(alloc: Global, bundle: &Bundle, histories: &Histories) -> Result<String, AllocError>
-    requires { CanBeReported bundle.now histories.now }
+    requires { AreHistoriesSoFar bundle.now histories.now }
     ensures { IfOk result (λ text. string_bytes text ≡ report bundle.now (map numbers_of histories.now)) }
 {
     let mut out = String::new(alloc);
@@ -237,7 +237,7 @@ pub fn run_phases(
     bundle: &Bundle,
     histories: &Histories,
 ) -> Result<Vec<Phase>, AllocError>
-    requires { CanBeReported bundle.now histories.now }
+    requires { AreHistoriesSoFar bundle.now histories.now }
     ensures { IfOk result (λ phases. phases.items ≡ run_phases bundle.now (map numbers_of histories.now)) }
 {
     let mut phases = Vec::new(alloc);
