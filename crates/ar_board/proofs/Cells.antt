@@ -23,7 +23,7 @@ use Rattle.ar_board.specs.declared.history.Entry.{Entry}
 use Rattle.ar_board.specs.declared.kept_run.KeptRun.{KeptRun as Declared}
 use Rattle.ar_board.specs.declared.posted.Posted.{Posted}
 use Rattle.ar_board.proofs.Bundles.{entry_at, of_each, run_of_number}
-use Rattle.ar_board.proofs.HistoryLemmas.{all_push, events_push, history_push, numbers_push, times_push}
+use Rattle.ar_board.proofs.HistoryLemmas.{few_happen, all_push, events_push, history_push, numbers_push, times_push}
 use Rattle.ar_board.proofs.Places.{absent, place_last, place_other, present, times_own}
 use Rattle.ar_board.proofs.Room.{has_room}
 
@@ -53,14 +53,6 @@ cases_at P xs at other x y inside new old there = by_test (other == at) refl whe
       let same : x ≡ y = set_same xs at x y inside (subst (λ (place : ℕ). slice_get (set xs at x) place ≡ Some y) (sym here) there) in
       subst (λ (place : ℕ). P place y) here (subst (P at) same new)
   by_test false is = let away : other ≢ at = grind (arith, nat_tests) in old y away (sym (at_set_other xs at other x away) ∙ there)
-
-one_happens : (event : Option Event) (events : List Event) (most : ℕ) → length events ≤ most → length (cons_option event events) ≤ suc most
-one_happens None events most few = omega arith
-one_happens (Some event) events most few = omega arith
-
-pub few_happen : (bundle : Bundle) (numbers : List ℕ) → length (events_of bundle numbers) ≤ length numbers
-few_happen bundle [] = omega arith
-few_happen bundle (number ∷ numbers) = one_happens (happened bundle number) (events_of bundle numbers) (length numbers) (few_happen bundle numbers)
 
 -- ---- how many entries a run has
 

@@ -1,7 +1,7 @@
 -- Histories that grow by one entry, and how often a number stands in them.
-use Rattle.std.proofs.Common.{◌≡◌, ◌<◌, ℕ, zero, suc, ◌+◌, ◌==◌, Bool, true, false, if◌then◌else◌, List, [], ◌∷◌, ◌++◌, length, map, get_or, set, Some, refl, sym, ◌∙◌, ap, subst, arith}
+use Rattle.std.proofs.Common.{◌≡◌, ◌<◌, ◌≤◌, ℕ, zero, suc, ◌+◌, ◌==◌, Bool, true, false, if◌then◌else◌, List, [], ◌∷◌, ◌++◌, length, map, get_or, set, Option, Some, None, refl, sym, ◌∙◌, ap, subst, arith}
 use Rattle.std.specs.Prelude.{slice_get}
-use Rattle.std.specs.List.{AllByRecursion}
+use Rattle.std.specs.List.{AllByRecursion, cons_option}
 use Rattle.std.proofs.lemmas.List.{map_push}
 use Rattle.std.proofs.lemmas.List.Elements.{filter_map-append}
 use Rattle.ar_limits.proofs.RunLemmas.{effects-push}
@@ -22,6 +22,15 @@ all_push P (first ∷ rest) x all last = (all.0, all_push P rest x all.1 last)
 
 pub events_push : (bundle : Bundle) (numbers : List ℕ) (number : ℕ) (event : Event) → happened bundle number ≡ Some event → events_of bundle (numbers ++ number ∷ []) ≡ events_of bundle numbers ++ event ∷ []
 events_push bundle numbers number event is = filter_map-append (happened bundle) numbers (number ∷ []) ∙ rw is refl
+
+-- no more happens than there are numbers
+one_happens : (event : Option Event) (events : List Event) (most : ℕ) → length events ≤ most → length (cons_option event events) ≤ suc most
+one_happens None events most few = omega arith
+one_happens (Some event) events most few = omega arith
+
+pub few_happen : (bundle : Bundle) (numbers : List ℕ) → length (events_of bundle numbers) ≤ length numbers
+few_happen bundle [] = omega arith
+few_happen bundle (number ∷ numbers) = one_happens (happened bundle number) (events_of bundle numbers) (length numbers) (few_happen bundle numbers)
 
 pub numbers_push : (history : List Entry) (entry : Entry) → numbers_of (history ++ entry ∷ []) ≡ numbers_of history ++ entry.number ∷ []
 numbers_push history entry = map_push (λ (entry : Entry). entry.number) history entry

@@ -5,6 +5,8 @@ use Rattle.std.proofs.lemmas.Bool.Decides.{nat_tests}
 use Rattle.ar_limits.specs.declared.event.Event.{Event}
 use Rattle.ar_board.specs.Bundle.{Bundle, events_of, happened, run_of}
 use Rattle.ar_board.specs.Lawful.{Rise, times_in}
+use Rattle.ar_board.proofs.HistoryLemmas.{all_push, times_push}
+use Rattle.ar_board.proofs.Places.{times_by}
 use Rattle.ar_workers.specs.Private.Growing.{below, where_own}
 
 -- ---- one number more
@@ -39,19 +41,7 @@ few bundle run (suc upto) =
     let both = length-append (below bundle run upto) (where_own run upto (run_of bundle upto)) in
     omega arith
 
-one_happens : (event : Option Event) (events : List Event) (most : ℕ) → length events ≤ most → length (cons_option event events) ≤ suc most
-one_happens None events most few = omega arith
-one_happens (Some event) events most few = omega arith
-
-pub few_happen : (bundle : Bundle) (numbers : List ℕ) → length (events_of bundle numbers) ≤ length numbers
-few_happen bundle [] = omega arith
-few_happen bundle (number ∷ numbers) = one_happens (happened bundle number) (events_of bundle numbers) (length numbers) (few_happen bundle numbers)
-
 -- ---- in which order
-
-all_push : {A : Type 0} (P : A → Type 0) (xs : List A) (x : A) → AllByRecursion P xs → P x → AllByRecursion P (xs ++ x ∷ [])
-all_push P [] x all last = (last, tt)
-all_push P (first ∷ rest) x all last = (all.0, all_push P rest x all.1 last)
 
 all_weaker : (low high : ℕ) (numbers : List ℕ) → low ≤ high → AllByRecursion (λ number. number < low) numbers → AllByRecursion (λ number. number < high) numbers
 all_weaker low high [] below all = tt
@@ -85,13 +75,10 @@ rises bundle run (suc upto) = rise_own run upto (run_of bundle upto) (below bund
 
 -- ---- how often
 
-times_by_test : (number first : ℕ) (numbers : List ℕ) (test : Bool) → (first == number) ≡ test → times_in number (first ∷ numbers) ≡ (if test then suc (times_in number numbers) else times_in number numbers)
-times_by_test number first numbers test is = rw is refl
-
 -- none of them is the number
 never : (number : ℕ) (numbers : List ℕ) → AllByRecursion (λ other. other ≢ number) numbers → times_in number numbers ≡ 0
 never number [] all = refl
-never number (first ∷ numbers) all = let away : first ≢ number = all.0 in let unlike : (first == number) ≡ false = grind (arith, nat_tests) in times_by_test number first numbers false unlike ∙ never number numbers all.1
+never number (first ∷ numbers) all = let away : first ≢ number = all.0 in let unlike : (first == number) ≡ false = grind (arith, nat_tests) in times_by number first numbers false unlike ∙ never number numbers all.1
 
 all_unlike : (number upto : ℕ) (numbers : List ℕ) → upto ≤ number → AllByRecursion (λ other. other < upto) numbers → AllByRecursion (λ other. other ≢ number) numbers
 all_unlike number upto [] below all = tt
@@ -99,20 +86,6 @@ all_unlike number upto (first ∷ numbers) below all = let small : first < upto 
 
 pub not_yet : (bundle : Bundle) (run upto number : ℕ) → upto ≤ number → times_in number (below bundle run upto) ≡ 0
 not_yet bundle run upto number further = never number (below bundle run upto) (all_unlike number upto (below bundle run upto) further (are_below bundle run upto))
-
-push_by_test : (number last first : ℕ) (numbers : List ℕ) (test : Bool) → (first == number) ≡ test → times_in number (numbers ++ last ∷ []) ≡ times_in number numbers + times_in number (last ∷ []) → times_in number (first ∷ (numbers ++ last ∷ [])) ≡ times_in number (first ∷ numbers) + times_in number (last ∷ [])
-push_by_test number last first numbers true is more =
-    let left = times_by_test number first (numbers ++ last ∷ []) true is in
-    let right = times_by_test number first numbers true is in
-    omega arith
-push_by_test number last first numbers false is more =
-    let left = times_by_test number first (numbers ++ last ∷ []) false is in
-    let right = times_by_test number first numbers false is in
-    omega arith
-
-times_push : (number last : ℕ) (numbers : List ℕ) → times_in number (numbers ++ last ∷ []) ≡ times_in number numbers + times_in number (last ∷ [])
-times_push number last [] = omega arith
-times_push number last (first ∷ numbers) = push_by_test number last first numbers (first == number) refl (times_push number last numbers)
 
 -- another number comes behind
 behind_other : (number last : ℕ) (numbers : List ℕ) → last ≢ number → times_in number (numbers ++ last ∷ []) ≡ times_in number numbers
@@ -124,7 +97,7 @@ behind_other number last numbers away =
 -- the number itself comes behind
 behind_own : (number last : ℕ) (numbers : List ℕ) → (last == number) ≡ true → times_in number numbers ≡ 0 → times_in number (numbers ++ last ∷ []) ≡ 1
 behind_own number last numbers test none =
-    let one : times_in number (last ∷ []) ≡ 1 = times_by_test number last [] true test in
+    let one : times_in number (last ∷ []) ≡ 1 = times_by number last [] true test in
     let pushed = times_push number last numbers in
     omega arith
 

@@ -21,17 +21,11 @@ use Rattle.ar_board.specs.declared.bundle.RunPart.{RunPart}
 use Rattle.ar_board.specs.declared.finding.Finding.{Finding}
 use Rattle.ar_board.specs.declared.history.Entry.{Entry}
 use Rattle.ar_workers.specs.Private.Growing.{AreGrown, IsGrown, below}
-use Rattle.ar_workers.proofs.Below.{few, few_happen, other_is, own_is}
-
-all_push : {A : Type 0} (P : A → Type 0) (xs : List A) (x : A) → AllByRecursion P xs → P x → AllByRecursion P (xs ++ x ∷ [])
-all_push P [] x all last = (last, tt)
-all_push P (first ∷ rest) x all last = (all.0, all_push P rest x all.1 last)
+use Rattle.ar_board.proofs.HistoryLemmas.{all_push, events_push, few_happen}
+use Rattle.ar_workers.proofs.Below.{few, other_is, own_is}
 
 entry_of : ℕ → Finding → Effect → Entry
 entry_of number finding effect = record { number = number; finding = finding; effect = effect }
-
-events_push : (bundle : Bundle) (numbers : List ℕ) (number : ℕ) (event : Event) → happened bundle number ≡ Some event → events_of bundle (numbers ++ number ∷ []) ≡ events_of bundle numbers ++ event ∷ []
-events_push bundle numbers number event is = filter_map-append (happened bundle) numbers (number ∷ []) ∙ rw is refl
 
 -- the run's own number comes to its history
 pub grown_by : (bundle : Bundle) (upto run : ℕ) (limits : List Limits) (state after : Standing) (history : List Entry) (finding : Finding) (event : Event) (effect : Effect) → run_of bundle upto ≡ Some run → found bundle upto ≡ Some finding → happened bundle upto ≡ Some event
