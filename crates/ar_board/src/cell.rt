@@ -63,11 +63,7 @@ fn open_runs(alloc: Global, bundle: &Bundle, workers: usize) -> Result<Vec<KeptR
 fn no_places(alloc: Global, numbers: u64) -> Result<Vec<Option<usize>>, AllocError>
     ensures { IfOk result (λ places. places.items ≡ replicate numbers None) }
 {
-    let mut places = Vec::with_capacity(alloc, numbers as usize)?;
-    for _number in 0..numbers {
-        places.push(None)?;
-    }
-    Ok(places)
+    vec![in alloc; None; numbers as usize]
 }
 
 impl<'b, M: BundleName, L: LockName> RunCell<'b, M, L> {

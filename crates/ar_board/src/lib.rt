@@ -12,9 +12,18 @@
 //! [`core_step`] makes one step and takes no memory, and [`core_run`] makes a list of them. [`laws`]
 //! say what holds behind every list of steps.
 //!
+//! A [`RunCell`] is what a board keeps under one of its locks: of each run the history with the worker
+//! that posted each entry, and where the run stands. [`RunCell::add`] is the core's Post on a run of
+//! the cell, answered with the entry's place and effect, and [`RunCell::show`] shows a run to a worker
+//! whose [`Receipt`]s the history meets. `specs/Cell` says what is true of a cell whenever its lock is
+//! free, `specs/Receipts` when histories meet a receipt. A [`BundleName`] names the bundle in
+//! contracts, a [`LockName`] the lock and its ledger.
+//!
 //! - [`bundle`]: bundles and their parts; [`finding`]: what a number comes to
-//! - [`history`]: histories of runs
+//! - [`history`]: histories of runs; `run_history`: one that grows, and where its run stands
 //! - [`core_steps`]: steps of the core; [`core_state`]: the core in memory
+//! - [`cell`]: what is kept under a lock, by its runs (`kept_run`); [`names`]: what names it
+//! - [`posted`], [`snapshot`]: what posts and looks answer; [`receipt`]: what a worker keeps of posts
 #![tactic(auto)]
 
 pub mod bundle;

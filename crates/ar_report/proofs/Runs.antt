@@ -1,8 +1,7 @@
 -- Runs with their histories, one behind another.
-use Rattle.std.proofs.Common.{◌≡◌, ◌≢◌, ◌<◌, ◌≤◌, ℕ, zero, suc, ◌+◌, ◌==◌, Bool, true, false, List, [], ◌∷◌, ◌++◌, length, map, drop, Option, Some, None, refl, sym, ◌∙◌, ap, subst, arith, append-nil}
-use Rattle.std.specs.Prelude.{nat_lt, if◌then◌else◌, option_map, slice_get, slice_index_or}
+use Rattle.std.proofs.Common.{◌≡◌, ◌<◌, ◌≤◌, ℕ, zero, suc, ◌+◌, ◌==◌, List, [], ◌∷◌, ◌++◌, length, map, drop, Some, refl, sym, ◌∙◌, ap, subst, arith, append-nil}
+use Rattle.std.specs.Prelude.{slice_get, slice_index_or}
 use Rattle.std.specs.List.{AllByRecursion}
-use Rattle.std.proofs.lemmas.Bool.Decides.{nat_tests}
 use Rattle.std.proofs.lemmas.List.{append_assoc}
 use Rattle.std.proofs.lemmas.List.Sums.{count_by-le-length}
 use Rattle.std.proofs.lemmas.Option.{slice_get_read, slice_get_within}
@@ -11,7 +10,7 @@ use Rattle.ar_limits.specs.declared.phase.Phase.{Phase}
 use Rattle.ar_board.proofs.Bundles.{of_each}
 use Rattle.ar_board.proofs.Room.{at_most}
 use Rattle.ar_board.specs.Bundle.{Bundle, IsBundle, IsRun, events_of, most_events}
-use Rattle.ar_board.specs.Lawful.{AreHistories, AreHistoriesSoFar, AtMostOnce, IsFound, IsHistory, numbers_of, times, times_in}
+use Rattle.ar_board.specs.Lawful.{AreHistories, AreHistoriesSoFar, AtMostOnce, IsFound, IsHistory, numbers_of}
 use Rattle.ar_board.specs.declared.bundle.EventPart.{EventPart}
 use Rattle.ar_board.specs.declared.bundle.RunPart.{RunPart}
 use Rattle.ar_board.specs.declared.history.Entry.{Entry}

@@ -1,20 +1,17 @@
 -- The text of a report: a function of a bundle and of one list of its numbers for each run. Phases, counts and effects
 -- are those of the list of events that the numbers are.
-use Rattle.std.specs.Prelude.{◌≤◌, ℕ, List, [], ◌∷◌, ◌++◌, codes, decimal, slice_get, option_and_then, option_map, unwrap_or}
-use Rattle.std.specs.List.{AllByRecursion}
+use Rattle.std.specs.Prelude.{ℕ, List, [], ◌∷◌, ◌++◌, codes, decimal, slice_get, option_and_then, option_map, unwrap_or}
 use Rattle.ar_limits.specs.Run.{effects, metric_counts, metric_phases, run_phase}
 use Rattle.ar_limits.specs.declared.counts.Counts.{Counts}
 use Rattle.ar_limits.specs.declared.event.Effect.{Effect}
 use Rattle.ar_limits.specs.declared.phase.Phase.{Phase}
 use Rattle.ar_board.specs.Bundle.{Bundle, events_of, found_of}
-use Rattle.ar_board.specs.Lawful.{numbers_of}
 use Rattle.ar_board.specs.declared.bundle.MetricPart.{MetricPart}
 use Rattle.ar_board.specs.declared.bundle.RunPart.{RunPart}
 use Rattle.ar_board.specs.declared.bundle.What.{What}
 use Rattle.ar_board.specs.declared.bundle.What.TheVariants.{Measure}
 use Rattle.ar_board.specs.declared.finding.Finding.{Finding}
 use Rattle.ar_board.specs.declared.finding.Finding.TheVariants.{Judged}
-use Rattle.ar_board.specs.declared.history.Entry.{Entry}
 use Rattle.ar_report.specs.Names.{effect_text, phase_name, verdict_text}
 
 -- ---- a metric's line

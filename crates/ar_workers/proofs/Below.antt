@@ -1,9 +1,8 @@
 -- The numbers of a run below one: how many, in which order, and how often each of them.
-use Rattle.std.proofs.Common.{◌≡◌, ◌≢◌, ◌<◌, ◌≤◌, ℕ, zero, suc, ◌+◌, ◌==◌, Bool, true, false, if◌then◌else◌, List, [], ◌∷◌, ◌++◌, length, Option, Some, None, refl, sym, ◌∙◌, ap, subst, arith, append-nil, length-append}
-use Rattle.std.specs.List.{AllByRecursion, cons_option}
+use Rattle.std.proofs.Common.{◌≡◌, ◌≢◌, ◌<◌, ◌≤◌, ℕ, zero, suc, ◌==◌, Bool, true, false, if◌then◌else◌, List, [], ◌∷◌, ◌++◌, length, Option, Some, None, refl, sym, ◌∙◌, ap, subst, arith, append-nil, length-append}
+use Rattle.std.specs.List.{AllByRecursion}
 use Rattle.std.proofs.lemmas.Bool.Decides.{nat_tests}
-use Rattle.ar_limits.specs.declared.event.Event.{Event}
-use Rattle.ar_board.specs.Bundle.{Bundle, events_of, happened, run_of}
+use Rattle.ar_board.specs.Bundle.{Bundle, run_of}
 use Rattle.ar_board.specs.Lawful.{Rise, times_in}
 use Rattle.ar_board.proofs.HistoryLemmas.{all_push, times_push}
 use Rattle.ar_board.proofs.Places.{times_by}
