@@ -2,7 +2,7 @@
 
 ghost use Rattle.std.specs.Prelude.{◌≡◌, ◌&&◌, false, IfOk, Some};
 ghost use Rattle.ar_value.specs.Answer.{Gives};
-ghost use Rattle.ar_check.specs.Check.{arithmetic_kind, binary_of, comparison_of, equality_of, in_of, negated, number_kind, ordering_of, arithmetic_on, calculation_of, both_of, either_of, given, takes, truth_kind, unary_of, where_wanted, widened};
+ghost use Rattle.ar_check.specs.Check.{arithmetic_kind, binary_of, comparison_of, equality_of, in_of, negated, number_kind, ordering_of, arithmetic_on, calculation_of, both_of, either_of, given, member_of, takes, truth_kind, unary_of, where_wanted, widened};
 ghost use Rattle.ar_check.specs.Operand.{among, family_in};
 ghost use Rattle.ar_condition.specs.Typed as typed;
 ghost use Rattle.ar_condition.specs.Views.{typed_view};
@@ -257,7 +257,6 @@ fn order<'s>(
 }
 
 /// Whether a list has an operand among its items.
-#[tactic(auto, using(crate::proofs::Freely::gives_freely))]
 fn contains<'s>(
     alloc: Global,
     at: usize,
@@ -270,7 +269,22 @@ fn contains<'s>(
     let of = scalar(&operand);
     let operand = into_tree(operand);
     let list = made_plain(alloc, list)?;
-    let (Some(of), Some(beside)) = (of, item?) else {
+    member(alloc, at, (of, item?), operand, list)
+}
+
+/// Whether a plain list of these scalars has an operand among its items.
+#[tactic(auto, using(crate::proofs::Freely::gives_freely))]
+fn member<'s>(
+    alloc: Global,
+    at: usize,
+    scalars: (Option<Scalar>, Option<Scalar>),
+    operand: Box<Typed>,
+    list: Box<Typed>,
+) -> Result<Operand<'s>, TypeError>
+    ensures { Gives is_memory operand_view result
+        (member_of at scalars.0 scalars.1 (typed_view operand.value) (typed_view list.value)) }
+{
+    let (Some(of), Some(beside)) = scalars else {
         return Err(TypeError::WrongOperand(at));
     };
     let tree = within(alloc, operand, list)?;

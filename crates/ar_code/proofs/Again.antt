@@ -11,13 +11,13 @@ use Rattle.ar_value.specs.Answer.{◌>>=◌}
 use Rattle.ar_value.specs.Decimal.{is_i64}
 use Rattle.ar_value.specs.declared.operator.Scalar.{Scalar}
 use Rattle.ar_value.specs.declared.operator.Scalar.TheVariants as scalars
-use Rattle.ar_code.specs.Code.{Code, InRange, Inside, IsCode, IsEntry, IsText, IsWritable, most_entries, most_items}
+use Rattle.ar_op.specs.Code.{Code, InRange, Inside, IsCode, IsEntry, IsText, IsWritable, most_entries, most_items}
+use Rattle.ar_op.specs.declared.op.Op.{Op}
+use Rattle.ar_op.specs.declared.op.Op.TheVariants.{PushBool, PushWhole, PushDecimal, PushText, PushNil, MakeList, LoadResult, Item, Field, Index, Len, Need, IsNil, Default, ToDecimal, IsIn, Not, Wholes, NegW, Decimals, NegD, Compare, Equal, AndJump, OrJump, BranchFalse, Jump, Enter, Step, Return}
+use Rattle.ar_op.specs.declared.op.Compared.TheVariants as compared
+use Rattle.ar_op.specs.declared.op.DecimalArithmetic.TheVariants as on_decimals
 use Rattle.ar_code.specs.Decoding.{Form, Reading, count_at, decoded, parts_at, whole, cut_number, so_many_ops, so_many_texts, text_at, texts_at, entry_at, op_at, place, name_number, nothing, one_bit, one_decimal, one_place, one_whole, text_number, fields_at, form_of, items_at, narrow, number_at, scalar_and_count, scalar_at, signed, spelled, sum_of, wide}
 use Rattle.ar_code.specs.Image.{body, code_of, image, magic, version, fields_of, groups, number, op_bytes, scalar_number, string, strings, zigzag}
-use Rattle.ar_code.specs.declared.op.Op.{Op}
-use Rattle.ar_code.specs.declared.op.Op.TheVariants.{PushBool, PushWhole, PushDecimal, PushText, PushNil, MakeList, LoadResult, Item, Field, Index, Len, Need, IsNil, Default, ToDecimal, IsIn, Not, Wholes, NegW, Decimals, NegD, Compare, Equal, AndJump, OrJump, BranchFalse, Jump, Enter, Step, Return}
-use Rattle.ar_code.specs.declared.op.Compared.TheVariants as compared
-use Rattle.ar_code.specs.declared.op.DecimalArithmetic.TheVariants as on_decimals
 use Rattle.ar_value.specs.declared.operator.Arithmetic.TheVariants as arithmetic
 use Rattle.ar_value.specs.declared.operator.Family.TheVariants as families
 use Rattle.ar_value.specs.declared.operator.Order.TheVariants as orders

@@ -2,9 +2,9 @@
 use Rattle.std.proofs.Common.{◌≡◌, ℕ, suc, ◌-◌, ◌+◌, ◌<◌, ◌≤◌, Bool, true, false, List, [], ◌∷◌, ◌++◌, Ok, Err, refl, sym, ap, ◌∙◌, append_assoc, arith}
 use Rattle.std.proofs.lemmas.List.{append-nil}
 use Rattle.ar_value.specs.Answer.{◌>>=◌, Unless}
+use Rattle.ar_op.specs.declared.op.Op.{Op}
 use Rattle.ar_code.specs.Decoding.{Reading, is_memory, op_at, so_many_ops, so_many_texts, text_at}
 use Rattle.ar_code.specs.declared.error.ImageError.{ImageError}
-use Rattle.ar_code.specs.declared.op.Op.{Op}
 use Rattle.ar_code.proofs.Freely.{unless_any}
 
 -- what was read before, and what is still read

@@ -3,7 +3,7 @@ use Rattle.std.proofs.Common.{◌≡◌, ◌≢◌, ℕ, zero, suc, Bool, true, 
 use Rattle.std.specs.Str.{is_utf8}
 use Rattle.ar_value.specs.Answer.{◌>>=◌}
 use Rattle.ar_value.specs.declared.operator.Scalar.{Scalar}
-use Rattle.ar_code.specs.Code.{Code, most_entries, most_items}
+use Rattle.ar_op.specs.Code.{Code, most_entries, most_items}
 use Rattle.ar_code.specs.Decoding.{Form, Reading, bit_at, byte_at, count_at, cut_number, decoded, entry_at, expected, fields_at, form_of, formed, is_memory, items_at, letters_at, name_number, narrow, nothing, number_at, one_bit, one_decimal, one_place, one_whole, op_at, parts_at, place, scalar_and_count, scalar_at, scalar_of, so_many_ops, so_many_texts, spelled, text_at, text_number, text_of, texts_at, where_scalar, where_spelled, where_text, whole, whole_number, wide}
 use Rattle.ar_code.specs.Image.{magic, version}
 use Rattle.ar_code.specs.declared.error.ImageError.{ImageError}

@@ -3,12 +3,12 @@ use Rattle.std.proofs.Common.{◌≡◌, ℕ, zero, suc, ◌<◌, ◌≤◌, Boo
 use Rattle.std.specs.List.{AllByRecursion}
 use Rattle.std.proofs.lemmas.Bool.{eqb-true, ltb-true, ltb-false}
 use Rattle.ar_value.specs.Answer.{◌>>=◌}
-use Rattle.ar_code.specs.Code.{Inside, most_items}
+use Rattle.ar_op.specs.Code.{Inside, most_items}
+use Rattle.ar_op.specs.declared.op.Op.{Op}
+use Rattle.ar_op.specs.declared.op.Op.TheVariants.{PushBool, PushWhole, PushDecimal, PushText, Field, MakeList}
 use Rattle.ar_code.specs.Decoding.{Form, bit_at, scalar_at, signed, wide, all_families, among, among_all, byte_at, entry_at, fields_at, first_of, form_code, form_of, formed, items_at, narrow, nothing, number_at, one_bit, one_decimal, one_place, one_whole, op_at, place, so_many_ops, with_place, scalar_and_count, name_number, text_number}
 use Rattle.ar_code.specs.declared.error.ImageError.{ImageError}
 use Rattle.ar_code.specs.declared.error.ImageError.TheVariants.{BadNumber, BadText}
-use Rattle.ar_code.specs.declared.op.Op.{Op}
-use Rattle.ar_code.specs.declared.op.Op.TheVariants.{PushBool, PushWhole, PushDecimal, PushText, Field, MakeList}
 
 -- the value of a step that met no fault
 pub bind_ok : {A B : Type 0} (r : Result A ImageError) (f : A → Result B ImageError) (y : B) → (r >>= f) ≡ Ok y → (x : A) × (r ≡ Ok x) × (f x ≡ Ok y)

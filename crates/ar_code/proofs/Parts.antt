@@ -6,7 +6,7 @@ use Rattle.std.proofs.lemmas.Bool.{ltb-false}
 use Rattle.std.proofs.lemmas.List.{length-take}
 use Rattle.std.proofs.lemmas.List.Elements.{All-from_recursion}
 use Rattle.ar_value.specs.Answer.{◌>>=◌}
-use Rattle.ar_code.specs.Code.{Code, Inside, IsCode, IsEntry, code_of_parts, most_entries}
+use Rattle.ar_op.specs.Code.{Code, Inside, IsCode, IsEntry, code_of_parts, most_entries}
 use Rattle.ar_code.specs.Decoding.{count_at, letters_at, number_at, parts_at, place, so_many_ops, so_many_texts, text_at, text_of, texts_at, where_text, wide}
 use Rattle.ar_code.specs.declared.error.ImageError.{ImageError}
 use Rattle.ar_code.specs.declared.error.ImageError.TheVariants.{TooLarge, Truncated}

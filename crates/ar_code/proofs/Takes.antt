@@ -11,13 +11,13 @@ use Rattle.ar_value.specs.Answer.{◌>>=◌}
 use Rattle.ar_value.specs.declared.operator.Predicate.TheVariants as predicates
 use Rattle.ar_value.specs.declared.operator.Scalar.{Scalar}
 use Rattle.ar_value.specs.declared.operator.Scalar.TheVariants as scalars
-use Rattle.ar_code.specs.Code.{Code, code_of_parts, most_entries, most_items}
+use Rattle.ar_op.specs.Code.{Code, code_of_parts, most_entries, most_items}
+use Rattle.ar_op.specs.declared.op.Op.{Op}
+use Rattle.ar_op.specs.declared.op.Op.TheVariants.{PushBool, PushWhole, PushDecimal, PushText, MakeList, Field, AndJump, OrJump, BranchFalse, Jump, Enter, Step}
 use Rattle.ar_code.specs.Decoding.{Form, bit_at, byte_at, count_at, cut_number, decoded, entry_at, expected, fields_at, form_code, form_of, formed, items_at, letters_at, name_number, narrow, nothing, number_at, one_bit, one_decimal, one_place, one_whole, op_at, parts_at, place, scalar_and_count, scalar_at, scalar_of, signed, so_many_ops, so_many_texts, spelled, sum_of, text_at, text_number, text_of, texts_at, where_scalar, where_spelled, where_text, whole, whole_number, wide, with_place}
 use Rattle.ar_code.specs.Image.{bit, body, code_of, fields_of, image, magic, number, op_bytes, scalar_number, string, strings, version, zigzag}
 use Rattle.ar_code.specs.declared.error.ImageError.{ImageError}
 use Rattle.ar_code.specs.declared.error.ImageError.TheVariants.{BadMagic, BadNumber, BadText, BadVersion, TooLarge, Truncated}
-use Rattle.ar_code.specs.declared.op.Op.{Op}
-use Rattle.ar_code.specs.declared.op.Op.TheVariants.{PushBool, PushWhole, PushDecimal, PushText, MakeList, Field, AndJump, OrJump, BranchFalse, Jump, Enter, Step}
 use Rattle.ar_code.proofs.Ops.{IsFound, and_right, bind_ok, form_found, guard_ok, guard_then, ok_is}
 
 -- ---- numbers

@@ -8,14 +8,14 @@ use Rattle.ar_value.specs.declared.operator.Order.TheVariants.{Less, LessOrEqual
 use Rattle.ar_value.specs.declared.operator.Predicate.TheVariants as predicates
 use Rattle.ar_value.specs.declared.operator.Scalar.{Scalar}
 use Rattle.ar_value.specs.declared.operator.Scalar.TheVariants as scalars
-use Rattle.ar_code.specs.Code.{Code, most_entries, most_items}
+use Rattle.ar_op.specs.Code.{Code, most_entries, most_items}
+use Rattle.ar_op.specs.declared.op.Compared.TheVariants as compared
+use Rattle.ar_op.specs.declared.op.DecimalArithmetic.TheVariants as on_decimals
+use Rattle.ar_op.specs.declared.op.Op.{Op}
+use Rattle.ar_op.specs.declared.op.Op.TheVariants.{PushBool, PushWhole, PushDecimal, PushText, PushNil, MakeList, LoadResult, Item, Field, Index, Len, Need, IsNil, Default, ToDecimal, IsIn, Not, Wholes, NegW, Decimals, NegD, Compare, Equal, AndJump, OrJump, BranchFalse, Jump, Enter, Step, Return}
 use Rattle.ar_code.specs.Image.{code_of, magic, number, version}
 use Rattle.ar_code.specs.declared.error.ImageError.{ImageError}
 use Rattle.ar_code.specs.declared.error.ImageError.TheVariants.{BadMagic, BadVersion, Truncated, BadNumber, UnknownOp, BadText, TooLarge, Trailing, OutOfMemory}
-use Rattle.ar_code.specs.declared.op.Compared.TheVariants as compared
-use Rattle.ar_code.specs.declared.op.DecimalArithmetic.TheVariants as on_decimals
-use Rattle.ar_code.specs.declared.op.Op.{Op}
-use Rattle.ar_code.specs.declared.op.Op.TheVariants.{PushBool, PushWhole, PushDecimal, PushText, PushNil, MakeList, LoadResult, Item, Field, Index, Len, Need, IsNil, Default, ToDecimal, IsIn, Not, Wholes, NegW, Decimals, NegD, Compare, Equal, AndJump, OrJump, BranchFalse, Jump, Enter, Step, Return}
 
 -- What is read is a value and the bytes behind it. Where an input ends at a place, what begins with so many bytes of it
 -- stands at the place before these.

@@ -1,7 +1,6 @@
-pub mod Code
-pub mod Machine
+pub use Rattle.ar_op.specs.Code
+pub use Rattle.ar_op.specs.Machine
 pub mod Image
 pub mod Decoding
 pub mod Private
 pub mod Listing
-pub mod Examples

@@ -1,12 +1,12 @@
 //! The codes of operations, each of which stands here once, and what stands behind each in an image.
 
 ghost use Rattle.std.specs.Prelude.{◌≡◌, option_map};
+ghost use Rattle.ar_op.specs.declared.op.Op.TheVariants.{Compare, Decimals, Enter, Equal, Step, Wholes};
 ghost use Rattle.ar_code.specs.Decoding.{among, enters, equalities, first_of, form_of, jumps, of_decimals, on_values, on_wholes, orders, pushes, steps};
 ghost use Rattle.ar_code.specs.Image.{code_of};
 ghost use Rattle.ar_code.specs.Private.Forms.{form_view};
-ghost use Rattle.ar_code.specs.declared.op.Op.TheVariants.{Compare, Decimals, Enter, Equal, Step, Wholes};
 
-use crate::op::{Compared, DecimalArithmetic, Op};
+use ar_op::op::{Compared, DecimalArithmetic, Op};
 use ar_value::operator::{Arithmetic, Family, Order, Predicate};
 
 /// What stands behind an operation's code.

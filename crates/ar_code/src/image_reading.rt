@@ -2,17 +2,17 @@
 
 ghost use Rattle.std.specs.Prelude.{◌≡◌, ◌≤◌, false, length, map, option_map, string_bytes, IfOk, Ok};
 ghost use Rattle.ar_value.specs.Answer.{Gives};
+ghost use Rattle.ar_op.specs.Code.{Code as Parts, IsWritable};
 ghost use Rattle.ar_code.specs.Decoding.{bit_at, decoded, entry_at, expected, fields_at, is_memory, items_at, letters_at, name_number, op_at, one_bit, one_decimal, one_place, one_whole, parts_at, scalar_and_count, scalar_at, scalar_of, so_many_ops, so_many_texts, text_at, text_number, text_of, texts_at};
-ghost use Rattle.ar_code.specs.Code.{Code as Parts, IsWritable};
 ghost use Rattle.ar_code.specs.Image.{image};
 ghost use Rattle.ar_code.specs.Private.Forms.{fields_in, form_view, ops_in};
 
-use crate::code::Code;
 use crate::error::ImageError;
 use crate::form::{Form, form_of};
 use crate::image_writing::{MAGIC, VERSION};
-use crate::op::Op;
 use crate::reader::{byte_at, count_at, narrow_at, place, signed, wide_at};
+use ar_op::code::Code;
+use ar_op::op::Op;
 use ar_value::operator::Scalar;
 use std::alloc::Global;
 

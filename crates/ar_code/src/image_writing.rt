@@ -2,13 +2,13 @@
 
 ghost use Rattle.std.specs.Prelude.{◌≡◌, ◌++◌, length, map, string_bytes, IfOk, Ok, OnOk};
 ghost use Rattle.std.specs.List.{AllByRecursion, flat_map};
-ghost use Rattle.ar_code.specs.Code.{InRange, IsCode, IsText};
+ghost use Rattle.ar_op.specs.Code.{InRange, IsCode, IsText};
 ghost use Rattle.ar_code.specs.Decoding.{decoded};
 ghost use Rattle.ar_code.specs.Image.{fields_of, groups, image, number, op_bytes, scalar_number, string, strings, zigzag};
 
-use crate::code::Code;
 use crate::form::code_of;
-use crate::op::Op;
+use ar_op::code::Code;
+use ar_op::op::Op;
 use ar_value::operator::Scalar;
 use std::alloc::{AllocError, Global};
 

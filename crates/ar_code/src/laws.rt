@@ -1,7 +1,7 @@
 //! Laws of images. A law is the contract of a function that does nothing.
 
 ghost use Rattle.std.specs.Prelude.{◌≡◌, ◌≢◌, ◌++◌, ℕ, Err, List, []};
-ghost use Rattle.ar_code.specs.Code.{Code, IsWritable};
+ghost use Rattle.ar_op.specs.Code.{Code, IsWritable};
 ghost use Rattle.ar_code.specs.Decoding.{decoded};
 ghost use Rattle.ar_code.specs.Image.{image};
 ghost use Rattle.ar_code.specs.declared.error.ImageError.TheVariants.{OutOfMemory};

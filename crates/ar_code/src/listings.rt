@@ -1,12 +1,12 @@
 //! Code as lines for people.
 
 ghost use Rattle.std.specs.Prelude.{◌≡◌, ◌++◌, [], IfOk, OnOk, get_or, map, string_bytes};
-ghost use Rattle.ar_code.specs.declared.op.Compared.TheVariants as compared;
+ghost use Rattle.ar_op.specs.declared.op.Compared.TheVariants as compared;
+ghost use Rattle.ar_op.specs.declared.op.Op.TheVariants.{Compare, Decimals, Enter, Equal, Step, Wholes};
 ghost use Rattle.ar_code.specs.Listing.{fields_text, line, lines, listing, name_of, numbered, scalar_name};
-ghost use Rattle.ar_code.specs.declared.op.Op.TheVariants.{Compare, Decimals, Enter, Equal, Step, Wholes};
 
-use crate::code::Code;
-use crate::op::{Compared, DecimalArithmetic, Op};
+use ar_op::code::Code;
+use ar_op::op::{Compared, DecimalArithmetic, Op};
 use ar_value::operator::{Arithmetic, Family, Order, Predicate, Scalar};
 use std::alloc::{AllocError, Global};
 use std::fmt::Write;

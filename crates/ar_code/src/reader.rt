@@ -4,7 +4,7 @@
 ghost use Rattle.std.specs.Prelude.{◌≡◌, ◌≤◌, drop, false, length, option_map, suc, take, IfNone, IfOk, IfSome};
 ghost use Rattle.std.specs.Str.{bytes_eq};
 ghost use Rattle.ar_value.specs.Answer.{Gives};
-ghost use Rattle.ar_code.specs.Code.{most_entries};
+ghost use Rattle.ar_op.specs.Code.{most_entries};
 ghost use Rattle.ar_code.specs.Image.{groups};
 ghost use Rattle.ar_code.specs.Decoding.{byte_at, count_at, cut_number, narrow, number_at, place, signed, spelled, sum_of, wide};
 

@@ -3,22 +3,17 @@ use Rattle.std.proofs.Common.{◌≡◌, ℕ, ◌≤◌, Bool, true, false, List
 use Rattle.std.specs.Prelude.{IfSome, nat_lt}
 use Rattle.std.proofs.lemmas.Bool.Decides.{nat_tests}
 use Rattle.serde_json.specs.Data.{Data}
-use Rattle.ar_value.specs.Answer.{◌>>=◌, Unless}
-use Rattle.ar_json.specs.Reading.{is_memory, is_memory_under, read}
-use Rattle.ar_value.specs.Shape.{Shape}
+use Rattle.ar_value.specs.Answer.{◌>>=◌}
 use Rattle.ar_value.specs.declared.fault.Fault.{Fault}
-use Rattle.ar_json.specs.declared.value_reading.ShapeFault.{ShapeFault}
-use Rattle.ar_value.proofs.Answers.{unless_more}
-use Rattle.ar_json.proofs.ReadLemmas.{under_is_memory}
 use Rattle.ar_board.specs.Bundle.{Bundle}
 use Rattle.ar_judge.specs.Condition.{refused_as}
 use Rattle.ar_document.specs.Document as bundles
 use Rattle.ar_json.specs.Document.{json_in, most_bytes}
 use Rattle.ar_document.specs.declared.error.BundleError.{BundleError}
 use Rattle.ar_command.specs.Input.{ReadsUpToLimit}
-use Rattle.ar_command.specs.Evaluation.{Evaluates, Follows, of_json, prepared, prepared_input}
+use Rattle.ar_eval.specs.Evaluation.{Evaluates, Follows, of_json, prepared, prepared_input}
 use Rattle.ar_command.specs.Serving.{Refuses, Says}
-use Rattle.ar_command.specs.declared.eval.EvalError.{EvalError}
+use Rattle.ar_eval.specs.declared.eval.EvalError.{EvalError}
 use Rattle.ar_command.specs.declared.serve.Closing.{Closing}
 use Rattle.ar_command.specs.declared.serve.Command.{Command}
 use Rattle.ar_command.specs.declared.serve.Command.TheVariants as commands
@@ -80,10 +75,6 @@ said_of_whole known after bytes command text closing reads says = of_known (λ i
 
 pub refused_of_whole : (known after : Option (List ℕ)) (bytes : List ℕ) (command : Command) (refusal : Refusal) → ReadsUpToLimit known after bytes → Refuses command bytes refusal → IfSome known (λ input. Refuses command input refusal)
 refused_of_whole known after bytes command refusal reads refuses = of_known (λ input. Refuses command input refusal) bytes known (same_json known after bytes reads) (λ input same. refuses_too input bytes same command refusal refuses)
-
--- what may be want of memory under a shape is want of memory
-pub misfits : (shape : Shape) (json : Data) (fault : ShapeFault) → Unless (is_memory_under shape fault) (read shape json ≡ Err fault) → Unless (is_memory fault) (read shape json ≡ Err fault)
-misfits shape json fault h = unless_more (read shape json ≡ Err fault) (is_memory_under shape fault) (is_memory fault) (under_is_memory shape fault) h
 
 pub refused_by : (known after : Option (List ℕ)) (bytes : List ℕ) (command : Command) (error : ServeError) (refusal : Refusal) → ReadsUpToLimit known after bytes → IfRefused {A = Bool} (Err error) (Refuses command bytes) → error ≡ Refused refusal → IfSome known (λ input. Refuses command input refusal)
 refused_by known after bytes command (Refused own) refusal reads refuses same = let is : own ≡ refusal = cc in refused_of_whole known after bytes command refusal reads (subst (Refuses command bytes) is refuses)

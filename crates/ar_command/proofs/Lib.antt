@@ -1,4 +1,2 @@
 pub mod Documents
-pub mod Judging
 pub mod Reporting
-mod Facts

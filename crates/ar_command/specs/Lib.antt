@@ -1,6 +1,6 @@
+pub use Rattle.ar_eval.specs.Evaluation
 pub mod Private
 pub mod Device
 pub mod Kept
 pub mod Input
-pub mod Evaluation
 pub mod Serving

@@ -1,21 +1,23 @@
 -- What commands write for an input, for what they refuse it, and how they end.
-use Rattle.std.specs.Prelude.{◌≡◌, ℕ, List, map, if◌then◌else◌, Result, Ok, Err}
+use Rattle.std.specs.Prelude.{◌≡◌, ℕ, Bool, true, false, List, ◌++◌, codes, map, if◌then◌else◌, Result, Ok, Err}
 use Rattle.std.specs.List.{list_any}
+use Rattle.ar_value.specs.declared.fault.Fault.{Fault}
 use Rattle.ar_limits.specs.Metric.{is_unsuccessful}
 use Rattle.ar_limits.specs.declared.phase.Phase.{Phase}
 use Rattle.ar_board.specs.Bundle.{Bundle}
 use Rattle.ar_board.specs.Lawful.{AllRise, AreLawful, numbers_of}
 use Rattle.ar_board.specs.declared.history.Entry.{Entry}
 use Rattle.ar_report.specs.Check.{check_text, list_text}
+use Rattle.ar_report.specs.Names.{fault_name}
 use Rattle.ar_report.specs.Report.{report, run_phases}
 use Rattle.ar_document.specs.Document as document
 use Rattle.ar_document.specs.declared.error.BundleError.{BundleError}
 use Rattle.ar_document.specs.declared.error.BundleError.TheVariants as bundle
-use Rattle.ar_command.specs.Evaluation.{Evaluates, Writes}
+use Rattle.ar_eval.specs.Evaluation.{Evaluates}
 use Rattle.ar_command.specs.declared.input.InputError.{InputError}
 use Rattle.ar_command.specs.declared.input.InputError.TheVariants as input
-use Rattle.ar_command.specs.declared.eval.EvalError.{EvalError}
-use Rattle.ar_command.specs.declared.eval.EvalError.TheVariants as eval
+use Rattle.ar_eval.specs.declared.eval.EvalError.{EvalError}
+use Rattle.ar_eval.specs.declared.eval.EvalError.TheVariants as eval
 use Rattle.ar_command.specs.declared.serve.Closing.{Closing}
 use Rattle.ar_command.specs.declared.serve.Closing.TheVariants.{Good, Bad}
 use Rattle.ar_command.specs.declared.serve.Command.{Command}
@@ -26,6 +28,18 @@ use Rattle.ar_command.specs.declared.serve.ServeError.{ServeError}
 use Rattle.ar_command.specs.declared.serve.ServeError.TheVariants.{Read, Refused, Write, OutOfMemory}
 
 -- ---- what is written
+
+-- the line that is written: a truth value, or a fault by its name, and a line feed
+abbrev pub line_of : Result Bool Fault → List ℕ
+line_of (Ok true) = codes "true\n"
+line_of (Ok false) = codes "false\n"
+line_of (Err fault) = codes "fault " ++ (fault_name fault ++ codes "\n")
+
+-- a line is written for an input
+pub record Writes (input line : List ℕ) : Type 0 where
+  pub answer : Result Bool Fault
+  pub evaluates : Evaluates input (Ok answer)
+  pub is : line ≡ line_of answer
 
 -- a text that shows the bundle of an input
 pub record Shows (show : Bundle → List ℕ) (input text : List ℕ) : Type 0 where

@@ -5,16 +5,15 @@ ghost use Rattle.std.specs.List.{list_any};
 ghost use Rattle.ar_board.specs.Lawful.{AllRise, AreLawful};
 ghost use Rattle.ar_limits.specs.Metric.{is_unsuccessful};
 ghost use Rattle.ar_report.specs.Check.{check_text, list_text};
-ghost use Rattle.ar_command.specs.Evaluation.{Writes, line_of};
 ghost use Rattle.ar_command.specs.Private.Refusing.{IfRefused};
-ghost use Rattle.ar_command.specs.Serving.{IsReported, Refuses, Reports, Says, Shows, closing_of};
+ghost use Rattle.ar_command.specs.Serving.{IsReported, Refuses, Reports, Says, Shows, Writes, closing_of, line_of};
 ghost use Rattle.ar_command.specs.declared.serve.Closing.TheVariants.{Good};
 ghost use Rattle.ar_command.specs.declared.serve.Command.TheVariants as commands;
 
-use crate::eval::evaluate;
 use crate::serve::{Closing, Command, ServeError};
 use ar_board::{Bundle, Histories};
 use ar_document::read_bundle;
+use ar_eval::evaluate;
 use ar_limits::Phase;
 use ar_machine::Answer;
 use ar_report::{check_text, fault_name, list_text, report, run_phases};

@@ -4,11 +4,10 @@
 //! program's promise: what is written is the stated function of the bytes that were read, or the
 //! input is refused by the first fault that stands in it and nothing is written. Only want of memory
 //! and a failed read or write can keep it from that. What is left to the program are the command
-//! line, the words of refusals and the exit status.
+//! line, the words of refusals and the exit status. What `eval` answers is `ar_eval`'s.
 //!
 //! - [`serve`]: a command, from the bytes read to the bytes written
 //! - `answer`: what each command says of an input
-//! - [`eval`]: a document with a condition, a shape and a value: what the condition says of the value
 //! - [`input`]: reading a whole document
 //! - [`device`]: readers and writers that remember whether they failed
 //! - [`kept`]: a reader that keeps what was read
@@ -17,13 +16,12 @@
 
 mod answer;
 pub mod device;
-pub mod eval;
 pub mod input;
 pub mod kept;
 pub mod serve;
 pub mod status;
 
+pub use ar_eval::{EvalError, eval};
 pub use device::{Device, DeviceFault, Sink, Source};
-pub use eval::EvalError;
 pub use kept::Kept;
 pub use serve::{Closing, Command, Refusal, ServeError, serve_plain};

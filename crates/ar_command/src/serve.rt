@@ -6,9 +6,9 @@ ghost use Rattle.ar_command.specs.Serving.{Refuses, Says};
 
 use crate::answer::answer;
 use crate::device::{Sink, Source};
-use crate::eval::EvalError;
 use crate::input::{InputError, read_input};
 use ar_document::BundleError;
+use ar_eval::EvalError;
 use std::alloc::{AllocError, Global};
 use thiserror::Error;
 

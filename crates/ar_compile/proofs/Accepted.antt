@@ -24,9 +24,9 @@ use Rattle.ar_condition.specs.declared.tree.Literal.TheVariants as literals
 use Rattle.ar_check.specs.Basics.{literal_kind}
 use Rattle.ar_check.specs.Check.{arithmetic_kind, checked, number_kind, predicate_kind, scalar_shape, truth_kind}
 use Rattle.ar_check.specs.Check.{takes as is_taken}
-use Rattle.ar_code.specs.Code.{Code}
-use Rattle.ar_code.specs.declared.op.Op.{Op}
-use Rattle.ar_code.specs.declared.op.Op.TheVariants.{PushBool, PushWhole, PushDecimal, PushText, PushNil, MakeList, LoadResult, Item, Field, Index, Len, Need, IsNil, Default, ToDecimal, IsIn, Not, Compare, Equal, AndJump, OrJump, BranchFalse, Jump, Enter, Step}
+use Rattle.ar_op.specs.Code.{Code}
+use Rattle.ar_op.specs.declared.op.Op.{Op}
+use Rattle.ar_op.specs.declared.op.Op.TheVariants.{PushBool, PushWhole, PushDecimal, PushText, PushNil, MakeList, LoadResult, Item, Field, Index, Len, Need, IsNil, Default, ToDecimal, IsIn, Not, Compare, Equal, AndJump, OrJump, BranchFalse, Jump, Enter, Step}
 use Rattle.ar_verify.specs.Arrivals.{Around, answer_kind, item_of, lacks, operands}
 use Rattle.ar_verify.specs.Effects.{decimal_kind, decimal_shape, effect, is_family, is_scalar, list_made, of_one_family, truth}
 use Rattle.ar_verify.specs.Effects as effects

@@ -12,8 +12,8 @@ use Rattle.ar_condition.specs.Typed.{Typed}
 use Rattle.ar_check.specs.Check.{checked, truth_kind}
 use Rattle.ar_check.proofs.Means.{MeansKind}
 use Rattle.ar_check.proofs.Operands.{on_bool}
-use Rattle.ar_code.specs.Code.{Code}
-use Rattle.ar_code.specs.declared.op.Op.TheVariants.{Return}
+use Rattle.ar_op.specs.Code.{Code}
+use Rattle.ar_op.specs.declared.op.Op.TheVariants.{Return}
 use Rattle.ar_compile.specs.Compiled.{compiled}
 use Rattle.ar_compile.specs.Ends.{EndsWith}
 use Rattle.ar_compile.specs.Length.{operations}

@@ -10,10 +10,10 @@ use Rattle.ar_value.specs.Kind.{Kind, merge, shaped}
 use Rattle.ar_value.specs.Shape.{Shape, list}
 use Rattle.ar_value.specs.declared.operator.Predicate.{Predicate}
 use Rattle.ar_value.proofs.Merges.{merge_with_itself}
-use Rattle.ar_code.specs.Code.{Code}
-use Rattle.ar_code.specs.Machine.{nth}
-use Rattle.ar_code.specs.declared.op.Op.{Op}
-use Rattle.ar_code.specs.declared.op.Op.TheVariants.{AndJump, OrJump, BranchFalse, Jump, Enter, Step, Return}
+use Rattle.ar_op.specs.Code.{Code}
+use Rattle.ar_op.specs.Machine.{nth}
+use Rattle.ar_op.specs.declared.op.Op.{Op}
+use Rattle.ar_op.specs.declared.op.Op.TheVariants.{AndJump, OrJump, BranchFalse, Jump, Enter, Step, Return}
 use Rattle.ar_verify.specs.Arrivals.{Around, Operands, Sent, all_sent, answer_kind, arrived, at_place, deepest, item_of, joined, lacks, merged, most_operands, operands, passed_on, sent, sent_on, sent_to, to_next}
 use Rattle.ar_verify.specs.Effects.{effect, truth}
 use Rattle.ar_verify.specs.Places.{most_loops}

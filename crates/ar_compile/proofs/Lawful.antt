@@ -12,10 +12,10 @@ use Rattle.ar_value.specs.declared.operator.Arithmetic.{Arithmetic}
 use Rattle.ar_value.specs.declared.operator.Arithmetic.TheVariants.{Add, Subtract, Multiply, Divide, Remainder}
 use Rattle.ar_value.specs.declared.operator.Numbers.{Numbers}
 use Rattle.ar_value.specs.declared.operator.Numbers.TheVariants.{Wholes, Decimals}
-use Rattle.ar_code.specs.Code.{Inside, IsCode, IsEntry, most_entries}
-use Rattle.ar_code.specs.Machine.{nth}
-use Rattle.ar_code.specs.declared.op.Op.{Op}
-use Rattle.ar_code.specs.declared.op.Op.TheVariants.{MakeList, Field, Index, Len, Need, IsNil, Default, ToDecimal, IsIn, Not, Compare, Equal, AndJump, OrJump, BranchFalse, Jump, Enter, Step, Return}
+use Rattle.ar_op.specs.Code.{Inside, IsCode, IsEntry, most_entries}
+use Rattle.ar_op.specs.Machine.{nth}
+use Rattle.ar_op.specs.declared.op.Op.{Op}
+use Rattle.ar_op.specs.declared.op.Op.TheVariants.{MakeList, Field, Index, Len, Need, IsNil, Default, ToDecimal, IsIn, Not, Compare, Equal, AndJump, OrJump, BranchFalse, Jump, Enter, Step, Return}
 use Rattle.ar_compile.specs.Compiled.{Tables, arithmetic_op, code_at, compared_of, compiled, items_at, literal_op, literal_tables, negative_op, no_tables, number_of, tables_with, tables_with_items, with_text}
 use Rattle.ar_compile.specs.Length.{length_of, operations, operations_of_items}
 use Rattle.ar_condition.specs.Limits.{AllInLimits, InLimits, IsShortLiteral}

@@ -17,9 +17,9 @@ use Rattle.ar_condition.specs.Typed.{Typed}
 use Rattle.ar_check.specs.Check.{truth_kind}
 use Rattle.ar_check.proofs.Means.{MeansKind, both_hold}
 use Rattle.ar_check.proofs.Operands.{on_bool}
-use Rattle.ar_code.specs.Code.{Code}
-use Rattle.ar_code.specs.Machine.{Loop, answer_of, begins_loop, decided, entered, floor, found_by, is_same, looked_at, next_item, nth, performed}
-use Rattle.ar_code.specs.declared.op.Op.TheVariants.{Enter, Step}
+use Rattle.ar_op.specs.Code.{Code}
+use Rattle.ar_op.specs.Machine.{Loop, answer_of, begins_loop, decided, entered, floor, found_by, is_same, looked_at, next_item, nth, performed}
+use Rattle.ar_op.specs.declared.op.Op.TheVariants.{Enter, Step}
 use Rattle.ar_compile.specs.Private.Standing.{At}
 use Rattle.ar_compile.proofs.Nodes.{LeadsTo, Reached, leads_fit, room_for_one}
 use Rattle.ar_compile.proofs.Steps.{EndsNext, Leads, at, by_op, leads_bind, leads_more}

@@ -13,10 +13,10 @@ use Rattle.ar_condition.specs.Typed as typed
 use Rattle.ar_check.specs.Check.{truth_kind}
 use Rattle.ar_check.proofs.Means.{MeansKind}
 use Rattle.ar_check.proofs.Operands.{on_bool}
-use Rattle.ar_code.specs.Code.{Code}
-use Rattle.ar_code.specs.Machine.{Loop, State, effect, falls, floor, here, performed, takes}
-use Rattle.ar_code.specs.declared.op.Op.{Op}
-use Rattle.ar_code.specs.declared.op.Op.TheVariants.{AndJump, OrJump, BranchFalse, Jump}
+use Rattle.ar_op.specs.Code.{Code}
+use Rattle.ar_op.specs.Machine.{Loop, State, effect, falls, floor, here, performed, takes}
+use Rattle.ar_op.specs.declared.op.Op.{Op}
+use Rattle.ar_op.specs.declared.op.Op.TheVariants.{AndJump, OrJump, BranchFalse, Jump}
 use Rattle.ar_compile.specs.Length.{operations}
 use Rattle.ar_compile.specs.Private.Standing.{At}
 use Rattle.ar_compile.proofs.Steps.{Good, Leads, by_op, by_value, leads_bind, leads_more}

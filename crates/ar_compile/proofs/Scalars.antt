@@ -23,10 +23,10 @@ use Rattle.ar_check.specs.Check.{number_kind, scalar_shape}
 use Rattle.ar_check.specs.Check.{takes as is_taken}
 use Rattle.ar_check.proofs.Means.{both, both_hold}
 use Rattle.ar_check.proofs.Operands.{on_decimal, on_list, on_whole}
-use Rattle.ar_code.specs.Code.{Code}
-use Rattle.ar_code.specs.Machine.{are_in_family, effect, here, is_in_family, is_scalar, Loop, list_made, of_one_family, takes}
-use Rattle.ar_code.specs.declared.op.Op.{Op}
-use Rattle.ar_code.specs.declared.op.Op.TheVariants.{Compare, Equal, IsIn, NegD, NegW}
+use Rattle.ar_op.specs.Code.{Code}
+use Rattle.ar_op.specs.Machine.{are_in_family, effect, here, is_in_family, is_scalar, Loop, list_made, of_one_family, takes}
+use Rattle.ar_op.specs.declared.op.Op.{Op}
+use Rattle.ar_op.specs.declared.op.Op.TheVariants.{Compare, Equal, IsIn, NegD, NegW}
 use Rattle.ar_compile.specs.Compiled.{arithmetic_op, compared_of, negative_op}
 use Rattle.ar_compile.specs.Private.Kinded.{family_of}
 use Rattle.ar_compile.proofs.Nodes.{Falls, GivesOfOne, GivesOfTwo}

@@ -4,7 +4,7 @@ use Rattle.std.specs.Prelude.{slice_index_or}
 use Rattle.std.specs.Bool.{Decides}
 use Rattle.std.proofs.Math.ListN.{drop_of_length-le}
 use Rattle.ar_condition.specs.Typed.{Typed, Typeds, typeds, how_many}
-use Rattle.ar_code.specs.Code.{Code}
+use Rattle.ar_op.specs.Code.{Code}
 use Rattle.ar_compile.specs.Length.{operations, operations_of_items}
 use Rattle.ar_condition.specs.Limits.{AllInLimits, InLimits}
 use Rattle.ar_compile.specs.Private.Drafts.{drafted, drafted_items}

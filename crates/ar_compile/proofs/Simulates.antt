@@ -21,9 +21,9 @@ use Rattle.ar_condition.specs.declared.tree.Literal.TheVariants as literals
 use Rattle.ar_check.specs.Check.{number_kind, scalar_shape, truth_kind}
 use Rattle.ar_check.proofs.Means.{IsThere, MeansKind}
 use Rattle.ar_check.proofs.Operands.{on_list}
-use Rattle.ar_code.specs.Code.{Code}
-use Rattle.ar_code.specs.Machine.{Loop, floor, here}
-use Rattle.ar_code.specs.declared.op.Op.TheVariants.{PushBool, PushWhole, PushDecimal, PushText, PushNil, MakeList, LoadResult, Item, Field, Index, Len, Need, IsNil, Default, ToDecimal, IsIn, Not, Compare, Equal, Enter, Step}
+use Rattle.ar_op.specs.Code.{Code}
+use Rattle.ar_op.specs.Machine.{Loop, floor, here}
+use Rattle.ar_op.specs.declared.op.Op.TheVariants.{PushBool, PushWhole, PushDecimal, PushText, PushNil, MakeList, LoadResult, Item, Field, Index, Len, Need, IsNil, Default, ToDecimal, IsIn, Not, Compare, Equal, Enter, Step}
 use Rattle.ar_compile.specs.Compiled.{arithmetic_op, compared_of, negative_op}
 use Rattle.ar_compile.specs.Length.{operations, operations_of_items}
 use Rattle.ar_compile.specs.Private.Kinded.{Kinded, AllKinded, of_field, of_index, made_plain, made_decimal, of_sign, of_arithmetic, of_order, of_equality, of_membership, of_opposite, of_both, of_either, of_choice, of_list, of_len, of_nil_test, of_nil_default, of_default, of_predicate, one_more}

@@ -5,9 +5,9 @@ use Rattle.ar_value.specs.Answer.{◌>>=◌}
 use Rattle.ar_value.specs.Operators.{Failure, Meaning, faulted, ill_kinded}
 use Rattle.ar_value.specs.Value.{Value}
 use Rattle.ar_value.specs.declared.fault.Fault.{Fault}
-use Rattle.ar_code.specs.Code.{Code}
-use Rattle.ar_code.specs.Machine.{Loop, Next, State, after, cost_of, effect, ends, falls, floor, follow, goes, here, nth, paid, performed, step, stuck, takes}
-use Rattle.ar_code.specs.declared.op.Op.{Op}
+use Rattle.ar_op.specs.Code.{Code}
+use Rattle.ar_op.specs.Machine.{Loop, Next, State, after, cost_of, effect, ends, falls, floor, follow, goes, here, nth, paid, performed, step, stuck, takes}
+use Rattle.ar_op.specs.declared.op.Op.{Op}
 
 abbrev pub at : (place : ℕ) → List Value → List Loop → (cost : ℕ) → State
 at place operands loops cost = record { place = place; operands = operands; loops = loops; cost = cost }

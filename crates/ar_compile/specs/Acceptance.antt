@@ -1,7 +1,7 @@
 -- For what the verifier may refuse the code of a checked condition.
 use Rattle.std.specs.Prelude.{◌≡◌, ◌⊎◌, ℕ}
 use Rattle.ar_value.specs.Shape.{Shape}
-use Rattle.ar_code.specs.Code.{Code}
+use Rattle.ar_op.specs.Code.{Code}
 use Rattle.ar_verify.specs.Verdict.{IsFault}
 use Rattle.ar_verify.specs.declared.error.Reason.{Reason}
 use Rattle.ar_verify.specs.declared.error.Reason.TheVariants.{BudgetTooLarge, StackTooDeep}

@@ -9,12 +9,12 @@ use Rattle.ar_value.specs.declared.operator.Arithmetic.{Arithmetic}
 use Rattle.ar_value.specs.declared.operator.Arithmetic.TheVariants.{Add, Subtract, Multiply, Divide, Remainder}
 use Rattle.ar_value.specs.declared.operator.Numbers.{Numbers}
 use Rattle.ar_value.specs.declared.operator.Numbers.TheVariants as numbers
-use Rattle.ar_code.specs.Code.{Code, code_of_parts}
-use Rattle.ar_code.specs.declared.op.Compared.{Compared}
-use Rattle.ar_code.specs.declared.op.Compared.TheVariants as compared
-use Rattle.ar_code.specs.declared.op.DecimalArithmetic.TheVariants as on_decimals
-use Rattle.ar_code.specs.declared.op.Op.{Op}
-use Rattle.ar_code.specs.declared.op.Op.TheVariants.{PushBool, PushWhole, PushDecimal, PushText, PushNil, MakeList, LoadResult, Item, Field, Index, Len, Need, IsNil, Default, ToDecimal, IsIn, Not, Wholes, NegW, Decimals, NegD, Compare, Equal, AndJump, OrJump, BranchFalse, Jump, Enter, Step, Return}
+use Rattle.ar_op.specs.Code.{Code, code_of_parts}
+use Rattle.ar_op.specs.declared.op.Compared.{Compared}
+use Rattle.ar_op.specs.declared.op.Compared.TheVariants as compared
+use Rattle.ar_op.specs.declared.op.DecimalArithmetic.TheVariants as on_decimals
+use Rattle.ar_op.specs.declared.op.Op.{Op}
+use Rattle.ar_op.specs.declared.op.Op.TheVariants.{PushBool, PushWhole, PushDecimal, PushText, PushNil, MakeList, LoadResult, Item, Field, Index, Len, Need, IsNil, Default, ToDecimal, IsIn, Not, Wholes, NegW, Decimals, NegD, Compare, Equal, AndJump, OrJump, BranchFalse, Jump, Enter, Step, Return}
 use Rattle.ar_compile.specs.Length.{operations}
 
 -- ---- texts and names, numbered in order of first use, each once

@@ -1,11 +1,11 @@
 //! Code that grows.
 
 ghost use Rattle.std.specs.Prelude.{◌≡◌, ◌<◌, ◌≤◌, ◌^◌, [], OnOk, length, map, string_bytes};
-ghost use Rattle.ar_code.specs.Code.{IsCode, code_of_parts};
+ghost use Rattle.ar_op.specs.Code.{IsCode, code_of_parts};
 ghost use Rattle.ar_compile.specs.Private.Drafts.{no_code, place_of, with_field, with_op, with_push_text, with_set};
 
 use crate::table::{add_text, number_of};
-use ar_code::{Code, Op};
+use ar_op::{Code, Op};
 use std::alloc::{AllocError, Global};
 use std::marker::Model;
 
@@ -13,7 +13,7 @@ use std::marker::Model;
 pub(crate) const MOST_OPS: usize = 4096;
 
 /// Operations, texts and names so far. There is an operation for each text and each name.
-#[derive(Debug, Drop)]
+#[derive(Drop)]
 pub(crate) struct Draft {
     ops: Vec<Op>,
     texts: Vec<String>,
@@ -22,7 +22,7 @@ pub(crate) struct Draft {
 
 impl Model for Draft {
     ghost use Rattle.std.specs.Prelude.{◌≤◌, length, map, string_bytes};
-    ghost use Rattle.ar_code.specs.Code.{Code as Parts, code_of_parts};
+    ghost use Rattle.ar_op.specs.Code.{Code as Parts, code_of_parts};
 
     ghost Value = { Parts };
 

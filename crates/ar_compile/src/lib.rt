@@ -2,7 +2,7 @@
 //!
 //! [`compile`] gives the code that `specs/Compiled` defines: operands in order, each made plain and
 //! turned into decimal where the typed tree says so, then the operation; texts and names numbered in
-//! the order of their first use. Run on the machine of `ar_code`, the code of a condition that was
+//! the order of their first use. Run on the machine of `ar_op`, the code of a condition that was
 //! checked for a shape ends with what the condition means, on every value of the shape, and is never
 //! stuck. Only a condition of too many operations (`specs/Length`) and want of memory keep it from its
 //! answer.

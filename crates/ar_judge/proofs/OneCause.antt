@@ -2,7 +2,7 @@
 use Rattle.std.proofs.Common.{◌≡◌, ◌≢◌, ℕ, List, Option, Some, None, refl, sym, subst, ◌∙◌, ap, arith}
 use Rattle.std.specs.Prelude.{◌<◌, ◌≤◌}
 use Rattle.ar_value.specs.Shape.{Shape}
-use Rattle.ar_code.specs.Code.{most_entries}
+use Rattle.ar_op.specs.Code.{most_entries}
 use Rattle.ar_compile.specs.Compiled.{compiled}
 use Rattle.ar_compile.specs.Length.{length_of}
 use Rattle.ar_verify.specs.Verdict.{IsFault}

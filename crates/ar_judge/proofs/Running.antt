@@ -11,7 +11,7 @@ use Rattle.ar_condition.specs.Meaning.{answer_of, mean}
 use Rattle.ar_condition.specs.Typed.{Typed}
 use Rattle.ar_syntax.specs.Parse.{parse_of}
 use Rattle.ar_check.specs.Check.{checked}
-use Rattle.ar_code.specs.Code.{Code}
+use Rattle.ar_op.specs.Code.{Code}
 use Rattle.ar_compile.proofs.Checked.{checked_in_limits}
 use Rattle.ar_compile.specs.Ends.{EndsWith}
 use Rattle.ar_machine.proofs.Ends.{one_end}

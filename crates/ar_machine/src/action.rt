@@ -3,7 +3,7 @@
 ghost use Rattle.std.specs.Prelude.{◌≡◌};
 ghost use Rattle.ar_machine.specs.Private.Action.{action};
 
-use ar_code::op::{Compared, DecimalArithmetic, Op};
+use ar_op::op::{Compared, DecimalArithmetic, Op};
 use ar_value::operator::{Arithmetic, Family, Order, Predicate, Scalar};
 
 /// What is pushed.

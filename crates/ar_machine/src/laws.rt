@@ -2,7 +2,7 @@
 
 ghost use Rattle.std.specs.Prelude.{◌≡◌, ℕ};
 ghost use Rattle.ar_value.specs.Value.{Value};
-ghost use Rattle.ar_code.specs.Code.{Code};
+ghost use Rattle.ar_op.specs.Code.{Code};
 ghost use Rattle.ar_machine.specs.Run.{EndsAs};
 ghost use Rattle.ar_machine.specs.declared.outcome.Ended.{Ended};
 

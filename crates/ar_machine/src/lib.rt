@@ -2,7 +2,7 @@
 //!
 //! [`run_tested`] runs any code on any value, for no more than so much fuel: it answers true, false or
 //! a fault, with what the run cost, or tells that the machine is stuck at a place or that the next
-//! operation costs more than is left. That is how the run of the machine in `ar_code/specs/Machine`
+//! operation costs more than is left. That is how the run of the machine in `ar_op/specs/Machine`
 //! ends, by the definitions in `specs/Run`; [`laws`] says that a run ends in one way only. Only want
 //! of memory can keep it from that, which operands, loops and the lists that code makes take. Texts
 //! and values are lent by the measured value and by the code.

@@ -27,7 +27,7 @@ fn refused_code(rt: HostRuntime) -> Result<(), Fail> {
     };
     let reason = Reason::NoReturn;
     assert!(rt; refused.cause == Cause::Fault { place: 0, reason });
-    assert!(rt; refused.code.ops() == [Op::PushWhole(7)].as_slice());
+    assert!(rt; matches!(refused.code.ops(), [Op::PushWhole(7)]));
     Ok(())
 }
 

@@ -7,6 +7,7 @@ ghost use Rattle.ar_value.specs.Arithmetic.{decimal_of_whole, decimal_product, d
 
 use crate::decimal::{Decimal, MILLION};
 use crate::fault::Fault;
+use crate::whole;
 
 /// A result where it fits a signed 64-bit number.
 pub(crate) fn within(exact: i128) -> Result<i64, Fault>
@@ -28,6 +29,12 @@ fn exact_product(left: i64, right: i64) -> i128
     ensures { result ≡ left *ℤ right }
 {
     i128::from(left) * i128::from(right)
+}
+
+fn millionths(whole: i64) -> Result<i64, Fault>
+    ensures { result ≡ decimal_of_whole whole }
+{
+    within(i128::from(whole) * MILLION)
 }
 
 fn quotient(dividend: i64, divisor: i64) -> Result<i64, Fault>
@@ -56,15 +63,15 @@ impl Decimal {
     pub fn add(self, other: Decimal) -> Result<Decimal, Fault>
         ensures { result ≡ sum self other }
     {
-        let sum = i128::from(self.millionths()) + i128::from(other.millionths());
-        Ok(Decimal::from_millionths(within(sum)?))
+        let sum = whole::add(self.millionths(), other.millionths())?;
+        Ok(Decimal::from_millionths(sum))
     }
 
     pub fn sub(self, other: Decimal) -> Result<Decimal, Fault>
         ensures { result ≡ difference self other }
     {
-        let difference = i128::from(self.millionths()) - i128::from(other.millionths());
-        Ok(Decimal::from_millionths(within(difference)?))
+        let difference = whole::sub(self.millionths(), other.millionths())?;
+        Ok(Decimal::from_millionths(difference))
     }
 
     /// The product, cut toward zero at the millionth.
@@ -86,15 +93,16 @@ impl Decimal {
     pub fn neg(self) -> Result<Decimal, Fault>
         ensures { result ≡ negation self }
     {
-        let negation = -i128::from(self.millionths());
-        Ok(Decimal::from_millionths(within(negation)?))
+        let negation = whole::neg(self.millionths())?;
+        Ok(Decimal::from_millionths(negation))
     }
 
     /// A whole as a decimal.
     pub fn of_whole(whole: i64) -> Result<Decimal, Fault>
         ensures { result ≡ decimal_of_whole whole }
     {
-        Ok(Decimal::from_millionths(within(i128::from(whole) * MILLION)?))
+        let millionths = millionths(whole)?;
+        Ok(Decimal::from_millionths(millionths))
     }
 
     /// The quotient of two wholes, cut toward zero at the millionth.

@@ -7,9 +7,9 @@ use Rattle.std.proofs.lemmas.List.{append-nil, get_or-replicate, get_or-set_othe
 use Rattle.ar_value.specs.Answer.{◌>>=◌, Unless}
 use Rattle.ar_value.specs.Kind.{Kind}
 use Rattle.ar_value.specs.Shape.{Shape}
-use Rattle.ar_code.specs.Code.{Code}
-use Rattle.ar_code.specs.declared.op.Op.{Op}
-use Rattle.ar_code.specs.Machine.{nth}
+use Rattle.ar_op.specs.Code.{Code}
+use Rattle.ar_op.specs.declared.op.Op.{Op}
+use Rattle.ar_op.specs.Machine.{nth}
 use Rattle.ar_verify.specs.Arrivals.{Around, Operands, Sent, all_sent, arrival, arrived, at_place, deepest, joined, merged, of_loops, operands, sends, sent, sent_on, sent_to}
 use Rattle.ar_verify.specs.Budget.{most_items, most_on_top}
 use Rattle.ar_verify.specs.Memory.{is_memory}

@@ -8,9 +8,9 @@ use Rattle.std.proofs.lemmas.Bool.Decides.{leb_tells, nat_tests}
 use Rattle.std.proofs.lemmas.List.{append-nil, get_or_default, length-append}
 use Rattle.std.proofs.lemmas.Option.{slice_get-get_or}
 use Rattle.ar_value.specs.declared.operator.Predicate.{Predicate}
-use Rattle.ar_code.specs.Machine.{nth}
-use Rattle.ar_code.specs.declared.op.Op.{Op}
-use Rattle.ar_code.specs.declared.op.Op.TheVariants.{AndJump, OrJump, BranchFalse, Jump, Enter, Step, Return}
+use Rattle.ar_op.specs.Machine.{nth}
+use Rattle.ar_op.specs.declared.op.Op.{Op}
+use Rattle.ar_op.specs.declared.op.Op.TheVariants.{AndJump, OrJump, BranchFalse, Jump, Enter, Step, Return}
 use Rattle.ar_verify.specs.Private.Depths.{depth_at, depth_behind, depths, is_inside, last_of, nests_by, open_behind, stays_by, step_of, open_steps, IsNested, JumpsInside}
 use Rattle.ar_verify.specs.declared.error.Cause.TheVariants.{Fault}
 use Rattle.ar_verify.specs.Places.{all_pass, held, holding, in_innermost, names_well, nests_well, reaches, same_loops, stays, unless}

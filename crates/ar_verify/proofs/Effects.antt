@@ -21,15 +21,15 @@ use Rattle.ar_value.specs.declared.operator.Order.{Order}
 use Rattle.ar_value.specs.declared.operator.Scalar.{Scalar}
 use Rattle.ar_value.specs.declared.operator.Scalar.TheVariants as scalars
 use Rattle.ar_value.proofs.Merges.{merge_has_both}
-use Rattle.ar_code.specs.Code.{Code, Inside}
-use Rattle.ar_code.specs.Machine as machine
-use Rattle.ar_code.specs.Machine.{nth}
-use Rattle.ar_code.specs.declared.op.Compared.{Compared}
-use Rattle.ar_code.specs.declared.op.Compared.TheVariants as compared
-use Rattle.ar_code.specs.declared.op.DecimalArithmetic.{DecimalArithmetic}
-use Rattle.ar_code.specs.declared.op.DecimalArithmetic.TheVariants as on_decimals
-use Rattle.ar_code.specs.declared.op.Op.{Op}
-use Rattle.ar_code.specs.declared.op.Op.TheVariants.{PushBool, PushWhole, PushDecimal, PushText, PushNil, MakeList, LoadResult, Item, Field, Index, Len, Need, IsNil, Default, ToDecimal, IsIn, Not, Wholes, NegW, Decimals, NegD, Compare, Equal}
+use Rattle.ar_op.specs.Code.{Code, Inside}
+use Rattle.ar_op.specs.Machine as machine
+use Rattle.ar_op.specs.Machine.{nth}
+use Rattle.ar_op.specs.declared.op.Compared.{Compared}
+use Rattle.ar_op.specs.declared.op.Compared.TheVariants as compared
+use Rattle.ar_op.specs.declared.op.DecimalArithmetic.{DecimalArithmetic}
+use Rattle.ar_op.specs.declared.op.DecimalArithmetic.TheVariants as on_decimals
+use Rattle.ar_op.specs.declared.op.Op.{Op}
+use Rattle.ar_op.specs.declared.op.Op.TheVariants.{PushBool, PushWhole, PushDecimal, PushText, PushNil, MakeList, LoadResult, Item, Field, Index, Len, Need, IsNil, Default, ToDecimal, IsIn, Not, Wholes, NegW, Decimals, NegD, Compare, Equal}
 use Rattle.ar_verify.specs.Effects.{decimal_kind, decimal_shape, decimals_kind, default_kind, effect, equal_kind, family_in, family_of, field_kind, is_compared, is_family, is_number, is_scalar, item_kind, length_kind, list_made, member_kind, needed_kind, of_one_family, on_one, on_two, opposite_kind, order_kind, quotient_kind, same_kind, scalar_shape, truth, where_taken, wholes_kind}
 use Rattle.ar_verify.proofs.Values.{Means, MeansKind, both, both_hold, decimal_or_fault, field_means, index_means, on_bool, on_decimal, on_list, on_text, on_whole, whole_or_fault, IsThere}
 

@@ -1,6 +1,6 @@
 -- Entries of lists, by number.
 use Rattle.std.proofs.Common.{◌≡◌, ℕ, zero, suc, ◌<◌, ◌≤◌, List, [], ◌∷◌, length, Some, None, refl, ap, arith, get_or}
-use Rattle.ar_code.specs.Machine.{nth}
+use Rattle.ar_op.specs.Machine.{nth}
 
 pub nth_within : {A : Type 0} (xs : List A) (i : ℕ) (x : A) → i < length xs → x ≡ get_or xs i x → nth xs i ≡ Some x
 nth_within [] i x within is = absurd (omega arith)

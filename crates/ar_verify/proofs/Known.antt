@@ -6,7 +6,7 @@ use Rattle.std.proofs.lemmas.Bool.Decides.{nat_tests}
 use Rattle.std.proofs.lemmas.List.{get_or_append_left, length-append}
 use Rattle.ar_value.specs.Answer.{◌>>=◌}
 use Rattle.ar_value.specs.Shape.{Shape}
-use Rattle.ar_code.specs.Code.{Code}
+use Rattle.ar_op.specs.Code.{Code}
 use Rattle.ar_verify.specs.Arrivals.{Sent, all_sent, arrival, deepest}
 use Rattle.ar_verify.specs.Budget.{most_items}
 use Rattle.ar_verify.specs.Private.Table.{Summary, most_each, summary, summed_up}

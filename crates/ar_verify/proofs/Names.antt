@@ -1,7 +1,7 @@
 -- Names by number.
 use Rattle.std.proofs.Common.{◌≡◌, ℕ, zero, suc, ◌<◌, ◌≤◌, List, [], ◌∷◌, length, map, Some, None, ap, arith, get_or}
 use Rattle.std.proofs.lemmas.List.{length-map}
-use Rattle.ar_code.specs.Machine.{nth}
+use Rattle.ar_op.specs.Machine.{nth}
 use Rattle.ar_verify.proofs.Entries.{nth_past}
 
 pub nth_name : {A B : Type 0} (f : A → B) (xs : List A) (i : ℕ) (x : A) → i < length xs → x ≡ get_or xs i x → nth (map f xs) i ≡ Some (f x)

@@ -6,9 +6,9 @@ use Rattle.std.proofs.lemmas.Bool.{eqb-true, leb-true, ltb-true, le-leb, lt-leb}
 use Rattle.std.proofs.lemmas.Bool.Decides.{leb_tells}
 use Rattle.ar_value.specs.declared.operator.Predicate.{Predicate}
 use Rattle.ar_value.specs.declared.operator.Predicate.TheVariants.{All, Any, Count, Filter}
-use Rattle.ar_code.specs.Machine.{begins_loop, is_same, nth}
-use Rattle.ar_code.specs.declared.op.Op.{Op}
-use Rattle.ar_code.specs.declared.op.Op.TheVariants.{AndJump, OrJump, BranchFalse, Jump, Enter, Step}
+use Rattle.ar_op.specs.Machine.{begins_loop, is_same, nth}
+use Rattle.ar_op.specs.declared.op.Op.{Op}
+use Rattle.ar_op.specs.declared.op.Op.TheVariants.{AndJump, OrJump, BranchFalse, Jump, Enter, Step}
 use Rattle.ar_verify.specs.Budget.{JumpsTo}
 use Rattle.ar_verify.specs.Places.{Pass, all_pass, ends_loop, forward, found, held, holding, in_innermost, inside, most_loops, names_well, nests_well, or_else, reaches, same_loops, stays, unless}
 use Rattle.ar_verify.specs.declared.error.Cause.{Cause}

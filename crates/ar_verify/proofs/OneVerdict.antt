@@ -4,9 +4,9 @@ use Rattle.std.specs.Prelude.{◌⊎◌, if◌then◌else◌}
 use Rattle.std.proofs.lemmas.Bool.Decides.{leb_tells}
 use Rattle.ar_value.specs.Answer.{◌>>=◌}
 use Rattle.ar_value.specs.Shape.{Shape}
-use Rattle.ar_code.specs.Code.{Code}
-use Rattle.ar_code.specs.Machine.{nth}
-use Rattle.ar_code.specs.declared.op.Op.{Op}
+use Rattle.ar_op.specs.Code.{Code}
+use Rattle.ar_op.specs.Machine.{nth}
+use Rattle.ar_op.specs.declared.op.Op.{Op}
 use Rattle.ar_verify.specs.Arrivals.{Sent, arrived, at_place, deepest, sends, sent, sent_on, sent_to}
 use Rattle.ar_verify.specs.Budget.{IsBudget, Way}
 use Rattle.ar_verify.specs.Places.{Pass, all_pass, found, has_ops, is_return, names_well, nests_well, places_pass}

@@ -5,9 +5,9 @@ use Rattle.ar_value.specs.Kind.{Kind, nil, shaped}
 use Rattle.ar_value.specs.Shape.{Shape, bool, whole, decimal, text, list, object, optional}
 use Rattle.ar_value.specs.declared.operator.Predicate.{Predicate}
 use Rattle.ar_value.specs.declared.operator.Scalar.TheVariants as scalars
-use Rattle.ar_code.specs.Code.{Code}
-use Rattle.ar_code.specs.declared.op.Op.{Op}
-use Rattle.ar_code.specs.declared.op.Op.TheVariants as ops
+use Rattle.ar_op.specs.Code.{Code}
+use Rattle.ar_op.specs.declared.op.Op.{Op}
+use Rattle.ar_op.specs.declared.op.Op.TheVariants as ops
 use Rattle.ar_verify.specs.Arrivals.{Around, Operands, Sent, ended, entered, item_of, lacks, on_truth, passed_on, sends, sent, to_next}
 use Rattle.ar_verify.specs.Effects.{is_scalar}
 use Rattle.ar_verify.specs.Private.Action.{action, after_effect}

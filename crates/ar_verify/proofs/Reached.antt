@@ -7,10 +7,10 @@ use Rattle.ar_value.specs.Kind.{Kind, shaped}
 use Rattle.ar_value.specs.Shape.{Shape, list}
 use Rattle.ar_value.specs.Shape as shapes
 use Rattle.ar_value.specs.declared.operator.Predicate.{Predicate}
-use Rattle.ar_code.specs.Code.{Code}
-use Rattle.ar_code.specs.Machine.{nth}
-use Rattle.ar_code.specs.declared.op.Op.{Op}
-use Rattle.ar_code.specs.declared.op.Op.TheVariants.{AndJump, OrJump, BranchFalse, Jump, Enter, Step, Return}
+use Rattle.ar_op.specs.Code.{Code}
+use Rattle.ar_op.specs.Machine.{nth}
+use Rattle.ar_op.specs.declared.op.Op.{Op}
+use Rattle.ar_op.specs.declared.op.Op.TheVariants.{AndJump, OrJump, BranchFalse, Jump, Enter, Step, Return}
 use Rattle.ar_verify.specs.Arrivals.{Around, Operands, Sent, all_sent, answer_kind, arrival, arrived, ended, item_of, operands, passed_on, sent, sent_to, to_next}
 use Rattle.ar_verify.specs.Budget.{JumpsTo}
 use Rattle.ar_verify.specs.Effects.{effect}

@@ -6,9 +6,9 @@ use Rattle.ar_value.specs.Fits.{fits}
 use Rattle.ar_value.specs.Shape.{Shape}
 use Rattle.ar_value.specs.Value.{Value}
 use Rattle.ar_value.specs.declared.fault.Fault.{Fault}
-use Rattle.ar_code.specs.Code.{Code, Inside}
-use Rattle.ar_code.specs.Machine.{Loop, Next, State, after, begin, ends, follow, goes, nth, step, stuck}
-use Rattle.ar_code.specs.declared.op.Op.{Op}
+use Rattle.ar_op.specs.Code.{Code, Inside}
+use Rattle.ar_op.specs.Machine.{Loop, Next, State, after, begin, ends, follow, goes, nth, step, stuck}
+use Rattle.ar_op.specs.declared.op.Op.{Op}
 use Rattle.ar_verify.specs.Arrivals.{Around, Operands, Sent, deepest, height, sent, sent_to}
 use Rattle.ar_verify.specs.Arrivals as arrivals
 use Rattle.ar_verify.specs.Places.{held}

@@ -15,11 +15,11 @@ use Rattle.ar_value.specs.Value.{Value, Items, count, item, items_of, no_items}
 use Rattle.ar_value.specs.Value as values
 use Rattle.ar_value.specs.declared.operator.Predicate.{Predicate}
 use Rattle.ar_value.specs.declared.operator.Predicate.TheVariants as predicates
-use Rattle.ar_code.specs.Code.{Code, Inside}
-use Rattle.ar_code.specs.Machine.{Loop, Next, State, answer_of, begins_loop, cost_of, decided, ends, entered, falls, found_by, goes, here, is_same, left, looked_at, next_item, nth, paid, performed, step, stepped, stuck, takes, to}
-use Rattle.ar_code.specs.Machine as machine
-use Rattle.ar_code.specs.declared.op.Op.{Op}
-use Rattle.ar_code.specs.declared.op.Op.TheVariants.{Item, IsIn, AndJump, OrJump, BranchFalse, Jump, Enter, Step, Return}
+use Rattle.ar_op.specs.Code.{Code, Inside}
+use Rattle.ar_op.specs.Machine.{Loop, Next, State, answer_of, begins_loop, cost_of, decided, ends, entered, falls, found_by, goes, here, is_same, left, looked_at, next_item, nth, paid, performed, step, stepped, stuck, takes, to}
+use Rattle.ar_op.specs.Machine as machine
+use Rattle.ar_op.specs.declared.op.Op.{Op}
+use Rattle.ar_op.specs.declared.op.Op.TheVariants.{Item, IsIn, AndJump, OrJump, BranchFalse, Jump, Enter, Step, Return}
 use Rattle.ar_verify.specs.Arrivals.{Around, Operands, Sent, answer_kind, arrival, ended, item_of, lacks, operands, passed_on, sent, to_next}
 use Rattle.ar_verify.specs.Budget.{GoesOn, JumpsTo, most_at, most_items, most_on_top, price}
 use Rattle.ar_verify.specs.Effects.{effect, member_kind, on_two, truth}

@@ -6,10 +6,10 @@ use Rattle.ar_value.specs.Answer.{◌>>=◌}
 use Rattle.ar_value.specs.Kind.{Kind}
 use Rattle.ar_value.specs.Shape.{Shape}
 use Rattle.ar_value.specs.declared.operator.Predicate.{Predicate}
-use Rattle.ar_code.specs.Code.{Code}
-use Rattle.ar_code.specs.Machine.{nth}
-use Rattle.ar_code.specs.declared.op.Op.{Op}
-use Rattle.ar_code.specs.declared.op.Op.TheVariants as ops
+use Rattle.ar_op.specs.Code.{Code}
+use Rattle.ar_op.specs.Machine.{nth}
+use Rattle.ar_op.specs.declared.op.Op.{Op}
+use Rattle.ar_op.specs.declared.op.Op.TheVariants as ops
 use Rattle.ar_verify.specs.Arrivals.{Around, Operands, Sent, answer_kind, item_of, sent, where_shallow}
 use Rattle.ar_verify.specs.Places.{ends_loop, forward, names_well, unless}
 use Rattle.ar_verify.specs.Private.Action.{action, after_effect}

@@ -7,8 +7,8 @@ use Rattle.std.proofs.lemmas.List.Elements.{recursion_from_All}
 use Rattle.ar_value.specs.Fits.{fits}
 use Rattle.ar_value.specs.Shape.{Shape}
 use Rattle.ar_value.specs.Value.{Value}
-use Rattle.ar_code.specs.Code.{Code, Inside, IsCode}
-use Rattle.ar_code.specs.Machine.{nth}
+use Rattle.ar_op.specs.Code.{Code, Inside, IsCode}
+use Rattle.ar_op.specs.Machine.{nth}
 use Rattle.ar_verify.specs.Arrivals.{Sent, deepest, height, most_operands, sent}
 use Rattle.ar_verify.specs.Budget.{IsBudget}
 use Rattle.ar_verify.specs.Places.{places_pass}

@@ -7,10 +7,10 @@ use Rattle.ar_value.specs.Kind.{Kind, shaped, merge}
 use Rattle.ar_value.specs.Shape.{Shape, bool, whole, list}
 use Rattle.ar_value.specs.declared.operator.Predicate.{Predicate}
 use Rattle.ar_value.specs.declared.operator.Predicate.TheVariants.{All, Any, Count, Filter}
-use Rattle.ar_code.specs.Code.{Code}
-use Rattle.ar_code.specs.Machine.{takes}
-use Rattle.ar_code.specs.declared.op.Op.{Op}
-use Rattle.ar_code.specs.declared.op.Op.TheVariants.{Item, AndJump, OrJump, BranchFalse, Jump, Enter, Step, Return}
+use Rattle.ar_op.specs.Code.{Code}
+use Rattle.ar_op.specs.Machine.{takes}
+use Rattle.ar_op.specs.declared.op.Op.{Op}
+use Rattle.ar_op.specs.declared.op.Op.TheVariants.{Item, AndJump, OrJump, BranchFalse, Jump, Enter, Step, Return}
 use Rattle.ar_verify.specs.Effects.{effect, truth}
 use Rattle.ar_verify.specs.declared.error.Cause.{Cause}
 use Rattle.ar_verify.specs.declared.error.Cause.TheVariants.{Fault}

@@ -4,9 +4,9 @@ use Rattle.std.specs.Prelude.{◌≡◌, ◌≤◌, ℕ, suc, ◌+◌, ◌*◌, 
 use Rattle.ar_value.specs.Kind.{Kind, shaped}
 use Rattle.ar_value.specs.Shape.{list}
 use Rattle.ar_value.specs.declared.operator.Predicate.{Predicate}
-use Rattle.ar_code.specs.Machine.{nth}
-use Rattle.ar_code.specs.declared.op.Op.{Op}
-use Rattle.ar_code.specs.declared.op.Op.TheVariants.{IsIn, AndJump, OrJump, BranchFalse, Jump, Enter, Step, Return}
+use Rattle.ar_op.specs.Machine.{nth}
+use Rattle.ar_op.specs.declared.op.Op.{Op}
+use Rattle.ar_op.specs.declared.op.Op.TheVariants.{IsIn, AndJump, OrJump, BranchFalse, Jump, Enter, Step, Return}
 use Rattle.ar_verify.specs.Arrivals.{Operands, Sent, arrival}
 use Rattle.ar_verify.specs.declared.error.Reason.{Reason}
 

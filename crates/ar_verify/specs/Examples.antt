@@ -4,9 +4,9 @@ use Rattle.ar_value.specs.Answer.{◌>>=◌}
 use Rattle.ar_value.specs.Shape.{whole, list}
 use Rattle.ar_value.specs.declared.operator.Predicate.TheVariants.{All, Any, Filter}
 use Rattle.ar_value.specs.declared.operator.Scalar.TheVariants as scalars
-use Rattle.ar_code.specs.Code.{code_of_parts}
-use Rattle.ar_code.specs.declared.op.Op.{Op}
-use Rattle.ar_code.specs.declared.op.Op.TheVariants.{PushBool, PushWhole, MakeList, LoadResult, Item, IsIn, BranchFalse, Jump, Enter, Step, Return}
+use Rattle.ar_op.specs.Code.{code_of_parts}
+use Rattle.ar_op.specs.declared.op.Op.{Op}
+use Rattle.ar_op.specs.declared.op.Op.TheVariants.{PushBool, PushWhole, MakeList, LoadResult, Item, IsIn, BranchFalse, Jump, Enter, Step, Return}
 use Rattle.ar_verify.specs.Arrivals.{deepest}
 use Rattle.ar_verify.specs.declared.error.Cause.{Cause}
 use Rattle.ar_verify.specs.declared.error.Cause.TheVariants.{Fault}

@@ -3,9 +3,9 @@
 use Rattle.std.specs.Prelude.{ℕ, zero, suc, ◌-◌, ◌==◌, Bool, true, false, ◌&&◌, if◌then◌else◌, nat_le, nat_lt, List, [], ◌∷◌, length, Option, Some, None, Result, Ok, Err}
 use Rattle.ar_value.specs.Answer.{◌>>=◌}
 use Rattle.ar_value.specs.declared.operator.Predicate.{Predicate}
-use Rattle.ar_code.specs.Machine.{begins_loop, is_same, nth}
-use Rattle.ar_code.specs.declared.op.Op.{Op}
-use Rattle.ar_code.specs.declared.op.Op.TheVariants.{AndJump, OrJump, BranchFalse, Jump, Enter, Step, Return}
+use Rattle.ar_op.specs.Machine.{begins_loop, is_same, nth}
+use Rattle.ar_op.specs.declared.op.Op.{Op}
+use Rattle.ar_op.specs.declared.op.Op.TheVariants.{AndJump, OrJump, BranchFalse, Jump, Enter, Step, Return}
 use Rattle.ar_verify.specs.declared.error.Cause.{Cause}
 use Rattle.ar_verify.specs.declared.error.Cause.TheVariants.{Fault}
 use Rattle.ar_verify.specs.declared.error.Reason.{Reason}

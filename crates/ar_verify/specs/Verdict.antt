@@ -3,7 +3,7 @@ use Rattle.std.specs.Prelude.{◌≡◌, ◌<◌, ◌≤◌, ◌⊎◌, ℕ, Lis
 use Rattle.ar_value.specs.Answer.{◌>>=◌}
 use Rattle.ar_value.specs.Shape.{Shape}
 use Rattle.ar_value.specs.declared.shape.Shape.{Shape as Declared}
-use Rattle.ar_code.specs.Code.{Code}
+use Rattle.ar_op.specs.Code.{Code}
 use Rattle.ar_verify.specs.Arrivals.{Sent, all_sent, deepest}
 use Rattle.ar_verify.specs.Budget.{IsBudget, Way}
 use Rattle.ar_verify.specs.Places.{places_pass}

@@ -3,7 +3,7 @@
 ghost use Rattle.std.specs.Prelude.{◌≡◌};
 ghost use Rattle.ar_verify.specs.Private.Action.{action, taken, taken_by};
 
-use ar_code::op::{Compared, Op};
+use ar_op::op::{Compared, Op};
 use ar_value::operator::{Arithmetic, Family, Predicate, Scalar};
 
 /// What is pushed.

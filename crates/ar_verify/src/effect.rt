@@ -3,7 +3,7 @@
 
 ghost use Rattle.std.specs.Prelude.{◌≡◌, IfOk, map, option_map, string_bytes};
 ghost use Rattle.ar_value.specs.View.{shape_view};
-ghost use Rattle.ar_code.specs.Machine.{nth};
+ghost use Rattle.ar_op.specs.Machine.{nth};
 ghost use Rattle.ar_verify.specs.Effects.{list_made, on_one, on_two, scalar_shape};
 ghost use Rattle.ar_verify.specs.Private.Action.{after_effect, field_by, one, pushed, two};
 ghost use Rattle.ar_verify.specs.Private.Kinds.{any_view, kind_view};
@@ -13,7 +13,7 @@ use crate::action::{Binary, Effect, Source, Unary};
 use crate::kind::{AnyShape, Kind, is_scalar};
 use crate::operators::{apply_binary, apply_unary, field_of};
 use crate::stack::pop;
-use ar_code::code::Code;
+use ar_op::code::Code;
 use ar_value::operator::Scalar;
 use ar_value::shape::Shape;
 use std::alloc::{AllocError, Global};

@@ -1,6 +1,6 @@
 //! Why code isn't accepted.
 
-use ar_code::code::Code;
+use ar_op::code::Code;
 use std::alloc::AllocError;
 use thiserror::Error;
 

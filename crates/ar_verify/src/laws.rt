@@ -2,7 +2,7 @@
 
 ghost use Rattle.std.specs.Prelude.{◌≡◌, ◌⊎◌, ℕ};
 ghost use Rattle.ar_value.specs.Shape.{Shape};
-ghost use Rattle.ar_code.specs.Code.{Code};
+ghost use Rattle.ar_op.specs.Code.{Code};
 ghost use Rattle.ar_verify.specs.Verdict.{IsFault, IsVerified};
 ghost use Rattle.ar_verify.specs.declared.error.Reason.{Reason};
 

@@ -3,7 +3,7 @@
 //! [`verify`] takes code and the shape of the values that it is to judge, and answers [`Verified`]
 //! code or its first fault, as `specs/Verdict` defines them. On each value of its shape verified code
 //! ends with an answer, is never stuck, costs no more than its budget and never has more operands than
-//! its depth, all of the machine of `ar_code/specs/Machine`. [`laws`] says that all code has one
+//! its depth, all of the machine of `ar_op/specs/Machine`. [`laws`] says that all code has one
 //! verdict for a shape. Each pass is one way through the operations. Only want of memory can keep the
 //! verifier from its answer.
 //!

@@ -12,7 +12,7 @@ ghost use Rattle.ar_verify.specs.Private.Depths.{depth_behind, depths, is_inside
 
 use crate::error::{Cause, Reason};
 use crate::places::unless;
-use ar_code::op::Op;
+use ar_op::op::Op;
 use std::alloc::{AllocError, Global};
 
 /// How many loops may be around an operation.

@@ -11,7 +11,7 @@ use crate::action::{Binary, Unary};
 use crate::kind::{
     AnyShape, Kind, family_in, family_of, field_in, into_list, is_scalar, list_in, merge, plain,
 };
-use ar_code::op::Compared;
+use ar_op::op::Compared;
 use ar_value::kind;
 use ar_value::operator::{Arithmetic, Family, Scalar};
 use ar_value::shape::Shape;

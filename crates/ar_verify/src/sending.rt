@@ -17,7 +17,7 @@ use crate::failure::Failure;
 use crate::kind::{AnyShape, Kind, ListKind, into_list, is_scalar};
 use crate::operands::{Around, Operands};
 use crate::stack::{pop, push};
-use ar_code::code::Code;
+use ar_op::code::Code;
 use ar_value::operator::{Predicate, Scalar};
 use ar_value::shape::Shape;
 use std::alloc::{AllocError, Global};

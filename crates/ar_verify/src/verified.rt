@@ -2,12 +2,12 @@
 
 ghost use Rattle.std.specs.Prelude.{◌≡◌, ◌≤◌};
 ghost use Rattle.ar_value.specs.View.{shape_view};
-ghost use Rattle.ar_code.specs.Code.{IsCode};
+ghost use Rattle.ar_op.specs.Code.{IsCode};
 ghost use Rattle.ar_verify.specs.Arrivals.{most_operands};
 ghost use Rattle.ar_verify.specs.Safety.{RunsSafely};
 ghost use Rattle.ar_verify.specs.Verdict.{greatest_budget, verified_of, IsVerified};
 
-use ar_code::code::Code;
+use ar_op::code::Code;
 use ar_value::shape::Shape;
 use std::marker::Model;
 
@@ -25,7 +25,7 @@ impl Model for Verified {
     ghost use Rattle.std.specs.Coded.{codes};
     ghost use Rattle.ar_value.specs.contracts.shape.Shape as shape_row;
     ghost use Rattle.ar_value.specs.View.{shape_view};
-    ghost use Rattle.ar_code.specs.Code.{IsCode};
+    ghost use Rattle.ar_op.specs.Code.{IsCode};
     ghost use Rattle.ar_verify.specs.Verdict.{IsVerified, Verified as Parts, verified_of};
 
     ghost Value = { Parts };

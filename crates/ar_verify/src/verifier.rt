@@ -2,7 +2,7 @@
 
 ghost use Rattle.std.specs.Prelude.{◌≡◌, IfErr, IfOk};
 ghost use Rattle.ar_value.specs.View.{shape_view};
-ghost use Rattle.ar_code.specs.Code.{IsCode};
+ghost use Rattle.ar_op.specs.Code.{IsCode};
 ghost use Rattle.ar_verify.specs.Verdict.{IsCause, IsVerified};
 
 use crate::arrivals::find_arrivals;
@@ -10,7 +10,7 @@ use crate::budget::{budget, is_payable};
 use crate::error::{Cause, Reason, Refused};
 use crate::places::check_places;
 use crate::verified::Verified;
-use ar_code::code::Code;
+use ar_op::code::Code;
 use ar_value::shape::Shape;
 use std::alloc::Global;
 

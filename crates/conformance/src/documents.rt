@@ -1,10 +1,10 @@
 //! Calls on documents, and on the bundles that they are read as.
 
-use crate::fault::{CaseFault, Written};
 use crate::judges::put_verdict;
-use crate::members;
-use crate::printing::{put_between, put_lines, put_quoted, put_refusal, put_shape, put_str};
-use ar_board::{Bundle, Finding};
+use ar_board::{Bundle, Finding, MetricPart, RunPart};
+use ar_cases::fault::{CaseFault, Written};
+use ar_cases::members;
+use ar_cases::printing::{put_between, put_lines, put_quoted, put_refusal, put_shape, put_str};
 use ar_document::read_bundle;
 use ar_json::read_json;
 use ar_limits::{Event, Limits, Mark};
@@ -66,22 +66,32 @@ fn put_bundle(alloc: Global, call: &str, bundle: &Bundle, out: &mut String) -> W
 /// The metrics with their shapes, the names of runs, and how many entries there are.
 fn put_parts(bundle: &Bundle, out: &mut String) -> Written {
     out.push_str("metrics={")?;
+    put_metrics(bundle.metrics(), out)?;
+    out.push_str("} runs=[")?;
+    put_names(bundle.runs(), out)?;
+    write!(out, "] entries={}", bundle.events())?;
+    Ok(())
+}
+
+fn put_metrics(metrics: &[MetricPart], out: &mut String) -> Written {
     let mut first = true;
-    for metric in bundle.metrics().iter() {
+    for metric in metrics {
         put_between(out, first, ",")?;
         first = false;
         put_quoted(out, metric.name.as_str())?;
         out.push_str(":")?;
         put_shape(out, &metric.shape)?;
     }
-    out.push_str("} runs=[")?;
+    Ok(())
+}
+
+fn put_names(runs: &[RunPart], out: &mut String) -> Written {
     let mut first = true;
-    for run in bundle.runs().iter() {
+    for run in runs {
         put_between(out, first, ",")?;
         first = false;
         put_quoted(out, run.name.as_str())?;
     }
-    write!(out, "] entries={}", bundle.events())?;
     Ok(())
 }
 

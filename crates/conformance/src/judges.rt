@@ -5,15 +5,15 @@ ghost use Rattle.ar_board.specs.Bundle.{JudgesShape, SampleSuits};
 ghost use Rattle.ar_judge.specs.Verdict.{sample_view};
 ghost use Rattle.ar_value.specs.View.{shape_view};
 
-use crate::fault::{CaseFault, Written};
-use crate::members;
-use crate::printing::{put_answer, put_quoted, put_refusal, put_str};
+use ar_cases::fault::{CaseFault, Written};
+use ar_cases::members;
+use ar_cases::printing::{put_answer, put_quoted, put_refusal, put_str};
 use ar_json::{ShapeError, ShapeFault, read_shape, read_value};
 use ar_judge::{BuildCause, Cause, Condition, Judge, Sample, Verdict};
 use ar_machine::{Ended, run_tested};
 use ar_manifest::BoundMetric;
 use ar_report::fault_name;
-use ar_value::{Shape, Text};
+use ar_value::{Fault, Shape, Text};
 use ar_verify::Verified;
 use serde_json::Value as Json;
 use std::alloc::Global;
@@ -32,15 +32,18 @@ pub(crate) fn put(alloc: Global, call: &str, case: &Json, out: &mut String) -> W
 /// A condition that can be run: its text, and what it says of the value.
 fn put_condition(alloc: Global, case: &Json, out: &mut String) -> Written {
     let shape = members::shape(alloc, case, "shape")?;
-    match Condition::build(alloc, members::text(case, "condition")?, shape) {
-        Ok(condition) => {
-            put_quoted(out, condition.text())?;
-            out.push_str(" ")?;
-            let value = members::value(alloc, case, condition.verified().shape())?;
-            put_answer(out, condition.answer(alloc, &value)?)
-        }
+    let text = members::text(case, "condition")?;
+    match Condition::build(alloc, text, Box::into_inner(shape)) {
+        Ok(condition) => put_answered(alloc, case, &condition, out),
         Err(refusal) => put_refusal(alloc, case, out, &refusal),
     }
+}
+
+fn put_answered(alloc: Global, case: &Json, condition: &Condition, out: &mut String) -> Written {
+    put_quoted(out, condition.text())?;
+    out.push_str(" ")?;
+    let value = members::value(alloc, case, condition.verified().shape())?;
+    put_answer(out, condition.answer(alloc, &value)?)
 }
 
 /// What a condition says of a value, as its code comes to on the machine that is tested with its budget as
@@ -142,22 +145,21 @@ fn put_verdict_of(
 
 pub(crate) fn put_verdict(out: &mut String, verdict: Verdict) -> Written {
     match verdict {
-        Verdict::Successful => out.push_str("Successful")?,
-        Verdict::Failed => out.push_str("Failed")?,
-        Verdict::Inconclusive => out.push_str("Inconclusive")?,
-        Verdict::Error(Cause::Provider) => out.push_str("Error provider")?,
-        Verdict::Error(Cause::Shape(fault)) => write!(out, "Error shape {fault:?}")?,
-        Verdict::Error(Cause::Success(fault)) => write!(
-            out,
-            "Error success {}",
-            fault_name(fault)
-        )?,
-        Verdict::Error(Cause::Failure(fault)) => write!(
-            out,
-            "Error failure {}",
-            fault_name(fault)
-        )?,
+        Verdict::Successful => put_str(out, "Successful"),
+        Verdict::Failed => put_str(out, "Failed"),
+        Verdict::Inconclusive => put_str(out, "Inconclusive"),
+        Verdict::Error(Cause::Provider) => put_str(out, "Error provider"),
+        Verdict::Error(Cause::Shape(fault)) => {
+            write!(out, "Error shape {fault:?}")?;
+            Ok(())
+        }
+        Verdict::Error(Cause::Success(fault)) => put_fault(out, "success", fault),
+        Verdict::Error(Cause::Failure(fault)) => put_fault(out, "failure", fault),
     }
+}
+
+fn put_fault(out: &mut String, condition: &str, fault: Fault) -> Written {
+    write!(out, "Error {condition} {}", fault_name(fault))?;
     Ok(())
 }
 
@@ -165,13 +167,15 @@ pub(crate) fn put_verdict(out: &mut String, verdict: Verdict) -> Written {
 fn put_judge(alloc: Global, case: &Json, out: &mut String) -> Written {
     let shape = members::shape(alloc, case, "shape")?;
     match Judge::build(alloc, &metric_of(alloc, case)?, &shape) {
-        Ok(judge) => {
-            put_bounds(out, "success", judge.success())?;
-            out.push_str(" / ")?;
-            put_bounds(out, "failure", judge.failure())
-        }
+        Ok(judge) => put_both_bounds(out, &judge),
         Err(refusal) => put_refusal(alloc, case, out, &refusal),
     }
+}
+
+fn put_both_bounds(out: &mut String, judge: &Judge) -> Written {
+    put_bounds(out, "success", judge.success())?;
+    out.push_str(" / ")?;
+    put_bounds(out, "failure", judge.failure())
 }
 
 fn put_bounds(out: &mut String, name: &str, verified: Option<&Verified>) -> Written {

@@ -6,28 +6,17 @@
 //! case is told on standard error with its number, from 1, and ends the program with status 2; so empty
 //! lines and remarks are left out before (`conformance/check` does it).
 //!
-//! - `members`: the members of a case
-//! - `printing`: texts, numbers, shapes, values and refusals as they are printed
-//! - `numbers`, `shapes`, `templates`, `phases`, `conditions`, `codes`, `judges`, `documents`: the calls, by
-//!   their subjects
-//! - `trees`, `typed`: conditions as written and as typed, printed
+//! `ar_cases` answers those that need neither a judge nor a bundle.
+//!
+//! - `phases`, `judges`, `documents`: the other calls, by their subjects
 #![tactic(auto)]
 
-mod codes;
-mod conditions;
 mod documents;
-mod fault;
 mod judges;
-mod members;
-mod numbers;
 mod phases;
-mod printing;
-mod shapes;
-mod templates;
-mod trees;
-mod typed;
 
-use fault::{CaseFault, Written};
+use ar_cases::fault::{CaseFault, Written};
+use ar_cases::{is_other, members};
 use serde_json::Value as Json;
 use std::alloc::Global;
 use std::io;
@@ -85,21 +74,9 @@ fn answer_of(alloc: Global, line: &str) -> Result<String, CaseFault> {
 
 /// Writes what a call of any subject answers.
 fn put_answer(alloc: Global, call: &str, case: &Json, out: &mut String) -> Written {
-    let mut written = numbers::put(alloc, call, case, out);
-    if is_other(written) {
-        written = shapes::put(alloc, call, case, out);
-    }
-    if is_other(written) {
-        written = templates::put(alloc, call, case, out);
-    }
+    let mut written = ar_cases::put(alloc, call, case, out);
     if is_other(written) {
         written = phases::put(alloc, call, case, out);
-    }
-    if is_other(written) {
-        written = conditions::put(alloc, call, case, out);
-    }
-    if is_other(written) {
-        written = codes::put(alloc, call, case, out);
     }
     if is_other(written) {
         written = judges::put(alloc, call, case, out);
@@ -108,9 +85,4 @@ fn put_answer(alloc: Global, call: &str, case: &Json, out: &mut String) -> Writt
         written = documents::put(alloc, call, case, out);
     }
     written
-}
-
-/// Whether the call is one of another subject, so that nothing was written.
-fn is_other(written: Written) -> bool {
-    matches!(written, Err(CaseFault::UnknownCall))
 }

@@ -1,8 +1,8 @@
 //! Calls on limits, events and phases.
 
-use crate::fault::{CaseFault, Written};
-use crate::members;
-use crate::printing::put_between;
+use ar_cases::fault::{CaseFault, Written};
+use ar_cases::members;
+use ar_cases::printing::{put_between, put_str};
 use ar_limits::{Effect, Event, Limits, MOST_EVENTS, Mark, Phase, RunState};
 use ar_report::phase_name;
 use serde_json::Value as Json;
@@ -117,14 +117,13 @@ fn apply(state: &mut RunState, event: Event) -> Option<Effect> {
 
 fn put_effect(out: &mut String, effect: Effect) -> Written {
     match effect {
-        Effect::Applied => out.push_str("applied")?,
-        Effect::Late => out.push_str("late")?,
+        Effect::Applied => put_str(out, "applied"),
+        Effect::Late => put_str(out, "late"),
         Effect::Closed(phase) => {
             out.push_str("closed ")?;
-            out.push_str(phase_name(phase))?;
+            put_str(out, phase_name(phase))
         }
     }
-    Ok(())
 }
 
 /// Applies all events, and writes what each did.
@@ -169,14 +168,17 @@ fn opened(alloc: Global, case: &Json) -> Result<RunState, CaseFault> {
 /// The effect of each event, then the phase of the run, how many events it was handed, and the phase and
 /// the counts of each metric.
 fn put_phases(alloc: Global, case: &Json, out: &mut String) -> Written {
-    let mut state = opened(alloc, case)?;
+    put_run(case, &mut opened(alloc, case)?, out)
+}
+
+fn put_run(case: &Json, state: &mut RunState, out: &mut String) -> Written {
     out.push_str("[")?;
-    put_effects(case, &mut state, out)?;
+    put_effects(case, state, out)?;
     write!(
         out,
         "] / run {} handed={}",
         phase_name(state.phase()),
         state.handed()
     )?;
-    put_metrics(&state, out)
+    put_metrics(state, out)
 }

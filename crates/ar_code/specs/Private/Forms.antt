@@ -1,11 +1,11 @@
 -- The forms of operations that forms in memory stand for, and what is read beside tables of texts and names.
 use Rattle.std.specs.Prelude.{ℕ, List}
+use Rattle.ar_op.specs.declared.op.Op.{Op}
+use Rattle.ar_op.specs.declared.op.Op.TheVariants.{AndJump, BranchFalse, Enter, Jump, OrJump, Step}
 use Rattle.ar_code.specs.Decoding.{Form, Reading, fields_at, name_number, nothing, one_bit, one_decimal, one_place, one_whole, scalar_and_count, so_many_ops, text_number}
 use Rattle.ar_code.specs.declared.form.Form.{Form as FormCode}
 use Rattle.ar_code.specs.declared.form.Form.TheVariants as forms
 use Rattle.ar_code.specs.declared.image_reading.Tables.{Tables}
-use Rattle.ar_code.specs.declared.op.Op.{Op}
-use Rattle.ar_code.specs.declared.op.Op.TheVariants.{AndJump, BranchFalse, Enter, Jump, OrJump, Step}
 
 abbrev pub form_view : FormCode → Form
 form_view (forms.Nothing op) = nothing op

@@ -5,9 +5,9 @@ use Rattle.ar_condition.specs.Typed as typed
 use Rattle.ar_condition.specs.declared.tree.Literal.{Literal}
 use Rattle.ar_condition.specs.declared.tree.Literal.TheVariants as literals
 use Rattle.ar_value.specs.declared.operator.Predicate.{Predicate}
-use Rattle.ar_code.specs.Code.{Code, code_of_parts}
-use Rattle.ar_code.specs.declared.op.Op.{Op}
-use Rattle.ar_code.specs.declared.op.Op.TheVariants.{PushBool, PushWhole, PushDecimal, PushText, PushNil, MakeList, LoadResult, Item, Field, Index, Len, Need, IsNil, Default, ToDecimal, IsIn, Not, Compare, Equal, AndJump, OrJump, BranchFalse, Jump, Enter, Step}
+use Rattle.ar_op.specs.Code.{Code, code_of_parts}
+use Rattle.ar_op.specs.declared.op.Op.{Op}
+use Rattle.ar_op.specs.declared.op.Op.TheVariants.{PushBool, PushWhole, PushDecimal, PushText, PushNil, MakeList, LoadResult, Item, Field, Index, Len, Need, IsNil, Default, ToDecimal, IsIn, Not, Compare, Equal, AndJump, OrJump, BranchFalse, Jump, Enter, Step}
 use Rattle.ar_compile.specs.Compiled.{arithmetic_op, compared_of, negative_op, number_of, with_text}
 
 abbrev pub no_code : Code

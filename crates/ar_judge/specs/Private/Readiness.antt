@@ -8,7 +8,7 @@ use Rattle.ar_condition.specs.Expression.{Expression}
 use Rattle.ar_condition.specs.Meaning.{answer_of, mean}
 use Rattle.ar_condition.specs.Typed.{Typed}
 use Rattle.ar_check.specs.Check.{checked}
-use Rattle.ar_code.specs.Code.{Code, most_entries}
+use Rattle.ar_op.specs.Code.{Code, most_entries}
 use Rattle.ar_compile.specs.Compiled.{compiled}
 use Rattle.ar_compile.specs.Ends.{EndsWith}
 use Rattle.ar_compile.specs.Length.{length_of}

@@ -2,9 +2,9 @@
 -- costs more than the greatest budget counts as one more than that.
 use Rattle.std.specs.Prelude.{◌≡◌, ℕ, suc, ◌+◌, ◌*◌, ◌<◌, ◌≤◌, min, max, List, length, Ok, slice_index_or}
 use Rattle.ar_value.specs.Shape.{Shape}
-use Rattle.ar_code.specs.Code.{Code}
-use Rattle.ar_code.specs.declared.op.Op.{Op}
-use Rattle.ar_code.specs.declared.op.Op.TheVariants.{AndJump, OrJump, BranchFalse, Jump, Enter, Step, Return}
+use Rattle.ar_op.specs.Code.{Code}
+use Rattle.ar_op.specs.declared.op.Op.{Op}
+use Rattle.ar_op.specs.declared.op.Op.TheVariants.{AndJump, OrJump, BranchFalse, Jump, Enter, Step, Return}
 use Rattle.ar_verify.specs.Arrivals.{Sent}
 use Rattle.ar_verify.specs.Budget.{IsDearest, most_at, price}
 use Rattle.ar_verify.specs.Verdict.{passed}

@@ -4,7 +4,7 @@ use Rattle.ar_value.specs.Answer.{◌>>=◌}
 use Rattle.ar_value.specs.Kind.{Kind, shaped}
 use Rattle.ar_value.specs.Shape.{Shape, bool}
 use Rattle.ar_value.specs.declared.operator.Predicate.{Predicate}
-use Rattle.ar_code.specs.Code.{Code}
+use Rattle.ar_op.specs.Code.{Code}
 use Rattle.ar_verify.specs.Arrivals.{Around, Operands, Sent, answer_kind, item_of, sent, where_shallow}
 use Rattle.ar_verify.specs.Private.Action.{after_effect, taken}
 use Rattle.ar_verify.specs.Private.Held.{operands_view}

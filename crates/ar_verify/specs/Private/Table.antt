@@ -2,8 +2,8 @@
 use Rattle.std.specs.Prelude.{◌≡◌, ◌<◌, ◌≤◌, ℕ, zero, suc, ◌+◌, max, List, [], ◌∷◌, ◌++◌, drop, length, map, slice_index_or, slice_set, Result, Ok, Err}
 use Rattle.ar_value.specs.Answer.{◌>>=◌}
 use Rattle.ar_value.specs.Shape.{Shape}
-use Rattle.ar_code.specs.Code.{Code}
-use Rattle.ar_code.specs.declared.op.Op.{Op}
+use Rattle.ar_op.specs.Code.{Code}
+use Rattle.ar_op.specs.declared.op.Op.{Op}
 use Rattle.ar_verify.specs.Arrivals.{Operands, Sent, all_sent, arrival, arrived, deepest, merged, of_loops, sent_on, sent_to}
 use Rattle.ar_verify.specs.Budget.{most_items, most_on_top}
 use Rattle.ar_verify.specs.Private.Action.{action}

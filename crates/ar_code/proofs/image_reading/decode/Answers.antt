@@ -1,7 +1,7 @@
 use Rattle.std.proofs.Common.{◌≡◌, Result, Ok, Err, ap, subst, ◌∙◌}
 use Rattle.std.specs.Prelude.{IfOk, List, ℕ}
 use Rattle.ar_value.specs.Answer.{Gives}
-use Rattle.ar_code.specs.Code.{Code}
+use Rattle.ar_op.specs.Code.{Code}
 use Rattle.ar_code.specs.Decoding.{decoded, is_memory}
 use Rattle.ar_code.specs.Image.{image}
 use Rattle.ar_code.specs.declared.error.ImageError.{ImageError}

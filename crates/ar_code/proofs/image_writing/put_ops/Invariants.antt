@@ -1,6 +1,6 @@
 use Rattle.std.proofs.Common.{◌≡◌, ◌++◌, take}
 use Rattle.std.specs.List.{AllByRecursion, flat_map}
-use Rattle.ar_code.specs.Code.{InRange}
+use Rattle.ar_op.specs.Code.{InRange}
 use Rattle.ar_code.specs.Image.{op_bytes}
 use Rattle.ar_code.proofs.image_writing.put_ops.Given as goal
 

@@ -1,6 +1,6 @@
 use Rattle.std.proofs.Common.{◌≡◌, ◌++◌, length, map, string_bytes, take}
 use Rattle.std.specs.List.{AllByRecursion, flat_map}
-use Rattle.ar_code.specs.Code.{IsText}
+use Rattle.ar_op.specs.Code.{IsText}
 use Rattle.ar_code.specs.Image.{number, string}
 use Rattle.ar_code.proofs.image_writing.put_strings.Given as goal
 

@@ -1,6 +1,6 @@
 use Rattle.std.proofs.Common.{◌≡◌, ◌-◌, map, reverse}
 use Rattle.ar_value.specs.Value.{items_of, no_items}
-use Rattle.ar_code.specs.Machine.{list_made}
+use Rattle.ar_op.specs.Machine.{list_made}
 use Rattle.ar_machine.specs.Private.Operand.{from_top, value_of}
 use Rattle.ar_machine.proofs.effect.make_list.Given as goal
 

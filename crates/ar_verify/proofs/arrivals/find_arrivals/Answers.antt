@@ -1,8 +1,8 @@
 use Rattle.std.proofs.Common.{◌≡◌, ◌<◌, ℕ, false, List, [], ◌∷◌, length, replicate, Ok, Err, refl, ap, ◌∙◌}
 use Rattle.std.specs.Prelude.{slice_index_or}
 use Rattle.ar_value.specs.View.{shape_view}
-use Rattle.ar_code.specs.declared.op.Op.{Op}
-use Rattle.ar_code.specs.declared.op.Op.TheVariants.{PushBool}
+use Rattle.ar_op.specs.declared.op.Op.{Op}
+use Rattle.ar_op.specs.declared.op.Op.TheVariants.{PushBool}
 use Rattle.ar_verify.specs.Arrivals.{operands}
 use Rattle.ar_verify.specs.Private.Table.{pass_view}
 use Rattle.ar_verify.specs.declared.error.Reason.TheVariants.{Unreachable}

@@ -3,12 +3,12 @@
 ghost use Rattle.std.specs.Prelude.{◌≡◌, ◌<◌, Err, List, false, length, ℕ};
 ghost use Rattle.serde_json.specs.View.{view};
 ghost use Rattle.ar_value.specs.Answer as answer;
-ghost use Rattle.ar_command.specs.Evaluation.{Answers, Evaluates, Follows, UnlessMemory, prepared_of, parts_of, prepared};
+ghost use Rattle.ar_eval.specs.Evaluation.{Answers, Evaluates, Follows, UnlessMemory, prepared_of, parts_of, prepared};
 ghost use Rattle.ar_value.specs.Shape.{Shape as Declared};
 ghost use Rattle.ar_value.specs.View.{shape_view};
 ghost use Rattle.ar_judge.specs.Condition.{IsBuilt};
 ghost use Rattle.ar_json.specs.Document.{most_bytes};
-ghost use Rattle.ar_command.specs.declared.eval.EvalError.TheVariants.{TooLarge};
+ghost use Rattle.ar_eval.specs.declared.eval.EvalError.TheVariants.{TooLarge};
 
 use ar_check::TypeError;
 use ar_compile::CompileError;
@@ -52,7 +52,7 @@ pub enum EvalError {
 
 impl From<BuildCause> for EvalError {
     ghost use Rattle.std.specs.Prelude.{◌≡◌};
-    ghost use Rattle.ar_command.specs.Evaluation.{of_build};
+    ghost use Rattle.ar_eval.specs.Evaluation.{of_build};
 
     ghost from_gives = { λ cause e. e ≡ of_build cause };
 
@@ -69,7 +69,7 @@ impl From<BuildCause> for EvalError {
 
 impl From<ShapeError> for EvalError {
     ghost use Rattle.std.specs.Prelude.{◌≡◌};
-    ghost use Rattle.ar_command.specs.Evaluation.{of_shape};
+    ghost use Rattle.ar_eval.specs.Evaluation.{of_shape};
 
     ghost from_gives = { λ error e. e ≡ of_shape error };
 
@@ -83,7 +83,7 @@ impl From<ShapeError> for EvalError {
 
 impl From<ShapeFault> for EvalError {
     ghost use Rattle.std.specs.Prelude.{◌≡◌};
-    ghost use Rattle.ar_command.specs.Evaluation.{of_misfit};
+    ghost use Rattle.ar_eval.specs.Evaluation.{of_misfit};
 
     ghost from_gives = { λ fault e. e ≡ of_misfit fault };
 
@@ -97,7 +97,7 @@ impl From<ShapeFault> for EvalError {
 
 impl From<AllocError> for EvalError {
     ghost use Rattle.std.specs.Prelude.{◌≡◌};
-    ghost use Rattle.ar_command.specs.declared.eval.EvalError.TheVariants.{OutOfMemory};
+    ghost use Rattle.ar_eval.specs.declared.eval.EvalError.TheVariants.{OutOfMemory};
 
     ghost from_gives = { λ _ e. e ≡ OutOfMemory };
 
@@ -108,7 +108,7 @@ impl From<AllocError> for EvalError {
 
 impl From<JsonError> for EvalError {
     ghost use Rattle.std.specs.Prelude.{◌≡◌};
-    ghost use Rattle.ar_command.specs.Evaluation.{of_json};
+    ghost use Rattle.ar_eval.specs.Evaluation.{of_json};
 
     ghost from_gives = { λ error e. e ≡ of_json error };
 

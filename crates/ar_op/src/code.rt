@@ -1,15 +1,16 @@
 //! Code: operations with their texts and names.
 
 ghost use Rattle.std.specs.Prelude.{◌≡◌, map, string_bytes};
-ghost use Rattle.ar_code.specs.Code.{IsCode, code_of_parts};
+ghost use Rattle.ar_op.specs.Code.{IsCode, code_of_parts};
 
 use crate::op::Op;
+use std::fmt;
 use std::marker::Model;
 
 /// Operations, and the texts and names that they speak of by number: at most 4,096 of each, of at
 /// most 4,096 bytes, and each number lies inside its table. Contracts see it as the `Code` of
 /// `specs/Code`.
-#[derive(Debug, Drop)]
+#[derive(Drop)]
 pub struct Code {
     ops: Vec<Op>,
     texts: Vec<String>,
@@ -18,7 +19,7 @@ pub struct Code {
 
 impl Model for Code {
     ghost use Rattle.std.specs.Prelude.{map, string_bytes};
-    ghost use Rattle.ar_code.specs.Code.{Code as Parts, IsCode, code_of_parts};
+    ghost use Rattle.ar_op.specs.Code.{Code as Parts, IsCode, code_of_parts};
 
     ghost Value = { Parts };
 
@@ -55,5 +56,16 @@ impl Code {
         ensures { map string_bytes result.now ≡ self.now.names }
     {
         &self.names
+    }
+}
+
+/// How many operations, texts and names it has; `ar_code::listing` shows them.
+impl fmt::Debug for Code {
+    fn fmt<W: fmt::Write>(&self, f: &mut fmt::Formatter<W>) -> fmt::Result {
+        let (ops, texts, names) = (self.ops.len(), self.texts.len(), self.names.len());
+        write!(
+            f,
+            "Code of {ops} operations, {texts} texts and {names} names"
+        )
     }
 }

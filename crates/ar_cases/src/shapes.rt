@@ -55,11 +55,12 @@ fn fields_of(shape: &Shape) -> Result<&FieldShapes, CaseFault> {
 }
 
 /// The kind of nil, where the member is null, or of a shape.
-fn kind_of(alloc: Global, case: &Json, name: &str) -> Result<Kind, CaseFault> {
-    match members::json(case, name)? {
-        Json::Null => Ok(Kind::Nil),
-        _ => Ok(Kind::Shape(members::shape(alloc, case, name)?)),
-    }
+fn kind_of(alloc: Global, case: &Json, name: &str) -> Result<Box<Kind>, CaseFault> {
+    let kind = match members::json(case, name)? {
+        Json::Null => Kind::Nil,
+        _ => Kind::Shape(Box::into_inner(members::shape(alloc, case, name)?)),
+    };
+    Ok(Box::new(alloc, kind)?)
 }
 
 fn joined(alloc: Global, call: &str, case: &Json) -> Result<Option<Kind>, CaseFault> {
@@ -89,17 +90,22 @@ fn put_read_value(alloc: Global, case: &Json, out: &mut String) -> Written {
 }
 
 /// A value of the shape that the case gives under a name.
-fn value_of(alloc: Global, case: &Json, shape: &str) -> Result<Value, CaseFault> {
+fn value_of(alloc: Global, case: &Json, shape: &str) -> Result<Box<Value>, CaseFault> {
     let shape = members::shape(alloc, case, shape)?;
     members::value(alloc, case, &shape)
 }
 
 fn put_field(alloc: Global, case: &Json, out: &mut String) -> Written {
-    match value_of(alloc, case, "shape")? {
-        Value::Object(fields) => match fields.get(members::text(case, "field")?) {
-            Some(value) => put_value(out, value),
-            None => put_str(out, "none"),
-        },
+    let value = value_of(alloc, case, "shape")?;
+    match field_of(&value, members::text(case, "field")?)? {
+        Some(value) => put_value(out, value),
+        None => put_str(out, "none"),
+    }
+}
+
+fn field_of<'a>(value: &'a Value, name: &str) -> Result<Option<&'a Value>, CaseFault> {
+    match value {
+        Value::Object(fields) => Ok(fields.get(name)),
         _ => Err(CaseFault::Member),
     }
 }

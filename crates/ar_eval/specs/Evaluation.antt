@@ -1,5 +1,5 @@
--- What `eval` writes for an input: a relation, since a condition's verified code is one.
-use Rattle.std.specs.Prelude.{◌≡◌, ℕ, Bool, true, false, List, ◌++◌, codes, Option, Some, None, option_and_then, Result, Ok, Err}
+-- What is answered for an input: a relation, since a condition's verified code is one.
+use Rattle.std.specs.Prelude.{◌≡◌, ℕ, Bool, true, false, List, codes, Option, Some, None, option_and_then, Result, Ok, Err}
 use Rattle.serde_json.specs.Data.{Data}
 use Rattle.serde_json.specs.Find.{get, as_str}
 use Rattle.ar_value.specs.Answer.{◌>>=◌, there_or}
@@ -14,12 +14,11 @@ use Rattle.ar_judge.specs.Condition.{Condition, IsBuilt, IsRefused, refused_as, 
 use Rattle.ar_judge.specs.declared.error.BuildCause.{BuildCause}
 use Rattle.ar_judge.specs.declared.error.BuildCause.TheVariants as causes
 use Rattle.ar_value.specs.declared.fault.Fault.{Fault}
-use Rattle.ar_report.specs.Names.{fault_name}
 use Rattle.ar_json.specs.Document.{json_in}
 use Rattle.ar_json.specs.declared.document.JsonError.{JsonError}
 use Rattle.ar_json.specs.declared.document.JsonError.TheVariants as json_error
-use Rattle.ar_command.specs.declared.eval.EvalError.{EvalError}
-use Rattle.ar_command.specs.declared.eval.EvalError.TheVariants.{TooLarge, Utf8OrJson, BadDocument, Shape as BadShape, Grammar, Kinds, Compiler, Verifier, Misfit, OutOfMemory}
+use Rattle.ar_eval.specs.declared.eval.EvalError.{EvalError}
+use Rattle.ar_eval.specs.declared.eval.EvalError.TheVariants.{TooLarge, Utf8OrJson, BadDocument, Shape as BadShape, Grammar, Kinds, Compiler, Verifier, Misfit, OutOfMemory}
 
 -- a document's condition, shape and value, which all have to be there
 abbrev pub parts_of : Data → Result (List ℕ × Data × Data) EvalError
@@ -80,18 +79,6 @@ Follows (Err fault) answer = answer ≡ Err fault
 -- what an input's condition says of its value, or the first fault that stands in the input
 pub record Evaluates (input : List ℕ) (answer : Result (Result Bool Fault) EvalError) : Type 0 where
   pub follows : Follows (prepared_input input) answer
-
--- the line that is written: a truth value, or a fault by its name, and a line feed
-abbrev pub line_of : Result Bool Fault → List ℕ
-line_of (Ok true) = codes "true\n"
-line_of (Ok false) = codes "false\n"
-line_of (Err fault) = codes "fault " ++ (fault_name fault ++ codes "\n")
-
--- a line is written for an input
-pub record Writes (input line : List ℕ) : Type 0 where
-  pub answer : Result Bool Fault
-  pub evaluates : Evaluates input (Ok answer)
-  pub is : line ≡ line_of answer
 
 -- why a text is no condition that can be run, as `eval` answers it
 abbrev pub of_build : BuildCause → EvalError

@@ -25,7 +25,7 @@ pub type Written = Result<(), CaseFault>;
 
 impl CaseFault {
     /// The exit status, as those of `argo_judge`.
-    pub(crate) fn status(self) -> u8 {
+    pub fn status(self) -> u8 {
         match self {
             CaseFault::NoJson | CaseFault::UnknownCall | CaseFault::Member => 2,
             CaseFault::OutOfMemory => 3,

@@ -10,15 +10,15 @@ use ar_value::{Decimal, Number, Shape, Value};
 use serde_json::Value as Json;
 use std::alloc::Global;
 
-pub(crate) fn json<'a>(case: &'a Json, name: &str) -> Result<&'a Json, CaseFault> {
+pub fn json<'a>(case: &'a Json, name: &str) -> Result<&'a Json, CaseFault> {
     case.get(name).ok_or(CaseFault::Member)
 }
 
-pub(crate) fn text<'a>(case: &'a Json, name: &str) -> Result<&'a str, CaseFault> {
+pub fn text<'a>(case: &'a Json, name: &str) -> Result<&'a str, CaseFault> {
     json(case, name)?.as_str().ok_or(CaseFault::Member)
 }
 
-pub(crate) fn list<'a>(case: &'a Json, name: &str) -> Result<&'a [Json], CaseFault> {
+pub fn list<'a>(case: &'a Json, name: &str) -> Result<&'a [Json], CaseFault> {
     match json(case, name)? {
         Json::Array(items) => Ok(items),
         _ => Err(CaseFault::Member),
@@ -66,34 +66,34 @@ pub(crate) fn operand(case: &Json, name: &str) -> Result<Number, CaseFault> {
 }
 
 /// A shape that must be one.
-pub(crate) fn shape(alloc: Global, case: &Json, name: &str) -> Result<Shape, CaseFault> {
+pub fn shape(alloc: Global, case: &Json, name: &str) -> Result<Box<Shape>, CaseFault> {
     match read_shape(alloc, json(case, name)?) {
-        Ok(shape) => Ok(shape),
+        Ok(shape) => Ok(Box::new(alloc, shape)?),
         Err(ShapeError::OutOfMemory) => Err(CaseFault::OutOfMemory),
         Err(_) => Err(CaseFault::Member),
     }
 }
 
 /// The member `value`, which must be of a shape.
-pub(crate) fn value(alloc: Global, case: &Json, shape: &Shape) -> Result<Value, CaseFault>
-    ensures { IfOk result (λ value. fits (value_view value) (shape_view shape.now) ≡ true) }
+pub fn value(alloc: Global, case: &Json, shape: &Shape) -> Result<Box<Value>, CaseFault>
+    ensures { IfOk result (λ value. fits (value_view value.value) (shape_view shape.now) ≡ true) }
 {
     value_of(alloc, json(case, "value")?, shape)
 }
 
 /// What must be a value of a shape.
-pub(crate) fn value_of(alloc: Global, json: &Json, shape: &Shape) -> Result<Value, CaseFault>
-    ensures { IfOk result (λ value. fits (value_view value) (shape_view shape.now) ≡ true) }
+pub(crate) fn value_of(alloc: Global, json: &Json, shape: &Shape) -> Result<Box<Value>, CaseFault>
+    ensures { IfOk result (λ value. fits (value_view value.value) (shape_view shape.now) ≡ true) }
 {
     match read_value(alloc, json, shape) {
-        Ok(value) => Ok(value),
+        Ok(value) => Ok(Box::new(alloc, value)?),
         Err(ShapeFault::OutOfMemory) => Err(CaseFault::OutOfMemory),
         Err(_) => Err(CaseFault::Member),
     }
 }
 
 /// Bytes, each of which is two hexadecimal digits.
-pub(crate) fn bytes(alloc: Global, case: &Json, name: &str) -> Result<Vec<u8>, CaseFault> {
+pub fn bytes(alloc: Global, case: &Json, name: &str) -> Result<Vec<u8>, CaseFault> {
     let mut bytes = Vec::new(alloc);
     for pair in text(case, name)?.as_bytes().chunks(2) {
         bytes.push(byte_of(pair).ok_or(CaseFault::Member)?)?;

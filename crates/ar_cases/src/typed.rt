@@ -2,11 +2,10 @@
 //! out: `plain` where nil is a fault, `decimal` where a whole is turned.
 
 use crate::fault::Written;
-use crate::printing::put_quoted;
+use crate::printing::{put_pair, put_quoted, put_str};
 use crate::trees::{predicate_name, put_literal};
 use ar_condition::typed::Typed;
 use ar_value::operator::{Arithmetic, Family, Numbers, Order, Scalar};
-use std::fmt::Write;
 
 fn numbers_name(numbers: Numbers) -> &'static str {
     match numbers {
@@ -54,53 +53,40 @@ fn scalar_name(scalar: Scalar) -> &'static str {
 /// The words of a node.
 fn put_words(out: &mut String, typed: &Typed) -> Written {
     match typed {
-        Typed::Result => out.push_str("result")?,
-        Typed::Item => out.push_str("#")?,
-        Typed::Literal(literal) => put_literal(out, literal)?,
-        Typed::Field { .. } => out.push_str("field")?,
-        Typed::Index { .. } => out.push_str("index")?,
-        Typed::Plain(_) => out.push_str("plain")?,
-        Typed::AsDecimal(_) => out.push_str("decimal")?,
-        Typed::Negative { numbers, .. } => write!(out, "negative {}", numbers_name(*numbers))?,
+        Typed::Result => put_str(out, "result"),
+        Typed::Item => put_str(out, "#"),
+        Typed::Literal(literal) => put_literal(out, literal),
+        Typed::Field { .. } => put_str(out, "field"),
+        Typed::Index { .. } => put_str(out, "index"),
+        Typed::Plain(_) => put_str(out, "plain"),
+        Typed::AsDecimal(_) => put_str(out, "decimal"),
+        Typed::Negative { numbers, .. } => put_pair(out, "negative", numbers_name(*numbers)),
         Typed::Arithmetic {
             numbers,
             operator,
             ..
-        } => {
-            write!(
-                out,
-                "{} {}",
-                arithmetic_sign(*operator),
-                numbers_name(*numbers)
-            )?
-        }
+        } => put_pair(out, arithmetic_sign(*operator), numbers_name(*numbers)),
         Typed::Ordered {
             of,
             beside,
             order,
             ..
         } => {
-            write!(
-                out,
-                "{} {} {}",
-                order_sign(*order),
-                numbers_name(*of),
-                numbers_name(*beside)
-            )?
+            put_pair(out, order_sign(*order), numbers_name(*of))?;
+            put_pair(out, "", numbers_name(*beside))
         }
-        Typed::Equal { family, .. } => write!(out, "== {}", family_name(*family))?,
-        Typed::Within { .. } => out.push_str("in")?,
-        Typed::Not(_) => out.push_str("not")?,
-        Typed::And { .. } => out.push_str("and")?,
-        Typed::Or { .. } => out.push_str("or")?,
-        Typed::Choice { .. } => out.push_str("choice")?,
-        Typed::List { scalar, .. } => write!(out, "list {}", scalar_name(*scalar))?,
-        Typed::Len(_) => out.push_str("len")?,
-        Typed::IsNil(_) => out.push_str("isNil")?,
-        Typed::Default { .. } => out.push_str("default")?,
-        Typed::Predicate { predicate, .. } => out.push_str(predicate_name(*predicate))?,
+        Typed::Equal { family, .. } => put_pair(out, "==", family_name(*family)),
+        Typed::Within { .. } => put_str(out, "in"),
+        Typed::Not(_) => put_str(out, "not"),
+        Typed::And { .. } => put_str(out, "and"),
+        Typed::Or { .. } => put_str(out, "or"),
+        Typed::Choice { .. } => put_str(out, "choice"),
+        Typed::List { scalar, .. } => put_pair(out, "list", scalar_name(*scalar)),
+        Typed::Len(_) => put_str(out, "len"),
+        Typed::IsNil(_) => put_str(out, "isNil"),
+        Typed::Default { .. } => put_str(out, "default"),
+        Typed::Predicate { predicate, .. } => put_str(out, predicate_name(*predicate)),
     }
-    Ok(())
 }
 
 fn open(out: &mut String, typed: &Typed) -> Written {

@@ -10,12 +10,13 @@ use crate::printing::{put_between, put_ended, put_lines, put_quoted, put_refusal
 use ar_check::check;
 use ar_code::{Code, decode, encode, listing};
 use ar_compile::{CompileError, compile, in_limits};
-use ar_machine::{Ended, run, run_tested};
+use ar_condition::Typed;
+use ar_machine::{Ended, Outcome, run, run_tested};
 use ar_syntax::parse;
 use ar_value::Value;
-use ar_verify::{Cause, Verified, verify};
+use ar_verify::{Cause, Refused, Verified, verify};
 use serde_json::Value as Json;
-use std::alloc::Global;
+use std::alloc::{AllocError, Global};
 use std::fmt::Write;
 
 pub(crate) fn put(alloc: Global, call: &str, case: &Json, out: &mut String) -> Written {
@@ -38,12 +39,17 @@ fn put_decoded(alloc: Global, case: &Json, out: &mut String) -> Written {
 
 fn put_code(alloc: Global, out: &mut String, code: &Code) -> Written {
     put_bytes(out, &encode(alloc, code)?)?;
+    put_tables(out, code)?;
+    put_lines(out, listing(alloc, code)?.as_str())
+}
+
+fn put_tables(out: &mut String, code: &Code) -> Written {
     out.push_str(" / texts=")?;
     put_texts(out, code.texts())?;
     out.push_str(" names=")?;
     put_texts(out, code.names())?;
     write!(out, " operations={} / ", code.ops().len())?;
-    put_lines(out, listing(alloc, code)?.as_str())
+    Ok(())
 }
 
 fn put_texts(out: &mut String, texts: &[String]) -> Written {
@@ -65,19 +71,26 @@ fn put_bytes(out: &mut String, bytes: &[u8]) -> Written {
     Ok(())
 }
 
-/// What a condition that has kinds under a shape is compiled to.
-fn compiled(alloc: Global, case: &Json) -> Result<Result<Code, CompileError>, CaseFault> {
+/// The typed tree of a condition that has kinds under a shape.
+fn typed_of(alloc: Global, case: &Json) -> Result<Box<Typed>, CaseFault> {
     let shape = members::shape(alloc, case, "shape")?;
     let Ok(tree) = parse(alloc, members::text(case, "condition")?) else {
         return Err(CaseFault::Member);
     };
-    let Ok(typed) = check(alloc, tree, &shape) else {
-        return Err(CaseFault::Member);
-    };
-    if !in_limits(&typed) {
-        return Err(CaseFault::Member);
+    match check(alloc, tree, &shape) {
+        Ok(typed) => Ok(Box::new(alloc, typed)?),
+        Err(_) => Err(CaseFault::Member),
     }
-    Ok(compile(alloc, &typed))
+}
+
+/// What such a condition is compiled to.
+fn compiled(alloc: Global, case: &Json) -> Result<Result<Code, CompileError>, CaseFault> {
+    let typed = typed_of(alloc, case)?;
+    if in_limits(&typed) {
+        Ok(compile(alloc, &typed))
+    } else {
+        Err(CaseFault::Member)
+    }
 }
 
 fn put_compiled(alloc: Global, case: &Json, out: &mut String) -> Written {
@@ -113,30 +126,35 @@ fn put_cause(out: &mut String, cause: Cause) -> Written {
 /// the case's fuel.
 fn put_verified(alloc: Global, case: &Json, out: &mut String) -> Written {
     let code = code_of(alloc, case)?;
-    match verify(alloc, code, members::shape(alloc, case, "shape")?) {
-        Ok(verified) => {
-            write!(
-                out,
-                "accepted operations={} depth={} budget={}",
-                verified.code().ops().len(),
-                verified.depth(),
-                verified.budget()
-            )?;
-            put_runs(alloc, case, &verified, out)
-        }
-        Err(refused) => {
-            put_cause(out, refused.cause)?;
-            put_tested_runs(alloc, case, &refused.code, out)
-        }
+    let shape = members::shape(alloc, case, "shape")?;
+    match verify(alloc, code, Box::into_inner(shape)) {
+        Ok(verified) => put_accepted(alloc, case, &verified, out),
+        Err(refused) => put_refused(alloc, case, &refused, out),
     }
+}
+
+fn put_accepted(alloc: Global, case: &Json, verified: &Verified, out: &mut String) -> Written {
+    write!(
+        out,
+        "accepted operations={} depth={} budget={}",
+        verified.code().ops().len(),
+        verified.depth(),
+        verified.budget()
+    )?;
+    put_runs(alloc, case, verified, out)
+}
+
+fn put_refused(alloc: Global, case: &Json, refused: &Refused, out: &mut String) -> Written {
+    put_cause(out, refused.cause)?;
+    put_tested_runs(alloc, case, &refused.code, out)
 }
 
 /// How a run of any code ends with so much fuel.
 fn put_tested(alloc: Global, case: &Json, out: &mut String) -> Written {
     let code = code_of(alloc, case)?;
-    let value = members::value(alloc, case, &members::shape(alloc, case, "shape")?)?;
-    let fuel = members::number(case, "fuel")?;
-    put_ended(out, run_tested(alloc, &code, &value, fuel)?)
+    let shape = members::shape(alloc, case, "shape")?;
+    let value = members::value(alloc, case, &shape)?;
+    put_tested_run(alloc, case, &code, &value, out)
 }
 
 fn put_runs(alloc: Global, case: &Json, verified: &Verified, out: &mut String) -> Written {
@@ -153,17 +171,22 @@ fn put_one_run(alloc: Global, verified: &Verified, value: &Value, out: &mut Stri
     let outcome = run(alloc, verified, value)?;
     out.push_str(" / ")?;
     put_ended(out, Ended::Done(outcome))?;
-    let with_all = run_tested(alloc, verified.code(), value, outcome.cost)?;
-    let with_less = run_tested(
-        alloc,
-        verified.code(),
-        value,
-        outcome.cost.saturating_sub(1),
-    )?;
-    if with_all != Ended::Done(outcome) || with_less != Ended::Spent {
+    if !takes_just(alloc, verified.code(), value, outcome)? {
         out.push_str(", but not with just this fuel")?;
     }
     Ok(())
+}
+
+/// Whether a run of a code ends so with just the fuel that it costs, and with less not at all.
+fn takes_just(
+    alloc: Global,
+    code: &Code,
+    value: &Value,
+    outcome: Outcome,
+) -> Result<bool, AllocError> {
+    let with_all = run_tested(alloc, code, value, outcome.cost)?;
+    let with_less = run_tested(alloc, code, value, outcome.cost.saturating_sub(1))?;
+    Ok(with_all == Ended::Done(outcome) && with_less == Ended::Spent)
 }
 
 fn put_tested_runs(alloc: Global, case: &Json, code: &Code, out: &mut String) -> Written {
@@ -171,8 +194,19 @@ fn put_tested_runs(alloc: Global, case: &Json, code: &Code, out: &mut String) ->
     for json in members::list_or_none(case, "values")? {
         let value = members::value_of(alloc, json, &shape)?;
         out.push_str(" / ")?;
-        let fuel = members::number(case, "fuel")?;
-        put_ended(out, run_tested(alloc, code, &value, fuel)?)?;
+        put_tested_run(alloc, case, code, &value, out)?;
     }
     Ok(())
+}
+
+/// How a run of any code ends with the case's fuel.
+fn put_tested_run(
+    alloc: Global,
+    case: &Json,
+    code: &Code,
+    value: &Value,
+    out: &mut String,
+) -> Written {
+    let fuel = members::number(case, "fuel")?;
+    put_ended(out, run_tested(alloc, code, value, fuel)?)
 }

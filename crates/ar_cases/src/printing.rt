@@ -9,30 +9,49 @@ use std::alloc::Global;
 use std::fmt::{Debug, Display, Write};
 
 /// A text as a JSON string.
-pub(crate) fn put_quoted(out: &mut String, text: &str) -> Written {
+pub fn put_quoted(out: &mut String, text: &str) -> Written {
     out.push_str("\"")?;
     for character in text.chars() {
-        match character {
-            '"' => out.push_str("\\\"")?,
-            '\\' => out.push_str("\\\\")?,
-            '\n' => out.push_str("\\n")?,
-            '\r' => out.push_str("\\r")?,
-            '\t' => out.push_str("\\t")?,
-            '\0'..='\u{1f}' => write!(out, "\\u{:04x}", u32::from(character))?,
-            _ => out.push(character)?,
-        }
+        put_character(out, character)?;
     }
     out.push_str("\"")?;
     Ok(())
 }
 
-pub(crate) fn put_str(out: &mut String, text: &str) -> Written {
+fn put_character(out: &mut String, character: char) -> Written {
+    match character {
+        '"' => put_str(out, "\\\""),
+        '\\' => put_str(out, "\\\\"),
+        '\n' => put_str(out, "\\n"),
+        '\r' => put_str(out, "\\r"),
+        '\t' => put_str(out, "\\t"),
+        _ => put_other(out, character),
+    }
+}
+
+/// A character without an escape of its own.
+fn put_other(out: &mut String, character: char) -> Written {
+    if character <= '\u{1f}' {
+        write!(out, "\\u{:04x}", u32::from(character))?;
+    } else {
+        out.push(character)?;
+    }
+    Ok(())
+}
+
+pub fn put_str(out: &mut String, text: &str) -> Written {
     out.push_str(text)?;
     Ok(())
 }
 
+/// Two words with a blank between them.
+pub(crate) fn put_pair(out: &mut String, first: &str, second: &str) -> Written {
+    write!(out, "{first} {second}")?;
+    Ok(())
+}
+
 /// What stands before each item of a list but the first.
-pub(crate) fn put_between(out: &mut String, first: bool, between: &str) -> Written {
+pub fn put_between(out: &mut String, first: bool, between: &str) -> Written {
     if !first {
         out.push_str(between)?;
     }
@@ -40,7 +59,7 @@ pub(crate) fn put_between(out: &mut String, first: bool, between: &str) -> Writt
 }
 
 /// Lines, with ` / ` between each and the next.
-pub(crate) fn put_lines(out: &mut String, lines: &str) -> Written {
+pub fn put_lines(out: &mut String, lines: &str) -> Written {
     let mut first = true;
     for line in lines.lines() {
         put_between(out, first, " / ")?;
@@ -61,34 +80,42 @@ pub(crate) fn put_decimal(out: &mut String, decimal: Decimal) -> Written {
 
 /// Millionths below one, without the zeros at their end.
 fn put_fraction(out: &mut String, millionths: u64) -> Written {
-    if millionths % 100_000 == 0 {
-        write!(out, "{}", millionths / 100_000)?;
-    } else if millionths % 10_000 == 0 {
-        write!(out, "{:02}", millionths / 10_000)?;
-    } else if millionths % 1_000 == 0 {
-        write!(out, "{:03}", millionths / 1_000)?;
-    } else if millionths % 100 == 0 {
-        write!(out, "{:04}", millionths / 100)?;
-    } else if millionths % 10 == 0 {
-        write!(out, "{:05}", millionths / 10)?;
-    } else {
-        write!(out, "{millionths:06}")?;
-    }
+    let (digits, width) = shortest(millionths);
+    write!(out, "{digits:0width$}")?;
     Ok(())
+}
+
+/// Millionths without the zeros at their end, and how many digits are left, one at least.
+fn shortest(millionths: u64) -> (u64, usize) {
+    if millionths % 100_000 == 0 {
+        (millionths / 100_000, 1)
+    } else if millionths % 10_000 == 0 {
+        (millionths / 10_000, 2)
+    } else if millionths % 1_000 == 0 {
+        (millionths / 1_000, 3)
+    } else if millionths % 100 == 0 {
+        (millionths / 100, 4)
+    } else if millionths % 10 == 0 {
+        (millionths / 10, 5)
+    } else {
+        (millionths, 6)
+    }
 }
 
 pub(crate) fn put_number(out: &mut String, number: Number) -> Written {
     match number {
-        Number::Whole(whole) => {
-            write!(out, "{whole}")?;
-            Ok(())
-        }
+        Number::Whole(whole) => put_whole(out, whole),
         Number::Decimal(decimal) => put_decimal(out, decimal),
     }
 }
 
+pub(crate) fn put_whole(out: &mut String, whole: i64) -> Written {
+    write!(out, "{whole}")?;
+    Ok(())
+}
+
 /// A refusal by its name with its numbers, or in its own words where the case wants these.
-pub(crate) fn put_refusal<E: Debug + Display>(
+pub fn put_refusal<E: Debug + Display>(
     alloc: Global,
     case: &Json,
     out: &mut String,
@@ -107,7 +134,7 @@ pub(crate) fn put_refusal<E: Debug + Display>(
 }
 
 /// What a condition says of a value.
-pub(crate) fn put_answer(out: &mut String, answer: Answer) -> Written {
+pub fn put_answer(out: &mut String, answer: Answer) -> Written {
     match answer {
         Ok(true) => out.push_str("true")?,
         Ok(false) => out.push_str("false")?,
@@ -133,16 +160,15 @@ pub(crate) fn put_ended(out: &mut String, ended: Ended) -> Written {
 #[cycle(put_value)]
 pub(crate) fn put_value(out: &mut String, value: &Value) -> Written {
     match value {
-        Value::Nil => out.push_str("null")?,
-        Value::Bool(true) => out.push_str("true")?,
-        Value::Bool(false) => out.push_str("false")?,
-        Value::Whole(whole) => write!(out, "{whole}")?,
-        Value::Decimal(decimal) => put_decimal(out, *decimal)?,
-        Value::Text(text) => put_quoted(out, text.as_str())?,
-        Value::List(items) => put_items(out, items)?,
-        Value::Object(fields) => put_fields(out, fields)?,
+        Value::Nil => put_str(out, "null"),
+        Value::Bool(true) => put_str(out, "true"),
+        Value::Bool(false) => put_str(out, "false"),
+        Value::Whole(whole) => put_whole(out, *whole),
+        Value::Decimal(decimal) => put_decimal(out, *decimal),
+        Value::Text(text) => put_quoted(out, text.as_str()),
+        Value::List(items) => put_items(out, items),
+        Value::Object(fields) => put_fields(out, fields),
     }
-    Ok(())
 }
 
 #[cycle(put_value)]
@@ -175,24 +201,31 @@ fn put_fields(out: &mut String, fields: &Fields) -> Written {
 
 /// A shape as the JSON that declares it.
 #[cycle(put_shape)]
-pub(crate) fn put_shape(out: &mut String, shape: &Shape) -> Written {
+pub fn put_shape(out: &mut String, shape: &Shape) -> Written {
     match shape {
-        Shape::Bool => out.push_str("\"bool\"")?,
-        Shape::Whole => out.push_str("\"whole\"")?,
-        Shape::Decimal => out.push_str("\"decimal\"")?,
-        Shape::Text => out.push_str("\"text\"")?,
-        Shape::List { item, max } => {
-            out.push_str("{\"list\":")?;
-            put_shape(out, item)?;
-            write!(out, ",\"max\":{max}}}")?;
-        }
-        Shape::Object(fields) => put_field_shapes(out, fields)?,
-        Shape::Optional(plain) => {
-            out.push_str("{\"optional\":")?;
-            put_shape(out, plain)?;
-            out.push_str("}")?;
-        }
+        Shape::Bool => put_str(out, "\"bool\""),
+        Shape::Whole => put_str(out, "\"whole\""),
+        Shape::Decimal => put_str(out, "\"decimal\""),
+        Shape::Text => put_str(out, "\"text\""),
+        Shape::List { item, max } => put_list(out, item, *max),
+        Shape::Object(fields) => put_field_shapes(out, fields),
+        Shape::Optional(plain) => put_optional(out, plain),
     }
+}
+
+#[cycle(put_shape)]
+fn put_list(out: &mut String, item: &Shape, max: usize) -> Written {
+    out.push_str("{\"list\":")?;
+    put_shape(out, item)?;
+    write!(out, ",\"max\":{max}}}")?;
+    Ok(())
+}
+
+#[cycle(put_shape)]
+fn put_optional(out: &mut String, plain: &Shape) -> Written {
+    out.push_str("{\"optional\":")?;
+    put_shape(out, plain)?;
+    out.push_str("}")?;
     Ok(())
 }
 

@@ -23,7 +23,7 @@ pub enum Compared {
 /// An operation. It takes its operands from the top of the stack, the right one being the last that
 /// was pushed, and gives one operand, unless it says something else. A place is the number of an
 /// operation in its code, from 0.
-#[derive(Clone, Copy, Debug, PartialEq)]
+#[derive(Clone, Copy)]
 pub enum Op {
     PushBool(bool),
     PushWhole(i64),

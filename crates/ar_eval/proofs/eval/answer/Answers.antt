@@ -3,9 +3,8 @@ use Rattle.serde_json.specs.View.{view}
 use Rattle.ar_json.specs.Reading.{read}
 use Rattle.ar_value.specs.View.{shape_view, value_view}
 use Rattle.ar_value.specs.declared.shape.Shape.{Shape as Declared}
-use Rattle.ar_command.proofs.Documents.{misfits}
-use Rattle.ar_command.proofs.Judging.{answered, misfit_told}
-use Rattle.ar_command.proofs.eval.answer.Goals as goal
+use Rattle.ar_eval.proofs.Judging.{answered, misfit_told, misfits}
+use Rattle.ar_eval.proofs.eval.answer.Goals as goal
 
 pub returns-in_err-value : goal.returns-in_err-value
 returns-in_err-value c text shape built =

@@ -1,21 +1,20 @@
 //! Conditions as written, printed: a node as `(operator@place child child)`, a leaf as `leaf@place`.
 
 use crate::fault::Written;
-use crate::printing::{put_decimal, put_quoted};
+use crate::printing::{put_decimal, put_quoted, put_str, put_whole};
 use ar_condition::tree::{Binary, Comparison, Literal, Tree, Unary};
 use ar_value::operator::Predicate;
 use std::fmt::Write;
 
 pub(crate) fn put_literal(out: &mut String, literal: &Literal) -> Written {
     match literal {
-        Literal::Nil => out.push_str("nil")?,
-        Literal::Bool(true) => out.push_str("true")?,
-        Literal::Bool(false) => out.push_str("false")?,
-        Literal::Whole(whole) => write!(out, "{whole}")?,
-        Literal::Decimal(decimal) => put_decimal(out, *decimal)?,
-        Literal::Text(text) => put_quoted(out, text.as_str())?,
+        Literal::Nil => put_str(out, "nil"),
+        Literal::Bool(true) => put_str(out, "true"),
+        Literal::Bool(false) => put_str(out, "false"),
+        Literal::Whole(whole) => put_whole(out, *whole),
+        Literal::Decimal(decimal) => put_decimal(out, *decimal),
+        Literal::Text(text) => put_quoted(out, text.as_str()),
     }
-    Ok(())
 }
 
 pub(crate) fn comparison_sign(comparison: Comparison) -> &'static str {

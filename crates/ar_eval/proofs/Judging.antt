@@ -2,11 +2,13 @@
 use Rattle.std.proofs.Common.{◌≡◌, ℕ, Bool, List, Some, Result, Ok, Err, refl, subst}
 use Rattle.serde_json.specs.Data.{Data}
 use Rattle.ar_value.specs.Answer.{Unless}
-use Rattle.ar_json.specs.Reading.{is_memory, read}
+use Rattle.ar_json.specs.Reading.{is_memory, is_memory_under, read}
 use Rattle.ar_value.specs.Shape.{Shape}
 use Rattle.ar_value.specs.Value.{Value}
 use Rattle.ar_value.specs.View.{shape_view}
 use Rattle.ar_value.specs.declared.fault.Fault.{Fault}
+use Rattle.ar_value.proofs.Answers.{unless_more}
+use Rattle.ar_json.proofs.ReadLemmas.{under_is_memory}
 use Rattle.ar_json.specs.declared.value_reading.ShapeFault.{ShapeFault}
 use Rattle.ar_json.specs.declared.value_reading.ShapeFault.TheVariants as shape_fault
 use Rattle.ar_judge.specs.Condition.{Condition, IsBuilt, IsRefused, said}
@@ -15,12 +17,9 @@ use Rattle.ar_judge.specs.declared.error.BuildCause.TheVariants as causes
 use Rattle.ar_json.specs.Document.{is_memory as is_json_memory, json_in}
 use Rattle.ar_json.specs.declared.document.JsonError.{JsonError}
 use Rattle.ar_json.specs.declared.document.JsonError.TheVariants as json_error
-use Rattle.ar_command.specs.Evaluation.{Evaluates, Follows, Answers, UnlessMemory, prepared_of, of_build, of_json, of_misfit, prepared, prepared_input}
-use Rattle.ar_command.specs.Serving.{of_eval}
-use Rattle.ar_command.specs.declared.serve.Refusal.TheVariants.{Eval}
-use Rattle.ar_command.specs.declared.serve.ServeError.TheVariants.{Refused}
-use Rattle.ar_command.specs.declared.eval.EvalError.{EvalError}
-use Rattle.ar_command.specs.declared.eval.EvalError.TheVariants.{OutOfMemory}
+use Rattle.ar_eval.specs.Evaluation.{Evaluates, Follows, Answers, UnlessMemory, prepared_of, of_build, of_json, of_misfit, prepared, prepared_input}
+use Rattle.ar_eval.specs.declared.eval.EvalError.{EvalError}
+use Rattle.ar_eval.specs.declared.eval.EvalError.TheVariants.{OutOfMemory}
 
 -- a text that is no condition that can be run is refused for its cause
 pub not_built : (text : List ℕ) (shape : Shape) (measured : Data) (cause : BuildCause) → IsRefused shape text cause → UnlessMemory (Err (of_build cause)) (Answers (prepared_of text shape measured))
@@ -63,7 +62,6 @@ of_no_document input json_error.OutOfMemory none = tt
 of_no_document input json_error.TooLarge none = record { follows = rw none refl }
 of_no_document input json_error.Utf8OrJson none = record { follows = rw none refl }
 
--- a refusal that isn't want of memory is that of the input
-pub refusal_of : (input : List ℕ) (error fault : EvalError) → UnlessMemory (Err error) (Evaluates input) → Refused (Eval fault) ≡ of_eval error → Evaluates input (Err fault)
-refusal_of input OutOfMemory fault told same = absurd cc
-refusal_of input error fault told same = let is : error ≡ fault = cc in subst (λ error. Evaluates input (Err error)) is told
+-- what may be want of memory under a shape is want of memory
+pub misfits : (shape : Shape) (json : Data) (fault : ShapeFault) → Unless (is_memory_under shape fault) (read shape json ≡ Err fault) → Unless (is_memory fault) (read shape json ≡ Err fault)
+misfits shape json fault h = unless_more (read shape json ≡ Err fault) (is_memory_under shape fault) (is_memory fault) (under_is_memory shape fault) h

@@ -56,6 +56,10 @@ fn put_metric(out: &mut String, metric: &BoundMetric) -> Written {
     put_condition(out, &metric.success_condition)?;
     out.push_str(" failure=")?;
     put_condition(out, &metric.failure_condition)?;
+    put_limits(out, metric)
+}
+
+fn put_limits(out: &mut String, metric: &BoundMetric) -> Written {
     write!(
         out,
         " limits={},{},{}",
@@ -79,10 +83,16 @@ fn put_condition(out: &mut String, text: &Option<Text>) -> Written {
 fn arguments(alloc: Global, case: &Json) -> Result<Args, CaseFault> {
     let mut arguments = Args::new(alloc);
     for pair in members::list_or_none(case, "arguments")? {
-        let (name, value) = pair_of(pair).ok_or(CaseFault::Member)?;
-        arguments.insert(alloc, name, Text::of(alloc, value)?)?;
+        add_pair(alloc, &mut arguments, pair)?;
     }
     Ok(arguments)
+}
+
+fn add_pair(alloc: Global, arguments: &mut Args, pair: &Json) -> Written {
+    let (name, value) = pair_of(pair).ok_or(CaseFault::Member)?;
+    let value = Text::of(alloc, value)?;
+    arguments.insert(alloc, name, value)?;
+    Ok(())
 }
 
 fn pair_of(pair: &Json) -> Option<(&str, &str)> {
@@ -91,9 +101,16 @@ fn pair_of(pair: &Json) -> Option<(&str, &str)> {
 
 /// How many names have a value, and the value of a name.
 fn put_arguments(alloc: Global, case: &Json, out: &mut String) -> Written {
-    let arguments = arguments(alloc, case)?;
+    put_found(
+        &arguments(alloc, case)?,
+        members::text(case, "argument")?,
+        out,
+    )
+}
+
+fn put_found(arguments: &Args, name: &str, out: &mut String) -> Written {
     write!(out, "{}: ", arguments.len())?;
-    match arguments.get(members::text(case, "argument")?) {
+    match arguments.get(name) {
         Some(value) => put_quoted(out, value.as_str()),
         None => put_str(out, "none"),
     }

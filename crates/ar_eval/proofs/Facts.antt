@@ -16,11 +16,11 @@ use Rattle.ar_syntax.specs.Token.{word_of}
 use Rattle.ar_syntax.specs.Tokens.{base_of, front_of, number_of, sign_at, text_of, token_of, tokens_behind, tokens_of}
 use Rattle.ar_syntax.specs.declared.error.SyntaxError.TheVariants.{LiteralTooFine, Unexpected}
 use Rattle.ar_check.specs.declared.error.TypeError.TheVariants.{WrongOperand}
-use Rattle.ar_command.specs.Evaluation.{Prepared, meant, prepared}
+use Rattle.ar_eval.specs.Evaluation.{Prepared, meant, prepared}
 use Rattle.ar_value.specs.Answer.{◌>>=◌}
 use Rattle.ar_value.specs.declared.fault.Fault.{Fault}
-use Rattle.ar_command.specs.declared.eval.EvalError.{EvalError}
-use Rattle.ar_command.specs.declared.eval.EvalError.TheVariants.{BadDocument, Shape, Misfit}
+use Rattle.ar_eval.specs.declared.eval.EvalError.{EvalError}
+use Rattle.ar_eval.specs.declared.eval.EvalError.TheVariants.{BadDocument, Shape, Misfit}
 use Rattle.ar_judge.specs.Condition.{typed_of}
 use Rattle.ar_judge.specs.declared.error.BuildCause.{BuildCause}
 use Rattle.ar_judge.specs.declared.error.BuildCause.TheVariants.{Grammar, Kinds}

@@ -2,7 +2,7 @@
 
 use crate::fault::{CaseFault, Written};
 use crate::members;
-use crate::printing::{put_between, put_decimal, put_quoted, put_refusal};
+use crate::printing::{put_between, put_decimal, put_pair, put_quoted, put_refusal};
 use crate::trees::put_tree;
 use crate::typed::put_typed;
 use ar_check::check;
@@ -43,20 +43,22 @@ fn put_all_tokens(out: &mut String, tokens: &[Token]) -> Written {
 
 fn put_token(out: &mut String, kind: &TokenKind) -> Written {
     match kind {
-        TokenKind::Word(word) => write!(out, "word {}", word.letters())?,
-        TokenKind::Name(name) => write!(out, "name {}", name.as_str())?,
-        TokenKind::Whole(whole) => write!(out, "whole {whole}")?,
+        TokenKind::Word(word) => put_pair(out, "word", word.letters()),
+        TokenKind::Name(name) => put_pair(out, "name", name.as_str()),
+        TokenKind::Whole(whole) => {
+            write!(out, "whole {whole}")?;
+            Ok(())
+        }
         TokenKind::Decimal(decimal) => {
             out.push_str("decimal ")?;
-            put_decimal(out, *decimal)?;
+            put_decimal(out, *decimal)
         }
         TokenKind::Text(text) => {
             out.push_str("text ")?;
-            put_quoted(out, text.as_str())?;
+            put_quoted(out, text.as_str())
         }
-        TokenKind::Sign(sign) => write!(out, "sign {}", sign.spelling())?,
+        TokenKind::Sign(sign) => put_pair(out, "sign", sign.spelling()),
     }
-    Ok(())
 }
 
 fn put_parsed(alloc: Global, case: &Json, out: &mut String) -> Written {

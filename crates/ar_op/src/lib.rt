@@ -1,0 +1,15 @@
+//! Operations of the stack machine that judges conditions, code of them, and the machine's steps.
+//!
+//! Code is a list of operations with the texts and names that they speak of by number. `specs/Machine`
+//! defines the machine: what a step of a code on a value leads to, every operand being tested, and
+//! what stands after so many steps.
+//!
+//! - [`op`]: operations
+//! - [`code`]: code, which contracts see as the `Code` of `specs/Code`
+#![tactic(auto)]
+
+pub mod code;
+pub mod op;
+
+pub use code::Code;
+pub use op::Op;
