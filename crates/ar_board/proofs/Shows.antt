@@ -216,14 +216,13 @@ fresh_of named workers lock bundle cell run worker kept receipts at same = rw (a
 pub of_fresh : (named : Bundle) (workers lock : ℕ) (bundle : Bundle) (cell : Cell) (run worker : ℕ) (kept : Declared) (receipts : List Receipt) → IsAt named workers lock bundle cell run kept → IsFresh cell run worker receipts → posted_by worker kept.run.entries.items kept.authors.items ≡ received run receipts
 of_fresh named workers lock bundle cell run worker kept receipts at fresh = ap (λ (authors : List ℕ). posted_by worker kept.run.entries.items authors) (sym at.authors) ∙ (ap (λ (history : List Entry). posted_by worker history (authors_at cell run)) (sym at.history) ∙ fresh)
 
-pub shown_as : (named : Bundle) (workers lock : ℕ) (bundle : Bundle) (cell : Cell) (run : ℕ) (kept : Declared) (shown : Snapshot) → IsAt named workers lock bundle cell run kept → bundle ≡ named → shown.phase ≡ kept.run.state.phase → shown.metrics.items ≡ kept.run.state.phases → shown.posts.items ≡ kept.posts.items → IsSnapshot named run cell shown
+pub shown_as : (named : Bundle) (workers lock : ℕ) (bundle : Bundle) (cell : Cell) (run : ℕ) (kept : Declared) (shown : Snapshot) → IsAt named workers lock bundle cell run kept → bundle ≡ named → shown.phase ≡ kept.run.state.phase → shown.metrics.items ≡ kept.run.state.phases → shown.posts.items ≡ kept.posts.items → IsSnapshot named workers run cell shown
 shown_as named workers lock bundle cell run kept shown at is_named phase metrics posts =
     let events : events_of bundle (numbers_of kept.run.entries.items) ≡ events_of named (numbers_of (history_at cell run)) = ap (λ (bundle : Bundle). events_of bundle (numbers_of kept.run.entries.items)) is_named ∙ ap (λ (history : List Entry). events_of named (numbers_of history)) (sym at.history) in
-    let each_worker : length shown.posts.items ≡ workers = ap length posts ∙ at.is.posts.each_worker in
     record {
       part = at.part;
       there = at.there;
       phase = phase ∙ (at.is.state.phase_is ∙ ap (run_phase at.part.limits) events);
       metrics = metrics ∙ (at.is.state.phases_are ∙ ap (metric_phases at.part.limits) events);
-      posts = subst (λ (workers : ℕ). ArePosts workers (authors_at cell run) shown.posts.items) (sym each_worker) (subst (λ (authors : List ℕ). ArePosts workers authors shown.posts.items) (sym at.authors) (subst (ArePosts workers kept.authors.items) (sym posts) at.is.posts));
+      posts = subst (λ (authors : List ℕ). ArePosts workers authors shown.posts.items) (sym at.authors) (subst (ArePosts workers kept.authors.items) (sym posts) at.is.posts);
     }

@@ -107,12 +107,12 @@ pub record IsPosted (bundle : Bundle) (worker number : ℕ) (finding : Finding) 
 -- ---- a look
 
 -- what is shown of a run: the phases that its history leads to, and how many entries each worker posted
-pub record IsSnapshot (bundle : Bundle) (run : ℕ) (cell : Cell) (shown : Snapshot) : Type 0 where
+pub record IsSnapshot (bundle : Bundle) (workers run : ℕ) (cell : Cell) (shown : Snapshot) : Type 0 where
   pub part : RunPart
   pub there : slice_get bundle.runs run ≡ Some part
   pub phase : shown.phase ≡ run_phase part.limits (events_of bundle (numbers_of (history_at cell run)))
   pub metrics : shown.metrics.items ≡ metric_phases part.limits (events_of bundle (numbers_of (history_at cell run)))
-  pub posts : ArePosts (length shown.posts.items) (authors_at cell run) shown.posts.items
+  pub posts : ArePosts workers (authors_at cell run) shown.posts.items
 
 -- the numbers and places of a worker's entries in a run's history are those of its receipts for the run
 abbrev pub IsFresh : Cell → (run worker : ℕ) → List Receipt → Type 0

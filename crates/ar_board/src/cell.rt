@@ -119,7 +119,7 @@ impl<'b, M: BundleName, L: LockName> RunCell<'b, M, L> {
         requires there { run < length M.bundle.runs }
         requires under { lock_of run ≡ L.lock }
         requires worker { worker < M.workers }
-        ensures shown { IfOk result (IsSnapshot M.bundle run self.now) }
+        ensures shown { IfOk result (IsSnapshot M.bundle M.workers run self.now) }
         ensures fresh { IfOk result (λ _. IsFresh self.now run worker receipts.now) }
         ensures stale { (IsFresh self.now run worker receipts.now → ⊥)
             ↔ (result ≡ Err (LookFault.Stale (posts_of worker (authors_at self.now run)))) }
