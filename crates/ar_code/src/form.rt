@@ -10,7 +10,7 @@ use ar_op::op::{Compared, DecimalArithmetic, Op};
 use ar_value::operator::{Arithmetic, Family, Order, Predicate};
 
 /// What stands behind an operation's code.
-#[derive(Clone, Copy, Debug)]
+#[derive(Clone, Copy)]
 pub(crate) enum Form {
     Nothing(Op),
     Bit,

@@ -22,7 +22,7 @@ fn bundle_of(alloc: Global, document: &Json) -> Result<Bundle, BundleError>
     let opened = open(alloc, document)?;
     let parts = parts_of(alloc, &opened)?;
     let entries = read_entries(alloc, &opened, document)?;
-    Ok(Bundle::of_parts(opened.metrics, parts, entries))
+    Ok(Bundle::of_parts(opened.into_metrics(), parts, entries))
 }
 
 /// The bundle of a document: one JSON value with a template `manifest`, `shapes` by the names of its

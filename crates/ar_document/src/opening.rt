@@ -26,13 +26,22 @@ use std::alloc::{AllocError, Global};
 
 /// A document's template, its metrics with their shapes, its runs as they are written, and the
 /// numbers of metrics and runs by their names.
-#[derive(Debug, Drop)]
+#[derive(Drop)]
 pub(crate) struct Opened {
     pub template: Template,
     pub metrics: Vec<MetricPart>,
     pub runs: Vec<Run>,
     pub run_numbers: Numbers,
     pub metric_numbers: Numbers,
+}
+
+impl Opened {
+    /// Its metrics, once nothing else of it is wanted.
+    pub(crate) fn into_metrics(self) -> Vec<MetricPart>
+        ensures { result ≡ self.metrics }
+    {
+        self.metrics
+    }
 }
 
 /// The template of a document.

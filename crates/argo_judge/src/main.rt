@@ -7,7 +7,7 @@
 //! status.
 //!
 //! - `command_line`: the command line, read with `clap`
-//! - `words`: the words of a refusal, with names of the document that was read
+//! - `words`: the words of a refusal, with names of the document that was read, which `ar_words` finds
 #![tactic(auto)]
 
 mod command_line;

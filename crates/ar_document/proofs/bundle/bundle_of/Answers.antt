@@ -21,4 +21,6 @@ returns-in_err-entries c =
     (leads (is_memory c.in_err-entries.field-0.0) (of_entry (opened_view c.in_ok-opened.opened) c.in_ok-opened.ensures.exact c.in_ok-parts.parts.items c.in_ok-parts.ensures.parts) c.in_err-entries.ensures.exact))
 
 pub of_parts-requires : goal.of_parts-requires
-of_parts-requires c = parts_are_bundle c.in_ok-opened.opened c.in_ok-parts.parts.items c.in_ok-entries.entries.items c.in_ok-opened.ensures.opened c.in_ok-parts.ensures.parts c.in_ok-entries.ensures.few c.in_ok-entries.ensures.entries
+of_parts-requires c =
+    rw c.into_metrics.ensures
+    (parts_are_bundle c.in_ok-opened.opened c.in_ok-parts.parts.items c.in_ok-entries.entries.items c.in_ok-opened.ensures.opened c.in_ok-parts.ensures.parts c.in_ok-entries.ensures.few c.in_ok-entries.ensures.entries)
