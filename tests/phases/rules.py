@@ -47,8 +47,8 @@ def closing(phases, event):
     return 'Successful' if all(other == 'Successful' for other in phases) else None
 
 
-def answer(limits, events):
-    """What the call `phases` answers."""
+def outcome(limits, events):
+    """The effect of each event, the phase of the run, and the phase and the timely marks of each metric."""
     marks = [[] for _ in limits]
     phases = ['Pending'] * len(limits)
     run = 'Pending'
@@ -65,6 +65,12 @@ def answer(limits, events):
         effects.append(f'closed {closed}' if closed else 'applied')
         if closed:
             phases = [phase if is_complete(phase) else 'Successful' for phase in phases]
+    return effects, run, phases, marks
+
+
+def answer(limits, events):
+    """What the call `phases` answers."""
+    effects, run, phases, marks = outcome(limits, events)
     lines = [f"[{', '.join(effects)}]", f'run {run} handed={len(events)}']
     for phase, own in zip(phases, marks):
         counts = ' '.join(f'{mark.lower()}={own.count(mark)}' for mark in (*COUNTED, 'Error'))

@@ -25,7 +25,7 @@ pub(crate) fn put(alloc: Global, call: &str, case: &Json, out: &mut String) -> W
 }
 
 /// The bytes of the member `document`, or of `bytes`, which is in hexadecimal.
-fn input_of(alloc: Global, case: &Json) -> Result<Vec<u8>, CaseFault> {
+pub(crate) fn input_of(alloc: Global, case: &Json) -> Result<Vec<u8>, CaseFault> {
     if case.get("bytes").is_some() {
         return members::bytes(alloc, case, "bytes");
     }

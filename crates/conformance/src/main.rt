@@ -8,9 +8,10 @@
 //!
 //! `ar_cases` answers those that need neither a judge nor a bundle.
 //!
-//! - `phases`, `judges`, `documents`: the other calls, by their subjects
+//! - `phases`, `judges`, `documents`, `boards`: the other calls, by their subjects
 #![tactic(auto)]
 
+mod boards;
 mod documents;
 mod judges;
 mod phases;
@@ -83,6 +84,9 @@ fn put_answer(alloc: Global, call: &str, case: &Json, out: &mut String) -> Writt
     }
     if is_other(written) {
         written = documents::put(alloc, call, case, out);
+    }
+    if is_other(written) {
+        written = boards::put(alloc, call, case, out);
     }
     written
 }

@@ -115,7 +115,7 @@ fn apply(state: &mut RunState, event: Event) -> Option<Effect> {
     }
 }
 
-fn put_effect(out: &mut String, effect: Effect) -> Written {
+pub(crate) fn put_effect(out: &mut String, effect: Effect) -> Written {
     match effect {
         Effect::Applied => put_str(out, "applied"),
         Effect::Late => put_str(out, "late"),

@@ -1,0 +1,196 @@
+//! Calls on the core of a board.
+
+ghost use Rattle.std.specs.Prelude.{◌≡◌};
+
+use crate::documents::input_of;
+use crate::phases::put_effect;
+use ar_board::{Bundle, CoreState, CoreStep, Entry, Moved, core_run, core_step};
+use ar_cases::fault::{CaseFault, Written};
+use ar_cases::members;
+use ar_cases::printing::{put_between, put_refusal, put_str};
+use ar_document::read_bundle;
+use ar_report::phase_name;
+use serde_json::Value as Json;
+use std::alloc::Global;
+use std::fmt::Write;
+
+pub(crate) fn put(alloc: Global, call: &str, case: &Json, out: &mut String) -> Written {
+    match call {
+        "core" => put_core(alloc, case, out),
+        _ => Err(CaseFault::UnknownCall),
+    }
+}
+
+/// How a core is made.
+#[derive(Clone, Copy)]
+struct Sizes {
+    workers: usize,
+    places: usize,
+}
+
+fn put_core(alloc: Global, case: &Json, out: &mut String) -> Written {
+    match read_bundle(alloc, &input_of(alloc, case)?) {
+        Ok(bundle) => put_steps(alloc, case, &bundle, out),
+        Err(refusal) => put_refusal(alloc, case, out, &refusal),
+    }
+}
+
+/// What each step did, and the state behind them; behind it that of `core_run`, where it is another.
+fn put_steps(alloc: Global, case: &Json, bundle: &Bundle, out: &mut String) -> Written {
+    let sizes = sizes_of(case)?;
+    let steps = steps_of(alloc, case)?;
+    let mut stepped = String::new(alloc);
+    put_stepped(alloc, bundle, sizes, &steps, out, &mut stepped)?;
+    out.push_str(stepped.as_str())?;
+    let mut run = String::new(alloc);
+    put_run(alloc, bundle, sizes, &steps, &mut run)?;
+    if run.as_str() != stepped.as_str() {
+        write!(out, " / core_run{}", run.as_str())?;
+    }
+    Ok(())
+}
+
+fn size_of(case: &Json, name: &str) -> Result<usize, CaseFault> {
+    match members::json(case, name)?.as_u64() {
+        Some(size) => usize::try_from(size).map_err(|_| CaseFault::Member),
+        None => Err(CaseFault::Member),
+    }
+}
+
+fn sizes_of(case: &Json) -> Result<Sizes, CaseFault> {
+    Ok(Sizes {
+        workers: size_of(case, "workers")?,
+        places: size_of(case, "places")?,
+    })
+}
+
+/// The text `put`, or a list of `take` or `post` and a worker.
+fn step_of(item: &Json) -> Option<CoreStep> {
+    if let Some(text) = item.as_str() {
+        return if text == "put" {
+            Some(CoreStep::Put)
+        } else {
+            None
+        };
+    }
+    let worker = usize::try_from(item.get(1usize)?.as_u64()?).ok()?;
+    match item.get(0usize)?.as_str()? {
+        "take" => Some(CoreStep::Take(worker)),
+        "post" => Some(CoreStep::Post(worker)),
+        _ => None,
+    }
+}
+
+fn steps_of(alloc: Global, case: &Json) -> Result<Vec<CoreStep>, CaseFault> {
+    let mut steps = Vec::new(alloc);
+    for item in members::list(case, "steps")? {
+        steps.push(step_of(item).ok_or(CaseFault::Member)?)?;
+    }
+    Ok(steps)
+}
+
+/// Makes the steps one by one: what each did goes to `moves`, the last state to `state`.
+fn put_stepped(
+    alloc: Global,
+    bundle: &Bundle,
+    sizes: Sizes,
+    steps: &[CoreStep],
+    moves: &mut String,
+    state: &mut String,
+) -> Written {
+    let mut core = CoreState::new(alloc, bundle, sizes.workers, sizes.places)?;
+    put_moves(&mut core, steps, moves)?;
+    put_state(bundle, &core, state)
+}
+
+/// The state to which `core_run` comes.
+fn put_run(
+    alloc: Global,
+    bundle: &Bundle,
+    sizes: Sizes,
+    steps: &[CoreStep],
+    state: &mut String,
+) -> Written {
+    let core = core_run(alloc, bundle, sizes.workers, sizes.places, steps)?;
+    put_state(bundle, &core, state)
+}
+
+fn put_moves(core: &mut CoreState<'_>, steps: &[CoreStep], out: &mut String) -> Written
+    ensures { core.new.bundle ≡ core.old.bundle }
+{
+    out.push_str("[")?;
+    let mut first = true;
+    for step in steps {
+        put_between(out, first, ", ")?;
+        first = false;
+        put_str(out, moved_name(core_step(core, *step)))?;
+    }
+    put_str(out, "]")
+}
+
+fn moved_name(moved: Moved) -> &'static str {
+    match moved {
+        Moved::Done => "done",
+        Moved::Idle => "idle",
+    }
+}
+
+/// The next number, the queue, the hands, and each run with its history.
+fn put_state(bundle: &Bundle, core: &CoreState<'_>, out: &mut String) -> Written
+    requires { core.now.bundle ≡ bundle.now }
+{
+    write!(out, " / next={} queue=[", core.next())?;
+    put_queue(core, out)?;
+    out.push_str("] hands=[")?;
+    put_hands(core.hands(), out)?;
+    out.push_str("]")?;
+    for run in 0..bundle.runs().len() {
+        write!(
+            out,
+            " / run {run} {}:",
+            phase_name(core.run_state(run).phase())
+        )?;
+        put_history(core.history(run), out)?;
+    }
+    Ok(())
+}
+
+fn put_queue(core: &CoreState<'_>, out: &mut String) -> Written {
+    let mut first = true;
+    for number in core.queue().iter() {
+        put_between(out, first, ", ")?;
+        first = false;
+        write!(out, "{number}")?;
+    }
+    Ok(())
+}
+
+fn put_hands(hands: &[Option<u64>], out: &mut String) -> Written {
+    let mut first = true;
+    for hand in hands {
+        put_between(out, first, ", ")?;
+        first = false;
+        put_hand(*hand, out)?;
+    }
+    Ok(())
+}
+
+fn put_hand(hand: Option<u64>, out: &mut String) -> Written {
+    match hand {
+        Some(number) => write!(out, "{number}")?,
+        None => out.push_str("none")?,
+    }
+    Ok(())
+}
+
+/// The number of each entry, and what it did to its run.
+fn put_history(history: &[Entry], out: &mut String) -> Written {
+    let mut first = true;
+    for entry in history {
+        put_between(out, first, ",")?;
+        first = false;
+        write!(out, " {} ", entry.number)?;
+        put_effect(out, entry.effect)?;
+    }
+    Ok(())
+}

@@ -1,0 +1,93 @@
+"""The core of a board, read a second time from crates/ar_board/specs/Core.antt: steps on plain lists.
+
+A bundle is a dict: `limits`, of each run a list of its metrics' limits as ../phases/rules.py takes them; `entries`, of
+each number its run and its event. A state is a dict: `next`, `queue`, `hands` with None for an empty one, and
+`histories`, of each run the numbers with their effects. A step is 'put', or a list of 'take' or 'post' and a worker.
+"""
+
+import os
+import sys
+
+sys.path.append(os.path.join(os.path.dirname(os.path.abspath(__file__)), '..'))
+
+from phases.rules import outcome
+
+
+def opening(bundle, workers):
+    return {'next': 0, 'queue': [], 'hands': [None] * workers, 'histories': [[] for _ in bundle['limits']]}
+
+
+def outcome_behind(bundle, run, numbers):
+    """What the numbers, in their order, come to for the run."""
+    return outcome(bundle['limits'][run], [bundle['entries'][number][1] for number in numbers])
+
+
+def put(bundle, places, state):
+    """The next number goes to the queue's end, where there is a place for it."""
+    if state['next'] >= len(bundle['entries']) or len(state['queue']) >= places:
+        return False
+    state['queue'].append(state['next'])
+    state['next'] += 1
+    return True
+
+
+def take(state, worker):
+    """The queue's first number goes into the worker's empty hand."""
+    if worker >= len(state['hands']) or state['hands'][worker] is not None or not state['queue']:
+        return False
+    state['hands'][worker] = state['queue'].pop(0)
+    return True
+
+
+def post(bundle, state, worker):
+    """The number in the worker's hand goes to the end of its run's history, with the effect that it has there."""
+    if worker >= len(state['hands']) or state['hands'][worker] is None:
+        return False
+    number = state['hands'][worker]
+    run = bundle['entries'][number][0]
+    history = state['histories'][run]
+    effects = outcome_behind(bundle, run, [*(earlier for earlier, _ in history), number])[0]
+    history.append((number, effects[-1]))
+    state['hands'][worker] = None
+    return True
+
+
+def make(bundle, places, state, step):
+    """Makes a step in place, and says whether it could be made."""
+    if step == 'put':
+        return put(bundle, places, state)
+    kind, worker = step
+    return take(state, worker) if kind == 'take' else post(bundle, state, worker)
+
+
+def occurrences(state, number):
+    """How often a number stands in what is still to put, the queue, the hands and the histories."""
+    posted = sum(number == other for history in state['histories'] for other, _ in history)
+    return (number >= state['next']) + state['queue'].count(number) + state['hands'].count(number) + posted
+
+
+def has_each_once(bundle, state):
+    return all(occurrences(state, number) == 1 for number in range(len(bundle['entries'])))
+
+
+def listed(items):
+    return '[' + ', '.join('none' if item is None else str(item) for item in items) + ']'
+
+
+def run_line(bundle, run, history):
+    phase = outcome_behind(bundle, run, [number for number, _ in history])[1]
+    entries = ','.join(f' {number} {effect}' for number, effect in history)
+    return f'run {run} {phase}:{entries}'
+
+
+def answer(bundle, workers, places, steps):
+    """What the call `core` answers. After each step each number has to stand just once."""
+    state = opening(bundle, workers)
+    moves = []
+    for step in steps:
+        moves.append('done' if make(bundle, places, state, step) else 'idle')
+        if not has_each_once(bundle, state):
+            sys.exit(f'after {len(moves)} steps a number stands otherwise than once: {state}')
+    lines = [listed(moves), f"next={state['next']} queue={listed(state['queue'])} hands={listed(state['hands'])}"]
+    lines += [run_line(bundle, run, history) for run, history in enumerate(state['histories'])]
+    return ' / '.join(lines)
