@@ -73,8 +73,7 @@ histories_from bundle from [] [] many each = tt
 histories_from bundle from [] (own ∷ kept) many each = absurd (omega arith)
 histories_from bundle from (part ∷ parts) [] many each = absurd (omega arith)
 histories_from bundle from (part ∷ parts) (own ∷ kept) many each =
-    let here : from + zero ≡ from = omega arith in
-    (
+    let here : from + zero ≡ from = omega arith in (
       subst (λ (at : ℕ). IsHistory bundle at part.limits own.history) here (each zero part own refl refl),
       histories_from bundle (suc from) parts kept (omega arith) (λ run other kept there kept_there.
           let next : from + suc run ≡ suc from + run = omega arith in
@@ -84,8 +83,8 @@ histories_from bundle from (part ∷ parts) (own ∷ kept) many each =
 pub histories_are : (bundle : Bundle) (workers lock : ℕ) (cell : Cell) → IsCell bundle workers lock cell → AreHistories bundle 0 bundle.runs (histories_of cell)
 histories_are bundle workers lock cell is =
     histories_from bundle 0 bundle.runs cell.runs is.as_many (λ run part kept there kept_there.
-        let here : run ≡ 0 + run = omega arith in
-        subst (λ (at : ℕ). IsHistory bundle at part.limits kept.history) here (is.each run part kept there kept_there).history)
+    let here : run ≡ 0 + run = omega arith in
+    subst (λ (at : ℕ). IsHistory bundle at part.limits kept.history) here (is.each run part kept there kept_there).history)
 
 pub kept_at : (runs : List Declared) (run : ℕ) (kept : Declared) → slice_get runs run ≡ Some kept → slice_get (map kept_of runs) run ≡ Some (kept_of kept)
 kept_at runs run kept there = slice_get-map kept_of runs run ∙ ap (option_map kept_of) there
@@ -312,14 +311,19 @@ table_push bundle workers lock runs places total after worker number run old new
   where
     last : Entry
     last = record { number = number; finding = finding; effect = answer.effect }
+
     numbers : numbers_of new.run.entries.items ≡ numbers_of old.run.entries.items ++ number ∷ []
     numbers = ap numbers_of pushed.entry ∙ numbers_push old.run.entries.items last
+
     at_run : history_at (cell_of (set runs run new) after) run ≡ new.run.entries.items
     at_run = history_is (set runs run new) after run new (at_set_same runs run new ready.inside)
+
     before_run : history_at (cell_of runs total) run ≡ old.run.entries.items
     before_run = history_is runs total run old ready.kept_there
+
     elsewhere : (other : ℕ) → other ≢ run → history_at (cell_of (set runs run new) after) other ≡ history_at (cell_of runs total) other
     elsewhere other away = ap (λ (histories : List (List Entry)). get_or histories other []) (histories_set runs after run new) ∙ get_or-set_other (histories_of (cell_of runs after)) run other new.run.entries.items [] away
+
     own_place : (other own : ℕ) → run_of bundle other ≡ Some own → other ≡ number → slice_get (set places number (Some answer.place)) other ≡ Some (place_in other (numbers_of (history_at (cell_of (set runs run new) after) own)))
     own_place other own own_is same =
         let same_run : own ≡ run = (let both : Some own ≡ Some run = sym own_is ∙ (ap (run_of bundle) same ∙ ready.own) in cc) in
@@ -331,15 +335,17 @@ table_push bundle workers lock runs places total after worker number run old new
         let all : slice_get (set places number (Some answer.place)) number ≡ Some (place_in number (numbers_of (history_at (cell_of (set runs run new) after) run))) = put ∙ ap Some (sym here) in
         subst (λ (own : ℕ). slice_get (set places number (Some answer.place)) other ≡ Some (place_in other (numbers_of (history_at (cell_of (set runs run new) after) own)))) (sym same_run)
         (subst (λ (other : ℕ). slice_get (set places number (Some answer.place)) other ≡ Some (place_in other (numbers_of (history_at (cell_of (set runs run new) after) run)))) (sym same) all)
+
     other_place : (other own : ℕ) → run_of bundle other ≡ Some own → other ≢ number → place_in other (numbers_of (history_at (cell_of (set runs run new) after) own)) ≡ place_in other (numbers_of (history_at (cell_of runs total) own)) → slice_get (set places number (Some answer.place)) other ≡ Some (place_in other (numbers_of (history_at (cell_of (set runs run new) after) own)))
     other_place other own own_is away stays = at_set_other places number other (Some answer.place) away ∙ (is.each other own own_is ∙ ap Some (sym stays))
+
     by_test : (other own : ℕ) → run_of bundle other ≡ Some own → (test : Bool) → (other == number) ≡ test → (in_run : Bool) → (own == run) ≡ in_run → slice_get (set places number (Some answer.place)) other ≡ Some (place_in other (numbers_of (history_at (cell_of (set runs run new) after) own)))
     by_test other own own_is true is_same in_run in_run_is = own_place other own own_is (grind (arith, nat_tests))
     by_test other own own_is false is_other true in_run_is =
         let away : other ≢ number = grind (arith, nat_tests) in
         let same_run : run ≡ own = grind (arith, nat_tests) in
         let stays : place_in other (numbers_of (history_at (cell_of (set runs run new) after) run)) ≡ place_in other (numbers_of (history_at (cell_of runs total) run)) = ap (λ (history : List Entry). place_in other (numbers_of history)) at_run
-            ∙ (ap (place_in other) numbers ∙ (place_other other number (numbers_of old.run.entries.items) (λ same. away (sym same)) ∙ ap (λ (history : List Entry). place_in other (numbers_of history)) (sym before_run))) in
+        ∙ (ap (place_in other) numbers ∙ (place_other other number (numbers_of old.run.entries.items) (λ same. away (sym same)) ∙ ap (λ (history : List Entry). place_in other (numbers_of history)) (sym before_run))) in
         other_place other own own_is away (subst (λ (own : ℕ). place_in other (numbers_of (history_at (cell_of (set runs run new) after) own)) ≡ place_in other (numbers_of (history_at (cell_of runs total) own))) same_run stays)
     by_test other own own_is false is_other false in_run_is =
         let away : other ≢ number = grind (arith, nat_tests) in

@@ -64,9 +64,9 @@ not_of bundle run own number [] found is away = refl
 not_of bundle run own number (entry ∷ history) found is away = by_test (not_of bundle run own number history found.1 is away) (entry.number == number) refl where
   by_test : times_in number (numbers_of history) ≡ 0 → (test : Bool) → (entry.number == number) ≡ test → times_in number (numbers_of (entry ∷ history)) ≡ 0
   by_test rest true same = absurd (
-    let equal : entry.number ≡ number = grind (arith, nat_tests) in
-    let both : Some run ≡ Some own = sym found.0.own ∙ (ap (run_of bundle) equal ∙ is) in
-    away cc)
+      let equal : entry.number ≡ number = grind (arith, nat_tests) in
+      let both : Some run ≡ Some own = sym found.0.own ∙ (ap (run_of bundle) equal ∙ is) in
+      away cc)
   by_test rest false apart = times_by number entry.number (numbers_of history) false apart ∙ rest
 
 not_later : (bundle : Bundle) (from own number : ℕ) (runs : List RunPart) (histories : List (List Entry)) → AreHistories bundle from runs histories → run_of bundle number ≡ Some own → own < from → times number histories ≡ 0

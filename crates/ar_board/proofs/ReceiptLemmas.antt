@@ -60,10 +60,10 @@ pub met_or_not : (histories : List (List Entry)) (earlier : List Receipt) (recei
 met_or_not histories earlier receipt =
     ⊎_elim
     (λ (stands : slice_get (numbers_at histories receipt.run) receipt.place ≡ Some receipt.number).
-        ⊎_elim (λ (behind : IsBehind earlier receipt). inl (record { stands = stands; behind = behind })) (λ (out : IsOutOfOrder earlier receipt). inr (inr (inr out))) (behind_or_not receipt earlier))
+    ⊎_elim (λ (behind : IsBehind earlier receipt). inl (record { stands = stands; behind = behind })) (λ (out : IsOutOfOrder earlier receipt). inr (inr (inr out))) (behind_or_not receipt earlier))
     (λ (apart : slice_get (numbers_at histories receipt.run) receipt.place ≢ Some receipt.number).
-        ⊎_elim (λ (missing : IsMissing histories receipt). inr (inl missing)) (λ (elsewhere : IsElsewhere histories receipt). inr (inr (inl elsewhere)))
-        (missing_or_elsewhere histories receipt (times_in receipt.number (numbers_at histories receipt.run)) refl apart))
+    ⊎_elim (λ (missing : IsMissing histories receipt). inr (inl missing)) (λ (elsewhere : IsElsewhere histories receipt). inr (inr (inl elsewhere)))
+    (missing_or_elsewhere histories receipt (times_in receipt.number (numbers_at histories receipt.run)) refl apart))
     (at_place receipt.number (slice_get (numbers_at histories receipt.run) receipt.place))
 
 pub met_has_no_cause : (histories : List (List Entry)) (earlier : List Receipt) (receipt : Receipt) → IsMet histories earlier receipt → (IsMissing histories receipt ⊎ (IsElsewhere histories receipt ⊎ IsOutOfOrder earlier receipt)) → ⊥

@@ -116,7 +116,7 @@ agree_skip run worker entries authors receipts from place receipt inside read aw
     let unlike : (receipt.run == run) ≡ false = grind (arith, nat_tests) in
     let next : suc place ≡ place + 1 = omega arith in
     let skipped : received run (drop place receipts) ≡ received run (drop (place + 1) receipts) = received_at run receipts place receipt there
-        ∙ (received_by_test run receipt (received run (drop (suc place) receipts)) false unlike ∙ ap (λ (place : ℕ). received run (drop place receipts)) next) in
+    ∙ (received_by_test run receipt (received run (drop (suc place) receipts)) false unlike ∙ ap (λ (place : ℕ). received run (drop place receipts)) next) in
     record { all = λ same. agree.all (same ∙ sym skipped); rest = λ same. agree.rest same ∙ skipped }
 
 -- the next receipt for the run, and the next entry
@@ -139,8 +139,8 @@ agree_next run worker entries authors receipts from place at receipt entry insid
     let head : received run (drop place receipts) ≡ (receipt.number, receipt.place) ∷ received run (drop (place + 1) receipts) = own_receipt run receipts place receipt inside read own in
     let after : suc at ≡ at + 1 = omega arith in
     let first : own_from worker entries authors from ≡ (receipt.number, receipt.place) ∷ own_from worker entries authors (at + 1) = next
-        ∙ (ap (λ (number : ℕ). (number, at) ∷ own_from worker entries authors (suc at)) same_number
-        ∙ (ap (λ (place : ℕ). (receipt.number, place) ∷ own_from worker entries authors (suc at)) same_place ∙ ap (λ (from : ℕ). (receipt.number, receipt.place) ∷ own_from worker entries authors from) after)) in
+    ∙ (ap (λ (number : ℕ). (number, at) ∷ own_from worker entries authors (suc at)) same_number
+    ∙ (ap (λ (place : ℕ). (receipt.number, place) ∷ own_from worker entries authors (suc at)) same_place ∙ ap (λ (from : ℕ). (receipt.number, receipt.place) ∷ own_from worker entries authors from) after)) in
     record {
       all = λ same. agree.all (first ∙ (ap (λ (others : List (ℕ × ℕ)). (receipt.number, receipt.place) ∷ others) same ∙ sym head));
       rest = λ same. same_tail (receipt.number, receipt.place) (receipt.number, receipt.place) (own_from worker entries authors (at + 1)) (received run (drop (place + 1) receipts)) (sym first ∙ (agree.rest same ∙ head));

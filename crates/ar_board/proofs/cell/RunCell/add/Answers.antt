@@ -12,13 +12,13 @@ returns-then-is_some-clause-double g c =
 pub push-posted-requires : goal.push-posted-requires
 push-posted-requires g c =
     let is = ready g.M.BundleName.bundle g.M.BundleName.workers g.L.LockName.lock c.self.inside.bundle.now c.self.inside.runs.items c.self.inside.places.items c.self.inside.book.total c.args.number c.run_of-run.result c.index_mut.result.now c.index.result.now c.self.invariant
-        c.requires.under (search rules) c.run_of-run.ensures.own c.run_of-run.ensures.there c.index_mut.ensures.value c.index.ensures (search rules) in
+    c.requires.under (search rules) c.run_of-run.ensures.own c.run_of-run.ensures.there c.index_mut.ensures.value c.index.ensures (search rules) in
     can_take c.self.inside.bundle.now g.M.BundleName.workers g.L.LockName.lock c.self.inside.runs.items c.args.number c.run_of-run.result c.args.worker c.index_mut.result.now c.event-event.result is c.requires.worker c.event-event.ensures.metric
 
 pub invariant_of-self : goal.invariant_of-self
 invariant_of-self g c =
     let is : IsReady c.self.inside.bundle.now g.M.BundleName.workers g.L.LockName.lock c.self.inside.runs.items c.args.number c.run_of-run.result c.index_mut.result.now = ready g.M.BundleName.bundle g.M.BundleName.workers g.L.LockName.lock c.self.inside.bundle.now c.self.inside.runs.items c.self.inside.places.items c.self.inside.book.total c.args.number c.run_of-run.result c.index_mut.result.now c.index.result.now c.self.invariant
-        c.requires.under (search rules) c.run_of-run.ensures.own c.run_of-run.ensures.there c.index_mut.ensures.value c.index.ensures (search rules) in
+    c.requires.under (search rules) c.run_of-run.ensures.own c.run_of-run.ensures.there c.index_mut.ensures.value c.index.ensures (search rules) in
     let pushed : IsPushed c.index_mut.result.now c.push-posted.new.self c.args.worker c.args.number c.args.finding c.event-event.result c.push-posted.result = record { place = c.push-posted.ensures.place; entry = c.push-posted.ensures.entry; author = c.push-posted.ensures.author; posts = c.push-posted.ensures.posts; replays = c.push-posted.ensures.replays; effect = c.push-posted.ensures.effect; places = c.push-posted.ensures.places; author_places = c.push-posted.ensures.author_places } in
     inside_push g.M.BundleName.bundle g.M.BundleName.workers g.L.LockName.lock c.self.inside.bundle.now c.self.inside.runs.items c.self.inside.places.items c.self.inside.book.total c.add.new.self.total c.args.worker c.args.number c.run_of-run.result c.index_mut.result.now c.push-posted.new.self c.args.finding c.event-event.result c.push-posted.result
     c.self.invariant is c.requires.worker (search rules) (search rules) c.event-event.ensures.exact pushed c.add.ensures.total
@@ -26,14 +26,14 @@ invariant_of-self g c =
 pub returns-clause-posted : goal.returns-clause-posted
 returns-clause-posted g c =
     let is : IsReady c.self.inside.bundle.now g.M.BundleName.workers g.L.LockName.lock c.self.inside.runs.items c.args.number c.run_of-run.result c.index_mut.result.now = ready g.M.BundleName.bundle g.M.BundleName.workers g.L.LockName.lock c.self.inside.bundle.now c.self.inside.runs.items c.self.inside.places.items c.self.inside.book.total c.args.number c.run_of-run.result c.index_mut.result.now c.index.result.now c.self.invariant
-        c.requires.under (search rules) c.run_of-run.ensures.own c.run_of-run.ensures.there c.index_mut.ensures.value c.index.ensures (search rules) in
+    c.requires.under (search rules) c.run_of-run.ensures.own c.run_of-run.ensures.there c.index_mut.ensures.value c.index.ensures (search rules) in
     let pushed : IsPushed c.index_mut.result.now c.push-posted.new.self c.args.worker c.args.number c.args.finding c.event-event.result c.push-posted.result = record { place = c.push-posted.ensures.place; entry = c.push-posted.ensures.entry; author = c.push-posted.ensures.author; posts = c.push-posted.ensures.posts; replays = c.push-posted.ensures.replays; effect = c.push-posted.ensures.effect; places = c.push-posted.ensures.places; author_places = c.push-posted.ensures.author_places } in
     let answer = is_posted g.M.BundleName.bundle g.M.BundleName.workers g.L.LockName.lock c.self.inside.bundle.now c.self.inside.runs.items c.self.inside.book.total c.add.new.self.total c.args.worker c.args.number c.run_of-run.result c.index_mut.result.now c.push-posted.new.self c.args.finding c.event-event.result c.push-posted.result
-        c.self.invariant.is_named is (search rules) c.event-event.ensures.exact pushed c.add.ensures.total in
+    c.self.invariant.is_named is (search rules) c.event-event.ensures.exact pushed c.add.ensures.total in
     subst (λ (before : Cell). IsPosted g.M.BundleName.bundle c.args.worker c.args.number c.args.finding before (cell_of (set c.self.inside.runs.items c.run_of-run.result c.push-posted.new.self) c.add.new.self.total) c.push-posted.result) c.self.view_is answer
 
 pub returns-clause-double : goal.returns-clause-double
 returns-clause-double g c =
     let is : IsReady c.self.inside.bundle.now g.M.BundleName.workers g.L.LockName.lock c.self.inside.runs.items c.args.number c.run_of-run.result c.index_mut.result.now = ready g.M.BundleName.bundle g.M.BundleName.workers g.L.LockName.lock c.self.inside.bundle.now c.self.inside.runs.items c.self.inside.places.items c.self.inside.book.total c.args.number c.run_of-run.result c.index_mut.result.now c.index.result.now c.self.invariant
-        c.requires.under (search rules) c.run_of-run.ensures.own c.run_of-run.ensures.there c.index_mut.ensures.value c.index.ensures (search rules) in
+    c.requires.under (search rules) c.run_of-run.ensures.own c.run_of-run.ensures.there c.index_mut.ensures.value c.index.ensures (search rules) in
     ((λ is_error. absurd cc), (λ there. absurd (not_there c.self.inside.bundle.now g.M.BundleName.workers g.L.LockName.lock c.self.inside.runs.items c.self.inside.book.total c.args.number c.run_of-run.result c.index_mut.result.now c.self.invariant.cell is (subst (Stands c.args.number) (sym c.self.view_is) there))))

@@ -18,11 +18,12 @@ index-requires g c =
 pub returns-then-not-agrees-clause-stale : goal.returns-then-not-agrees-clause-stale
 returns-then-not-agrees-clause-stale g c =
     let at = kept_run g.M.BundleName.bundle g.M.BundleName.workers g.L.LockName.lock c.self.inside.bundle.now c.self.inside.runs.items c.self.inside.places.items c.self.inside.book.total c.args.run c.index-kept.result.now c.args.self.now c.self.invariant c.self.view_is c.requires.there c.index-kept.ensures in
-    let counted = counted_by g.M.BundleName.bundle g.M.BundleName.workers g.L.LockName.lock c.self.inside.bundle.now c.args.self.now c.args.run c.args.worker c.index.result.now c.index-kept.result.now at c.requires.worker c.index.ensures in
-    ((λ _. ap (λ (posts : ℕ). Err (fault.Stale posts)) counted),
-    (λ _ fresh.
-        let agrees = c.agrees.ensures.1 (of_fresh g.M.BundleName.bundle g.M.BundleName.workers g.L.LockName.lock c.self.inside.bundle.now c.args.self.now c.args.run c.args.worker c.index-kept.result.now c.args.receipts.now at fresh) in
-        absurd (search (rules, agrees))))
+    let counted = counted_by g.M.BundleName.bundle g.M.BundleName.workers g.L.LockName.lock c.self.inside.bundle.now c.args.self.now c.args.run c.args.worker c.index.result.now c.index-kept.result.now at c.requires.worker c.index.ensures in (
+      (λ _. ap (λ (posts : ℕ). Err (fault.Stale posts)) counted),
+      (λ _ fresh.
+          let agrees = c.agrees.ensures.1 (of_fresh g.M.BundleName.bundle g.M.BundleName.workers g.L.LockName.lock c.self.inside.bundle.now c.args.self.now c.args.run c.args.worker c.index-kept.result.now c.args.receipts.now at fresh) in
+          absurd (search (rules, agrees))),
+    )
 
 pub returns-then-not-agrees-clause-fault : goal.returns-then-not-agrees-clause-fault
 returns-then-not-agrees-clause-fault g c =
