@@ -37,7 +37,7 @@ fn put_core(alloc: Global, case: &Json, out: &mut String) -> Written {
 
 /// What each step did, and the state behind them; behind it that of `core_run`, where it is another.
 fn put_steps(alloc: Global, case: &Json, bundle: &Bundle, out: &mut String) -> Written {
-    let sizes = sizes_of(case)?;
+    let sizes = sizes_of(case).ok_or(CaseFault::Member)?;
     let steps = steps_of(alloc, case)?;
     let mut stepped = String::new(alloc);
     put_stepped(alloc, bundle, sizes, &steps, out, &mut stepped)?;
@@ -50,15 +50,12 @@ fn put_steps(alloc: Global, case: &Json, bundle: &Bundle, out: &mut String) -> W
     Ok(())
 }
 
-fn size_of(case: &Json, name: &str) -> Result<usize, CaseFault> {
-    match members::json(case, name)?.as_u64() {
-        Some(size) => usize::try_from(size).map_err(|_| CaseFault::Member),
-        None => Err(CaseFault::Member),
-    }
+fn size_of(case: &Json, name: &str) -> Option<usize> {
+    usize::try_from(case.get(name)?.as_u64()?).ok()
 }
 
-fn sizes_of(case: &Json) -> Result<Sizes, CaseFault> {
-    Ok(Sizes {
+fn sizes_of(case: &Json) -> Option<Sizes> {
+    Some(Sizes {
         workers: size_of(case, "workers")?,
         places: size_of(case, "places")?,
     })
