@@ -191,8 +191,8 @@ pub record IsPushed (old new : Declared) (worker number : ℕ) (finding : Findin
   pub posts : new.posts.items ≡ set old.posts.items worker (get_or old.posts.items worker 0 + 1)
   pub replays : ForEachReplay old.run.state (λ limits events. Replays limits (events ++ event ∷ []) new.run.state)
   pub effect : ForEachReplay old.run.state (λ limits events. answer.effect ≡ effect_of limits events event)
-  pub places : vec_capacity new.run.entries ≡ vec_capacity old.run.entries
-  pub author_places : vec_capacity new.authors ≡ vec_capacity old.authors
+  pub capacity : vec_capacity new.run.entries ≡ vec_capacity old.run.entries
+  pub author_capacity : vec_capacity new.authors ≡ vec_capacity old.authors
 
 abbrev one_if : Bool → ℕ
 one_if test = cond test 1 0
@@ -355,8 +355,8 @@ table_push bundle workers lock runs places total after worker number run old new
 room_push : (bundle : Bundle) (lock run : ℕ) (old new : Declared) (worker number : ℕ) (finding : Finding) (event : Event) (answer : Posted) → HasRoom bundle lock run old → IsPushed old new worker number finding event answer → HasRoom bundle lock run new
 room_push bundle lock run old new worker number finding event answer room pushed =
     record {
-      entries = λ under. subst (λ (capacity : ℕ). entries_of bundle run ≤ capacity) (sym pushed.places) (room.entries under);
-      authors = λ under. subst (λ (capacity : ℕ). entries_of bundle run ≤ capacity) (sym pushed.author_places) (room.authors under);
+      entries = λ under. subst (λ (capacity : ℕ). entries_of bundle run ≤ capacity) (sym pushed.capacity) (room.entries under);
+      authors = λ under. subst (λ (capacity : ℕ). entries_of bundle run ≤ capacity) (sym pushed.author_capacity) (room.authors under);
     }
 
 pub inside_push : (named : Bundle) (workers lock : ℕ) (bundle : Bundle) (runs : List Declared) (places : List (Option ℕ)) (total after worker number run : ℕ) (old new : Declared) (finding : Finding) (event : Event) (answer : Posted) → IsInside named workers lock bundle runs places total

@@ -3,7 +3,7 @@ use Rattle.std.proofs.Common.{◌≡◌, ◌≢◌, ◌⊎◌, ◌<◌, ℕ, zer
 use Rattle.std.specs.Prelude.{nat_lt, slice_get}
 use Rattle.std.proofs.lemmas.Bool.Decides.{nat_tests}
 use Rattle.ar_board.specs.Lawful.{times_in}
-use Rattle.ar_board.specs.Receipts.{IsBehind, IsElsewhere, IsMet, IsMissing, IsOutOfOrder, numbers_at}
+use Rattle.ar_board.specs.Receipts.{IsLater, IsElsewhere, IsMet, IsMissing, IsOutOfOrder, numbers_at}
 use Rattle.ar_board.specs.declared.history.Entry.{Entry}
 use Rattle.ar_board.specs.declared.receipt.Receipt.{Receipt}
 use Rattle.ar_board.proofs.Places.{times_by}
@@ -39,15 +39,15 @@ module _ (receipt : Receipt) where
   first_by before rest true same true is_less = inl (λ same. grind (arith, nat_tests))
   first_by before rest true same false is_less = inr (record { at = 0; before = before; there = refl; same_run = grind (arith, nat_tests); greater = grind (arith, nat_tests) })
 
-  behind_or_not : (earlier : List Receipt) → IsBehind earlier receipt ⊎ IsOutOfOrder earlier receipt
+  behind_or_not : (earlier : List Receipt) → IsLater earlier receipt ⊎ IsOutOfOrder earlier receipt
   behind_or_not [] = inl tt
   behind_or_not (before ∷ rest) =
       ⊎_elim
-      (λ (first : before.run ≡ receipt.run → before.place < receipt.place). ⊎_elim (λ (others : IsBehind rest receipt). inl (first, others)) (λ (out : IsOutOfOrder rest receipt). inr (later before rest out)) (behind_or_not rest))
+      (λ (first : before.run ≡ receipt.run → before.place < receipt.place). ⊎_elim (λ (others : IsLater rest receipt). inl (first, others)) (λ (out : IsOutOfOrder rest receipt). inr (later before rest out)) (behind_or_not rest))
       (λ (out : IsOutOfOrder (before ∷ rest) receipt). inr out)
       (first_by before rest (before.run == receipt.run) refl (nat_lt before.place receipt.place) refl)
 
-  behind_each : (earlier : List Receipt) (at : ℕ) (before : Receipt) → IsBehind earlier receipt → slice_get earlier at ≡ Some before → before.run ≡ receipt.run → before.place < receipt.place
+  behind_each : (earlier : List Receipt) (at : ℕ) (before : Receipt) → IsLater earlier receipt → slice_get earlier at ≡ Some before → before.run ≡ receipt.run → before.place < receipt.place
   behind_each [] at before behind there same = absurd cc
   behind_each (first ∷ rest) zero before behind there same = let is : first ≡ before = cc in subst (λ (before : Receipt). before.run ≡ receipt.run → before.place < receipt.place) is behind.0 same
   behind_each (first ∷ rest) (suc at) before behind there same = behind_each rest at before behind.1 there same
@@ -60,7 +60,7 @@ pub met_or_not : (histories : List (List Entry)) (earlier : List Receipt) (recei
 met_or_not histories earlier receipt =
     ⊎_elim
     (λ (stands : slice_get (numbers_at histories receipt.run) receipt.place ≡ Some receipt.number).
-    ⊎_elim (λ (behind : IsBehind earlier receipt). inl (record { stands = stands; behind = behind })) (λ (out : IsOutOfOrder earlier receipt). inr (inr (inr out))) (behind_or_not receipt earlier))
+    ⊎_elim (λ (behind : IsLater earlier receipt). inl (record { stands = stands; later = behind })) (λ (out : IsOutOfOrder earlier receipt). inr (inr (inr out))) (behind_or_not receipt earlier))
     (λ (apart : slice_get (numbers_at histories receipt.run) receipt.place ≢ Some receipt.number).
     ⊎_elim (λ (missing : IsMissing histories receipt). inr (inl missing)) (λ (elsewhere : IsElsewhere histories receipt). inr (inr (inl elsewhere)))
     (missing_or_elsewhere histories receipt (times_in receipt.number (numbers_at histories receipt.run)) refl apart))
@@ -70,4 +70,4 @@ pub met_has_no_cause : (histories : List (List Entry)) (earlier : List Receipt) 
 met_has_no_cause histories earlier receipt met =
     ⊎_elim (λ (missing : IsMissing histories receipt). let there = counted_at receipt.number receipt.place (numbers_at histories receipt.run) met.stands in omega arith)
     (⊎_elim (λ (elsewhere : IsElsewhere histories receipt). elsewhere.apart met.stands)
-    (λ (out : IsOutOfOrder earlier receipt). let less = behind_each receipt earlier out.at out.before met.behind out.there out.same_run in let greater = out.greater in omega arith))
+    (λ (out : IsOutOfOrder earlier receipt). let less = behind_each receipt earlier out.at out.before met.later out.there out.same_run in let greater = out.greater in omega arith))

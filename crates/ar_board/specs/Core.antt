@@ -1,5 +1,5 @@
--- The core of a board: what it does to plain lists, one step after another. Whatever the workers of a board do, each
--- section under its lock and each step at its queue is one of these steps.
+-- The core of a board: what it does to plain lists, one step after another. A number is put into the queue, a worker
+-- takes it, and posts it to its run's history.
 use Rattle.std.specs.Prelude.{◌≡◌, ◌<◌, ◌+◌, ◌++◌, ◌==◌, ◌&&◌, ℕ, suc, nat_lt, Bool, if◌then◌else◌, List, [], ◌∷◌, length, map, replicate, set, get_or, Option, Some, None, is_none, IfSome, option_and_then, option_map, slice_get}
 use Rattle.std.specs.List.{AllByRecursion, sum_by}
 use Rattle.ar_limits.specs.Replay.{Replays, Standing}

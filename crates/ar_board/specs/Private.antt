@@ -1,4 +1,5 @@
--- Definitions of private contracts, which follow the code: a reader need not believe them.
+-- How values of public types lie in memory (their views and what always holds of them), and what private contracts speak
+-- of. These follow the code.
 pub mod Kept
 pub mod Inside
 pub mod KeptRuns

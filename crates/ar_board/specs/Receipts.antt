@@ -1,7 +1,7 @@
 -- Receipts: what a worker keeps of the posts that succeeded, and when histories meet them.
-use Rattle.std.specs.Prelude.{◌≡◌, ◌≢◌, ◌<◌, ◌≤◌, ◌==◌, ℕ, suc, Bool, if◌then◌else◌, List, [], ◌∷◌, Some, get_or, slice_get}
+use Rattle.std.specs.Prelude.{◌≡◌, ◌≢◌, ◌<◌, ◌≤◌, ◌==◌, ℕ, suc, Bool, if◌then◌else◌, List, [], ◌∷◌, Some, get_or, slice_get, take}
 use Rattle.std.specs.List.{AllByRecursion}
-use Rattle.ar_board.specs.Lawful.{numbers_of, times_in}
+use Rattle.ar_board.specs.Lawful.{numbers_of, times, times_in}
 use Rattle.ar_board.specs.declared.history.Entry.{Entry}
 use Rattle.ar_board.specs.declared.receipt.Receipt.{Receipt}
 
@@ -33,13 +33,20 @@ abbrev pub numbers_at : List (List Entry) → (run : ℕ) → List ℕ
 numbers_at histories run = numbers_of (get_or histories run [])
 
 -- its place is greater than those of the worker's earlier receipts for the run
-abbrev pub IsBehind : (earlier : List Receipt) → Receipt → Type 0
-IsBehind earlier receipt = AllByRecursion (λ before. before.run ≡ receipt.run → before.place < receipt.place) earlier
+abbrev pub IsLater : (earlier : List Receipt) → Receipt → Type 0
+IsLater earlier receipt = AllByRecursion (λ before. before.run ≡ receipt.run → before.place < receipt.place) earlier
 
--- the number stands at the receipt's place, behind those of the worker's earlier receipts for the run
+-- the number stands at the receipt's place, which is later than those of the worker's earlier receipts for the run
 pub record IsMet (histories : List (List Entry)) (earlier : List Receipt) (receipt : Receipt) : Type 0 where
   pub stands : slice_get (numbers_at histories receipt.run) receipt.place ≡ Some receipt.number
-  pub behind : IsBehind earlier receipt
+  pub later : IsLater earlier receipt
+
+-- histories hold a number where it stands in one of them, and each receipt for it is met, whichever worker has it; these
+-- are the receipts of each worker, in the order in which they were given
+pub record Hold (histories : List (List Entry)) (receipts : List (List Receipt)) (number : ℕ) : Type 0 where
+  pub stands : 0 < times number histories
+  pub met : (worker at : ℕ) (own : List Receipt) (receipt : Receipt) → slice_get receipts worker ≡ Some own → slice_get own at ≡ Some receipt
+      → receipt.number ≡ number → IsMet histories (take at own) receipt
 
 -- ---- why a receipt isn't met
 

@@ -18,9 +18,10 @@ use std::alloc::{AllocError, Global};
 use std::marker::{Model, PhantomData};
 use std::sync::ledger::{Book, Share};
 
-/// What a board keeps under one of its locks: of each run that is under it the history, the worker that
-/// posted each entry, how many entries each worker posted, and where the run stands; and the book of
-/// the lock's ledger. Contracts see it as the `Cell` of `specs/Cell`, and `IsCell` is true of it.
+/// What a board keeps under one of its locks: of each run of the bundle the history, the worker that
+/// posted each entry, how many entries each worker posted, and where the run stands, all of them empty
+/// for runs under other locks; and the book of the lock's ledger. Contracts see it as the `Cell` of
+/// `specs/Cell`, and `IsCell` is true of it.
 #[derive(Drop)]
 pub struct RunCell<'b, M: BundleName, L: LockName> {
     bundle: &'b Bundle,
@@ -94,17 +95,25 @@ impl<'b, M: BundleName, L: LockName> RunCell<'b, M, L> {
         })
     }
 
-    /// The history of a run. `IsCell` is true of each cell, whatever was posted.
+    /// The bundle that the cell is for. `IsCell` is true of each cell, whatever was posted.
+    pub fn bundle(&self) -> &Bundle
+        ensures bundle { result.now ≡ M.bundle }
+        ensures cell { IsCell M.bundle M.workers L.lock self.now }
+    {
+        self.bundle
+    }
+
+    /// The history of a run.
     pub fn history(&self, run: usize) -> &[Entry]
         requires { run < length M.bundle.runs }
-        ensures history { result.now ≡ history_at self.now run }
-        ensures cell { IsCell M.bundle M.workers L.lock self.now }
+        ensures { result.now ≡ history_at self.now run }
     {
         &self.runs[run].run.entries
     }
 
-    /// A run as its history is now, where the worker's entries in it are those of its receipts for the
-    /// run. It takes time in proportion to these and to the run's entries.
+    /// A run as its history is now, where the worker's entries in it are just those of its receipts for
+    /// the run. It takes time in proportion to the run's entries, the receipts that are handed in, the
+    /// metrics and the workers.
     ///
     /// # Errors
     ///
@@ -132,8 +141,8 @@ impl<'b, M: BundleName, L: LockName> RunCell<'b, M, L> {
         Ok(kept.snapshot(alloc)?)
     }
 
-    /// A worker's finding of a number comes to the end of its run's history, which adds one to the share
-    /// and to the book. No memory is taken.
+    /// A number with its finding comes to the end of its run's history, posted by a worker. The worker's
+    /// share, of which it has a part, and the book are one more. Want of memory is never answered.
     ///
     /// # Errors
     ///

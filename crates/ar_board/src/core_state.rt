@@ -99,6 +99,7 @@ impl<'b> CoreState<'b> {
         places: usize,
     ) -> Result<CoreState<'b>, AllocError>
         ensures exact { IfOk result (λ core. core ≡ core_after bundle.now workers places []) }
+        // What is true of each bundle, told to callers.
         ensures bundle { IfOk result (λ _. IsBundle bundle.now) }
     {
         Ok(CoreState {

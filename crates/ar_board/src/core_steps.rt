@@ -1,6 +1,6 @@
 //! Steps of a board, as `specs/Core` defines them.
 
-/// A step of a board: at its queue, or under its lock.
+/// A step of the core.
 #[derive(Clone, Copy, Debug, PartialEq, Eq)]
 pub enum CoreStep {
     /// The next number goes to the queue's end.

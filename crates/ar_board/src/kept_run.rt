@@ -63,8 +63,8 @@ impl KeptRun {
             Replays limits (events ++ event ∷ []) self.new.run.state) }
         ensures effect { ForEachReplay self.old.run.state (λ limits events.
             result.effect ≡ effect_of limits events event) }
-        ensures places { vec_capacity self.new.run.entries ≡ vec_capacity self.old.run.entries }
-        ensures author_places { vec_capacity self.new.authors ≡ vec_capacity self.old.authors }
+        ensures capacity { vec_capacity self.new.run.entries ≡ vec_capacity self.old.run.entries }
+        ensures author_capacity { vec_capacity self.new.authors ≡ vec_capacity self.old.authors }
     {
         let place = self.run.entries.len();
         let effect = self.run.append(number, finding, event);

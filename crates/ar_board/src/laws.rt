@@ -42,7 +42,8 @@ pub fn lawful_are_so_far()
         → AreHistoriesSoFar bundle histories }
 {}
 
-/// A receipt that histories don't meet has one of three causes, and one that they meet has none.
+/// A receipt that histories don't meet has one of three causes at least, and one that they meet has
+/// none.
 pub fn receipts_are_met_or_not()
     ensures met_or_not { (histories : List (List Entry)) (earlier : List Receipt) (receipt : Receipt)
         → IsMet histories earlier receipt

@@ -15,8 +15,8 @@
 //! A [`RunCell`] is what a board keeps under one of its locks: of each run the history with the worker
 //! that posted each entry, and where the run stands. [`RunCell::add`] is the core's Post on a run of
 //! the cell, answered with the entry's place and effect, and [`RunCell::show`] shows a run to a worker
-//! whose [`Receipt`]s the history meets. `specs/Cell` says what is true of a cell whenever its lock is
-//! free, `specs/Receipts` when histories meet a receipt. A [`BundleName`] names the bundle in
+//! whose entries in it are just those of its [`Receipt`]s for the run. `specs/Cell` says what is true of
+//! a cell whenever its lock is free, `specs/Receipts` when histories meet a receipt. A [`BundleName`] names the bundle in
 //! contracts, a [`LockName`] the lock and its ledger.
 //!
 //! - [`bundle`]: bundles and their parts; [`finding`]: what a number comes to

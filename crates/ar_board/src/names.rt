@@ -1,5 +1,5 @@
-//! Types that name a bundle or a lock in contracts. They have no values: a function over them speaks of
-//! whichever bundle and lock its caller has.
+//! Types that name a bundle or a lock in contracts. No value of them is wanted: a function over them
+//! speaks of whichever bundle and lock its caller has.
 
 ghost use Rattle.ar_board.specs.Bundle.{bundle_of};
 ghost use Rattle.std.specs.Prelude.{ℕ, []};
@@ -16,6 +16,7 @@ pub trait BundleName {
     ghost workers: { ℕ };
 }
 
+// A caller that takes `Brand` says which bundle it means; these stand where none does.
 impl BundleName for Brand {
     ghost bundle = { bundle_of [] [] [] };
 

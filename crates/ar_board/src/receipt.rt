@@ -1,6 +1,6 @@
 //! What a worker keeps of its posts.
 
-/// What a worker's seat keeps of a post that succeeded.
+/// What a worker keeps of a post that succeeded.
 #[derive(Clone, Copy, Debug, PartialEq, Eq)]
 pub struct Receipt {
     /// The run that the number is of, counted from 0.

@@ -1,4 +1,4 @@
--- How a cell keeps runs. No public contract speaks of this.
+-- How a cell keeps runs, and how contracts see that.
 use Rattle.std.specs.Prelude.{◌≡◌, ◌<◌, ◌≤◌, ◌==◌, ℕ, suc, if◌then◌else◌, List, [], ◌∷◌, length, map, Option, Some, None, option_map, drop, get_or, replicate, slice_get, vec_capacity}
 use Rattle.ar_limits.specs.Replay.{IsOfMetricBelow, Replays}
 use Rattle.ar_limits.specs.declared.event.Event.{Event}

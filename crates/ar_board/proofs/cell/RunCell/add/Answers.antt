@@ -19,7 +19,7 @@ pub invariant_of-self : goal.invariant_of-self
 invariant_of-self g c =
     let is : IsReady c.self.inside.bundle.now g.M.BundleName.workers g.L.LockName.lock c.self.inside.runs.items c.args.number c.run_of-run.result c.index_mut.result.now = ready g.M.BundleName.bundle g.M.BundleName.workers g.L.LockName.lock c.self.inside.bundle.now c.self.inside.runs.items c.self.inside.places.items c.self.inside.book.total c.args.number c.run_of-run.result c.index_mut.result.now c.index.result.now c.self.invariant
     c.requires.under (search rules) c.run_of-run.ensures.own c.run_of-run.ensures.there c.index_mut.ensures.value c.index.ensures (search rules) in
-    let pushed : IsPushed c.index_mut.result.now c.push-posted.new.self c.args.worker c.args.number c.args.finding c.event-event.result c.push-posted.result = record { place = c.push-posted.ensures.place; entry = c.push-posted.ensures.entry; author = c.push-posted.ensures.author; posts = c.push-posted.ensures.posts; replays = c.push-posted.ensures.replays; effect = c.push-posted.ensures.effect; places = c.push-posted.ensures.places; author_places = c.push-posted.ensures.author_places } in
+    let pushed : IsPushed c.index_mut.result.now c.push-posted.new.self c.args.worker c.args.number c.args.finding c.event-event.result c.push-posted.result = record { place = c.push-posted.ensures.place; entry = c.push-posted.ensures.entry; author = c.push-posted.ensures.author; posts = c.push-posted.ensures.posts; replays = c.push-posted.ensures.replays; effect = c.push-posted.ensures.effect; capacity = c.push-posted.ensures.capacity; author_capacity = c.push-posted.ensures.author_capacity } in
     inside_push g.M.BundleName.bundle g.M.BundleName.workers g.L.LockName.lock c.self.inside.bundle.now c.self.inside.runs.items c.self.inside.places.items c.self.inside.book.total c.add.new.self.total c.args.worker c.args.number c.run_of-run.result c.index_mut.result.now c.push-posted.new.self c.args.finding c.event-event.result c.push-posted.result
     c.self.invariant is c.requires.worker (search rules) (search rules) c.event-event.ensures.exact pushed c.add.ensures.total
 
@@ -27,7 +27,7 @@ pub returns-clause-posted : goal.returns-clause-posted
 returns-clause-posted g c =
     let is : IsReady c.self.inside.bundle.now g.M.BundleName.workers g.L.LockName.lock c.self.inside.runs.items c.args.number c.run_of-run.result c.index_mut.result.now = ready g.M.BundleName.bundle g.M.BundleName.workers g.L.LockName.lock c.self.inside.bundle.now c.self.inside.runs.items c.self.inside.places.items c.self.inside.book.total c.args.number c.run_of-run.result c.index_mut.result.now c.index.result.now c.self.invariant
     c.requires.under (search rules) c.run_of-run.ensures.own c.run_of-run.ensures.there c.index_mut.ensures.value c.index.ensures (search rules) in
-    let pushed : IsPushed c.index_mut.result.now c.push-posted.new.self c.args.worker c.args.number c.args.finding c.event-event.result c.push-posted.result = record { place = c.push-posted.ensures.place; entry = c.push-posted.ensures.entry; author = c.push-posted.ensures.author; posts = c.push-posted.ensures.posts; replays = c.push-posted.ensures.replays; effect = c.push-posted.ensures.effect; places = c.push-posted.ensures.places; author_places = c.push-posted.ensures.author_places } in
+    let pushed : IsPushed c.index_mut.result.now c.push-posted.new.self c.args.worker c.args.number c.args.finding c.event-event.result c.push-posted.result = record { place = c.push-posted.ensures.place; entry = c.push-posted.ensures.entry; author = c.push-posted.ensures.author; posts = c.push-posted.ensures.posts; replays = c.push-posted.ensures.replays; effect = c.push-posted.ensures.effect; capacity = c.push-posted.ensures.capacity; author_capacity = c.push-posted.ensures.author_capacity } in
     let answer = is_posted g.M.BundleName.bundle g.M.BundleName.workers g.L.LockName.lock c.self.inside.bundle.now c.self.inside.runs.items c.self.inside.book.total c.add.new.self.total c.args.worker c.args.number c.run_of-run.result c.index_mut.result.now c.push-posted.new.self c.args.finding c.event-event.result c.push-posted.result
     c.self.invariant.is_named is (search rules) c.event-event.ensures.exact pushed c.add.ensures.total in
     subst (λ (before : Cell). IsPosted g.M.BundleName.bundle c.args.worker c.args.number c.args.finding before (cell_of (set c.self.inside.runs.items c.run_of-run.result c.push-posted.new.self) c.add.new.self.total) c.push-posted.result) c.self.view_is answer
