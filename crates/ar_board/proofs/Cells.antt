@@ -11,21 +11,21 @@ use Rattle.ar_limits.specs.Run.{effect_of}
 use Rattle.ar_limits.specs.declared.event.Effect.{Effect}
 use Rattle.ar_limits.specs.declared.event.Event.{Event}
 use Rattle.ar_limits.specs.declared.limits.Limits.{Limits}
-use Rattle.ar_board.specs.Bundle.{Bundle, IsRun, count_of, counts_of, entries_of, events_of, found, happened, most_events, run_of, sizes_of}
+use Rattle.ar_bundle.specs.Bundle.{Bundle, IsRun, count_of, counts_of, entries_of, events_of, found, happened, most_events, run_of, sizes_of}
 use Rattle.ar_board.specs.Cell.{ArePosts, Cell, IsCell, IsKept, IsPosted, IsUnder, KeptRun, Stands, authors_at, authors_of, histories_of, history_at, lock_of}
 use Rattle.ar_board.specs.Core.{added, posted}
-use Rattle.ar_board.specs.Lawful.{AreHistories, AtMostOnce, IsHistory, numbers_of, times_in}
+use Rattle.ar_bundle.specs.Lawful.{AreHistories, AtMostOnce, IsHistory, numbers_of, times_in}
 use Rattle.ar_board.specs.Private.KeptRuns.{CanTake, HasRoom, IsInside, IsTable, cell_of, kept_of, place_in}
-use Rattle.ar_board.specs.declared.bundle.EventPart.{EventPart}
-use Rattle.ar_board.specs.declared.bundle.RunPart.{RunPart}
-use Rattle.ar_board.specs.declared.finding.Finding.{Finding}
-use Rattle.ar_board.specs.declared.history.Entry.{Entry}
+use Rattle.ar_bundle.specs.declared.bundle.EventPart.{EventPart}
+use Rattle.ar_bundle.specs.declared.bundle.RunPart.{RunPart}
+use Rattle.ar_bundle.specs.declared.finding.Finding.{Finding}
+use Rattle.ar_bundle.specs.declared.history.Entry.{Entry}
 use Rattle.ar_board.specs.declared.kept_run.KeptRun.{KeptRun as Declared}
 use Rattle.ar_board.specs.declared.posted.Posted.{Posted}
-use Rattle.ar_board.proofs.Bundles.{entry_at, of_each, run_of_number}
-use Rattle.ar_board.proofs.HistoryLemmas.{few_happen, all_push, events_push, history_push, numbers_push, times_push}
+use Rattle.ar_bundle.proofs.Bundles.{entry_at, of_each, run_of_number}
+use Rattle.ar_bundle.proofs.HistoryLemmas.{few_happen, all_push, events_push, history_push, numbers_push, times_push}
 use Rattle.ar_board.proofs.Places.{absent, place_last, place_other, present, times_own}
-use Rattle.ar_board.proofs.Room.{has_room}
+use Rattle.ar_bundle.proofs.Room.{has_room}
 
 -- ---- lists
 

@@ -7,15 +7,15 @@ use Rattle.std.proofs.lemmas.List.{length-take-le, map_push, take_all}
 use Rattle.std.proofs.lemmas.Option.{slice_get_read}
 use Rattle.ar_limits.specs.Metric.{HasPositiveCounts}
 use Rattle.ar_limits.specs.Replay.{Replays}
-use Rattle.ar_board.specs.Bundle.{Bundle, IsBundle, IsRun, entries_of, events_of, found, sizes_of}
-use Rattle.ar_board.specs.Lawful.{numbers_of}
+use Rattle.ar_bundle.specs.Bundle.{Bundle, IsBundle, IsRun, entries_of, events_of, found, sizes_of}
+use Rattle.ar_bundle.specs.Lawful.{numbers_of}
 use Rattle.ar_board.specs.Private.Inside.{AreFound, AreKept, AreOpened, IsKept, histories_of}
-use Rattle.ar_board.specs.declared.bundle.RunPart.{RunPart}
+use Rattle.ar_bundle.specs.declared.bundle.RunPart.{RunPart}
 use Rattle.ar_board.specs.declared.run_history.RunHistory.{RunHistory}
-use Rattle.ar_board.specs.declared.finding.Finding.{Finding}
-use Rattle.ar_board.specs.declared.history.Entry.{Entry}
-use Rattle.ar_board.proofs.Bundles.{of_each}
-use Rattle.ar_board.proofs.Sizes.{as_many_counts, count_at}
+use Rattle.ar_bundle.specs.declared.finding.Finding.{Finding}
+use Rattle.ar_bundle.specs.declared.history.Entry.{Entry}
+use Rattle.ar_bundle.proofs.Bundles.{of_each}
+use Rattle.ar_bundle.proofs.Sizes.{as_many_counts, count_at}
 
 -- ---- findings
 

@@ -9,22 +9,22 @@ use Rattle.std.proofs.lemmas.List.Sums.{get_or-le-sum_by}
 use Rattle.std.proofs.lemmas.Option.{get_or_from_slice_get, slice_get_read, slice_get_within}
 use Rattle.ar_limits.specs.Replay.{ForEachReplay, Replays}
 use Rattle.ar_limits.specs.declared.event.Event.{Event}
-use Rattle.ar_board.specs.Bundle.{Bundle, IsBundle, IsRun, events_of, found, happened, run_of}
+use Rattle.ar_bundle.specs.Bundle.{Bundle, IsBundle, IsRun, events_of, found, happened, run_of}
 use Rattle.ar_board.specs.Core.{Core, State, after_step, entry_with, held, post_of, times_held, times_to_put}
-use Rattle.ar_board.specs.Lawful.{IsHistory, numbers_of, times, times_in}
+use Rattle.ar_bundle.specs.Lawful.{IsHistory, numbers_of, times, times_in}
 use Rattle.ar_board.specs.Private.Inside.{AreJudged, AreKept, IsCore, IsKept, core_of, histories_of, state_of}
 use Rattle.ar_board.specs.Private.Kept.{IsSound}
-use Rattle.ar_board.specs.declared.bundle.RunPart.{RunPart}
+use Rattle.ar_bundle.specs.declared.bundle.RunPart.{RunPart}
 use Rattle.ar_board.specs.declared.core_state.CoreState.TheInside.{Inside}
 use Rattle.ar_board.specs.declared.run_history.RunHistory.{RunHistory}
 use Rattle.ar_board.specs.declared.core_steps.CoreStep.TheVariants.{Post}
-use Rattle.ar_board.specs.declared.finding.Finding.{Finding}
-use Rattle.ar_board.specs.declared.history.Entry.{Entry}
-use Rattle.ar_board.proofs.Bundles.{entry_at, of_each}
+use Rattle.ar_bundle.specs.declared.finding.Finding.{Finding}
+use Rattle.ar_bundle.specs.declared.history.Entry.{Entry}
+use Rattle.ar_bundle.proofs.Bundles.{entry_at, of_each}
 use Rattle.ar_board.proofs.CoreSteps.{holder_inside, step_sound}
-use Rattle.ar_board.proofs.HistoryLemmas.{events_push, history_at, numbers_push}
-use Rattle.ar_board.proofs.Room.{has_room}
-use Rattle.ar_board.proofs.Sizes.{few_counted}
+use Rattle.ar_bundle.proofs.HistoryLemmas.{events_push, history_at, numbers_push}
+use Rattle.ar_bundle.proofs.Room.{has_room}
+use Rattle.ar_bundle.proofs.Sizes.{few_counted}
 
 -- ---- a number in a hand
 

@@ -3,14 +3,14 @@ use Rattle.std.proofs.Common.{◌≡◌, ◌<◌, ℕ, ◌+◌, List, [], length
 use Rattle.std.specs.Prelude.{slice_get}
 use Rattle.std.proofs.lemmas.Option.{slice_get-map, slice_get_read}
 use Rattle.ar_limits.specs.Replay.{Replays}
-use Rattle.ar_board.specs.Bundle.{events_of}
+use Rattle.ar_bundle.specs.Bundle.{events_of}
 use Rattle.ar_board.specs.Core.{Core, IsStateOf}
-use Rattle.ar_board.specs.Lawful.{numbers_of}
+use Rattle.ar_bundle.specs.Lawful.{numbers_of}
 use Rattle.ar_board.specs.Private.Inside.{IsCore, IsKept, core_of, histories_of}
 use Rattle.ar_board.specs.declared.core_state.CoreState.TheInside.{Inside}
 use Rattle.ar_board.specs.declared.run_history.RunHistory.{RunHistory}
-use Rattle.ar_board.specs.declared.history.Entry.{Entry}
-use Rattle.ar_board.proofs.Bundles.{entry_at}
+use Rattle.ar_bundle.specs.declared.history.Entry.{Entry}
+use Rattle.ar_bundle.proofs.Bundles.{entry_at}
 use Rattle.ar_board.proofs.CoreOpening.{as_many_kept}
 use Rattle.ar_board.proofs.CorePost.{KeptAt, history_is, kept_at}
 

@@ -9,18 +9,18 @@ use Rattle.std.proofs.lemmas.List.Folds.{sum_by-replicate}
 use Rattle.std.proofs.lemmas.List.Sums.{sum_by-cons, sum_by-set}
 use Rattle.ar_limits.specs.Run.{effect_of}
 use Rattle.ar_limits.specs.declared.event.Event.{Event}
-use Rattle.ar_board.specs.Bundle.{Bundle, IsBundle, IsEntry, events_of, found, happened, run_of}
+use Rattle.ar_bundle.specs.Bundle.{Bundle, IsBundle, IsEntry, events_of, found, happened, run_of}
 use Rattle.ar_board.specs.Core.{Core, HasEachOnce, IsAtRest, State, added, after, after_step, can_put, core_after, emptied, entry_behind, has_empty_hand, held, occurrences, opening, post_of, put, stepped, taken, times_held, times_to_put, with_number}
-use Rattle.ar_board.specs.Lawful.{AreHistories, AreLawful, IsHistory, numbers_of, times_in}
+use Rattle.ar_bundle.specs.Lawful.{AreHistories, AreLawful, IsHistory, numbers_of, times_in}
 use Rattle.ar_board.specs.Private.Kept.{IsSound}
-use Rattle.ar_board.specs.declared.bundle.EventPart.{EventPart}
-use Rattle.ar_board.specs.declared.bundle.RunPart.{RunPart}
+use Rattle.ar_bundle.specs.declared.bundle.EventPart.{EventPart}
+use Rattle.ar_bundle.specs.declared.bundle.RunPart.{RunPart}
 use Rattle.ar_board.specs.declared.core_steps.CoreStep.{CoreStep}
 use Rattle.ar_board.specs.declared.core_steps.CoreStep.TheVariants.{Put, Take, Post}
-use Rattle.ar_board.specs.declared.finding.Finding.{Finding}
-use Rattle.ar_board.specs.declared.history.Entry.{Entry}
-use Rattle.ar_board.proofs.Bundles.{of_each}
-use Rattle.ar_board.proofs.HistoryLemmas.{as_many, history_at, history_push, history_set, none_yet, times_added, times_none, times_push}
+use Rattle.ar_bundle.specs.declared.finding.Finding.{Finding}
+use Rattle.ar_bundle.specs.declared.history.Entry.{Entry}
+use Rattle.ar_bundle.proofs.Bundles.{of_each}
+use Rattle.ar_bundle.proofs.HistoryLemmas.{as_many, history_at, history_push, history_set, none_yet, times_added, times_none, times_push}
 
 -- ---- Put
 

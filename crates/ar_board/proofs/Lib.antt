@@ -1,14 +1,9 @@
-pub mod Bundles
-pub mod HistoryLemmas
 pub mod CoreSteps
-pub mod Room
-pub mod Sizes
 pub mod Places
 pub mod Cells
 pub mod Shows
 pub mod Opened
 pub mod ReceiptLemmas
-pub mod SoFar
 pub mod CorePost
 pub mod CoreOpening
 pub mod CoreShown

@@ -8,17 +8,17 @@ use Rattle.std.proofs.lemmas.Option.{slice_get_read, slice_get_within}
 use Rattle.ar_limits.specs.Prefixes.{with_earlier}
 use Rattle.ar_limits.specs.Replay.{Replays}
 use Rattle.ar_limits.specs.Run.{effects}
-use Rattle.ar_board.specs.Bundle.{Bundle, IsBundle, entries_of, events_of, sizes_of}
+use Rattle.ar_bundle.specs.Bundle.{Bundle, IsBundle, entries_of, events_of, sizes_of}
 use Rattle.ar_board.specs.Cell.{ArePosts, IsCell, IsEmpty, IsKept, KeptRun, history_at}
-use Rattle.ar_board.specs.Lawful.{AtMostOnce, IsHistory, numbers_of}
+use Rattle.ar_bundle.specs.Lawful.{AtMostOnce, IsHistory, numbers_of}
 use Rattle.ar_board.specs.Private.KeptRuns.{AreOpened, IsInside, IsOpened, IsTable, cell_of, kept_of, place_in}
-use Rattle.ar_board.specs.declared.bundle.RunPart.{RunPart}
+use Rattle.ar_bundle.specs.declared.bundle.RunPart.{RunPart}
 use Rattle.ar_board.specs.declared.kept_run.KeptRun.{KeptRun as Declared}
-use Rattle.ar_board.specs.declared.history.Entry.{Entry}
-use Rattle.ar_board.proofs.Bundles.{entry_at, run_of_number}
+use Rattle.ar_bundle.specs.declared.history.Entry.{Entry}
+use Rattle.ar_bundle.proofs.Bundles.{entry_at, run_of_number}
 use Rattle.ar_board.proofs.Cells.{history_is, kept_at, size_at}
-use Rattle.ar_board.proofs.Room.{number_inside}
-use Rattle.ar_board.proofs.Sizes.{as_many_counts}
+use Rattle.ar_bundle.proofs.Room.{number_inside}
+use Rattle.ar_bundle.proofs.Sizes.{as_many_counts}
 
 -- ---- one run more
 

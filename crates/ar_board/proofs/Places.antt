@@ -3,16 +3,14 @@ use Rattle.std.proofs.Common.{◌≡◌, ◌≢◌, ◌<◌, ℕ, zero, suc, ◌
 use Rattle.std.specs.Prelude.{option_map}
 use Rattle.std.specs.List.{AllByRecursion}
 use Rattle.std.proofs.lemmas.Bool.Decides.{nat_tests}
-use Rattle.ar_board.specs.Bundle.{Bundle, run_of}
-use Rattle.ar_board.specs.Lawful.{AreHistories, IsFound, numbers_of, times, times_in}
-use Rattle.ar_board.specs.declared.bundle.RunPart.{RunPart}
-use Rattle.ar_board.specs.declared.history.Entry.{Entry}
+use Rattle.ar_bundle.specs.Bundle.{Bundle, run_of}
+use Rattle.ar_bundle.specs.Lawful.{AreHistories, IsFound, numbers_of, times, times_in}
+use Rattle.ar_bundle.specs.declared.bundle.RunPart.{RunPart}
+use Rattle.ar_bundle.specs.declared.history.Entry.{Entry}
+use Rattle.ar_bundle.proofs.HistoryLemmas.{times_by}
 use Rattle.ar_board.specs.Private.KeptRuns.{place_in}
 
 -- ---- among numbers
-
-pub times_by : (number first : ℕ) (numbers : List ℕ) (test : Bool) → (first == number) ≡ test → times_in number (first ∷ numbers) ≡ (if test then suc (times_in number numbers) else times_in number numbers)
-times_by number first numbers test is = rw is refl
 
 place_by : (number first : ℕ) (numbers : List ℕ) (test : Bool) → (first == number) ≡ test → place_in number (first ∷ numbers) ≡ (if test then Some 0 else option_map suc (place_in number numbers))
 place_by number first numbers test is = rw is refl

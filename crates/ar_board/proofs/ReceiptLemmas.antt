@@ -2,11 +2,11 @@
 use Rattle.std.proofs.Common.{◌≡◌, ◌≢◌, ◌⊎◌, ◌<◌, ℕ, zero, suc, ◌==◌, Bool, true, false, List, [], ◌∷◌, Option, Some, None, refl, ap, subst, arith, inl, inr, ⊎_elim}
 use Rattle.std.specs.Prelude.{nat_lt, slice_get}
 use Rattle.std.proofs.lemmas.Bool.Decides.{nat_tests}
-use Rattle.ar_board.specs.Lawful.{times_in}
+use Rattle.ar_bundle.specs.Lawful.{times_in}
 use Rattle.ar_board.specs.Receipts.{IsLater, IsElsewhere, IsMet, IsMissing, IsOutOfOrder, numbers_at}
-use Rattle.ar_board.specs.declared.history.Entry.{Entry}
+use Rattle.ar_bundle.specs.declared.history.Entry.{Entry}
 use Rattle.ar_board.specs.declared.receipt.Receipt.{Receipt}
-use Rattle.ar_board.proofs.Places.{times_by}
+use Rattle.ar_bundle.proofs.HistoryLemmas.{times_by}
 
 -- a number at a place is there
 counted_at : (number place : ℕ) (numbers : List ℕ) → slice_get numbers place ≡ Some number → 0 < times_in number numbers

@@ -7,17 +7,17 @@ use Rattle.std.proofs.lemmas.Option.{get_or_from_slice_get, slice_get_read}
 use Rattle.ar_limits.proofs.LawLemmas.{one_for_each_metric}
 use Rattle.ar_limits.specs.Run.{metric_phases, run_phase}
 use Rattle.ar_limits.specs.declared.phase.Phase.{Phase}
-use Rattle.ar_board.specs.Bundle.{Bundle, events_of}
+use Rattle.ar_bundle.specs.Bundle.{Bundle, events_of}
 use Rattle.ar_board.specs.Cell.{ArePosts, Cell, IsFresh, IsKept, IsSnapshot, authors_at, history_at, posts_of}
-use Rattle.ar_board.specs.Lawful.{numbers_of}
+use Rattle.ar_bundle.specs.Lawful.{numbers_of}
 use Rattle.ar_board.specs.Receipts.{posted_by, posted_from, posted_if, received, received_if}
 use Rattle.ar_board.specs.Private.KeptRuns.{IsInside, IsNextOwn, cell_of, kept_of, own_from}
-use Rattle.ar_board.specs.declared.history.Entry.{Entry}
-use Rattle.ar_board.specs.declared.bundle.RunPart.{RunPart}
+use Rattle.ar_bundle.specs.declared.history.Entry.{Entry}
+use Rattle.ar_bundle.specs.declared.bundle.RunPart.{RunPart}
 use Rattle.ar_board.specs.declared.kept_run.KeptRun.{KeptRun as Declared}
 use Rattle.ar_board.specs.declared.receipt.Receipt.{Receipt}
 use Rattle.ar_board.specs.declared.snapshot.Snapshot.{Snapshot}
-use Rattle.ar_board.proofs.Bundles.{entry_at as entry_of}
+use Rattle.ar_bundle.proofs.Bundles.{entry_at as entry_of}
 use Rattle.ar_board.proofs.Cells.{authors_are, history_is, kept_at}
 
 -- ---- phases

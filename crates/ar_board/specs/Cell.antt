@@ -4,13 +4,13 @@ use Rattle.std.specs.List.{AllByRecursion, count_by, sum_by}
 use Rattle.ar_limits.specs.Replay.{Replays, Standing}
 use Rattle.ar_limits.specs.Run.{metric_phases, run_phase}
 use Rattle.ar_limits.specs.declared.limits.Limits.{Limits}
-use Rattle.ar_board.specs.Bundle.{Bundle, events_of, run_of}
+use Rattle.ar_bundle.specs.Bundle.{Bundle, events_of, run_of}
 use Rattle.ar_board.specs.Core.{posted}
 use Rattle.ar_board.specs.Receipts.{posted_by, received}
-use Rattle.ar_board.specs.Lawful.{AtMostOnce, IsHistory, numbers_of, times}
-use Rattle.ar_board.specs.declared.bundle.RunPart.{RunPart}
-use Rattle.ar_board.specs.declared.finding.Finding.{Finding}
-use Rattle.ar_board.specs.declared.history.Entry.{Entry}
+use Rattle.ar_bundle.specs.Lawful.{AtMostOnce, IsHistory, numbers_of, times}
+use Rattle.ar_bundle.specs.declared.bundle.RunPart.{RunPart}
+use Rattle.ar_bundle.specs.declared.finding.Finding.{Finding}
+use Rattle.ar_bundle.specs.declared.history.Entry.{Entry}
 use Rattle.ar_board.specs.declared.posted.Posted.{Posted}
 use Rattle.ar_board.specs.declared.receipt.Receipt.{Receipt}
 use Rattle.ar_board.specs.declared.snapshot.LookFault.{LookFault}

@@ -6,12 +6,12 @@ use Rattle.ar_limits.specs.Replay.{Replays, Standing}
 use Rattle.ar_limits.specs.Run.{effect_of}
 use Rattle.ar_limits.specs.declared.event.Event.{Event}
 use Rattle.ar_limits.specs.declared.limits.Limits.{Limits}
-use Rattle.ar_board.specs.Bundle.{Bundle, events_of, found, happened, run_of}
-use Rattle.ar_board.specs.Lawful.{numbers_of, times, times_in}
+use Rattle.ar_bundle.specs.Bundle.{Bundle, events_of, found, happened, run_of}
+use Rattle.ar_bundle.specs.Lawful.{numbers_of, times, times_in}
 use Rattle.ar_board.specs.declared.core_steps.CoreStep.{CoreStep}
 use Rattle.ar_board.specs.declared.core_steps.CoreStep.TheVariants.{Put, Take, Post}
-use Rattle.ar_board.specs.declared.finding.Finding.{Finding}
-use Rattle.ar_board.specs.declared.history.Entry.{Entry}
+use Rattle.ar_bundle.specs.declared.finding.Finding.{Finding}
+use Rattle.ar_bundle.specs.declared.history.Entry.{Entry}
 
 -- the next number to put, the queue, a hand for each worker, and a history for each run
 pub record State : Type 0 where

@@ -1,5 +1,3 @@
-pub mod Bundle
-pub mod Lawful
 pub mod Core
 pub mod Receipts
 pub mod Cell

@@ -1,8 +1,8 @@
 -- Receipts: what a worker keeps of the posts that succeeded, and when histories meet them.
 use Rattle.std.specs.Prelude.{◌≡◌, ◌≢◌, ◌<◌, ◌≤◌, ◌==◌, ℕ, suc, Bool, if◌then◌else◌, List, [], ◌∷◌, Some, get_or, slice_get, take}
 use Rattle.std.specs.List.{AllByRecursion}
-use Rattle.ar_board.specs.Lawful.{numbers_of, times, times_in}
-use Rattle.ar_board.specs.declared.history.Entry.{Entry}
+use Rattle.ar_bundle.specs.Lawful.{numbers_of, times, times_in}
+use Rattle.ar_bundle.specs.declared.history.Entry.{Entry}
 use Rattle.ar_board.specs.declared.receipt.Receipt.{Receipt}
 
 -- ---- the receipts for one run, each a number with its place

@@ -1,19 +1,17 @@
 //! What a board keeps under one of its locks.
 
 ghost use Rattle.std.specs.Prelude.{◌≡◌, ◌+◌, ◌<◌, ◌↔◌, Err, IfErr, IfOk, IsErr, None, OnErr, OnOk, Some, length, replicate};
-ghost use Rattle.ar_board.specs.Bundle.{IsBundle, found};
+ghost use Rattle.ar_bundle.specs.Bundle.{IsBundle, found};
 ghost use Rattle.ar_board.specs.Cell.{CanBe, IsCell, IsEmpty, IsFresh, IsPosted, IsSnapshot, IsUnder, Stands, authors_at, history_at, lock_of, posts_of};
 ghost use Rattle.ar_board.specs.Private.KeptRuns.{AreOpened};
 ghost use Rattle.ar_board.specs.declared.snapshot.LookFault.TheVariants as LookFault;
 
-use crate::bundle::Bundle;
-use crate::finding::Finding;
-use crate::history::Entry;
 use crate::kept_run::KeptRun;
 use crate::names::{BundleName, LockName};
 use crate::posted::{Double, Posted};
 use crate::receipt::Receipt;
 use crate::snapshot::{LookFault, Snapshot};
+use ar_bundle::{Bundle, Entry, Finding};
 use std::alloc::{AllocError, Global};
 use std::marker::{Model, PhantomData};
 use std::sync::ledger::{Book, Share};

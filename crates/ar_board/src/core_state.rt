@@ -1,18 +1,16 @@
 //! The core of a board in memory.
 
 ghost use Rattle.std.specs.Prelude.{◌≡◌, ◌<◌, ◌↔◌, [], IfOk, None, Some, length, replicate, slice_get};
-ghost use Rattle.ar_board.specs.Bundle.{IsBundle};
+ghost use Rattle.ar_bundle.specs.Bundle.{IsBundle};
 ghost use Rattle.ar_board.specs.Core.{HasEachOnce, IsStateOf, core_after, held, stepped};
-ghost use Rattle.ar_board.specs.Lawful.{AreHistories};
+ghost use Rattle.ar_bundle.specs.Lawful.{AreHistories};
 ghost use Rattle.ar_board.specs.Private.Inside.{AreJudged, AreOpened};
 ghost use Rattle.ar_board.specs.declared.core_steps.CoreStep.TheVariants.{Put, Take, Post};
 ghost use Rattle.ar_board.specs.declared.core_steps.Moved.TheVariants.{Idle};
 
-use crate::bundle::Bundle;
 use crate::core_steps::{CoreStep, Moved};
-use crate::finding::Finding;
-use crate::history::Entry;
 use crate::run_history::RunHistory;
+use ar_bundle::{Bundle, Entry, Finding};
 use ar_limits::RunState;
 use std::alloc::{AllocError, Global};
 use std::collections::VecDeque;

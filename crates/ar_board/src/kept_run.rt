@@ -2,15 +2,15 @@
 
 ghost use Rattle.std.specs.Prelude.{◌≡◌, ◌+◌, ◌<◌, ◌↔◌, [], ◌∷◌, ◌++◌, IfOk, IsTrue, Some, length, slice_get, slice_index_or, slice_set, vec_capacity};
 ghost use Rattle.ar_limits.specs.Metric.{HasPositiveCounts};
-ghost use Rattle.ar_board.specs.declared.history.Entry.{Entry};
+ghost use Rattle.ar_bundle.specs.declared.history.Entry.{Entry};
 ghost use Rattle.ar_limits.specs.Replay.{ForEachReplay, Replays};
 ghost use Rattle.ar_limits.specs.Run.{effect_of};
 
-use crate::finding::Finding;
 use crate::posted::Posted;
 use crate::receipt::Receipt;
 use crate::run_history::RunHistory;
 use crate::snapshot::Snapshot;
+use ar_bundle::Finding;
 use ar_limits::{Event, Limits, Phase};
 use std::alloc::{AllocError, Global};
 

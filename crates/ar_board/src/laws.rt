@@ -3,12 +3,12 @@
 //! contract of a function that does nothing.
 
 ghost use Rattle.std.specs.Prelude.{◌⊎◌, ℕ, List};
-ghost use Rattle.ar_board.specs.Bundle.{Bundle, IsBundle};
+ghost use Rattle.ar_bundle.specs.Bundle.{Bundle, IsBundle};
 ghost use Rattle.ar_board.specs.Core.{HasEachOnce, IsAtRest, after, opening};
-ghost use Rattle.ar_board.specs.Lawful.{AreHistories, AreHistoriesSoFar, AreLawful};
+ghost use Rattle.ar_bundle.specs.Lawful.{AreHistories, AreLawful};
 ghost use Rattle.ar_board.specs.Receipts.{IsElsewhere, IsMet, IsMissing, IsOutOfOrder};
 ghost use Rattle.ar_board.specs.declared.core_steps.CoreStep.{CoreStep};
-ghost use Rattle.ar_board.specs.declared.history.Entry.{Entry};
+ghost use Rattle.ar_bundle.specs.declared.history.Entry.{Entry};
 ghost use Rattle.ar_board.specs.declared.receipt.Receipt.{Receipt};
 
 /// Each number of the bundle stands just once in what is still to put, the queue, the hands and the
@@ -33,13 +33,6 @@ pub fn lawful_at_rest()
     ensures { (bundle : Bundle) (workers places : ℕ) (steps : List CoreStep) → IsBundle bundle
         → IsAtRest bundle (after bundle places (opening bundle workers) steps)
         → AreLawful bundle (after bundle places (opening bundle workers) steps).histories }
-{}
-
-/// Lawful histories have each number at most once.
-#[tactic(auto, using(crate::proofs::SoFar::lawful_are_so_far))]
-pub fn lawful_are_so_far()
-    ensures { (bundle : Bundle) (histories : List (List Entry)) → AreLawful bundle histories
-        → AreHistoriesSoFar bundle histories }
 {}
 
 /// A receipt that histories don't meet has one of three causes at least, and one that they meet has

@@ -1,10 +1,4 @@
-//! Bundles of analysis runs, and what their measurements come to.
-//!
-//! A [`Bundle`] has a template's metrics, its runs, each with a judge and limits for each metric,
-//! and what happened to the runs, numbered from 0. [`Bundle::finding`] is the verdict of a number's
-//! sample by its run's judge for its metric, or a stop (`specs/Bundle`). [`Histories`] have for each
-//! run the numbers in the order in which they were applied, each with its finding and its effect;
-//! `specs/Lawful` says which of them are lawful for a bundle.
+//! What a board keeps of the runs of a bundle, under a lock.
 //!
 //! The core of a board (`specs/Core`) is what a board does to plain lists, one [`CoreStep`] after
 //! another: a number is put into the queue, a worker takes it, and posts it to its run's history.
@@ -19,19 +13,15 @@
 //! a cell whenever its lock is free, `specs/Receipts` when histories meet a receipt. A [`BundleName`] names the bundle in
 //! contracts, a [`LockName`] the lock and its ledger.
 //!
-//! - [`bundle`]: bundles and their parts; [`finding`]: what a number comes to
-//! - [`history`]: histories of runs; `run_history`: one that grows, and where its run stands
 //! - [`core_steps`]: steps of the core; [`core_state`]: the core in memory
+//! - `run_history`: the history of a run, which grows, and where the run stands
 //! - [`cell`]: what is kept under a lock, by its runs (`kept_run`); [`names`]: what names it
 //! - [`posted`], [`snapshot`]: what posts and looks answer; [`receipt`]: what a worker keeps of posts
 #![tactic(auto)]
 
-pub mod bundle;
 pub mod cell;
 pub mod core_state;
 pub mod core_steps;
-pub mod finding;
-pub mod history;
 mod kept_run;
 pub mod laws;
 pub mod names;
@@ -40,12 +30,9 @@ pub mod receipt;
 mod run_history;
 pub mod snapshot;
 
-pub use bundle::{Bundle, EventPart, Judges, MetricPart, RunLimits, RunPart, What};
 pub use cell::RunCell;
 pub use core_state::{CoreState, core_run, core_step};
 pub use core_steps::{CoreStep, Moved};
-pub use finding::Finding;
-pub use history::{Entry, Histories, History};
 pub use names::{BundleName, LockName};
 pub use posted::{Double, Posted};
 pub use receipt::Receipt;

@@ -1,7 +1,7 @@
 //! Types that name a bundle or a lock in contracts. No value of them is wanted: a function over them
 //! speaks of whichever bundle and lock its caller has.
 
-ghost use Rattle.ar_board.specs.Bundle.{bundle_of};
+ghost use Rattle.ar_bundle.specs.Bundle.{bundle_of};
 ghost use Rattle.std.specs.Prelude.{ℕ, []};
 
 use std::marker::Brand;
@@ -9,7 +9,7 @@ use std::sync::ledger::Ledger;
 
 /// Names a bundle, and how many workers there are for it.
 pub trait BundleName {
-    ghost use Rattle.ar_board.specs.Bundle.{Bundle};
+    ghost use Rattle.ar_bundle.specs.Bundle.{Bundle};
 
     ghost bundle: { Bundle };
 

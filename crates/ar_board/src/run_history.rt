@@ -6,8 +6,7 @@ ghost use Rattle.ar_limits.specs.Metric.{HasPositiveCounts};
 ghost use Rattle.ar_limits.specs.Replay.{ForEachReplay, IsOfMetricBelow, Replays};
 ghost use Rattle.ar_limits.specs.Run.{effect_of};
 
-use crate::finding::Finding;
-use crate::history::Entry;
+use ar_bundle::{Entry, Finding};
 use ar_limits::{Effect, Event, Limits, MOST_EVENTS, RunState};
 use std::alloc::{AllocError, Global};
 

@@ -5,7 +5,7 @@ use Rattle.std.proofs.lemmas.Bool.Decides.{nat_tests}
 use Rattle.serde_json.specs.Data.{Data}
 use Rattle.ar_value.specs.Answer.{◌>>=◌}
 use Rattle.ar_value.specs.declared.fault.Fault.{Fault}
-use Rattle.ar_board.specs.Bundle.{Bundle}
+use Rattle.ar_bundle.specs.Bundle.{Bundle}
 use Rattle.ar_judge.specs.Condition.{refused_as}
 use Rattle.ar_document.specs.Document as bundles
 use Rattle.ar_json.specs.Document.{json_in, most_bytes}

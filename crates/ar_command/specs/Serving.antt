@@ -4,9 +4,9 @@ use Rattle.std.specs.List.{list_any}
 use Rattle.ar_value.specs.declared.fault.Fault.{Fault}
 use Rattle.ar_limits.specs.Metric.{is_unsuccessful}
 use Rattle.ar_limits.specs.declared.phase.Phase.{Phase}
-use Rattle.ar_board.specs.Bundle.{Bundle}
-use Rattle.ar_board.specs.Lawful.{AllRise, AreLawful, numbers_of}
-use Rattle.ar_board.specs.declared.history.Entry.{Entry}
+use Rattle.ar_bundle.specs.Bundle.{Bundle}
+use Rattle.ar_bundle.specs.Lawful.{AllRise, AreLawful, numbers_of}
+use Rattle.ar_bundle.specs.declared.history.Entry.{Entry}
 use Rattle.ar_report.specs.Check.{check_text, list_text}
 use Rattle.ar_report.specs.Names.{fault_name}
 use Rattle.ar_report.specs.Report.{report, run_phases}

@@ -2,7 +2,7 @@
 
 ghost use Rattle.std.specs.Prelude.{◌≡◌, Err, IfOk, map, string_bytes};
 ghost use Rattle.std.specs.List.{list_any};
-ghost use Rattle.ar_board.specs.Lawful.{AllRise, AreLawful};
+ghost use Rattle.ar_bundle.specs.Lawful.{AllRise, AreLawful};
 ghost use Rattle.ar_limits.specs.Metric.{is_unsuccessful};
 ghost use Rattle.ar_report.specs.Check.{check_text, list_text};
 ghost use Rattle.ar_command.specs.Private.Refusing.{IfRefused};
@@ -11,7 +11,7 @@ ghost use Rattle.ar_command.specs.declared.serve.Closing.TheVariants.{Good};
 ghost use Rattle.ar_command.specs.declared.serve.Command.TheVariants as commands;
 
 use crate::serve::{Closing, Command, ServeError};
-use ar_board::{Bundle, Histories};
+use ar_bundle::{Bundle, Histories};
 use ar_document::read_bundle;
 use ar_eval::evaluate;
 use ar_limits::Phase;

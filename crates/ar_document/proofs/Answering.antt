@@ -3,9 +3,9 @@ use Rattle.std.proofs.Common.{◌≤◌, List, length, Err, sym, subst}
 use Rattle.std.specs.List.{AllByRecursion}
 use Rattle.serde_json.specs.Data.{Data}
 use Rattle.ar_value.specs.Answer.{Unless}
-use Rattle.ar_board.specs.Bundle.{IsBundle, IsEntry, bundle_of, most_events}
-use Rattle.ar_board.specs.declared.bundle.EventPart.{EventPart}
-use Rattle.ar_board.specs.declared.bundle.RunPart.{RunPart}
+use Rattle.ar_bundle.specs.Bundle.{IsBundle, IsEntry, bundle_of, most_events}
+use Rattle.ar_bundle.specs.declared.bundle.EventPart.{EventPart}
+use Rattle.ar_bundle.specs.declared.bundle.RunPart.{RunPart}
 use Rattle.ar_document.specs.Document.{IsFaultOf, Reads, UnlessMemory, is_memory}
 use Rattle.ar_document.specs.Private.Opened.{IsOpened, opened_view}
 use Rattle.ar_document.specs.Parts.{AreParts}

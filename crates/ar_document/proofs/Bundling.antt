@@ -10,9 +10,9 @@ use Rattle.ar_value.specs.View.{shape_view}
 use Rattle.ar_limits.specs.declared.limits.Limits.{Limits}
 use Rattle.ar_judge.specs.Condition.{Condition}
 use Rattle.ar_judge.specs.Verdict.{AreBuilt, IsJudge, Judge}
-use Rattle.ar_board.specs.Bundle.{IsOfShape, IsRun, JudgesEach, JudgesShape}
-use Rattle.ar_board.specs.declared.bundle.MetricPart.{MetricPart}
-use Rattle.ar_board.specs.declared.bundle.RunPart.{RunPart}
+use Rattle.ar_bundle.specs.Bundle.{IsOfShape, IsRun, JudgesEach, JudgesShape}
+use Rattle.ar_bundle.specs.declared.bundle.MetricPart.{MetricPart}
+use Rattle.ar_bundle.specs.declared.bundle.RunPart.{RunPart}
 use Rattle.ar_document.specs.Opening.{metric_view}
 use Rattle.ar_document.specs.Private.Opened.{opened_view}
 use Rattle.ar_document.specs.Parts.{AreJudges, AreParts, IsPart, limits_of}

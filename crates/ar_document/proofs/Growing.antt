@@ -5,8 +5,8 @@ use Rattle.std.proofs.lemmas.List.{map-append}
 use Rattle.std.proofs.Math.Seq.{take-suc}
 use Rattle.ar_manifest.specs.declared.bound.BoundMetric.{BoundMetric}
 use Rattle.ar_judge.specs.Verdict.{IsJudge, Judge}
-use Rattle.ar_board.specs.declared.bundle.MetricPart.{MetricPart}
-use Rattle.ar_board.specs.declared.bundle.RunPart.{RunPart}
+use Rattle.ar_bundle.specs.declared.bundle.MetricPart.{MetricPart}
+use Rattle.ar_bundle.specs.declared.bundle.RunPart.{RunPart}
 use Rattle.ar_document.specs.Opening.{Metric, Opened, metric_view}
 use Rattle.ar_document.specs.Parts.{AreJudges, AreParts, IsPart}
 use Rattle.ar_document.specs.declared.runs.Run.{Run}

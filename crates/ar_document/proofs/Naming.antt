@@ -9,7 +9,7 @@ use Rattle.std.proofs.lemmas.List.{drop_all, drop_more, map-append, length-map, 
 use Rattle.std.proofs.Math.Seq.{take-suc}
 use Rattle.ar_value.specs.Answer.{◌>>=◌, Unless, holds_or}
 use Rattle.ar_document.specs.Document.{is_memory}
-use Rattle.ar_board.specs.declared.bundle.MetricPart.{MetricPart}
+use Rattle.ar_bundle.specs.declared.bundle.MetricPart.{MetricPart}
 use Rattle.ar_document.specs.Opening.{are_new, metric_view, names_of, number_of}
 use Rattle.ar_document.specs.declared.error.BundleError.{BundleError}
 use Rattle.ar_document.specs.declared.error.BundleError.TheVariants.{DoubleRun}

@@ -6,8 +6,8 @@ use Rattle.serde_json.specs.Data.{Data}
 use Rattle.ar_manifest.specs.declared.bound.BoundMetric.{BoundMetric}
 use Rattle.ar_judge.specs.Verdict.{IsJudge, Judge, RefusesTexts}
 use Rattle.ar_judge.specs.declared.error.BuildError.{BuildError}
-use Rattle.ar_board.specs.Bundle.{Bundle}
-use Rattle.ar_board.specs.declared.bundle.RunPart.{RunPart}
+use Rattle.ar_bundle.specs.Bundle.{Bundle}
+use Rattle.ar_bundle.specs.declared.bundle.RunPart.{RunPart}
 use Rattle.ar_document.specs.Document.{Follows, IsBundleOf, IsFaultOf, ReadsInput, of_entry, of_opening, of_run}
 use Rattle.ar_json.specs.Document.{json_in}
 use Rattle.ar_document.specs.Opening.{Metric, Opened}

@@ -6,8 +6,8 @@ use Rattle.std.proofs.lemmas.Option.{slice_get_read, slice_get-map}
 use Rattle.ar_manifest.specs.Bound.{bound_of}
 use Rattle.ar_manifest.specs.declared.bound.BoundMetric.{BoundMetric}
 use Rattle.ar_judge.specs.Verdict.{Judge}
-use Rattle.ar_board.specs.declared.bundle.MetricPart.{MetricPart}
-use Rattle.ar_board.specs.declared.bundle.RunPart.{RunPart}
+use Rattle.ar_bundle.specs.declared.bundle.MetricPart.{MetricPart}
+use Rattle.ar_bundle.specs.declared.bundle.RunPart.{RunPart}
 use Rattle.ar_document.specs.Opening.{metric_view}
 use Rattle.ar_document.specs.Private.Opened.{opened_view}
 use Rattle.ar_document.specs.Private.Parts.{RefusesJudge, RefusesJudges}

@@ -12,7 +12,7 @@ use Rattle.ar_json.specs.declared.value_reading.ShapeFault.{ShapeFault}
 use Rattle.ar_json.specs.declared.value_reading.ShapeFault.TheVariants.{OutOfMemory}
 use Rattle.ar_json.proofs.ReadLemmas.{under_is_memory}
 use Rattle.ar_judge.specs.Verdict.{misfit}
-use Rattle.ar_board.specs.declared.bundle.MetricPart.{MetricPart}
+use Rattle.ar_bundle.specs.declared.bundle.MetricPart.{MetricPart}
 use Rattle.ar_document.specs.Entries.{sample_by}
 use Rattle.ar_document.specs.declared.error.BundleError.{BundleError}
 

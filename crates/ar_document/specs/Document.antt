@@ -1,8 +1,8 @@
 -- The bundle of a document, or why it is none: the first fault, in the order in which its parts stand here.
 use Rattle.std.specs.Prelude.{◌≡◌, ℕ, Bool, true, false, List, map, Result, Ok, Err}
 use Rattle.serde_json.specs.Data.{Data}
-use Rattle.ar_board.specs.Bundle.{Bundle}
-use Rattle.ar_board.specs.declared.bundle.RunPart.{RunPart}
+use Rattle.ar_bundle.specs.Bundle.{Bundle}
+use Rattle.ar_bundle.specs.declared.bundle.RunPart.{RunPart}
 use Rattle.ar_document.specs.Entries.{entries_in, entry_view}
 use Rattle.ar_json.specs.Document.{json_in}
 use Rattle.ar_document.specs.Opening.{Opened, metric_view, opened_of}

@@ -9,10 +9,10 @@ use Rattle.ar_value.specs.Value.{Value}
 use Rattle.ar_json.specs.declared.value_reading.ShapeFault.{ShapeFault}
 use Rattle.ar_json.specs.Members.{list_of, member}
 use Rattle.ar_judge.specs.Verdict.{Sample, measured, misfit, provider, sample_view}
-use Rattle.ar_board.specs.Bundle.{most_events}
-use Rattle.ar_board.specs.declared.bundle.EventPart.{EventPart}
-use Rattle.ar_board.specs.declared.bundle.What as parts
-use Rattle.ar_board.specs.declared.bundle.What.TheVariants as whats
+use Rattle.ar_bundle.specs.Bundle.{most_events}
+use Rattle.ar_bundle.specs.declared.bundle.EventPart.{EventPart}
+use Rattle.ar_bundle.specs.declared.bundle.What as parts
+use Rattle.ar_bundle.specs.declared.bundle.What.TheVariants as whats
 use Rattle.ar_document.specs.Opening.{Opened, names_of, number_of}
 use Rattle.ar_document.specs.declared.error.BundleError.{BundleError}
 use Rattle.ar_document.specs.declared.error.BundleError.TheVariants.{TooManyMeasurements, BadEntry, UnknownRun, UnknownMetric}

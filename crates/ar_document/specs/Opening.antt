@@ -15,8 +15,8 @@ use Rattle.ar_manifest.specs.Template.{template_of}
 use Rattle.ar_manifest.specs.declared.template.Template.{Template}
 use Rattle.ar_manifest.specs.declared.template.Metric as templates
 use Rattle.ar_judge.specs.Condition.{refused_as}
-use Rattle.ar_board.specs.Bundle.{most_runs}
-use Rattle.ar_board.specs.declared.bundle.MetricPart.{MetricPart}
+use Rattle.ar_bundle.specs.Bundle.{most_runs}
+use Rattle.ar_bundle.specs.declared.bundle.MetricPart.{MetricPart}
 use Rattle.ar_document.specs.declared.error.BundleError.{BundleError}
 use Rattle.ar_document.specs.declared.error.BundleError.TheVariants.{Manifest, ShapeMissing, Shapes, Runs, DoubleRun}
 use Rattle.ar_document.specs.declared.runs.Run.{Run}

@@ -7,7 +7,7 @@ use Rattle.ar_judge.specs.Verdict.{IsJudge, Judge, RefusesTexts}
 use Rattle.ar_judge.specs.declared.error.BuildError.{BuildError}
 use Rattle.ar_judge.specs.declared.error.BuildError.TheVariants as build
 use Rattle.ar_limits.specs.declared.limits.Limits.{Limits}
-use Rattle.ar_board.specs.declared.bundle.RunPart.{RunPart}
+use Rattle.ar_bundle.specs.declared.bundle.RunPart.{RunPart}
 use Rattle.ar_document.specs.Opening.{Metric, Opened}
 use Rattle.ar_document.specs.declared.error.BundleError.{BundleError}
 use Rattle.ar_document.specs.declared.error.BundleError.TheVariants.{Bind, Build}

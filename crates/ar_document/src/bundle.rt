@@ -10,7 +10,7 @@ use crate::entries::read_entries;
 use crate::error::BundleError;
 use crate::opening::open;
 use crate::parts::parts_of;
-use ar_board::Bundle;
+use ar_bundle::Bundle;
 use ar_json::read_json;
 use serde_json::Value as Json;
 use std::alloc::Global;

@@ -9,7 +9,7 @@ ghost use Rattle.ar_value.specs.View.{shape_view};
 ghost use Rattle.ar_json.specs.Members.{unless_null};
 ghost use Rattle.ar_json.specs.Reading.{is_memory as is_fault_of_memory};
 ghost use Rattle.ar_judge.specs.Verdict.{misfit, sample_view};
-ghost use Rattle.ar_board.specs.Bundle.{IsEntry, SampleSuits, most_events};
+ghost use Rattle.ar_bundle.specs.Bundle.{IsEntry, SampleSuits, most_events};
 ghost use Rattle.ar_document.specs.Document.{is_memory};
 ghost use Rattle.ar_document.specs.Entries.{Entry, entries_in, entry_in, entry_items, entry_view, given, is_true, listed_entries, measured_of, measurement_of, sample_of, stop_of, text_of};
 ghost use Rattle.ar_document.specs.Opening.{names_of, number_of};
@@ -20,7 +20,7 @@ ghost use Rattle.ar_document.specs.declared.error.BundleError.TheVariants.{OutOf
 use crate::error::BundleError;
 use crate::names::Numbers;
 use crate::opening::Opened;
-use ar_board::{EventPart, What};
+use ar_bundle::{EventPart, What};
 use ar_json::members::list_of;
 use ar_json::value_reading::{ShapeFault, read_value};
 use ar_judge::Sample;

@@ -1,7 +1,7 @@
 //! Laws of what is read. A law is the contract of a function that does nothing.
 
 ghost use Rattle.std.specs.Prelude.{◌≡◌, ℕ, List, Ok, Err};
-ghost use Rattle.ar_board.specs.Bundle.{Bundle};
+ghost use Rattle.ar_bundle.specs.Bundle.{Bundle};
 ghost use Rattle.ar_document.specs.Document.{ReadsInput};
 ghost use Rattle.ar_document.specs.declared.error.BundleError.{BundleError};
 

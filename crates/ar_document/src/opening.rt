@@ -16,7 +16,7 @@ ghost use Rattle.ar_document.specs.Private.Opened.{IsOpened, metric_names, opene
 use crate::error::BundleError;
 use crate::names::{Numbers, add_name};
 use crate::runs::{Run, read_runs};
-use ar_board::MetricPart;
+use ar_bundle::MetricPart;
 use ar_json::shape_reading::{ShapeError, read_shape};
 use ar_manifest::{ManifestError, Metric, Template};
 use ar_value::shape::Shape;

@@ -5,7 +5,7 @@ ghost use Rattle.std.specs.List.{AllByRecursion};
 ghost use Rattle.ar_limits.specs.Metric.{HasPositiveCounts};
 ghost use Rattle.ar_judge.specs.Verdict.{IsJudge};
 ghost use Rattle.ar_manifest.specs.Bound.{bound_of};
-ghost use Rattle.ar_board.specs.Bundle.{IsRun, JudgesEach};
+ghost use Rattle.ar_bundle.specs.Bundle.{IsRun, JudgesEach};
 ghost use Rattle.ar_value.specs.Answer.{Gives};
 ghost use Rattle.ar_value.specs.View.{shape_view};
 ghost use Rattle.ar_judge.specs.Condition.{refused_as};
@@ -19,7 +19,7 @@ ghost use Rattle.ar_document.specs.declared.error.BundleError.TheVariants.{Bind}
 use crate::error::BundleError;
 use crate::opening::Opened;
 use crate::runs::Run;
-use ar_board::{Judges, MetricPart, RunLimits, RunPart};
+use ar_bundle::{Judges, MetricPart, RunLimits, RunPart};
 use ar_judge::{BuildError, Judge};
 use ar_limits::Limits;
 use ar_manifest::{Bound, BoundMetric, ManifestError, Template};

@@ -3,7 +3,7 @@
 ghost use Rattle.std.specs.Prelude.{◌≡◌, ◌≤◌, ◌++◌, ◌∷◌, ℕ, List, [], IfOk, OnOk, false, is_none, length, map, option_map};
 ghost use Rattle.serde_json.specs.View.{members_view, view};
 ghost use Rattle.ar_value.specs.Answer.{Gives, each_behind, holds_or};
-ghost use Rattle.ar_board.specs.Bundle.{most_runs};
+ghost use Rattle.ar_bundle.specs.Bundle.{most_runs};
 ghost use Rattle.ar_document.specs.Document.{is_memory};
 ghost use Rattle.ar_document.specs.Opening.{are_new, names_of, number_of, own_arguments, run_items, run_of, runs_in, texts_by_name};
 ghost use Rattle.ar_document.specs.Private.Naming.{AreNumbers};

@@ -8,14 +8,14 @@ use Rattle.ar_limits.specs.Replay.{Replays, Standing}
 use Rattle.ar_limits.specs.Run.{effects, metric_counts, metric_phases, run_phase}
 use Rattle.ar_limits.specs.declared.counts.Counts.{Counts}
 use Rattle.ar_limits.specs.declared.phase.Phase.{Phase}
-use Rattle.ar_board.proofs.Bundles.{of_each}
-use Rattle.ar_board.specs.Bundle.{Bundle, events_of, found, found_of}
-use Rattle.ar_board.specs.declared.bundle.EventPart.{EventPart}
-use Rattle.ar_board.specs.declared.finding.Finding.{Finding}
-use Rattle.ar_board.specs.Lawful.{numbers_of}
-use Rattle.ar_board.specs.declared.bundle.MetricPart.{MetricPart}
-use Rattle.ar_board.specs.declared.bundle.RunPart.{RunPart}
-use Rattle.ar_board.specs.declared.history.Entry.{Entry}
+use Rattle.ar_bundle.proofs.Bundles.{of_each}
+use Rattle.ar_bundle.specs.Bundle.{Bundle, events_of, found, found_of}
+use Rattle.ar_bundle.specs.declared.bundle.EventPart.{EventPart}
+use Rattle.ar_bundle.specs.declared.finding.Finding.{Finding}
+use Rattle.ar_bundle.specs.Lawful.{numbers_of}
+use Rattle.ar_bundle.specs.declared.bundle.MetricPart.{MetricPart}
+use Rattle.ar_bundle.specs.declared.bundle.RunPart.{RunPart}
+use Rattle.ar_bundle.specs.declared.history.Entry.{Entry}
 use Rattle.ar_report.specs.Private.Entries.{AreFound, entry_lines}
 use Rattle.ar_report.specs.Report.{event_line, event_lines, finding_text, found_text, metric_line, metric_lines, run_line, run_text}
 

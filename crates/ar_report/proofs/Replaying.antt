@@ -8,10 +8,10 @@ use Rattle.std.proofs.lemmas.List.Elements.{filter_map-append}
 use Rattle.ar_limits.specs.Replay.{ForEachReplay, IsOfMetricBelow, Replays, Standing}
 use Rattle.ar_limits.specs.declared.event.Event.{Event}
 use Rattle.ar_limits.specs.declared.limits.Limits.{Limits}
-use Rattle.ar_board.specs.Bundle.{Bundle, IsRun, events_of, happened, most_events}
-use Rattle.ar_board.specs.Lawful.{numbers_of}
-use Rattle.ar_board.specs.declared.bundle.RunPart.{RunPart}
-use Rattle.ar_board.specs.declared.history.Entry.{Entry}
+use Rattle.ar_bundle.specs.Bundle.{Bundle, IsRun, events_of, happened, most_events}
+use Rattle.ar_bundle.specs.Lawful.{numbers_of}
+use Rattle.ar_bundle.specs.declared.bundle.RunPart.{RunPart}
+use Rattle.ar_bundle.specs.declared.history.Entry.{Entry}
 
 events_push : (bundle : Bundle) (entries : List Entry) (entry : Entry) (event : Event) → happened bundle entry.number ≡ Some event → events_of bundle (numbers_of (entries ++ entry ∷ [])) ≡ events_of bundle (numbers_of entries) ++ event ∷ []
 events_push bundle entries entry event is =

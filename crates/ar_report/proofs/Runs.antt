@@ -7,13 +7,13 @@ use Rattle.std.proofs.lemmas.List.Sums.{count_by-le-length}
 use Rattle.std.proofs.lemmas.Option.{slice_get_read, slice_get_within}
 use Rattle.ar_limits.specs.Run.{effects, run_phase}
 use Rattle.ar_limits.specs.declared.phase.Phase.{Phase}
-use Rattle.ar_board.proofs.Bundles.{of_each}
-use Rattle.ar_board.proofs.Room.{at_most}
-use Rattle.ar_board.specs.Bundle.{Bundle, IsBundle, IsRun, events_of, most_events}
-use Rattle.ar_board.specs.Lawful.{AreHistories, AreHistoriesSoFar, AtMostOnce, IsFound, IsHistory, numbers_of}
-use Rattle.ar_board.specs.declared.bundle.EventPart.{EventPart}
-use Rattle.ar_board.specs.declared.bundle.RunPart.{RunPart}
-use Rattle.ar_board.specs.declared.history.Entry.{Entry}
+use Rattle.ar_bundle.proofs.Bundles.{of_each}
+use Rattle.ar_bundle.proofs.Room.{at_most}
+use Rattle.ar_bundle.specs.Bundle.{Bundle, IsBundle, IsRun, events_of, most_events}
+use Rattle.ar_bundle.specs.Lawful.{AreHistories, AreHistoriesSoFar, AtMostOnce, IsFound, IsHistory, numbers_of}
+use Rattle.ar_bundle.specs.declared.bundle.EventPart.{EventPart}
+use Rattle.ar_bundle.specs.declared.bundle.RunPart.{RunPart}
+use Rattle.ar_bundle.specs.declared.history.Entry.{Entry}
 use Rattle.ar_report.specs.Private.Entries.{AreFound}
 use Rattle.ar_report.specs.Report.{phases_of, run_text, run_texts}
 use Rattle.ar_report.proofs.Lines.{none_left, rest_at}

@@ -5,9 +5,9 @@ use Rattle.ar_code.specs.Listing.{listing}
 use Rattle.ar_judge.specs.Condition.{Condition}
 use Rattle.ar_judge.specs.Verdict.{Judge}
 use Rattle.ar_verify.specs.Verdict.{Verified}
-use Rattle.ar_board.specs.Bundle.{Bundle}
-use Rattle.ar_board.specs.declared.bundle.MetricPart.{MetricPart}
-use Rattle.ar_board.specs.declared.bundle.RunPart.{RunPart}
+use Rattle.ar_bundle.specs.Bundle.{Bundle}
+use Rattle.ar_bundle.specs.declared.bundle.MetricPart.{MetricPart}
+use Rattle.ar_bundle.specs.declared.bundle.RunPart.{RunPart}
 use Rattle.ar_report.specs.Report.{counted}
 
 -- what stands before the text of each condition: its run, its metric, and which of the two it is

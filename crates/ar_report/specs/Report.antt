@@ -5,13 +5,13 @@ use Rattle.ar_limits.specs.Run.{effects, metric_counts, metric_phases, run_phase
 use Rattle.ar_limits.specs.declared.counts.Counts.{Counts}
 use Rattle.ar_limits.specs.declared.event.Effect.{Effect}
 use Rattle.ar_limits.specs.declared.phase.Phase.{Phase}
-use Rattle.ar_board.specs.Bundle.{Bundle, events_of, found_of}
-use Rattle.ar_board.specs.declared.bundle.MetricPart.{MetricPart}
-use Rattle.ar_board.specs.declared.bundle.RunPart.{RunPart}
-use Rattle.ar_board.specs.declared.bundle.What.{What}
-use Rattle.ar_board.specs.declared.bundle.What.TheVariants.{Measure}
-use Rattle.ar_board.specs.declared.finding.Finding.{Finding}
-use Rattle.ar_board.specs.declared.finding.Finding.TheVariants.{Judged}
+use Rattle.ar_bundle.specs.Bundle.{Bundle, events_of, found_of}
+use Rattle.ar_bundle.specs.declared.bundle.MetricPart.{MetricPart}
+use Rattle.ar_bundle.specs.declared.bundle.RunPart.{RunPart}
+use Rattle.ar_bundle.specs.declared.bundle.What.{What}
+use Rattle.ar_bundle.specs.declared.bundle.What.TheVariants.{Measure}
+use Rattle.ar_bundle.specs.declared.finding.Finding.{Finding}
+use Rattle.ar_bundle.specs.declared.finding.Finding.TheVariants.{Judged}
 use Rattle.ar_report.specs.Names.{effect_text, phase_name, verdict_text}
 
 -- ---- a metric's line

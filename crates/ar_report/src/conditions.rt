@@ -1,12 +1,12 @@
 //! What is known of conditions before any run.
 
 ghost use Rattle.std.specs.Prelude.{◌≡◌, ◌++◌, IfOk, OnOk, option_map, string_bytes};
-ghost use Rattle.ar_board.specs.Bundle.{IsRun};
+ghost use Rattle.ar_bundle.specs.Bundle.{IsRun};
 ghost use Rattle.ar_report.specs.Check.{bounds_text, check_text, condition_name, condition_text, judge_text, judges_text, list_text, listed_text, runs_text};
 ghost use Rattle.ar_report.specs.Private.Shown.{shown_text};
 
 use crate::reports::put_counted;
-use ar_board::{Bundle, MetricPart, RunPart};
+use ar_bundle::{Bundle, MetricPart, RunPart};
 use ar_code::listing;
 use ar_judge::Judge;
 use ar_verify::Verified;

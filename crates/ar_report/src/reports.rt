@@ -2,15 +2,15 @@
 
 ghost use Rattle.std.specs.Prelude.{◌≡◌, ◌≤◌, ◌++◌, IfOk, OnOk, Some, codes, decimal, length, map, string_bytes};
 ghost use Rattle.ar_limits.specs.Replay.{Replays};
-ghost use Rattle.ar_board.specs.Bundle.{IsRun, events_of, found, most_events};
+ghost use Rattle.ar_bundle.specs.Bundle.{IsRun, events_of, found, most_events};
 ghost use Rattle.ar_limits.specs.Run.{effects};
 ghost use Rattle.ar_report.specs.Private.Entries.{AreFound, entry_lines};
-ghost use Rattle.ar_board.specs.Lawful.{AreHistoriesSoFar, numbers_of};
+ghost use Rattle.ar_bundle.specs.Lawful.{AreHistoriesSoFar, numbers_of};
 ghost use Rattle.ar_report.specs.Names.{effect_text};
 ghost use Rattle.ar_report.specs.Report.{counted, counts_text, errors_text, event_line, finding_text, name_at, metric_line, metric_lines, report, run_line, run_phases, run_text};
 
 use crate::names::{phase_name, put_effect, put_verdict};
-use ar_board::{Bundle, Entry, Finding, Histories, MetricPart, RunPart, What};
+use ar_bundle::{Bundle, Entry, Finding, Histories, MetricPart, RunPart, What};
 use ar_limits::{Counts, Effect, Phase, RunState};
 use itoa::Buffer;
 use std::alloc::{AllocError, Global};

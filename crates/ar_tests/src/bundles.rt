@@ -1,6 +1,6 @@
 //! Plain runs of documents with as many runs and events as may be, and lists that are given back.
 
-use ar_board::{Entry, Finding, Histories, History, Judges, RunLimits};
+use ar_bundle::{Entry, Finding, Histories, History, Judges, RunLimits};
 use ar_document::read_bundle;
 use ar_judge::Verdict;
 use ar_limits::{Effect, Limits, Phase};

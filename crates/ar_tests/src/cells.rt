@@ -2,7 +2,8 @@
 
 ghost use Rattle.std.specs.Prelude.{◌≡◌, ◌<◌};
 
-use ar_board::{Bundle, BundleName, LockName, Receipt, RunCell};
+use ar_board::{BundleName, LockName, Receipt, RunCell};
+use ar_bundle::Bundle;
 use ar_document::read_bundle;
 use std::alloc::Global;
 use std::marker::Brand;

@@ -21,6 +21,6 @@ fn can_be_called(_: HostRuntime) {
     ar_board::laws::each_number_once();
     ar_board::laws::histories_are_of_runs();
     ar_board::laws::lawful_at_rest();
-    ar_board::laws::lawful_are_so_far();
+    ar_bundle::laws::lawful_are_so_far();
     ar_board::laws::receipts_are_met_or_not();
 }

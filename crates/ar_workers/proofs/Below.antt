@@ -2,10 +2,9 @@
 use Rattle.std.proofs.Common.{◌≡◌, ◌≢◌, ◌<◌, ◌≤◌, ℕ, zero, suc, ◌==◌, Bool, true, false, if◌then◌else◌, List, [], ◌∷◌, ◌++◌, length, Option, Some, None, refl, sym, ◌∙◌, ap, subst, arith, append-nil, length-append}
 use Rattle.std.specs.List.{AllByRecursion}
 use Rattle.std.proofs.lemmas.Bool.Decides.{nat_tests}
-use Rattle.ar_board.specs.Bundle.{Bundle, run_of}
-use Rattle.ar_board.specs.Lawful.{Rise, times_in}
-use Rattle.ar_board.proofs.HistoryLemmas.{all_push, times_push}
-use Rattle.ar_board.proofs.Places.{times_by}
+use Rattle.ar_bundle.specs.Bundle.{Bundle, run_of}
+use Rattle.ar_bundle.specs.Lawful.{Rise, times_in}
+use Rattle.ar_bundle.proofs.HistoryLemmas.{all_push, times_by, times_push}
 use Rattle.ar_workers.specs.Private.Growing.{below, where_own}
 
 -- ---- one number more

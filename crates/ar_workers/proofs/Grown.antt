@@ -10,16 +10,16 @@ use Rattle.ar_limits.specs.Run.{effect_of, effects}
 use Rattle.ar_limits.specs.declared.event.Effect.{Effect}
 use Rattle.ar_limits.specs.declared.event.Event.{Event}
 use Rattle.ar_limits.specs.declared.limits.Limits.{Limits}
-use Rattle.ar_board.specs.Bundle.{Bundle, IsBundle, IsRun, events_of, found, happened, run_of}
-use Rattle.ar_board.proofs.Bundles.{entry_at, of_each}
+use Rattle.ar_bundle.specs.Bundle.{Bundle, IsBundle, IsRun, events_of, found, happened, run_of}
+use Rattle.ar_bundle.proofs.Bundles.{entry_at, of_each}
 use Rattle.ar_limits.specs.Metric.{HasPositiveCounts}
 use Rattle.ar_limits.specs.Prefixes.{with_earlier}
-use Rattle.ar_board.specs.Lawful.{IsFound, numbers_of}
-use Rattle.ar_board.specs.declared.bundle.RunPart.{RunPart}
-use Rattle.ar_board.specs.declared.finding.Finding.{Finding}
-use Rattle.ar_board.specs.declared.history.Entry.{Entry}
+use Rattle.ar_bundle.specs.Lawful.{IsFound, numbers_of}
+use Rattle.ar_bundle.specs.declared.bundle.RunPart.{RunPart}
+use Rattle.ar_bundle.specs.declared.finding.Finding.{Finding}
+use Rattle.ar_bundle.specs.declared.history.Entry.{Entry}
 use Rattle.ar_workers.specs.Private.Growing.{AreGrown, IsGrown, below}
-use Rattle.ar_board.proofs.HistoryLemmas.{all_push, events_push, few_happen}
+use Rattle.ar_bundle.proofs.HistoryLemmas.{all_push, events_push, few_happen}
 use Rattle.ar_workers.proofs.Below.{few, other_is, own_is}
 
 entry_of : ℕ → Finding → Effect → Entry

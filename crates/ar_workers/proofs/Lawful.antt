@@ -1,11 +1,11 @@
 -- Histories that have all numbers of a bundle are lawful.
 use Rattle.std.proofs.Common.{◌≡◌, ◌<◌, ℕ, zero, suc, ◌+◌, List, [], ◌∷◌, length, Some, refl, sym, ◌∙◌, ap, subst, arith}
 use Rattle.ar_limits.specs.Replay.{Standing}
-use Rattle.ar_board.specs.Bundle.{Bundle, IsBundle, run_of}
-use Rattle.ar_board.specs.Lawful.{AllRise, AreHistories, AreLawful, Rise, times, times_in}
-use Rattle.ar_board.specs.declared.bundle.RunPart.{RunPart}
-use Rattle.ar_board.specs.declared.history.Entry.{Entry}
-use Rattle.ar_board.proofs.Bundles.{run_of_number}
+use Rattle.ar_bundle.specs.Bundle.{Bundle, IsBundle, run_of}
+use Rattle.ar_bundle.specs.Lawful.{AllRise, AreHistories, AreLawful, Rise, times, times_in}
+use Rattle.ar_bundle.specs.declared.bundle.RunPart.{RunPart}
+use Rattle.ar_bundle.specs.declared.history.Entry.{Entry}
+use Rattle.ar_bundle.proofs.Bundles.{run_of_number}
 use Rattle.ar_workers.specs.Private.Growing.{AreGrown}
 use Rattle.ar_workers.proofs.Below.{of_another, of_run, rises}
 

@@ -1,7 +1,7 @@
 //! Runs of a bundle: each of its numbers is judged and applied to its run.
 //!
 //! [`run_plain`] does it in one thread, in the order of the numbers. Its histories are lawful by
-//! `ar_board/specs/Lawful`, and numbers rise in each.
+//! `ar_bundle/specs/Lawful`, and numbers rise in each.
 //!
 //! - `plain`: the plain run
 #![tactic(auto)]

@@ -1,11 +1,11 @@
 //! The plain run.
 
 ghost use Rattle.std.specs.Prelude.{◌<◌, ◌+◌, IfOk, OnOk, length};
-ghost use Rattle.ar_board.specs.Bundle.{IsBundle};
-ghost use Rattle.ar_board.specs.Lawful.{AllRise, AreLawful};
+ghost use Rattle.ar_bundle.specs.Bundle.{IsBundle};
+ghost use Rattle.ar_bundle.specs.Lawful.{AllRise, AreLawful};
 ghost use Rattle.ar_workers.specs.Private.Growing.{AreGrown};
 
-use ar_board::{Bundle, Entry, Histories, History};
+use ar_bundle::{Bundle, Entry, Histories, History};
 use ar_limits::RunState;
 use std::alloc::{AllocError, Global};
 

@@ -3,8 +3,8 @@ use Rattle.std.proofs.Common.{ℕ, List, Option, Some, None}
 use Rattle.ar_value.specs.Shape.{Shape}
 use Rattle.ar_judge.specs.Condition.{Condition}
 use Rattle.ar_judge.specs.Verdict.{AreBuilt, IsJudge, Judge, Sample, Suits}
-use Rattle.ar_board.specs.Bundle.{IsOfShape, JudgesShape, SampleSuits}
-use Rattle.ar_board.proofs.Bundles.{sample_suits}
+use Rattle.ar_bundle.specs.Bundle.{IsOfShape, JudgesShape, SampleSuits}
+use Rattle.ar_bundle.proofs.Bundles.{sample_suits}
 
 condition_of_shape : (shape : Shape) (text : Option (List ℕ)) (condition : Option Condition) → AreBuilt shape text condition → IsOfShape shape condition
 condition_of_shape shape (Some text) (Some condition) is = is.shape_is

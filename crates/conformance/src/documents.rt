@@ -1,7 +1,7 @@
 //! Calls on documents, and on the bundles that they are read as.
 
 use crate::judges::put_verdict;
-use ar_board::{Bundle, Finding, MetricPart, RunPart};
+use ar_bundle::{Bundle, Finding, MetricPart, RunPart};
 use ar_cases::fault::{CaseFault, Written};
 use ar_cases::members;
 use ar_cases::printing::{put_between, put_lines, put_quoted, put_refusal, put_shape, put_str};

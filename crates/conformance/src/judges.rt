@@ -1,7 +1,7 @@
 //! Calls on conditions that can be run, and on judges.
 
 ghost use Rattle.std.specs.Prelude.{◌≡◌, IfOk};
-ghost use Rattle.ar_board.specs.Bundle.{JudgesShape, SampleSuits};
+ghost use Rattle.ar_bundle.specs.Bundle.{JudgesShape, SampleSuits};
 ghost use Rattle.ar_judge.specs.Verdict.{sample_view};
 ghost use Rattle.ar_value.specs.View.{shape_view};
 

@@ -3,13 +3,13 @@ use Rattle.std.specs.Prelude.{◌≡◌, ◌≤◌, ℕ, suc, min, List, [], ◌
 use Rattle.std.specs.Vec.{vec_capacity}
 use Rattle.std.specs.VecDeque.{deque_capacity}
 use Rattle.ar_limits.specs.Replay.{Replays}
-use Rattle.ar_board.specs.Bundle.{Bundle, IsBundle, entries_of, events_of, found}
+use Rattle.ar_bundle.specs.Bundle.{Bundle, IsBundle, entries_of, events_of, found}
 use Rattle.ar_board.specs.Core.{Core, State}
-use Rattle.ar_board.specs.Lawful.{numbers_of}
+use Rattle.ar_bundle.specs.Lawful.{numbers_of}
 use Rattle.ar_board.specs.Private.Kept.{IsSound}
-use Rattle.ar_board.specs.declared.bundle.RunPart.{RunPart}
-use Rattle.ar_board.specs.declared.finding.Finding.{Finding}
-use Rattle.ar_board.specs.declared.history.Entry.{Entry}
+use Rattle.ar_bundle.specs.declared.bundle.RunPart.{RunPart}
+use Rattle.ar_bundle.specs.declared.finding.Finding.{Finding}
+use Rattle.ar_bundle.specs.declared.history.Entry.{Entry}
 use Rattle.ar_board.specs.declared.run_history.RunHistory.{RunHistory}
 use Rattle.ar_board.specs.declared.core_state.CoreState.TheInside.{Inside}
 

@@ -1,8 +1,8 @@
 -- What every step of the core keeps.
 use Rattle.std.specs.Prelude.{◌≡◌, ◌≤◌, ℕ, length}
-use Rattle.ar_board.specs.Bundle.{Bundle}
+use Rattle.ar_bundle.specs.Bundle.{Bundle}
 use Rattle.ar_board.specs.Core.{State, occurrences}
-use Rattle.ar_board.specs.Lawful.{AreHistories}
+use Rattle.ar_bundle.specs.Lawful.{AreHistories}
 
 -- what holds in each state that steps lead to
 pub record IsSound (bundle : Bundle) (state : State) : Type 0 where

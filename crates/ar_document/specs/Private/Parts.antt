@@ -4,7 +4,7 @@ use Rattle.ar_value.specs.View.{shape_view}
 use Rattle.ar_manifest.specs.declared.bound.BoundMetric.{BoundMetric}
 use Rattle.ar_judge.specs.Verdict.{Judge, RefusesTexts}
 use Rattle.ar_judge.specs.declared.error.BuildError.TheVariants as build
-use Rattle.ar_board.specs.declared.bundle.MetricPart.{MetricPart}
+use Rattle.ar_bundle.specs.declared.bundle.MetricPart.{MetricPart}
 use Rattle.ar_value.specs.Answer.{Unless}
 use Rattle.ar_document.specs.Document.{is_memory}
 use Rattle.ar_document.specs.Opening.{metric_view}

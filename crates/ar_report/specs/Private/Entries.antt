@@ -1,8 +1,8 @@
 -- Entries of one run, with what is printed of them.
 use Rattle.std.specs.Prelude.{◌≡◌, ℕ, List, [], ◌∷◌, ◌++◌, Some}
 use Rattle.std.specs.List.{AllByRecursion}
-use Rattle.ar_board.specs.Bundle.{Bundle, found}
-use Rattle.ar_board.specs.declared.history.Entry.{Entry}
+use Rattle.ar_bundle.specs.Bundle.{Bundle, found}
+use Rattle.ar_bundle.specs.declared.history.Entry.{Entry}
 use Rattle.ar_report.specs.Report.{event_line}
 
 abbrev pub AreFound : Bundle → List Entry → Type 0

@@ -2,10 +2,10 @@
 use Rattle.std.specs.Prelude.{◌≡◌, ◌==◌, ℕ, zero, suc, if◌then◌else◌, List, [], ◌∷◌, ◌++◌, Option, Some, None}
 use Rattle.ar_limits.specs.Replay.{Replays, Standing}
 use Rattle.ar_limits.specs.declared.limits.Limits.{Limits}
-use Rattle.ar_board.specs.Bundle.{Bundle, events_of, run_of}
-use Rattle.ar_board.specs.Lawful.{IsHistory, numbers_of}
-use Rattle.ar_board.specs.declared.bundle.RunPart.{RunPart}
-use Rattle.ar_board.specs.declared.history.Entry.{Entry}
+use Rattle.ar_bundle.specs.Bundle.{Bundle, events_of, run_of}
+use Rattle.ar_bundle.specs.Lawful.{IsHistory, numbers_of}
+use Rattle.ar_bundle.specs.declared.bundle.RunPart.{RunPart}
+use Rattle.ar_bundle.specs.declared.history.Entry.{Entry}
 
 -- the number, where it is one of the run
 abbrev pub where_own : (run number : ℕ) → Option ℕ → List ℕ

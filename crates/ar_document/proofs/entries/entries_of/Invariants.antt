@@ -1,7 +1,7 @@
 use Rattle.std.proofs.Common.{◌≡◌, [], drop, map, length}
 use Rattle.std.specs.List.{AllByRecursion}
 use Rattle.serde_json.specs.View.{view}
-use Rattle.ar_board.specs.Bundle.{IsEntry}
+use Rattle.ar_bundle.specs.Bundle.{IsEntry}
 use Rattle.ar_value.specs.Answer.{each_behind}
 use Rattle.ar_document.specs.Entries.{entry_in, entry_view}
 use Rattle.ar_document.specs.Private.Opened.{opened_view}

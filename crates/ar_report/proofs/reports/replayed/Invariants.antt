@@ -1,7 +1,7 @@
 use Rattle.std.proofs.Common.{◌≡◌, take}
 use Rattle.ar_limits.specs.Replay.{Replays}
-use Rattle.ar_board.specs.Bundle.{events_of}
-use Rattle.ar_board.specs.Lawful.{numbers_of}
+use Rattle.ar_bundle.specs.Bundle.{events_of}
+use Rattle.ar_bundle.specs.Lawful.{numbers_of}
 use Rattle.ar_report.proofs.reports.replayed.Given as goal
 
 -- the entries so far were handed to the state

@@ -1,5 +1,5 @@
 use Rattle.std.proofs.Common.{◌≡◌, ◌++◌, drop, map, string_bytes}
-use Rattle.ar_board.specs.Lawful.{numbers_of}
+use Rattle.ar_bundle.specs.Lawful.{numbers_of}
 use Rattle.ar_report.specs.Report.{report, run_texts}
 use Rattle.ar_report.proofs.reports.report.Given as goal
 

@@ -1,5 +1,5 @@
 use Rattle.std.proofs.Common.{◌≡◌, ◌++◌, drop, map}
-use Rattle.ar_board.specs.Lawful.{numbers_of}
+use Rattle.ar_bundle.specs.Lawful.{numbers_of}
 use Rattle.ar_report.specs.Report.{phases_of, run_phases}
 use Rattle.ar_report.proofs.reports.run_phases.Given as goal
 

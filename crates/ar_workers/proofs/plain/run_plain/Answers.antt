@@ -1,5 +1,5 @@
 use Rattle.std.proofs.Common.{◌≡◌, length, subst, sym, arith}
-use Rattle.ar_board.specs.Lawful.{AreLawful}
+use Rattle.ar_bundle.specs.Lawful.{AreLawful}
 use Rattle.ar_workers.specs.Private.Growing.{AreGrown}
 use Rattle.ar_workers.proofs.Lawful.{are_lawful}
 use Rattle.ar_workers.proofs.plain.run_plain.Goals as goal

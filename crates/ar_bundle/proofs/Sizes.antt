@@ -5,10 +5,10 @@ use Rattle.std.proofs.Math.Seq.{take-suc}
 use Rattle.std.proofs.lemmas.Bool.Decides.{nat_tests}
 use Rattle.std.proofs.lemmas.List.{length-take-le, take_all}
 use Rattle.std.proofs.lemmas.List.Sums.{count_by-le-length, sum_by_push}
-use Rattle.ar_board.specs.Bundle.{Bundle, IsBundle, count_of, counts_of, sizes_of}
-use Rattle.ar_board.specs.declared.bundle.EventPart.{EventPart}
-use Rattle.ar_board.specs.declared.bundle.RunPart.{RunPart}
-use Rattle.ar_board.proofs.Bundles.{run_there}
+use Rattle.ar_bundle.specs.Bundle.{Bundle, IsBundle, count_of, counts_of, sizes_of}
+use Rattle.ar_bundle.specs.declared.bundle.EventPart.{EventPart}
+use Rattle.ar_bundle.specs.declared.bundle.RunPart.{RunPart}
+use Rattle.ar_bundle.proofs.Bundles.{run_there}
 
 pub none_counted : (from : ℕ) (runs : List RunPart) → counts_of [] from runs ≡ replicate (length runs) 0
 none_counted from [] = refl

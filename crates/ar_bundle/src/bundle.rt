@@ -2,8 +2,8 @@
 
 ghost use Rattle.std.specs.Prelude.{◌≡◌, ◌<◌, IfOk, IsOk, Some, length};
 ghost use Rattle.ar_limits.specs.Replay.{IsOfMetricBelow};
-ghost use Rattle.ar_board.specs.Bundle.{FoundWithoutCondition, IsBundle, NeedsNoCondition, SuitsMetric, bundle_of, found, found_of, happened, run_of, sizes_of};
-ghost use Rattle.ar_board.specs.declared.bundle.What.TheVariants as What;
+ghost use Rattle.ar_bundle.specs.Bundle.{FoundWithoutCondition, IsBundle, NeedsNoCondition, SuitsMetric, bundle_of, found, found_of, happened, run_of, sizes_of};
+ghost use Rattle.ar_bundle.specs.declared.bundle.What.TheVariants as What;
 ghost use Rattle.ar_judge.specs.Verdict.{sample_view};
 
 use crate::finding::{Finding, mark_of};
@@ -139,7 +139,7 @@ impl Model for Bundle {
     ghost use Rattle.std.specs.Coded.{codes};
     ghost use Rattle.ar_value.specs.contracts.shape.Shape as shape_row;
     ghost use Rattle.ar_value.specs.contracts.value.Value as value_row;
-    ghost use Rattle.ar_board.specs.Bundle.{Bundle as Parts, IsBundle, bundle_of};
+    ghost use Rattle.ar_bundle.specs.Bundle.{Bundle as Parts, IsBundle, bundle_of};
 
     ghost Value = { Parts };
 

@@ -24,7 +24,7 @@ pub struct History {
 
 impl Model for History {
     ghost use Rattle.std.specs.Prelude.{List};
-    ghost use Rattle.ar_board.specs.declared.history.Entry.{Entry};
+    ghost use Rattle.ar_bundle.specs.declared.history.Entry.{Entry};
 
     ghost Value = { List Entry };
 
@@ -80,7 +80,7 @@ pub struct Histories {
 
 impl Model for Histories {
     ghost use Rattle.std.specs.Prelude.{List};
-    ghost use Rattle.ar_board.specs.declared.history.Entry.{Entry};
+    ghost use Rattle.ar_bundle.specs.declared.history.Entry.{Entry};
 
     ghost Value = { List (List Entry) };
 

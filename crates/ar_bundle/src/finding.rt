@@ -1,7 +1,7 @@
 //! What a number of a bundle comes to.
 
 ghost use Rattle.std.specs.Prelude.{◌≡◌};
-ghost use Rattle.ar_board.specs.Bundle.{mark_of};
+ghost use Rattle.ar_bundle.specs.Bundle.{mark_of};
 
 use ar_judge::Verdict;
 use ar_limits::Mark;

@@ -10,11 +10,11 @@ use Rattle.ar_value.specs.View.{shape_view}
 use Rattle.ar_judge.specs.Condition.{Condition}
 use Rattle.ar_judge.specs.Verdict.{FitsEach, Judge, RunsNothing, Sample, Suits, measured, misfit, provider, sample_view}
 use Rattle.ar_judge.specs.declared.sample.Sample.{Sample as Declared}
-use Rattle.ar_board.specs.Bundle.{Bundle, CanHappen, IsBundle, IsEntry, IsOfShape, IsRun, JudgesEach, JudgesShape, SampleSuits, SuitsMetric, judge_at, run_of}
-use Rattle.ar_board.specs.declared.bundle.EventPart.{EventPart}
-use Rattle.ar_board.specs.declared.bundle.MetricPart.{MetricPart}
-use Rattle.ar_board.specs.declared.bundle.RunPart.{RunPart}
-use Rattle.ar_board.specs.declared.bundle.What.TheVariants.{Measure}
+use Rattle.ar_bundle.specs.Bundle.{Bundle, CanHappen, IsBundle, IsEntry, IsOfShape, IsRun, JudgesEach, JudgesShape, SampleSuits, SuitsMetric, judge_at, run_of}
+use Rattle.ar_bundle.specs.declared.bundle.EventPart.{EventPart}
+use Rattle.ar_bundle.specs.declared.bundle.MetricPart.{MetricPart}
+use Rattle.ar_bundle.specs.declared.bundle.RunPart.{RunPart}
+use Rattle.ar_bundle.specs.declared.bundle.What.TheVariants.{Measure}
 
 -- what holds of all holds of each
 pub of_each : {A : Type 0} (P : A → Type 0) (xs : List A) (place : ℕ) (x : A) → AllByRecursion P xs → slice_get xs place ≡ Some x → P x

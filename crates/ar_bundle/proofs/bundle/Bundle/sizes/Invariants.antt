@@ -1,6 +1,6 @@
 use Rattle.std.proofs.Common.{◌≡◌, take}
-use Rattle.ar_board.specs.Bundle.{counts_of}
-use Rattle.ar_board.proofs.bundle.Bundle.sizes.Given as goal
+use Rattle.ar_bundle.specs.Bundle.{counts_of}
+use Rattle.ar_bundle.proofs.bundle.Bundle.sizes.Given as goal
 
 -- the entries so far are counted
 abbrev pub invariant-loop-entry : goal.invariant-loop-entry

@@ -1,8 +1,8 @@
 use Rattle.std.proofs.Common.{rules, ◌<◌, length, subst, sym}
 use Rattle.ar_judge.specs.Verdict.{sample_view}
-use Rattle.ar_board.specs.Bundle.{SuitsMetric, bundle_of}
-use Rattle.ar_board.proofs.Bundles.{judge_inside, reads_nothing}
-use Rattle.ar_board.proofs.bundle.Bundle.judged.Goals as goal
+use Rattle.ar_bundle.specs.Bundle.{SuitsMetric, bundle_of}
+use Rattle.ar_bundle.proofs.Bundles.{judge_inside, reads_nothing}
+use Rattle.ar_bundle.proofs.bundle.Bundle.judged.Goals as goal
 
 pub bounds-judges-metric : goal.bounds-judges-metric
 bounds-judges-metric c =

@@ -3,12 +3,12 @@ use Rattle.std.proofs.Common.{◌≡◌, ◌<◌, ◌≤◌, ℕ, suc, ◌==◌,
 use Rattle.std.specs.Prelude.{nat_lt}
 use Rattle.std.specs.List.{AllByRecursion}
 use Rattle.std.proofs.lemmas.Bool.Decides.{nat_tests}
-use Rattle.ar_board.specs.Bundle.{Bundle}
-use Rattle.ar_board.specs.Lawful.{AreHistories, AreHistoriesSoFar, AreLawful, AtMostOnce, numbers_of, times, times_in}
-use Rattle.ar_board.specs.declared.bundle.RunPart.{RunPart}
-use Rattle.ar_board.specs.declared.history.Entry.{Entry}
-use Rattle.ar_board.proofs.Places.{times_by}
-use Rattle.ar_board.proofs.Room.{all_inside}
+use Rattle.ar_bundle.specs.Bundle.{Bundle}
+use Rattle.ar_bundle.specs.Lawful.{AreHistories, AreHistoriesSoFar, AreLawful, AtMostOnce, numbers_of, times, times_in}
+use Rattle.ar_bundle.specs.declared.bundle.RunPart.{RunPart}
+use Rattle.ar_bundle.specs.declared.history.Entry.{Entry}
+use Rattle.ar_bundle.proofs.HistoryLemmas.{times_by}
+use Rattle.ar_bundle.proofs.Room.{all_inside}
 
 beyond_by : (number first : ℕ) (numbers : List ℕ) (test : Bool) → (first == number) ≡ test → first < number → times_in number numbers ≡ 0 → times_in number (first ∷ numbers) ≡ 0
 beyond_by number first numbers true is small rest = absurd (grind (arith, nat_tests))

@@ -1,7 +1,7 @@
 use Rattle.std.proofs.Common.{rules, ◌≡◌, ◌∙◌, ap, subst, sym, arith}
-use Rattle.ar_board.specs.Bundle.{IsBundle}
-use Rattle.ar_board.proofs.Sizes.{next_size}
-use Rattle.ar_board.proofs.bundle.Bundle.sizes.Goals as goal
+use Rattle.ar_bundle.specs.Bundle.{IsBundle}
+use Rattle.ar_bundle.proofs.Sizes.{next_size}
+use Rattle.ar_bundle.proofs.bundle.Bundle.sizes.Goals as goal
 
 pub index_mut-requires : goal.index_mut-requires
 index_mut-requires c =

@@ -9,11 +9,11 @@ use Rattle.ar_limits.specs.Prefixes.{with_earlier}
 use Rattle.ar_limits.specs.Run.{effect_of, effects}
 use Rattle.ar_limits.specs.declared.event.Event.{Event}
 use Rattle.ar_limits.specs.declared.limits.Limits.{Limits}
-use Rattle.ar_board.specs.Bundle.{Bundle, events_of, found, happened, run_of}
-use Rattle.ar_board.specs.Lawful.{AreHistories, IsFound, IsHistory, numbers_of, times, times_in}
-use Rattle.ar_board.specs.declared.bundle.RunPart.{RunPart}
-use Rattle.ar_board.specs.declared.finding.Finding.{Finding}
-use Rattle.ar_board.specs.declared.history.Entry.{Entry}
+use Rattle.ar_bundle.specs.Bundle.{Bundle, events_of, found, happened, run_of}
+use Rattle.ar_bundle.specs.Lawful.{AreHistories, IsFound, IsHistory, numbers_of, times, times_in}
+use Rattle.ar_bundle.specs.declared.bundle.RunPart.{RunPart}
+use Rattle.ar_bundle.specs.declared.finding.Finding.{Finding}
+use Rattle.ar_bundle.specs.declared.history.Entry.{Entry}
 
 -- what holds of all holds with one more that it holds of
 pub all_push : {A : Type 0} (P : A → Type 0) (xs : List A) (x : A) → AllByRecursion P xs → P x → AllByRecursion P (xs ++ x ∷ [])
@@ -89,17 +89,17 @@ module _ (bundle : Bundle) where
 
 -- ---- how often a number stands in them
 
-times_by_test : (number first : ℕ) (numbers : List ℕ) (test : Bool) → (first == number) ≡ test → times_in number (first ∷ numbers) ≡ (if test then suc (times_in number numbers) else times_in number numbers)
-times_by_test number first numbers test is = rw is refl
+pub times_by : (number first : ℕ) (numbers : List ℕ) (test : Bool) → (first == number) ≡ test → times_in number (first ∷ numbers) ≡ (if test then suc (times_in number numbers) else times_in number numbers)
+times_by number first numbers test is = rw is refl
 
 push_by_test : (number last first : ℕ) (numbers : List ℕ) (test : Bool) → (first == number) ≡ test → times_in number (numbers ++ last ∷ []) ≡ times_in number numbers + times_in number (last ∷ []) → times_in number (first ∷ (numbers ++ last ∷ [])) ≡ times_in number (first ∷ numbers) + times_in number (last ∷ [])
 push_by_test number last first numbers true is more =
-    let left = times_by_test number first (numbers ++ last ∷ []) true is in
-    let right = times_by_test number first numbers true is in
+    let left = times_by number first (numbers ++ last ∷ []) true is in
+    let right = times_by number first numbers true is in
     omega arith
 push_by_test number last first numbers false is more =
-    let left = times_by_test number first (numbers ++ last ∷ []) false is in
-    let right = times_by_test number first numbers false is in
+    let left = times_by number first (numbers ++ last ∷ []) false is in
+    let right = times_by number first numbers false is in
     omega arith
 
 pub times_push : (number last : ℕ) (numbers : List ℕ) → times_in number (numbers ++ last ∷ []) ≡ times_in number numbers + times_in number (last ∷ [])

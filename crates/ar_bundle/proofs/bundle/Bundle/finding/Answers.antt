@@ -1,8 +1,8 @@
 use Rattle.std.proofs.Common.{◌<◌, length, subst, sym}
 use Rattle.ar_judge.specs.Verdict.{sample_view}
-use Rattle.ar_board.specs.Bundle.{SuitsMetric, bundle_of}
-use Rattle.ar_board.proofs.Bundles.{measure_suits}
-use Rattle.ar_board.proofs.bundle.Bundle.finding.Goals as goal
+use Rattle.ar_bundle.specs.Bundle.{SuitsMetric, bundle_of}
+use Rattle.ar_bundle.proofs.Bundles.{measure_suits}
+use Rattle.ar_bundle.proofs.bundle.Bundle.finding.Goals as goal
 
 pub judged-requires-clause-suits : goal.judged-requires-clause-suits
 judged-requires-clause-suits c =

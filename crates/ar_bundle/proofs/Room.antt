@@ -6,11 +6,11 @@ use Rattle.std.proofs.lemmas.Bool.Decides.{nat_tests}
 use Rattle.std.proofs.lemmas.List.{length-map, take_all}
 use Rattle.std.proofs.lemmas.List.Sums.{sum_by_more}
 use Rattle.std.proofs.lemmas.Option.{get_or_from_slice_get, slice_get_within}
-use Rattle.ar_board.specs.Bundle.{Bundle, count_of, entries_of, run_of}
-use Rattle.ar_board.specs.Lawful.{IsFound, numbers_of, times_in}
-use Rattle.ar_board.specs.declared.bundle.EventPart.{EventPart}
-use Rattle.ar_board.specs.declared.history.Entry.{Entry}
-use Rattle.ar_board.proofs.Bundles.{entry_at}
+use Rattle.ar_bundle.specs.Bundle.{Bundle, count_of, entries_of, run_of}
+use Rattle.ar_bundle.specs.Lawful.{IsFound, numbers_of, times_in}
+use Rattle.ar_bundle.specs.declared.bundle.EventPart.{EventPart}
+use Rattle.ar_bundle.specs.declared.history.Entry.{Entry}
+use Rattle.ar_bundle.proofs.Bundles.{entry_at}
 
 -- ---- sums over the numbers below one
 

@@ -14,13 +14,13 @@ use Rattle.ar_limits.specs.declared.event.Event.{Event}
 use Rattle.ar_limits.specs.declared.event.Event.TheVariants as event
 use Rattle.ar_limits.specs.declared.event.Mark.{Mark}
 use Rattle.ar_limits.specs.declared.event.Mark.TheVariants as mark
-use Rattle.ar_board.specs.declared.bundle.EventPart.{EventPart}
-use Rattle.ar_board.specs.declared.bundle.MetricPart.{MetricPart}
-use Rattle.ar_board.specs.declared.bundle.RunPart.{RunPart}
-use Rattle.ar_board.specs.declared.bundle.What.{What}
-use Rattle.ar_board.specs.declared.bundle.What.TheVariants.{Measure, Stop}
-use Rattle.ar_board.specs.declared.finding.Finding.{Finding}
-use Rattle.ar_board.specs.declared.finding.Finding.TheVariants as finding
+use Rattle.ar_bundle.specs.declared.bundle.EventPart.{EventPart}
+use Rattle.ar_bundle.specs.declared.bundle.MetricPart.{MetricPart}
+use Rattle.ar_bundle.specs.declared.bundle.RunPart.{RunPart}
+use Rattle.ar_bundle.specs.declared.bundle.What.{What}
+use Rattle.ar_bundle.specs.declared.bundle.What.TheVariants.{Measure, Stop}
+use Rattle.ar_bundle.specs.declared.finding.Finding.{Finding}
+use Rattle.ar_bundle.specs.declared.finding.Finding.TheVariants as finding
 
 pub record Bundle : Type 0 where
   pub metrics : List MetricPart

@@ -1,0 +1,5 @@
+pub mod Bundles
+pub mod HistoryLemmas
+pub mod Room
+pub mod Sizes
+pub mod SoFar
