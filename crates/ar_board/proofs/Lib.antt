@@ -2,6 +2,8 @@ pub mod CoreSteps
 pub mod Places
 pub mod Cells
 pub mod Shows
+pub mod Under
+pub mod Seats
 pub mod Opened
 pub mod ReceiptLemmas
 pub mod CorePost

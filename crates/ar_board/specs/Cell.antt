@@ -65,6 +65,10 @@ pub record IsCell (bundle : Bundle) (workers lock : ℕ) (cell : Cell) : Type 0 
       → IsKept bundle workers lock run part.limits kept
   pub counted : cell.total ≡ sum_by (λ kept. length kept.history) cell.runs
 
+-- how many entries of the bundle are of runs under a lock
+abbrev pub entries_under : Bundle → (lock : ℕ) → ℕ
+entries_under bundle lock = count_by (λ entry. lock_of entry.run == lock) bundle.entries
+
 -- ---- the histories in it
 
 abbrev pub histories_of : Cell → List (List Entry)

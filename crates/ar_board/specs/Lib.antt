@@ -1,4 +1,5 @@
 pub mod Core
 pub mod Receipts
 pub mod Cell
+pub mod Board
 pub mod Private

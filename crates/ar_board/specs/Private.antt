@@ -3,3 +3,4 @@
 pub mod Kept
 pub mod Inside
 pub mod KeptRuns
+pub mod Seats

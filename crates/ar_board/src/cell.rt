@@ -1,8 +1,8 @@
 //! What a board keeps under one of its locks.
 
-ghost use Rattle.std.specs.Prelude.{◌≡◌, ◌+◌, ◌<◌, ◌↔◌, Err, IfErr, IfOk, IsErr, None, OnErr, OnOk, Some, length, replicate};
+ghost use Rattle.std.specs.Prelude.{◌≡◌, ◌+◌, ◌<◌, ◌≤◌, ◌↔◌, Err, IfErr, IfOk, IsErr, None, OnErr, OnOk, Some, length, replicate};
 ghost use Rattle.ar_bundle.specs.Bundle.{IsBundle, found};
-ghost use Rattle.ar_board.specs.Cell.{CanBe, IsCell, IsEmpty, IsFresh, IsPosted, IsSnapshot, IsUnder, Stands, authors_at, history_at, lock_of, posts_of};
+ghost use Rattle.ar_board.specs.Cell.{CanBe, IsCell, IsEmpty, IsFresh, IsPosted, IsSnapshot, IsUnder, Stands, authors_at, entries_under, history_at, lock_of, posts_of};
 ghost use Rattle.ar_board.specs.Private.KeptRuns.{AreOpened};
 ghost use Rattle.ar_board.specs.declared.snapshot.LookFault.TheVariants as LookFault;
 
@@ -109,6 +109,19 @@ impl<'b, M: BundleName, L: LockName> RunCell<'b, M, L> {
         &self.runs[run].run.entries
     }
 
+    /// How a worker's share stands to the entries that there are: no clause tells that without this
+    /// call, which changes nothing.
+    #[tactic(auto, using(crate::proofs::Under::few_there))]
+    pub fn audit(&mut self, mine: &mut Share<L>)
+        ensures same { self.new ≡ self.old }
+        ensures amount { mine.new.amount ≡ mine.old.amount }
+        ensures parts { mine.new.parts ≡ mine.old.parts }
+        ensures few { mine.old.amount ≤ entries_under M.bundle L.lock }
+        ensures whole { mine.old.parts ≡ L.parts → mine.old.amount ≡ self.old.total }
+    {
+        self.book.audit(mine);
+    }
+
     /// A run as its history is now, where the worker's entries in it are just those of its receipts for
     /// the run. It takes time in proportion to the run's entries, the receipts that are handed in, the
     /// metrics and the workers.
@@ -126,6 +139,7 @@ impl<'b, M: BundleName, L: LockName> RunCell<'b, M, L> {
         requires there { run < length M.bundle.runs }
         requires under { lock_of run ≡ L.lock }
         requires worker { worker < M.workers }
+        ensures cell { IsCell M.bundle M.workers L.lock self.now }
         ensures shown { IfOk result (IsSnapshot M.bundle M.workers run self.now) }
         ensures fresh { IfOk result (λ _. IsFresh self.now run worker receipts.now) }
         ensures stale { (IsFresh self.now run worker receipts.now → ⊥)

@@ -19,6 +19,7 @@
 //! - [`posted`], [`snapshot`]: what posts and looks answer; [`receipt`]: what a worker keeps of posts
 #![tactic(auto)]
 
+pub mod board;
 pub mod cell;
 pub mod core_state;
 pub mod core_steps;
@@ -28,12 +29,15 @@ pub mod names;
 pub mod posted;
 pub mod receipt;
 mod run_history;
+pub mod seat;
 pub mod snapshot;
 
+pub use board::{Board, MOST_WORKERS};
 pub use cell::RunCell;
 pub use core_state::{CoreState, core_run, core_step};
 pub use core_steps::{CoreStep, Moved};
 pub use names::{BundleName, LockName};
 pub use posted::{Double, Posted};
 pub use receipt::Receipt;
+pub use seat::Seat;
 pub use snapshot::{LookFault, Snapshot};

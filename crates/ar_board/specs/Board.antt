@@ -1,0 +1,53 @@
+-- A board: the runs of a bundle that several workers post to, and what each worker has of it, its seat.
+use Rattle.std.specs.Prelude.{◌≡◌, ◌<◌, ◌++◌, ℕ, List, [], ◌∷◌, length, Some, slice_get}
+use Rattle.ar_bundle.specs.Bundle.{Bundle, run_of}
+use Rattle.ar_board.specs.Cell.{Cell, IsCell, IsFresh, IsSnapshot, authors_at, lock_of, posts_of}
+use Rattle.ar_board.specs.declared.posted.Posted.{Posted}
+use Rattle.ar_board.specs.declared.receipt.Receipt.{Receipt}
+use Rattle.ar_board.specs.declared.snapshot.LookFault.{LookFault}
+use Rattle.ar_board.specs.declared.snapshot.LookFault.TheVariants.{OutOfMemory, Stale}
+use Rattle.ar_board.specs.declared.snapshot.Snapshot.{Snapshot}
+
+-- a seat: which of the workers it is for, and the receipts of its posts, in the order in which they were given
+pub record Seat : Type 0 where
+  pub worker : ℕ
+  pub receipts : List Receipt
+
+abbrev pub seat_of : (worker : ℕ) → List Receipt → Seat
+seat_of worker receipts = record { worker = worker; receipts = receipts }
+
+-- a seat for each of so many workers, none of which has posted anything
+pub record AreSeated (workers : ℕ) (seats : List Seat) : Type 0 where
+  pub as_many : length seats ≡ workers
+  pub each : (worker : ℕ) → worker < workers → slice_get seats worker ≡ Some (seat_of worker [])
+
+-- ---- a post
+
+-- one receipt more, which says where the number stands in its run's history
+pub record IsReceived (bundle : Bundle) (number : ℕ) (before after : Seat) (answer : Posted) : Type 0 where
+  pub run : ℕ
+  pub own : run_of bundle number ≡ Some run
+  pub receipts : after.receipts ≡ before.receipts ++ record { run = run; number = number; place = answer.place } ∷ []
+  pub worker : after.worker ≡ before.worker
+
+-- ---- a look
+
+-- what a look shows is a run as it stood in its lock's cell at one moment, when the entries of the seat's worker were those of
+-- the seat's receipts for the run
+pub record IsSeen (bundle : Bundle) (workers run : ℕ) (seat : Seat) (shown : Snapshot) : Type 0 where
+  pub cell : Cell
+  pub is : IsCell bundle workers (lock_of run) cell
+  pub snapshot : IsSnapshot bundle workers run cell shown
+  pub fresh : IsFresh cell run seat.worker seat.receipts
+
+-- at one moment they weren't, and there were so many of them
+pub record IsStale (bundle : Bundle) (workers run : ℕ) (seat : Seat) (posts : ℕ) : Type 0 where
+  pub cell : Cell
+  pub is : IsCell bundle workers (lock_of run) cell
+  pub as_many : posts ≡ posts_of seat.worker (authors_at cell run)
+  pub not_fresh : IsFresh cell run seat.worker seat.receipts → ⊥
+
+-- why a look shows nothing
+abbrev pub IsUnseen : Bundle → (workers run : ℕ) → Seat → LookFault → Type 0
+IsUnseen bundle workers run seat OutOfMemory = Unit {0}
+IsUnseen bundle workers run seat (Stale posts) = IsStale bundle workers run seat posts

@@ -1,0 +1,71 @@
+//! What a worker has of a board.
+
+ghost use Rattle.std.specs.Prelude.{◌≡◌, ◌<◌, [], IfOk, length};
+ghost use Rattle.ar_board.specs.Board.{seat_of};
+
+use crate::names::{BundleName, LockName};
+use crate::receipt::Receipt;
+use std::alloc::{AllocError, Global};
+use std::marker::{Model, PhantomData};
+use std::sync::ledger::Share;
+
+/// A worker's seat at a board: which of the workers it is for, and the receipts of its posts. Contracts
+/// see it as the `Seat` of `specs/Board`. It is its board's by the names that both have.
+#[derive(Drop)]
+pub struct Seat<M: BundleName, L: LockName> {
+    pub(crate) worker: usize,
+    /// With room for one of each number.
+    pub(crate) receipts: Vec<Receipt>,
+    pub(crate) share: Share<L>,
+    name: PhantomData<M>,
+}
+
+impl<M: BundleName, L: LockName> Model for Seat<M, L> {
+    ghost use Rattle.std.specs.Vec.{vec_capacity};
+    ghost use Rattle.ar_board.specs.Board.{Seat, seat_of};
+    ghost use Rattle.ar_board.specs.Private.Seats.{IsSeat};
+
+    ghost Value = { Seat };
+
+    ghost view = { λ s. seat_of s.worker s.receipts.items };
+
+    ghost invariant = { λ s. IsSeat M.bundle M.workers s.worker s.receipts.items (vec_capacity s.receipts) s.share.parts s.share.amount };
+}
+
+impl<M: BundleName, L: LockName> Seat<M, L> {
+    /// That of a worker that has posted nothing, with a part of the lock's ledger.
+    pub(crate) fn new(
+        alloc: Global,
+        worker: usize,
+        events: u64,
+        share: Share<L>,
+    ) -> Result<Seat<M, L>, AllocError>
+        requires worker { worker < M.workers }
+        requires events { events ≡ length M.bundle.entries }
+        requires part { share.parts ≡ 1 }
+        requires amount { share.amount ≡ 0 }
+        ensures { IfOk result (λ seat. seat ≡ seat_of worker []) }
+    {
+        Ok(Seat {
+            worker,
+            receipts: Vec::with_capacity(alloc, events as usize)?,
+            share,
+            name: PhantomData,
+        })
+    }
+
+    /// Which of the workers it is for, counted from 0.
+    pub fn worker(&self) -> usize
+        ensures own { result ≡ self.now.worker }
+        ensures there { result < M.workers }
+    {
+        self.worker
+    }
+
+    /// The receipts of its posts, in the order in which they were given.
+    pub fn receipts(&self) -> &[Receipt]
+        ensures { result.now ≡ self.now.receipts }
+    {
+        &self.receipts
+    }
+}
