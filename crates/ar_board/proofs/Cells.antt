@@ -1,7 +1,7 @@
 -- A cell that gets one entry more.
 use Rattle.std.proofs.Common.{◌≡◌, ◌≢◌, ◌<◌, ◌≤◌, ℕ, zero, suc, ◌+◌, ◌==◌, Bool, true, false, List, [], ◌∷◌, ◌++◌, length, map, set, get_or, Option, Some, None, is_some, refl, sym, ◌∙◌, ap, subst, arith}
 use Rattle.std.specs.Prelude.{cond, option_map, slice_get, vec_capacity}
-use Rattle.std.specs.List.{AllByRecursion, cons_option, count_by, sum_by}
+use Rattle.std.specs.List.{AllByRecursion, count_by, sum_by}
 use Rattle.std.proofs.lemmas.Bool.Decides.{nat_tests}
 use Rattle.std.proofs.lemmas.List.{get_or-set_other, length-map, length-set, length_push, map-set}
 use Rattle.std.proofs.lemmas.List.Sums.{count_by-le-length, sum_by-set, sum_by_push}
@@ -29,12 +29,12 @@ use Rattle.ar_bundle.proofs.Room.{has_room}
 
 -- ---- lists
 
-at_set_same : {A : Type 0} (xs : List A) (at : ℕ) (x : A) → at < length xs → slice_get (set xs at x) at ≡ Some x
+pub at_set_same : {A : Type 0} (xs : List A) (at : ℕ) (x : A) → at < length xs → slice_get (set xs at x) at ≡ Some x
 at_set_same [] at x inside = absurd (omega arith)
 at_set_same (first ∷ xs) zero x inside = refl
 at_set_same (first ∷ xs) (suc at) x inside = at_set_same xs at x (omega arith)
 
-at_set_other : {A : Type 0} (xs : List A) (at other : ℕ) (x : A) → other ≢ at → slice_get (set xs at x) other ≡ slice_get xs other
+pub at_set_other : {A : Type 0} (xs : List A) (at other : ℕ) (x : A) → other ≢ at → slice_get (set xs at x) other ≡ slice_get xs other
 at_set_other [] at other x away = refl
 at_set_other (first ∷ xs) zero zero x away = absurd (away refl)
 at_set_other (first ∷ xs) zero (suc other) x away = refl
@@ -45,7 +45,7 @@ set_same : {A : Type 0} (xs : List A) (at : ℕ) (x y : A) → at < length xs �
 set_same xs at x y inside there = let same = sym (at_set_same xs at x inside) ∙ there in cc
 
 -- what is at a place of a changed list is the new one, or what was there
-cases_at : {A : Type 0} (P : ℕ → A → Type 0) (xs : List A) (at other : ℕ) (x y : A) → at < length xs → P at x → ((z : A) → other ≢ at → slice_get xs other ≡ Some z → P other z) → slice_get (set xs at x) other ≡ Some y → P other y
+pub cases_at : {A : Type 0} (P : ℕ → A → Type 0) (xs : List A) (at other : ℕ) (x y : A) → at < length xs → P at x → ((z : A) → other ≢ at → slice_get xs other ≡ Some z → P other z) → slice_get (set xs at x) other ≡ Some y → P other y
 cases_at P xs at other x y inside new old there = by_test (other == at) refl where
   by_test : (test : Bool) → (other == at) ≡ test → P other y
   by_test true is =

@@ -4,6 +4,9 @@ pub mod Cells
 pub mod Shows
 pub mod Under
 pub mod Seats
+pub mod Marks
+pub mod Gone
+pub mod Closed
 pub mod Opened
 pub mod ReceiptLemmas
 pub mod CorePost

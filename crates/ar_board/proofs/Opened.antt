@@ -22,7 +22,7 @@ use Rattle.ar_bundle.proofs.Sizes.{as_many_counts}
 
 -- ---- one run more
 
-pushed_at : {A : Type 0} (P : ℕ → A → Type 0) (xs : List A) (last : A) (at : ℕ) (x : A) → ((at : ℕ) (x : A) → slice_get xs at ≡ Some x → P at x) → P (length xs) last → slice_get (xs ++ last ∷ []) at ≡ Some x → P at x
+pub pushed_at : {A : Type 0} (P : ℕ → A → Type 0) (xs : List A) (last : A) (at : ℕ) (x : A) → ((at : ℕ) (x : A) → slice_get xs at ≡ Some x → P at x) → P (length xs) last → slice_get (xs ++ last ∷ []) at ≡ Some x → P at x
 pushed_at P [] last zero x each new there = let same : last ≡ x = cc in subst (P 0) same new
 pushed_at P [] last (suc at) x each new there = absurd cc
 pushed_at P (first ∷ xs) last zero x each new there = each zero x there

@@ -1,15 +1,13 @@
 -- A cell has no more entries than the bundle has of the runs under its lock.
-use Rattle.std.proofs.Common.{◌≡◌, ◌≢◌, ◌<◌, ◌≤◌, ℕ, zero, suc, ◌+◌, ◌==◌, Bool, true, false, if◌then◌else◌, List, [], ◌∷◌, length, map, Option, Some, None, refl, sym, ◌∙◌, ap, subst, arith}
+use Rattle.std.proofs.Common.{◌≡◌, ◌≢◌, ◌<◌, ◌≤◌, ℕ, zero, suc, ◌+◌, ◌==◌, Bool, true, false, if◌then◌else◌, List, [], ◌∷◌, length, Some, refl, sym, ◌∙◌, ap, subst, arith}
 use Rattle.std.specs.Prelude.{cond, slice_get}
-use Rattle.std.specs.List.{AllByRecursion, count_by, sum_by}
+use Rattle.std.specs.List.{count_by, sum_by}
 use Rattle.std.proofs.lemmas.Bool.Decides.{nat_tests}
 use Rattle.std.proofs.lemmas.List.Sums.{sum_by-cons}
-use Rattle.std.proofs.lemmas.Option.{slice_get_within}
-use Rattle.ar_bundle.specs.Bundle.{Bundle, IsBundle, IsEntry, count_of, entries_of}
+use Rattle.ar_bundle.specs.Bundle.{Bundle, count_of, entries_of}
 use Rattle.ar_bundle.specs.declared.bundle.EventPart.{EventPart}
 use Rattle.ar_bundle.specs.declared.bundle.RunPart.{RunPart}
 use Rattle.ar_board.specs.Cell.{Cell, IsCell, IsKept, KeptRun, entries_under, lock_of}
-use Rattle.ar_bundle.proofs.Bundles.{entry_at}
 use Rattle.ar_bundle.proofs.Room.{at_most}
 
 -- ---- sums over runs
@@ -33,6 +31,7 @@ one_from f own from (suc runs) others = by_test (own == from) refl (one_from f o
   past : (from runs : ℕ) → own < from → sum_from f from runs ≡ 0
   past from zero beyond = refl
   past from (suc runs) beyond = let here = others from (λ same. absurd (omega arith)) in let rest = past (suc from) runs (omega arith) in omega arith
+
   by_test : (test : Bool) → (own == from) ≡ test → sum_from f (suc from) runs ≤ f own → f from + sum_from f (suc from) runs ≤ f own
   by_test true is rest = let same : own ≡ from = grind (arith, nat_tests) in let here : f from ≡ f own = ap f (sym same) in let later = past (suc from) runs (omega arith) in omega arith
   by_test false is rest = let away : own ≢ from = grind (arith, nat_tests) in let here = others from (λ same. away (sym same)) in omega arith
@@ -72,7 +71,7 @@ counted under runs [] = let none = none_from (λ run. weight (under run) 0) 0 ru
 counted under runs (entry ∷ entries) =
     let rest = counted under runs entries in
     let all = both_from (λ run. weight (under run) (one_of entry run)) (λ run. weight (under run) (count_of entries run)) (λ run. weight (under run) (count_of (entry ∷ entries) run)) 0 runs
-        (λ run. ap (weight (under run)) (sum_by-cons (λ (entry : EventPart). cond (entry.run == run) 1 0) entry entries) ∙ weight_both (under run) (one_of entry run) (count_of entries run)) in
+    (λ run. ap (weight (under run)) (sum_by-cons (λ (entry : EventPart). cond (entry.run == run) 1 0) entry entries) ∙ weight_both (under run) (one_of entry run) (count_of entries run)) in
     let one = one_from (λ run. weight (under run) (one_of entry run)) entry.run 0 runs (λ run away. ap (weight (under run)) (one_away entry run away) ∙ weight_none (under run)) in
     let here : weight (under entry.run) (one_of entry entry.run) ≡ cond (under entry.run) 1 0 = ap (weight (under entry.run)) (one_here entry) ∙ weight_one (under entry.run) in
     let first = sum_by-cons (λ (entry : EventPart). cond (under entry.run) 1 0) entry entries in
@@ -99,8 +98,8 @@ all_most bundle workers lock from (part ∷ parts) (own ∷ kept) many each =
     let at_first : from + zero ≡ from = omega arith in
     let here = kept_most bundle workers lock from part own (subst (λ (at : ℕ). IsKept bundle workers lock at part.limits own) at_first (each zero part own refl refl)) in
     let rest = all_most bundle workers lock (suc from) parts kept (omega arith) (λ run part own there kept_there.
-        let next : from + suc run ≡ suc from + run = omega arith in
-        subst (λ (at : ℕ). IsKept bundle workers lock at part.limits own) next (each (suc run) part own there kept_there)) in
+    let next : from + suc run ≡ suc from + run = omega arith in
+    subst (λ (at : ℕ). IsKept bundle workers lock at part.limits own) next (each (suc run) part own there kept_there)) in
     let first = sum_by-cons (λ (kept : KeptRun). length kept.history) own kept in
     omega arith
 
@@ -108,8 +107,8 @@ all_most bundle workers lock from (part ∷ parts) (own ∷ kept) many each =
 pub few_there : (bundle : Bundle) (workers lock : ℕ) (cell : Cell) → IsCell bundle workers lock cell → cell.total ≤ entries_under bundle lock
 few_there bundle workers lock cell is =
     let most = all_most bundle workers lock 0 bundle.runs cell.runs is.as_many (λ run part own there kept_there.
-        let here : run ≡ 0 + run = omega arith in
-        subst (λ (at : ℕ). IsKept bundle workers lock at part.limits own) here (is.each run part own there kept_there)) in
+    let here : run ≡ 0 + run = omega arith in
+    subst (λ (at : ℕ). IsKept bundle workers lock at part.limits own) here (is.each run part own there kept_there)) in
     let all = counted (λ run. lock_of run == lock) (length bundle.runs) bundle.entries in
     let total = is.counted in
     omega arith

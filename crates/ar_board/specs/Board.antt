@@ -1,7 +1,12 @@
 -- A board: the runs of a bundle that several workers post to, and what each worker has of it, its seat.
-use Rattle.std.specs.Prelude.{◌≡◌, ◌<◌, ◌++◌, ℕ, List, [], ◌∷◌, length, Some, slice_get}
+use Rattle.std.specs.Prelude.{◌≡◌, ◌<◌, ◌+◌, ◌==◌, ◌++◌, ℕ, suc, if◌then◌else◌, List, [], ◌∷◌, length, map, Some, slice_get}
+use Rattle.std.specs.List.{count_by, sum_by}
 use Rattle.ar_bundle.specs.Bundle.{Bundle, run_of}
+use Rattle.ar_bundle.specs.Lawful.{AreHistoriesSoFar, AreLawful}
+use Rattle.ar_bundle.specs.declared.history.Entry.{Entry}
 use Rattle.ar_board.specs.Cell.{Cell, IsCell, IsFresh, IsSnapshot, authors_at, lock_of, posts_of}
+use Rattle.ar_board.specs.Receipts.{Hold}
+use Rattle.ar_board.specs.declared.lost.Lost.{Lost}
 use Rattle.ar_board.specs.declared.posted.Posted.{Posted}
 use Rattle.ar_board.specs.declared.receipt.Receipt.{Receipt}
 use Rattle.ar_board.specs.declared.snapshot.LookFault.{LookFault}
@@ -51,3 +56,36 @@ pub record IsStale (bundle : Bundle) (workers run : ℕ) (seat : Seat) (posts : 
 abbrev pub IsUnseen : Bundle → (workers run : ℕ) → Seat → LookFault → Type 0
 IsUnseen bundle workers run seat OutOfMemory = Unit {0}
 IsUnseen bundle workers run seat (Stale posts) = IsStale bundle workers run seat posts
+
+-- ---- closing
+
+-- the receipts of each seat
+abbrev pub receipts_of : List Seat → List (List Receipt)
+receipts_of seats = map (λ seat. seat.receipts) seats
+
+-- how many entries the histories of the runs under a lock have together, counting runs from one
+abbrev pub held_from : (lock from : ℕ) → List (List Entry) → ℕ
+held_from lock from [] = 0
+held_from lock from (history ∷ histories) = (if lock_of from == lock then length history else 0) + held_from lock (suc from) histories
+
+abbrev pub held_under : (lock : ℕ) → List (List Entry) → ℕ
+held_under lock histories = held_from lock 0 histories
+
+-- how many receipts there are for runs under a lock
+abbrev pub received_under : (lock : ℕ) → List (List Receipt) → ℕ
+received_under lock receipts = sum_by (λ own. count_by (λ receipt. lock_of receipt.run == lock) own) receipts
+
+-- each number is held: the histories are lawful, and each receipt is met
+pub record IsClosed (bundle : Bundle) (seats : List Seat) (histories : List (List Entry)) : Type 0 where
+  pub lawful : AreLawful bundle histories
+  pub held : (number : ℕ) → number < length bundle.entries → Hold histories (receipts_of seats) number
+
+-- a number isn't held, the least of those that aren't; what shows it is handed out
+pub record IsLost (bundle : Bundle) (seats : List Seat) (lost : Lost) : Type 0 where
+  pub so_far : AreHistoriesSoFar bundle lost.histories
+  pub given : map (λ own. own.items) lost.receipts.items ≡ receipts_of seats
+  -- as many entries as receipts, lock by lock
+  pub balanced : (lock : ℕ) → held_under lock lost.histories ≡ received_under lock (receipts_of seats)
+  pub there : lost.number < length bundle.entries
+  pub not_held : Hold lost.histories (receipts_of seats) lost.number → ⊥
+  pub least : (number : ℕ) → number < lost.number → Hold lost.histories (receipts_of seats) number

@@ -4,3 +4,4 @@ pub mod Kept
 pub mod Inside
 pub mod KeptRuns
 pub mod Seats
+pub mod Closing

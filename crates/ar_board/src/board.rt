@@ -1,16 +1,19 @@
 //! Boards, which several workers post to.
 
-ghost use Rattle.std.specs.Prelude.{◌≡◌, ◌<◌, ◌≤◌, IfErr, IfOk, OnErr, Some, length};
+ghost use Rattle.std.specs.Prelude.{◌≡◌, ◌<◌, ◌≤◌, [], false, IfErr, IfOk, OnErr, Some, length, replicate};
 ghost use Rattle.ar_bundle.specs.Bundle.{found};
-ghost use Rattle.ar_board.specs.Board.{AreSeated, IsReceived, IsSeen, IsUnseen};
+ghost use Rattle.std.specs.Vec.{vec_capacity};
+ghost use Rattle.ar_board.specs.Board.{AreSeated, IsClosed, IsLost, IsReceived, IsSeen, IsUnseen};
 
 use crate::cell::RunCell;
+use crate::closing::mark_all;
+use crate::lost::Lost;
 use crate::names::{BundleName, LockName};
 use crate::posted::{Double, Posted};
 use crate::receipt::Receipt;
-use crate::seat::Seat;
+use crate::seat::{Seat, gather};
 use crate::snapshot::{LookFault, Snapshot};
-use ar_bundle::{Bundle, Finding};
+use ar_bundle::{Bundle, Finding, Histories, History};
 use std::alloc::{AllocError, Global};
 use std::sync::ledger::{Blank, Share};
 use std::sync::{Mutex, Wait};
@@ -23,8 +26,20 @@ pub const MOST_WORKERS: usize = 16;
 pub struct Board<'b, M: BundleName, L: LockName> {
     bundle: &'b Bundle,
     cell: Mutex<RunCell<'b, M, L>>,
+    // What `close` wants: room for the histories and the lists of receipts, a mark for each number, and
+    // a share that has no part.
+    histories: Vec<History>,
+    receipts: Vec<Vec<Receipt>>,
+    marks: Vec<bool>,
+    rest: Share<L>,
     ghost named: { bundle.now ≡ M.bundle },
     ghost lock: { L.lock ≡ 0 },
+    ghost no_histories: { histories.items ≡ [] },
+    ghost history_room: { length M.bundle.runs ≤ vec_capacity histories },
+    ghost no_receipts: { receipts.items ≡ [] },
+    ghost receipt_room: { M.workers ≤ vec_capacity receipts },
+    ghost unmarked: { marks.items ≡ replicate (length M.bundle.entries) false },
+    ghost no_part: { (rest.parts ≡ 0) × (rest.amount ≡ 0) },
 }
 
 impl<'b, M: BundleName, L: LockName> Board<'b, M, L> {
@@ -48,12 +63,17 @@ impl<'b, M: BundleName, L: LockName> Board<'b, M, L> {
         requires parts { (blank.parts ≡ L.parts) × (L.parts ≡ M.workers) }
         ensures seats { IfOk result (λ made. AreSeated M.workers made.1.items) }
     {
-        let (book, all) = blank.open::<L>();
+        let (book, mut all) = blank.open::<L>();
+        let rest = all.empty();
         let cell = RunCell::new(alloc, bundle, workers, book)?;
         let seats = seats_of(alloc, workers, bundle.events(), all)?;
         let board = Board {
             bundle,
             cell: Mutex::new(cell),
+            histories: Vec::with_capacity(alloc, bundle.runs().len())?,
+            receipts: Vec::with_capacity(alloc, workers)?,
+            marks: vec![in alloc; false; bundle.events() as usize]?,
+            rest,
         };
         Ok((board, seats))
     }
@@ -107,6 +127,43 @@ impl<'b, M: BundleName, L: LockName> Board<'b, M, L> {
     {
         let cell = self.cell.lock(rt);
         cell.show(alloc, run, seat.worker, seat.receipts.as_slice())
+    }
+
+    /// The histories of the runs, by all seats of the board. Want of memory is never answered. It takes
+    /// time in proportion to the bundle's entries and the receipts.
+    ///
+    /// # Errors
+    ///
+    /// `Lost` where the histories don't hold each number: where one stands nowhere, or not where its
+    /// receipt says.
+    pub fn close(self, seats: Vec<Seat<M, L>>) -> Result<Histories, Lost>
+        requires all { length seats.items ≡ M.workers }
+        requires parts { L.parts ≡ M.workers }
+        ensures closed { IfOk result (IsClosed M.bundle seats.items) }
+        ensures lost { IfErr result (IsLost M.bundle seats.items) }
+    {
+        let Board {
+            bundle: _,
+            cell,
+            histories,
+            mut receipts,
+            mut marks,
+            mut rest,
+        } = self;
+        let mut cell = cell.into_inner();
+        gather(seats, &mut receipts, &mut rest);
+        cell.audit(&mut rest);
+        mark_all(&cell, receipts.as_slice(), &mut marks);
+        let gone = cell.first_gone(marks.as_slice());
+        let histories = cell.into_histories(histories);
+        match gone {
+            None => Ok(histories),
+            Some(number) => Err(Lost {
+                number,
+                histories,
+                receipts,
+            }),
+        }
     }
 }
 

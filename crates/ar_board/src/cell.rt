@@ -1,9 +1,11 @@
 //! What a board keeps under one of its locks.
 
-ghost use Rattle.std.specs.Prelude.{◌≡◌, ◌+◌, ◌<◌, ◌≤◌, ◌↔◌, Err, IfErr, IfOk, IsErr, None, OnErr, OnOk, Some, length, replicate};
+ghost use Rattle.std.specs.Prelude.{◌≡◌, ◌+◌, ◌<◌, ◌≤◌, ◌↔◌, [], Err, IfErr, IfOk, IsErr, IsTrue, None, OnErr, OnOk, Some, length, replicate};
 ghost use Rattle.ar_bundle.specs.Bundle.{IsBundle, found};
-ghost use Rattle.ar_board.specs.Cell.{CanBe, IsCell, IsEmpty, IsFresh, IsPosted, IsSnapshot, IsUnder, Stands, authors_at, entries_under, history_at, lock_of, posts_of};
+ghost use Rattle.ar_board.specs.Cell.{CanBe, IsCell, IsEmpty, IsFresh, IsPosted, IsSnapshot, IsUnder, Stands, authors_at, entries_under, histories_of, history_at, lock_of, posts_of};
+ghost use Rattle.ar_board.specs.Private.Closing.{FirstGone, IsAt};
 ghost use Rattle.ar_board.specs.Private.KeptRuns.{AreOpened};
+ghost use Rattle.std.specs.Vec.{vec_capacity};
 ghost use Rattle.ar_board.specs.declared.snapshot.LookFault.TheVariants as LookFault;
 
 use crate::kept_run::KeptRun;
@@ -11,7 +13,7 @@ use crate::names::{BundleName, LockName};
 use crate::posted::{Double, Posted};
 use crate::receipt::Receipt;
 use crate::snapshot::{LookFault, Snapshot};
-use ar_bundle::{Bundle, Entry, Finding};
+use ar_bundle::{Bundle, Entry, Finding, Histories, History};
 use std::alloc::{AllocError, Global};
 use std::marker::{Model, PhantomData};
 use std::sync::ledger::{Book, Share};
@@ -117,6 +119,7 @@ impl<'b, M: BundleName, L: LockName> RunCell<'b, M, L> {
         ensures amount { mine.new.amount ≡ mine.old.amount }
         ensures parts { mine.new.parts ≡ mine.old.parts }
         ensures few { mine.old.amount ≤ entries_under M.bundle L.lock }
+        ensures bundle { IsBundle M.bundle }
         ensures whole { mine.old.parts ≡ L.parts → mine.old.amount ≡ self.old.total }
     {
         self.book.audit(mine);
@@ -151,6 +154,51 @@ impl<'b, M: BundleName, L: LockName> RunCell<'b, M, L> {
             return Err(LookFault::Stale(kept.posts[worker]));
         }
         Ok(kept.snapshot(alloc)?)
+    }
+
+    /// Whether a receipt's number stands at the receipt's place in the history of its run.
+    pub(crate) fn has(&self, receipt: &Receipt) -> bool
+        requires there { receipt.now.run < length M.bundle.runs }
+        ensures { IsTrue result ↔ IsAt (histories_of self.now) receipt.now }
+    {
+        match self.history(receipt.run).get(receipt.place) {
+            Some(entry) => entry.number == receipt.number,
+            None => false,
+        }
+    }
+
+    /// The first number that is marked, or that stands nowhere.
+    pub(crate) fn first_gone(&self, marks: &[bool]) -> Option<u64>
+        requires { length marks.now ≡ length M.bundle.entries }
+        ensures first { FirstGone M.bundle self.now marks.now result }
+        ensures cell { IsCell M.bundle M.workers L.lock self.now }
+    {
+        for number in 0..self.bundle.events() {
+            let index = number as usize;
+            if marks[index] || self.places[index].is_none() {
+                return Some(number);
+            }
+        }
+        None
+    }
+
+    /// The histories of the runs, put into a list that has room for them.
+    pub(crate) fn into_histories(self, mut histories: Vec<History>) -> Histories
+        requires empty { histories.items ≡ [] }
+        requires room { length M.bundle.runs ≤ vec_capacity histories }
+        ensures { result ≡ histories_of self.entry }
+    {
+        let RunCell {
+            bundle: _,
+            runs,
+            places: _,
+            book: _,
+            name: _,
+        } = self;
+        for kept in runs {
+            histories.push_reserved(History::from(kept.run.entries));
+        }
+        Histories::from(histories)
     }
 
     /// A number with its finding comes to the end of its run's history, posted by a worker. The worker's

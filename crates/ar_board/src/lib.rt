@@ -21,10 +21,12 @@
 
 pub mod board;
 pub mod cell;
+mod closing;
 pub mod core_state;
 pub mod core_steps;
 mod kept_run;
 pub mod laws;
+pub mod lost;
 pub mod names;
 pub mod posted;
 pub mod receipt;
@@ -36,6 +38,7 @@ pub use board::{Board, MOST_WORKERS};
 pub use cell::RunCell;
 pub use core_state::{CoreState, core_run, core_step};
 pub use core_steps::{CoreStep, Moved};
+pub use lost::Lost;
 pub use names::{BundleName, LockName};
 pub use posted::{Double, Posted};
 pub use receipt::Receipt;

@@ -1,13 +1,39 @@
 //! What a worker has of a board.
 
-ghost use Rattle.std.specs.Prelude.{◌≡◌, ◌<◌, [], IfOk, length};
+ghost use Rattle.std.specs.Prelude.{◌≡◌, ◌<◌, ◌≤◌, [], IfOk, length, map};
+ghost use Rattle.std.specs.Vec.{vec_capacity};
 ghost use Rattle.ar_board.specs.Board.{seat_of};
+ghost use Rattle.ar_board.specs.Private.Closing.{AreGiven};
 
 use crate::names::{BundleName, LockName};
 use crate::receipt::Receipt;
 use std::alloc::{AllocError, Global};
 use std::marker::{Model, PhantomData};
 use std::sync::ledger::Share;
+
+/// Puts the receipts of seats into a list that has room for them, and their shares together.
+#[tactic(auto, using(crate::proofs::Seats::none_given))]
+pub(crate) fn gather<M: BundleName, L: LockName>(
+    seats: Vec<Seat<M, L>>,
+    receipts: &mut Vec<Vec<Receipt>>,
+    all: &mut Share<L>,
+)
+    requires empty { receipts.old.items ≡ [] }
+    requires room { length seats.items ≤ vec_capacity receipts.old }
+    requires no_part { (all.old.parts ≡ 0) × (all.old.amount ≡ 0) }
+    ensures { AreGiven M.bundle seats.items (map (λ own. own.items) receipts.new.items) all.new.parts all.new.amount }
+{
+    for seat in seats {
+        let Seat {
+            worker: _,
+            receipts: own,
+            share,
+            name: _,
+        } = seat;
+        all.merge(share);
+        receipts.push_reserved(own);
+    }
+}
 
 /// A worker's seat at a board: which of the workers it is for, and the receipts of its posts. Contracts
 /// see it as the `Seat` of `specs/Board`. It is its board's by the names that both have.

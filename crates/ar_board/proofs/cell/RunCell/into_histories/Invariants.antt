@@ -1,0 +1,14 @@
+use Rattle.std.proofs.Common.{◌≡◌, ◌≤◌, ◌++◌, length}
+use Rattle.std.specs.Vec.{vec_capacity}
+use Rattle.std.specs.Vec.Iter.{into_iter_items, into_iter_len}
+use Rattle.ar_board.specs.Cell.{histories_of}
+use Rattle.ar_board.specs.Private.KeptRuns.{cell_of}
+use Rattle.ar_board.proofs.cell.RunCell.into_histories.Given as goal
+
+-- the histories of the runs so far
+abbrev pub invariant-loop-kept : goal.invariant-loop-kept
+invariant-loop-kept g l =
+    (l.yielded ++ into_iter_items l.kept-iterator ≡ into_iter_items l.initial.kept-iterator)
+    × (l.histories.items ≡ histories_of (cell_of l.yielded 0))
+    × (into_iter_len l.kept-iterator ≡ length (into_iter_items l.kept-iterator))
+    × (length (into_iter_items l.initial.kept-iterator) ≤ vec_capacity l.histories)

@@ -1,0 +1,14 @@
+//! What shows that a number was lost.
+
+use crate::receipt::Receipt;
+use ar_bundle::Histories;
+
+/// A board's histories don't hold each number of the bundle.
+#[derive(Debug, Drop)]
+pub struct Lost {
+    /// The least that they don't hold.
+    pub number: u64,
+    pub histories: Histories,
+    /// Of each seat.
+    pub receipts: Vec<Vec<Receipt>>,
+}
