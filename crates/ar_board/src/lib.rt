@@ -1,4 +1,5 @@
-//! What a board keeps of the runs of a bundle, under a lock.
+//! Boards, which several workers post their findings to, and what a board keeps of the runs of a
+//! bundle under a lock.
 //!
 //! The core of a board (`specs/Core`) is what a board does to plain lists, one [`CoreStep`] after
 //! another: a number is put into the queue, a worker takes it, and posts it to its run's history.
@@ -10,12 +11,17 @@
 //! that posted each entry, and where the run stands. [`RunCell::add`] is the core's Post on a run of
 //! the cell, answered with the entry's place and effect, and [`RunCell::show`] shows a run to a worker
 //! whose entries in it are just those of its [`Receipt`]s for the run. `specs/Cell` says what is true of
-//! a cell whenever its lock is free, `specs/Receipts` when histories meet a receipt. A [`BundleName`] names the bundle in
-//! contracts, a [`LockName`] the lock and its ledger.
+//! a cell whenever its lock is free, `specs/Receipts` when histories meet a receipt. A [`BundleName`]
+//! names the bundle in contracts, a [`LockName`] the lock and its ledger.
+//!
+//! A [`Board`] holds a cell under a lock. Each worker has a [`Seat`], by which it posts and looks, and
+//! which keeps the receipts of its posts. [`Board::close`] gives the histories where they hold each
+//! number, and else says in [`Lost`] which is the least that is lost (`specs/Board`).
 //!
 //! - [`core_steps`]: steps of the core; [`core_state`]: the core in memory
 //! - `run_history`: the history of a run, which grows, and where the run stands
 //! - [`cell`]: what is kept under a lock, by its runs (`kept_run`); [`names`]: what names it
+//! - [`board`]: boards; [`seat`]: what a worker has of one; `closing`, [`lost`]: which numbers are lost
 //! - [`posted`], [`snapshot`]: what posts and looks answer; [`receipt`]: what a worker keeps of posts
 #![tactic(auto)]
 

@@ -127,12 +127,12 @@ fn assert_document(
 }
 
 /// Two runs, each with one measurement, which holds.
-const TWO_RUNS: &str =
+pub(crate) const TWO_RUNS: &str =
     r#"{"manifest":{"apiVersion":"argoproj.io/v1alpha1","kind":"AnalysisTemplate","metadata":{"name":"t"},
     "spec":{"metrics":[{"name":"m","successCondition":"result[0] >= 0.95"}]}},"shapes":{"m":{"list":"decimal","max":10}},
     "runs":[{"name":"r0"},{"name":"r1"}],"measurements":[{"run":"r0","metric":"m","value":["0.99"]},{"run":"r1","metric":"m","value":["0.96"]}]}"#;
 
-const CLOSING: &str = "Ok(Posted { place: 0, effect: Closed(Successful) })";
+pub(crate) const CLOSING: &str = "Ok(Posted { place: 0, effect: Closed(Successful) })";
 
 /// A run is shown to a worker with its receipts alone, and a number is added once.
 #[test]

@@ -7,11 +7,14 @@
 //! - `templates`: arguments, and parts of templates that are given back
 //! - `code`: code that is given back, and images with a byte less or another one
 //! - `bundles`: plain runs of as many events as may be, and lists that are given back
+//! - `boards`: posts and looks by the seats of a board, and what closing it gives
 //! - `cells`: what a board keeps under a lock: posts, and looks with receipts
 //! - `commands`: commands on inputs that come a byte at a time, that can't be read, and that are kept
 //! - `laws`: laws
 #![tactic(auto)]
 
+#[cfg(test)]
+mod boards;
 #[cfg(test)]
 mod bundles;
 #[cfg(test)]

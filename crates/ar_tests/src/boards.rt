@@ -1,0 +1,148 @@
+//! Boards, by the names that contracts give their bundle and their lock: posts and looks by seats, and
+//! what closing gives.
+
+ghost use Rattle.std.specs.Prelude.{◌≡◌, ◌≤◌, length};
+
+use crate::cells::{CLOSING, TWO_RUNS};
+use ar_board::{Board, BundleName, LockName, Lost, Seat};
+use ar_bundle::{Bundle, Histories};
+use ar_document::read_bundle;
+use std::alloc::Global;
+use std::marker::Brand;
+use std::process::Abort;
+use std::sync::Wait;
+use std::sync::ledger::Blank;
+use std::test::Fail;
+
+/// What a worker does at a board.
+#[derive(Clone, Copy, Debug)]
+enum Call {
+    /// It posts a number.
+    Post(usize, u64),
+    /// It looks at a run.
+    Look(usize, usize),
+}
+
+/// What comes of a call by the seat of a worker that is there.
+fn answer<M: BundleName, L: LockName, R: Wait>(
+    rt: &R,
+    alloc: Global,
+    bundle: &Bundle,
+    board: &Board<'_, M, L>,
+    seats: &mut Vec<Seat<M, L>>,
+    call: Call,
+) -> Result<String, Fail>
+    requires bundle { bundle.now ≡ M.bundle }
+    ensures seats { length seats.new.items ≡ length seats.old.items }
+{
+    match call {
+        Call::Post(seat, number) if seat < seats.len() && number < bundle.events() => {
+            let finding = bundle.finding(alloc, number)?;
+            let outcome = board.post(rt, &mut seats[seat], number, finding);
+            Ok(format!(in alloc; "{outcome:?}")?)
+        }
+        Call::Look(seat, run) if seat < seats.len() && run < bundle.runs().len() => {
+            let outcome = board.look(rt, alloc, &seats[seat], run);
+            Ok(format!(in alloc; "{outcome:?}")?)
+        }
+        Call::Post(..) | Call::Look(..) => Err(Fail::from("expected what is there")),
+    }
+}
+
+/// The numbers of histories, run by run.
+fn numbers(alloc: Global, histories: &Histories) -> Result<String, Fail> {
+    let mut text = String::new(alloc);
+    for history in histories.runs() {
+        for entry in history.entries() {
+            let number = entry.number;
+            text.push_str(format!(in alloc; "{number} ")?.as_str())?;
+        }
+        text.push_str("/ ")?;
+    }
+    Ok(text)
+}
+
+/// What closing gives: the numbers of the histories, behind the number that is lost, if one is.
+fn closed(alloc: Global, outcome: &Result<Histories, Lost>) -> Result<String, Fail> {
+    match outcome {
+        Ok(histories) => numbers(alloc, histories),
+        Err(lost) => {
+            let number = lost.number;
+            let numbers = numbers(alloc, &lost.histories)?;
+            let receipts = &lost.receipts;
+            Ok(format!(in alloc; "lost {number}: {numbers}{receipts:?}")?)
+        }
+    }
+}
+
+/// Asserts what each call at a new board comes to, and what closing gives behind them.
+fn assert_calls<M: BundleName, L: LockName, R: Wait + Abort>(
+    rt: &R,
+    alloc: Global,
+    bundle: &Bundle,
+    workers: usize,
+    blank: Blank,
+    calls: &[(Call, &str)],
+    closing: &str,
+) -> Result<(), Fail>
+    requires bundle { bundle.now ≡ M.bundle }
+    requires workers { workers ≡ M.workers }
+    requires most { (1 ≤ workers) × (workers ≤ 16) }
+    requires lock { L.lock ≡ 0 }
+    requires name { blank.name ≡ L.name }
+    requires parts { (blank.parts ≡ L.parts) × (L.parts ≡ M.workers) }
+{
+    let (board, mut seats) = Board::<M, L>::new(alloc, blank, bundle, workers)?;
+    for (call, expected) in calls {
+        let answer = answer(rt, alloc, bundle, &board, &mut seats, *call)?;
+        assert_eq!(rt; answer.as_str(), *expected, "{call:?}");
+    }
+    let outcome = board.close(seats);
+    let closed = closed(alloc, &outcome)?;
+    assert_eq!(rt; closed.as_str(), closing);
+    Ok(())
+}
+
+/// The same for the bundle of a document, with one worker or two.
+fn assert_document<R: Wait + Abort>(
+    rt: &R,
+    alloc: Global,
+    are_two: bool,
+    calls: &[(Call, &str)],
+    closing: &str,
+) -> Result<(), Fail> {
+    let bundle = read_bundle(alloc, TWO_RUNS.as_bytes())?;
+    let workers = if are_two { 2 } else { 1 };
+    let blank = Blank::new(workers as u64);
+    assert_calls::<Brand, Brand, R>(rt, alloc, &bundle, workers, blank, calls, closing)
+}
+
+const SUCCESSFUL: &str = "Ok(Snapshot { phase: Successful, metrics: [Successful], posts: [1] })";
+
+/// A number that nobody posted is lost; once both are posted the histories have both.
+#[test]
+fn one_seat(rt: HostRuntime) -> Result<(), Fail> {
+    let lost = [
+        (Call::Post(0, 0), CLOSING),
+        (Call::Look(0, 0), SUCCESSFUL),
+        (Call::Post(0, 0), "Err(Double)"),
+        (Call::Look(0, 0), SUCCESSFUL),
+    ];
+    let receipt = "lost 1: 0 / / [[Receipt { run: 0, number: 0, place: 0 }]]";
+    assert_document(&rt, rt.alloc(), false, &lost, receipt)?;
+    let all = [(Call::Post(0, 0), CLOSING), (Call::Post(0, 1), CLOSING)];
+    assert_document(&rt, rt.alloc(), false, &all, "0 / 1 / ")
+}
+
+/// A seat sees the posts of another, and can't post what that one posted.
+#[test]
+fn two_seats(rt: HostRuntime) -> Result<(), Fail> {
+    let others = "Ok(Snapshot { phase: Successful, metrics: [Successful], posts: [1, 0] })";
+    let calls = [
+        (Call::Post(0, 0), CLOSING),
+        (Call::Look(1, 0), others),
+        (Call::Post(1, 0), "Err(Double)"),
+        (Call::Post(1, 1), CLOSING),
+    ];
+    assert_document(&rt, rt.alloc(), true, &calls, "0 / 1 / ")
+}
