@@ -8,10 +8,10 @@ use Rattle.ar_bundle.specs.Bundle.{Bundle, IsBundle}
 use Rattle.ar_bundle.specs.Lawful.{AreHistoriesSoFar, AreLawful, AtMostOnce, numbers_of, times}
 use Rattle.ar_bundle.specs.declared.bundle.RunPart.{RunPart}
 use Rattle.ar_bundle.specs.declared.history.Entry.{Entry}
-use Rattle.ar_board.specs.Board.{IsClosed, Seat, held_from, held_under, receipts_of, received_under}
+use Rattle.ar_board.specs.Board.{IsClosed, stored_from, stored_under, received_under}
 use Rattle.ar_board.specs.Cell.{Cell, IsCell, KeptRun, histories_of, history_at, lock_of}
 use Rattle.ar_board.specs.Receipts.{Hold}
-use Rattle.ar_board.specs.Private.Closing.{AreAllMarked, AreMet, IsGone, IsThere, IsUnmetAmong}
+use Rattle.ar_board.specs.Private.Closing.{AreAllMarked, AreMet, IsUnheld, IsThere, IsUnmetAmong}
 use Rattle.ar_board.specs.declared.receipt.Receipt.{Receipt}
 use Rattle.ar_bundle.proofs.Bundles.{entry_at, run_of_number}
 use Rattle.ar_board.proofs.Cells.{histories_are}
@@ -27,12 +27,13 @@ holds bundle cell receipts marks number marked there =
       met = λ seat at own receipt own_there at_there for_it. of_all (λ (own : List Receipt). AreMet (histories_of cell) own number) receipts seat own (marked.each number false there.unmarked) own_there at receipt at_there for_it;
     }
 
-pub not_held : (bundle : Bundle) (cell : Cell) (receipts : List (List Receipt)) (marks : List Bool) (number : ℕ) → AreAllMarked bundle (histories_of cell) receipts marks → IsGone cell marks number → Hold (histories_of cell) receipts number → ⊥
-not_held bundle cell receipts marks number marked gone hold = ⊎_elim by_mark nowhere gone where
+pub not_held : (bundle : Bundle) (cell : Cell) (receipts : List (List Receipt)) (marks : List Bool) (number : ℕ) → AreAllMarked bundle (histories_of cell) receipts marks → IsUnheld cell marks number → Hold (histories_of cell) receipts number → ⊥
+not_held bundle cell receipts marks number marked unheld hold = ⊎_elim by_mark nowhere unheld where
   by_mark : slice_get marks number ≡ Some true → ⊥
   by_mark there =
       let unmet : IsUnmetAmong (histories_of cell) receipts number = marked.each number true there in
       unmet.unmet.unmet (hold.met unmet.seat unmet.unmet.at unmet.own unmet.unmet.receipt unmet.there unmet.unmet.there unmet.unmet.for_it)
+
   nowhere : (0 < times number (histories_of cell) → ⊥) → ⊥
   nowhere none = none hold.stands
 
@@ -72,12 +73,12 @@ is_lawful bundle workers lock cell is_bundle is stand =
           omega arith;
     }
 
-pub is_closed : (bundle : Bundle) (workers lock : ℕ) (cell : Cell) (seats : List Seat) (receipts : List (List Receipt)) (marks : List Bool) → IsBundle bundle → IsCell bundle workers lock cell → receipts ≡ receipts_of seats → AreAllMarked bundle (histories_of cell) receipts marks
-    → ((number : ℕ) → number < length bundle.entries → IsThere cell marks number) → IsClosed bundle seats (histories_of cell)
-is_closed bundle workers lock cell seats receipts marks is_bundle is given marked there =
+pub is_closed : (bundle : Bundle) (workers lock : ℕ) (cell : Cell) (receipts : List (List Receipt)) (marks : List Bool) → IsBundle bundle → IsCell bundle workers lock cell → AreAllMarked bundle (histories_of cell) receipts marks
+    → ((number : ℕ) → number < length bundle.entries → IsThere cell marks number) → IsClosed bundle receipts (histories_of cell)
+is_closed bundle workers lock cell receipts marks is_bundle is marked there =
     record {
       lawful = is_lawful bundle workers lock cell is_bundle is (λ number inside. (there number inside).stands);
-      held = λ number inside. subst (λ (receipts : List (List Receipt)). Hold (histories_of cell) receipts number) given (holds bundle cell receipts marks number marked (there number inside));
+      held = λ number inside. holds bundle cell receipts marks number marked (there number inside);
     }
 
 -- ---- entries and receipts, lock by lock
@@ -85,7 +86,7 @@ is_closed bundle workers lock cell seats receipts marks is_bundle is given marke
 abbrev one_if : Bool → ℕ
 one_if under = cond under 1 0
 
-held_all : (lock from : ℕ) (histories : List (List Entry)) (under : Bool) → (0 == lock) ≡ under → held_from lock from histories ≡ (if under then sum_by length histories else 0)
+held_all : (lock from : ℕ) (histories : List (List Entry)) (under : Bool) → (0 == lock) ≡ under → stored_from lock from histories ≡ (if under then sum_by length histories else 0)
 held_all lock from [] true is = refl
 held_all lock from [] false is = refl
 held_all lock from (history ∷ histories) true is =
@@ -135,10 +136,11 @@ as_long (own ∷ kept) =
     let mapped = sum_by-cons length own.history (map (λ (kept : KeptRun). kept.history) kept) in
     omega arith
 
-pub balanced : (bundle : Bundle) (workers lock amount : ℕ) (cell : Cell) (receipts : List (List Receipt)) → IsCell bundle workers lock cell → amount ≡ cell.total → amount ≡ sum_by length receipts → (lock : ℕ) → held_under lock (histories_of cell) ≡ received_under lock receipts
+pub balanced : (bundle : Bundle) (workers lock amount : ℕ) (cell : Cell) (receipts : List (List Receipt)) → IsCell bundle workers lock cell → amount ≡ cell.total → amount ≡ sum_by length receipts → (lock : ℕ) → stored_under lock (histories_of cell) ≡ received_under lock receipts
 balanced bundle workers own_lock amount cell receipts is whole counted lock = by_test (0 == lock) refl where
   same : sum_by length (histories_of cell) ≡ sum_by length receipts
   same = let long = as_long cell.runs in let total = is.counted in omega arith
-  by_test : (under : Bool) → (0 == lock) ≡ under → held_under lock (histories_of cell) ≡ received_under lock receipts
+
+  by_test : (under : Bool) → (0 == lock) ≡ under → stored_under lock (histories_of cell) ≡ received_under lock receipts
   by_test true is_under = held_all lock 0 (histories_of cell) true is_under ∙ (same ∙ sym (received_all lock receipts true is_under))
   by_test false is_apart = held_all lock 0 (histories_of cell) false is_apart ∙ sym (received_all lock receipts false is_apart)

@@ -5,7 +5,7 @@ pub mod Shows
 pub mod Under
 pub mod Seats
 pub mod Marks
-pub mod Gone
+pub mod Unheld
 pub mod Closed
 pub mod Opened
 pub mod ReceiptLemmas

@@ -103,10 +103,13 @@ own_last earlier receipt before later is chosen = ⊎_elim at_place at_last_one 
     by_last : (before : Option ℕ) → before ≡ Some last → IfSome before (λ last. last ≤ later) → last ≤ later
     by_last None same most = absurd cc
     by_last (Some other) same most = let equal : other ≡ last = cc in subst (λ (last : ℕ). last ≤ later) equal most
+
   most : AllByRecursion (λ (other : Receipt). other.run ≡ receipt.run → other.place ≤ later) (earlier ++ receipt ∷ [])
   most = all_push (λ (other : Receipt). other.run ≡ receipt.run → other.place ≤ later) earlier receipt (all_within earlier receipt.run before later is below) (λ same. chosen.from_place)
+
   at_place : later ≡ receipt.place → LastOf (earlier ++ receipt ∷ []) receipt.run (Some later)
   at_place same = record { most = most; at = length earlier; receipt = receipt; there = at_last earlier receipt; own = refl; place = sym same }
+
   at_last_one : before ≡ Some later → LastOf (earlier ++ receipt ∷ []) receipt.run (Some later)
   at_last_one same =
       let was : IsLast earlier receipt.run later = subst (LastOf earlier receipt.run) same is in
@@ -179,8 +182,8 @@ met_all : (histories : List (List Entry)) (earlier : List Receipt) (receipt : Re
 met_all histories earlier receipt number before last at other there =
     pushed_at (λ at other. other.number ≡ number → IsMet histories (take at (earlier ++ receipt ∷ [])) other) earlier receipt at other
     (λ at other there for_it.
-        let inside = slice_get_within earlier at other there in
-        subst (λ (before : List Receipt). IsMet histories before other) (sym (take_before earlier receipt at (omega arith))) (before at other there for_it))
+    let inside = slice_get_within earlier at other there in
+    subst (λ (before : List Receipt). IsMet histories before other) (sym (take_before earlier receipt at (omega arith))) (before at other there for_it))
     (λ for_it. subst (λ (before : List Receipt). IsMet histories before receipt) (sym (take_before earlier receipt (length earlier) (omega arith) ∙ take_whole earlier)) (last for_it)) there
 
 kept_mark : (histories : List (List Entry)) (earlier : List Receipt) (receipt : Receipt) (number : ℕ) (was is : Bool) → (receipt.number ≡ number → IsMet histories earlier receipt) → MarkedAs histories earlier number was is → MarkedAs histories (earlier ++ receipt ∷ []) number was is

@@ -1,4 +1,4 @@
--- A board: the runs of a bundle that several workers post to, and what each worker has of it, its seat.
+-- A board, to which several workers post, and their seats: which worker each is for, and the receipts of its posts.
 use Rattle.std.specs.Prelude.{◌≡◌, ◌<◌, ◌+◌, ◌==◌, ◌++◌, ℕ, suc, if◌then◌else◌, List, [], ◌∷◌, length, map, Some, slice_get}
 use Rattle.std.specs.List.{count_by, sum_by}
 use Rattle.ar_bundle.specs.Bundle.{Bundle, run_of}
@@ -37,15 +37,15 @@ pub record IsReceived (bundle : Bundle) (number : ℕ) (before after : Seat) (an
 
 -- ---- a look
 
--- what a look shows is a run as it stood in its lock's cell at one moment, when the entries of the seat's worker were those of
--- the seat's receipts for the run
+-- what a look shows is a run of a cell as its lock may keep it, in which the entries of the seat's worker are those of the
+-- seat's receipts for the run
 pub record IsSeen (bundle : Bundle) (workers run : ℕ) (seat : Seat) (shown : Snapshot) : Type 0 where
   pub cell : Cell
   pub is : IsCell bundle workers (lock_of run) cell
   pub snapshot : IsSnapshot bundle workers run cell shown
   pub fresh : IsFresh cell run seat.worker seat.receipts
 
--- at one moment they weren't, and there were so many of them
+-- there is such a cell in which they aren't, and in which there are so many of them
 pub record IsStale (bundle : Bundle) (workers run : ℕ) (seat : Seat) (posts : ℕ) : Type 0 where
   pub cell : Cell
   pub is : IsCell bundle workers (lock_of run) cell
@@ -63,29 +63,28 @@ IsUnseen bundle workers run seat (Stale posts) = IsStale bundle workers run seat
 abbrev pub receipts_of : List Seat → List (List Receipt)
 receipts_of seats = map (λ seat. seat.receipts) seats
 
--- how many entries the histories of the runs under a lock have together, counting runs from one
-abbrev pub held_from : (lock from : ℕ) → List (List Entry) → ℕ
-held_from lock from [] = 0
-held_from lock from (history ∷ histories) = (if lock_of from == lock then length history else 0) + held_from lock (suc from) histories
+-- how many entries the histories of the runs under a lock have together; the first history is that of the run given
+abbrev pub stored_from : (lock from : ℕ) → List (List Entry) → ℕ
+stored_from lock from [] = 0
+stored_from lock from (history ∷ histories) = (if lock_of from == lock then length history else 0) + stored_from lock (suc from) histories
 
-abbrev pub held_under : (lock : ℕ) → List (List Entry) → ℕ
-held_under lock histories = held_from lock 0 histories
+abbrev pub stored_under : (lock : ℕ) → List (List Entry) → ℕ
+stored_under lock histories = stored_from lock 0 histories
 
 -- how many receipts there are for runs under a lock
 abbrev pub received_under : (lock : ℕ) → List (List Receipt) → ℕ
 received_under lock receipts = sum_by (λ own. count_by (λ receipt. lock_of receipt.run == lock) own) receipts
 
--- each number is held: the histories are lawful, and each receipt is met
-pub record IsClosed (bundle : Bundle) (seats : List Seat) (histories : List (List Entry)) : Type 0 where
+-- the histories are lawful, and hold each number, given the receipts of each seat
+pub record IsClosed (bundle : Bundle) (receipts : List (List Receipt)) (histories : List (List Entry)) : Type 0 where
   pub lawful : AreLawful bundle histories
-  pub held : (number : ℕ) → number < length bundle.entries → Hold histories (receipts_of seats) number
+  pub held : (number : ℕ) → number < length bundle.entries → Hold histories receipts number
 
 -- a number isn't held, the least of those that aren't; what shows it is handed out
-pub record IsLost (bundle : Bundle) (seats : List Seat) (lost : Lost) : Type 0 where
+pub record IsLost (bundle : Bundle) (receipts : List (List Receipt)) (lost : Lost) : Type 0 where
   pub so_far : AreHistoriesSoFar bundle lost.histories
-  pub given : map (λ own. own.items) lost.receipts.items ≡ receipts_of seats
-  -- as many entries as receipts, lock by lock
-  pub balanced : (lock : ℕ) → held_under lock lost.histories ≡ received_under lock (receipts_of seats)
+  pub same_receipts : map (λ own. own.items) lost.receipts.items ≡ receipts
+  pub as_many_under_each_lock : (lock : ℕ) → stored_under lock lost.histories ≡ received_under lock receipts
   pub there : lost.number < length bundle.entries
-  pub not_held : Hold lost.histories (receipts_of seats) lost.number → ⊥
-  pub least : (number : ℕ) → number < lost.number → Hold lost.histories (receipts_of seats) number
+  pub not_held : Hold lost.histories receipts lost.number → ⊥
+  pub least : (number : ℕ) → number < lost.number → Hold lost.histories receipts number

@@ -19,7 +19,7 @@ received run (receipt ∷ receipts) = received_if (receipt.run == run) receipt (
 abbrev pub posted_if : Bool → (place : ℕ) → Entry → List (ℕ × ℕ) → List (ℕ × ℕ)
 posted_if own place entry others = if own then (entry.number, place) ∷ others else others
 
--- counting places from one; the workers that posted the entries stand beside these
+-- the first entry is at the place given; the workers that posted the entries stand beside these
 abbrev pub posted_from : (place worker : ℕ) → List Entry → (authors : List ℕ) → List (ℕ × ℕ)
 posted_from place worker (entry ∷ history) (author ∷ authors) = posted_if (author == worker) place entry (posted_from (suc place) worker history authors)
 posted_from place worker history authors = []
@@ -41,11 +41,11 @@ pub record IsMet (histories : List (List Entry)) (earlier : List Receipt) (recei
   pub stands : slice_get (numbers_at histories receipt.run) receipt.place ≡ Some receipt.number
   pub later : IsLater earlier receipt
 
--- histories hold a number where it stands in one of them, and each receipt for it is met, whichever worker has it; these
--- are the receipts of each worker, in the order in which they were given
+-- histories hold a number where it stands in one of them, and each receipt for it is met, whichever seat has it; these
+-- are the receipts of each seat, in the order in which they were given
 pub record Hold (histories : List (List Entry)) (receipts : List (List Receipt)) (number : ℕ) : Type 0 where
   pub stands : 0 < times number histories
-  pub met : (worker at : ℕ) (own : List Receipt) (receipt : Receipt) → slice_get receipts worker ≡ Some own → slice_get own at ≡ Some receipt
+  pub met : (seat at : ℕ) (own : List Receipt) (receipt : Receipt) → slice_get receipts seat ≡ Some own → slice_get own at ≡ Some receipt
       → receipt.number ≡ number → IsMet histories (take at own) receipt
 
 -- ---- why a receipt isn't met

@@ -1,12 +1,12 @@
-//! Boards, which several workers post to.
+//! Boards, to which several workers post at the same time.
 
 ghost use Rattle.std.specs.Prelude.{◌≡◌, ◌<◌, ◌≤◌, [], false, IfErr, IfOk, OnErr, Some, length, replicate};
 ghost use Rattle.ar_bundle.specs.Bundle.{found};
 ghost use Rattle.std.specs.Vec.{vec_capacity};
-ghost use Rattle.ar_board.specs.Board.{AreSeated, IsClosed, IsLost, IsReceived, IsSeen, IsUnseen};
+ghost use Rattle.ar_board.specs.Board.{AreSeated, IsClosed, IsLost, IsReceived, IsSeen, IsUnseen, receipts_of};
 
 use crate::cell::RunCell;
-use crate::closing::mark_all;
+use crate::closing::note_all_unmet;
 use crate::lost::Lost;
 use crate::names::{BundleName, LockName};
 use crate::posted::{Double, Posted};
@@ -21,25 +21,25 @@ use std::sync::{Mutex, Wait};
 /// The most workers that a board has seats for.
 pub const MOST_WORKERS: usize = 16;
 
-/// The runs of a bundle, which workers post to side by side. They are kept under a lock.
+/// The runs of a bundle, to which workers post from several threads. They are kept under a lock.
 #[derive(Drop)]
 pub struct Board<'b, M: BundleName, L: LockName> {
     bundle: &'b Bundle,
     cell: Mutex<RunCell<'b, M, L>>,
-    // What `close` wants: room for the histories and the lists of receipts, a mark for each number, and
-    // a share that has no part.
+    // What `close` wants: room for the histories and for the lists of receipts, whether each number is
+    // unmet, and a share without a part, into which those of the seats are merged.
     histories: Vec<History>,
     receipts: Vec<Vec<Receipt>>,
-    marks: Vec<bool>,
-    rest: Share<L>,
+    unmet: Vec<bool>,
+    merged: Share<L>,
     ghost named: { bundle.now ≡ M.bundle },
     ghost lock: { L.lock ≡ 0 },
     ghost no_histories: { histories.items ≡ [] },
     ghost history_room: { length M.bundle.runs ≤ vec_capacity histories },
     ghost no_receipts: { receipts.items ≡ [] },
     ghost receipt_room: { M.workers ≤ vec_capacity receipts },
-    ghost unmarked: { marks.items ≡ replicate (length M.bundle.entries) false },
-    ghost no_part: { (rest.parts ≡ 0) × (rest.amount ≡ 0) },
+    ghost none_unmet: { unmet.items ≡ replicate (length M.bundle.entries) false },
+    ghost no_part: { (merged.parts ≡ 0) × (merged.amount ≡ 0) },
 }
 
 impl<'b, M: BundleName, L: LockName> Board<'b, M, L> {
@@ -64,7 +64,7 @@ impl<'b, M: BundleName, L: LockName> Board<'b, M, L> {
         ensures seats { IfOk result (λ made. AreSeated M.workers made.1.items) }
     {
         let (book, mut all) = blank.open::<L>();
-        let rest = all.empty();
+        let merged = all.empty();
         let cell = RunCell::new(alloc, bundle, workers, book)?;
         let seats = seats_of(alloc, workers, bundle.events(), all)?;
         let board = Board {
@@ -72,8 +72,8 @@ impl<'b, M: BundleName, L: LockName> Board<'b, M, L> {
             cell: Mutex::new(cell),
             histories: Vec::with_capacity(alloc, bundle.runs().len())?,
             receipts: Vec::with_capacity(alloc, workers)?,
-            marks: vec![in alloc; false; bundle.events() as usize]?,
-            rest,
+            unmet: vec![in alloc; false; bundle.events() as usize]?,
+            merged,
         };
         Ok((board, seats))
     }
@@ -99,6 +99,7 @@ impl<'b, M: BundleName, L: LockName> Board<'b, M, L> {
         let run = self.bundle.run_of(number);
         let mut cell = self.cell.lock(rt);
         let posted = cell.add(&mut seat.share, seat.worker, number, finding)?;
+        // The seat has room for one receipt of each number: no more were posted than there are.
         cell.audit(&mut seat.share);
         seat.receipts.push_reserved(Receipt {
             run,
@@ -134,29 +135,29 @@ impl<'b, M: BundleName, L: LockName> Board<'b, M, L> {
     ///
     /// # Errors
     ///
-    /// `Lost` where the histories don't hold each number: where one stands nowhere, or not where its
-    /// receipt says.
+    /// `Lost` where the histories don't hold each number: where one stands nowhere, not where its receipt
+    /// says, or at no later place than an earlier receipt of the same seat for the run.
     pub fn close(self, seats: Vec<Seat<M, L>>) -> Result<Histories, Lost>
         requires all { length seats.items ≡ M.workers }
         requires parts { L.parts ≡ M.workers }
-        ensures closed { IfOk result (IsClosed M.bundle seats.items) }
-        ensures lost { IfErr result (IsLost M.bundle seats.items) }
+        ensures closed { IfOk result (IsClosed M.bundle (receipts_of seats.items)) }
+        ensures lost { IfErr result (IsLost M.bundle (receipts_of seats.items)) }
     {
         let Board {
             bundle: _,
             cell,
             histories,
             mut receipts,
-            mut marks,
-            mut rest,
+            mut unmet,
+            mut merged,
         } = self;
         let mut cell = cell.into_inner();
-        gather(seats, &mut receipts, &mut rest);
-        cell.audit(&mut rest);
-        mark_all(&cell, receipts.as_slice(), &mut marks);
-        let gone = cell.first_gone(marks.as_slice());
+        gather(seats, &mut receipts, &mut merged);
+        cell.audit(&mut merged);
+        note_all_unmet(&cell, receipts.as_slice(), &mut unmet);
+        let unheld = cell.first_unheld(unmet.as_slice());
         let histories = cell.into_histories(histories);
-        match gone {
+        match unheld {
             None => Ok(histories),
             Some(number) => Err(Lost {
                 number,

@@ -3,7 +3,7 @@
 ghost use Rattle.std.specs.Prelude.{◌≡◌, ◌+◌, ◌<◌, ◌≤◌, ◌↔◌, [], Err, IfErr, IfOk, IsErr, IsTrue, None, OnErr, OnOk, Some, length, replicate};
 ghost use Rattle.ar_bundle.specs.Bundle.{IsBundle, found};
 ghost use Rattle.ar_board.specs.Cell.{CanBe, IsCell, IsEmpty, IsFresh, IsPosted, IsSnapshot, IsUnder, Stands, authors_at, entries_under, histories_of, history_at, lock_of, posts_of};
-ghost use Rattle.ar_board.specs.Private.Closing.{FirstGone, IsAt};
+ghost use Rattle.ar_board.specs.Private.Closing.{FirstUnheld, IsAt};
 ghost use Rattle.ar_board.specs.Private.KeptRuns.{AreOpened};
 ghost use Rattle.std.specs.Vec.{vec_capacity};
 ghost use Rattle.ar_board.specs.declared.snapshot.LookFault.TheVariants as LookFault;
@@ -19,9 +19,9 @@ use std::marker::{Model, PhantomData};
 use std::sync::ledger::{Book, Share};
 
 /// What a board keeps under one of its locks: of each run of the bundle the history, the worker that
-/// posted each entry, how many entries each worker posted, and where the run stands, all of them empty
-/// for runs under other locks; and the book of the lock's ledger. Contracts see it as the `Cell` of
-/// `specs/Cell`, and `IsCell` is true of it.
+/// posted each entry, how many entries each worker posted, and where the run stands; to runs under
+/// other locks nothing was posted. Beside them the book of the lock's ledger. Contracts see it as the
+/// `Cell` of `specs/Cell`, and `IsCell` is true of it.
 #[derive(Drop)]
 pub struct RunCell<'b, M: BundleName, L: LockName> {
     bundle: &'b Bundle,
@@ -111,18 +111,18 @@ impl<'b, M: BundleName, L: LockName> RunCell<'b, M, L> {
         &self.runs[run].run.entries
     }
 
-    /// How a worker's share stands to the entries that there are: no clause tells that without this
-    /// call, which changes nothing.
+    /// Compares a share with the book, which changes nothing: its amount is at most the number of the
+    /// bundle's entries under this lock, and where it has all parts it is that of the cell's entries.
     #[tactic(auto, using(crate::proofs::Under::few_there))]
-    pub fn audit(&mut self, mine: &mut Share<L>)
+    pub fn audit(&mut self, share: &mut Share<L>)
         ensures same { self.new ≡ self.old }
-        ensures amount { mine.new.amount ≡ mine.old.amount }
-        ensures parts { mine.new.parts ≡ mine.old.parts }
-        ensures few { mine.old.amount ≤ entries_under M.bundle L.lock }
+        ensures amount { share.new.amount ≡ share.old.amount }
+        ensures parts { share.new.parts ≡ share.old.parts }
+        ensures few { share.old.amount ≤ entries_under M.bundle L.lock }
         ensures bundle { IsBundle M.bundle }
-        ensures whole { mine.old.parts ≡ L.parts → mine.old.amount ≡ self.old.total }
+        ensures whole { share.old.parts ≡ L.parts → share.old.amount ≡ self.old.total }
     {
-        self.book.audit(mine);
+        self.book.audit(share);
     }
 
     /// A run as its history is now, where the worker's entries in it are just those of its receipts for
@@ -167,15 +167,15 @@ impl<'b, M: BundleName, L: LockName> RunCell<'b, M, L> {
         }
     }
 
-    /// The first number that is marked, or that stands nowhere.
-    pub(crate) fn first_gone(&self, marks: &[bool]) -> Option<u64>
-        requires { length marks.now ≡ length M.bundle.entries }
-        ensures first { FirstGone M.bundle self.now marks.now result }
+    /// The first number that is unmet, or that stands nowhere.
+    pub(crate) fn first_unheld(&self, unmet: &[bool]) -> Option<u64>
+        requires { length unmet.now ≡ length M.bundle.entries }
+        ensures first { FirstUnheld M.bundle self.now unmet.now result }
         ensures cell { IsCell M.bundle M.workers L.lock self.now }
     {
         for number in 0..self.bundle.events() {
             let index = number as usize;
-            if marks[index] || self.places[index].is_none() {
+            if unmet[index] || self.places[index].is_none() {
                 return Some(number);
             }
         }

@@ -13,23 +13,23 @@ use crate::receipt::Receipt;
 /// The most runs that a bundle has.
 const MOST_RUNS: usize = 64;
 
-/// Marks the numbers for which a seat has a receipt that isn't met.
+/// Notes the numbers for which a seat has a receipt that isn't met.
 #[tactic(auto, using(crate::proofs::Marks::run_there, crate::proofs::Marks::number_there, crate::proofs::Marks::marked_first, crate::proofs::Marks::marked_met, crate::proofs::Marks::marked_unmet, crate::proofs::Marks::last_first, crate::proofs::Marks::last_next))]
-pub(crate) fn mark_unmet<M: BundleName, L: LockName>(
+pub(crate) fn note_unmet<M: BundleName, L: LockName>(
     cell: &RunCell<'_, M, L>,
     own: &[Receipt],
-    marks: &mut Vec<bool>,
+    unmet: &mut Vec<bool>,
 )
     requires bundle { IsBundle M.bundle }
     requires own { AreOwn M.bundle own.now }
-    requires as_many { length marks.old.items ≡ length M.bundle.entries }
-    ensures { AreMarked (histories_of cell.now) own.now marks.old.items marks.new.items }
+    requires as_many { length unmet.old.items ≡ length M.bundle.entries }
+    ensures { AreMarked (histories_of cell.now) own.now unmet.old.items unmet.new.items }
 {
     let mut last = [None; MOST_RUNS];
     for receipt in own {
         let so_far = last[receipt.run];
         if !is_met(cell, receipt, so_far) {
-            marks[receipt.number as usize] = true;
+            unmet[receipt.number as usize] = true;
         }
         last[receipt.run] = Some(later(so_far, receipt.place));
     }
@@ -61,19 +61,19 @@ fn later(last: Option<usize>, place: usize) -> usize
     }
 }
 
-/// Marks the numbers for which one of the seats has a receipt that isn't met.
+/// Notes the numbers for which one of the seats has a receipt that isn't met.
 #[tactic(auto, using(crate::proofs::Marks::all_marked_first, crate::proofs::Marks::all_marked_next, crate::proofs::Marks::own_there))]
-pub(crate) fn mark_all<M: BundleName, L: LockName>(
+pub(crate) fn note_all_unmet<M: BundleName, L: LockName>(
     cell: &RunCell<'_, M, L>,
     receipts: &[Vec<Receipt>],
-    marks: &mut Vec<bool>,
+    unmet: &mut Vec<bool>,
 )
     requires bundle { IsBundle M.bundle }
     requires own { AllByRecursion (AreOwn M.bundle) (map (λ own. own.items) receipts.now) }
-    requires unmarked { marks.old.items ≡ replicate (length M.bundle.entries) false }
-    ensures { AreAllMarked M.bundle (histories_of cell.now) (map (λ own. own.items) receipts.now) marks.new.items }
+    requires none_unmet { unmet.old.items ≡ replicate (length M.bundle.entries) false }
+    ensures { AreAllMarked M.bundle (histories_of cell.now) (map (λ own. own.items) receipts.now) unmet.new.items }
 {
     for own in receipts {
-        mark_unmet(cell, own.as_slice(), marks);
+        note_unmet(cell, own.as_slice(), unmet);
     }
 }

@@ -9,6 +9,6 @@ pub struct Lost {
     /// The least that they don't hold.
     pub number: u64,
     pub histories: Histories,
-    /// Of each seat.
+    /// Of each seat, in the order in which `close` was given them.
     pub receipts: Vec<Vec<Receipt>>,
 }

@@ -1,4 +1,4 @@
-//! What a worker has of a board.
+//! Which worker of a board one is, and the receipts of its posts.
 
 ghost use Rattle.std.specs.Prelude.{◌≡◌, ◌<◌, ◌≤◌, [], IfOk, length, map};
 ghost use Rattle.std.specs.Vec.{vec_capacity};
@@ -36,7 +36,7 @@ pub(crate) fn gather<M: BundleName, L: LockName>(
 }
 
 /// A worker's seat at a board: which of the workers it is for, and the receipts of its posts. Contracts
-/// see it as the `Seat` of `specs/Board`. It is its board's by the names that both have.
+/// see it as the `Seat` of `specs/Board`. It is its board's by its type parameters.
 #[derive(Drop)]
 pub struct Seat<M: BundleName, L: LockName> {
     pub(crate) worker: usize,

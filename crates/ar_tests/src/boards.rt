@@ -3,13 +3,12 @@
 
 ghost use Rattle.std.specs.Prelude.{◌≡◌, ◌≤◌, length};
 
-use crate::cells::{CLOSING, TWO_RUNS};
+use crate::cells::TWO_RUNS;
 use ar_board::{Board, BundleName, LockName, Lost, Seat};
 use ar_bundle::{Bundle, Histories};
 use ar_document::read_bundle;
 use std::alloc::Global;
 use std::marker::Brand;
-use std::process::Abort;
 use std::sync::Wait;
 use std::sync::ledger::Blank;
 use std::test::Fail;
@@ -24,8 +23,8 @@ enum Call {
 }
 
 /// What comes of a call by the seat of a worker that is there.
-fn answer<M: BundleName, L: LockName, R: Wait>(
-    rt: &R,
+fn answer<M: BundleName, L: LockName>(
+    rt: &impl Wait,
     alloc: Global,
     bundle: &Bundle,
     board: &Board<'_, M, L>,
@@ -75,74 +74,100 @@ fn closed(alloc: Global, outcome: &Result<Histories, Lost>) -> Result<String, Fa
     }
 }
 
-/// Asserts what each call at a new board comes to, and what closing gives behind them.
-fn assert_calls<M: BundleName, L: LockName, R: Wait + Abort>(
+/// What calls at a new board come to, and what closing gives behind them, a line each.
+fn answers<M: BundleName, L: LockName, R: Wait>(
     rt: &R,
     alloc: Global,
     bundle: &Bundle,
     workers: usize,
     blank: Blank,
-    calls: &[(Call, &str)],
-    closing: &str,
-) -> Result<(), Fail>
+    calls: &[Call],
+) -> Result<String, Fail>
     requires bundle { bundle.now ≡ M.bundle }
     requires workers { workers ≡ M.workers }
     requires most { (1 ≤ workers) × (workers ≤ 16) }
     requires lock { L.lock ≡ 0 }
     requires name { blank.name ≡ L.name }
-    requires parts { (blank.parts ≡ L.parts) × (L.parts ≡ M.workers) }
+    requires blank { blank.parts ≡ L.parts }
+    requires parts { L.parts ≡ M.workers }
 {
     let (board, mut seats) = Board::<M, L>::new(alloc, blank, bundle, workers)?;
-    for (call, expected) in calls {
+    let mut text = String::new(alloc);
+    for call in calls {
         let answer = answer(rt, alloc, bundle, &board, &mut seats, *call)?;
-        assert_eq!(rt; answer.as_str(), *expected, "{call:?}");
+        text.push_str(answer.as_str())?;
+        text.push_str("\n")?;
     }
     let outcome = board.close(seats);
-    let closed = closed(alloc, &outcome)?;
-    assert_eq!(rt; closed.as_str(), closing);
-    Ok(())
+    text.push_str(closed(alloc, &outcome)?.as_str())?;
+    Ok(text)
 }
 
-/// The same for the bundle of a document, with one worker or two.
-fn assert_document<R: Wait + Abort>(
+/// The same for the bundle of two runs.
+fn on_two_runs<R: Wait>(
     rt: &R,
     alloc: Global,
-    are_two: bool,
-    calls: &[(Call, &str)],
-    closing: &str,
-) -> Result<(), Fail> {
+    workers: usize,
+    calls: &[Call],
+) -> Result<String, Fail>
+    requires most { (1 ≤ workers) × (workers ≤ 16) }
+{
     let bundle = read_bundle(alloc, TWO_RUNS.as_bytes())?;
-    let workers = if are_two { 2 } else { 1 };
-    let blank = Blank::new(workers as u64);
-    assert_calls::<Brand, Brand, R>(rt, alloc, &bundle, workers, blank, calls, closing)
+    answers::<Brand, Brand, R>(
+        rt,
+        alloc,
+        &bundle,
+        workers,
+        Blank::new(workers as u64),
+        calls,
+    )
 }
-
-const SUCCESSFUL: &str = "Ok(Snapshot { phase: Successful, metrics: [Successful], posts: [1] })";
 
 /// A number that nobody posted is lost; once both are posted the histories have both.
 #[test]
 fn one_seat(rt: HostRuntime) -> Result<(), Fail> {
-    let lost = [
-        (Call::Post(0, 0), CLOSING),
-        (Call::Look(0, 0), SUCCESSFUL),
-        (Call::Post(0, 0), "Err(Double)"),
-        (Call::Look(0, 0), SUCCESSFUL),
+    let calls = [
+        Call::Post(0, 0),
+        Call::Look(0, 0),
+        Call::Post(0, 0),
+        Call::Look(0, 0),
     ];
-    let receipt = "lost 1: 0 / / [[Receipt { run: 0, number: 0, place: 0 }]]";
-    assert_document(&rt, rt.alloc(), false, &lost, receipt)?;
-    let all = [(Call::Post(0, 0), CLOSING), (Call::Post(0, 1), CLOSING)];
-    assert_document(&rt, rt.alloc(), false, &all, "0 / 1 / ")
+    let lost = on_two_runs(&rt, rt.alloc(), 1, &calls)?;
+    assert_eq!(rt;
+        lost.as_str(),
+        "Ok(Posted { place: 0, effect: Closed(Successful) })
+Ok(Snapshot { phase: Successful, metrics: [Successful], posts: [1] })
+Err(Double)
+Ok(Snapshot { phase: Successful, metrics: [Successful], posts: [1] })
+lost 1: 0 / / [[Receipt { run: 0, number: 0, place: 0 }]]"
+    );
+    let all = on_two_runs(&rt, rt.alloc(), 1, &[Call::Post(0, 0), Call::Post(0, 1)])?;
+    assert_eq!(rt;
+        all.as_str(),
+        "Ok(Posted { place: 0, effect: Closed(Successful) })
+Ok(Posted { place: 0, effect: Closed(Successful) })
+0 / 1 / "
+    );
+    Ok(())
 }
 
 /// A seat sees the posts of another, and can't post what that one posted.
 #[test]
 fn two_seats(rt: HostRuntime) -> Result<(), Fail> {
-    let others = "Ok(Snapshot { phase: Successful, metrics: [Successful], posts: [1, 0] })";
     let calls = [
-        (Call::Post(0, 0), CLOSING),
-        (Call::Look(1, 0), others),
-        (Call::Post(1, 0), "Err(Double)"),
-        (Call::Post(1, 1), CLOSING),
+        Call::Post(0, 0),
+        Call::Look(1, 0),
+        Call::Post(1, 0),
+        Call::Post(1, 1),
     ];
-    assert_document(&rt, rt.alloc(), true, &calls, "0 / 1 / ")
+    let both = on_two_runs(&rt, rt.alloc(), 2, &calls)?;
+    assert_eq!(rt;
+        both.as_str(),
+        "Ok(Posted { place: 0, effect: Closed(Successful) })
+Ok(Snapshot { phase: Successful, metrics: [Successful], posts: [1, 0] })
+Err(Double)
+Ok(Posted { place: 0, effect: Closed(Successful) })
+0 / 1 / "
+    );
+    Ok(())
 }

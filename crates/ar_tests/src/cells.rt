@@ -132,7 +132,7 @@ pub(crate) const TWO_RUNS: &str =
     "spec":{"metrics":[{"name":"m","successCondition":"result[0] >= 0.95"}]}},"shapes":{"m":{"list":"decimal","max":10}},
     "runs":[{"name":"r0"},{"name":"r1"}],"measurements":[{"run":"r0","metric":"m","value":["0.99"]},{"run":"r1","metric":"m","value":["0.96"]}]}"#;
 
-pub(crate) const CLOSING: &str = "Ok(Posted { place: 0, effect: Closed(Successful) })";
+const CLOSING: &str = "Ok(Posted { place: 0, effect: Closed(Successful) })";
 
 /// A run is shown to a worker with its receipts alone, and a number is added once.
 #[test]

@@ -89,19 +89,19 @@ pub record AreAllMarked (bundle : Bundle) (histories : List (List Entry)) (recei
   pub each : (number : ℕ) (mark : Bool) → slice_get marks number ≡ Some mark → MarkedAmong histories receipts number mark
 
 -- a number that is marked, or stands nowhere
-abbrev pub IsGone : Cell → List Bool → (number : ℕ) → Type 0
-IsGone cell marks number = (slice_get marks number ≡ Some true) ⊎ (Stands number cell → ⊥)
+abbrev pub IsUnheld : Cell → List Bool → (number : ℕ) → Type 0
+IsUnheld cell marks number = (slice_get marks number ≡ Some true) ⊎ (Stands number cell → ⊥)
 
 pub record IsThere (cell : Cell) (marks : List Bool) (number : ℕ) : Type 0 where
   pub unmarked : slice_get marks number ≡ Some false
   pub stands : Stands number cell
 
-pub record IsFirstGone (bundle : Bundle) (cell : Cell) (marks : List Bool) (number : ℕ) : Type 0 where
+pub record IsFirstUnheld (bundle : Bundle) (cell : Cell) (marks : List Bool) (number : ℕ) : Type 0 where
   pub there : number < length bundle.entries
-  pub gone : IsGone cell marks number
+  pub unheld : IsUnheld cell marks number
   pub earlier : (other : ℕ) → other < number → IsThere cell marks other
 
 -- the first such number, where there is one
-abbrev pub FirstGone : Bundle → Cell → List Bool → Option ℕ → Type 0
-FirstGone bundle cell marks None = (number : ℕ) → number < length bundle.entries → IsThere cell marks number
-FirstGone bundle cell marks (Some number) = IsFirstGone bundle cell marks number
+abbrev pub FirstUnheld : Bundle → Cell → List Bool → Option ℕ → Type 0
+FirstUnheld bundle cell marks None = (number : ℕ) → number < length bundle.entries → IsThere cell marks number
+FirstUnheld bundle cell marks (Some number) = IsFirstUnheld bundle cell marks number

@@ -4,8 +4,8 @@ use Rattle.ar_board.specs.Cell.{histories_of}
 use Rattle.ar_board.specs.Private.Closing.{AreMarked, AreOwn, IsAt, IsBehind}
 use Rattle.ar_board.specs.declared.receipt.Receipt.{Receipt}
 use Rattle.ar_board.proofs.Marks.{last_first, last_next, marked_first, marked_met, marked_unmet, number_there, run_there, same_read}
-use Rattle.ar_board.proofs.closing.mark_unmet.Goals as goal
-use Rattle.ar_board.proofs.closing.mark_unmet.Goals.{then-not-is_met, else-not-is_met}
+use Rattle.ar_board.proofs.closing.note_unmet.Goals as goal
+use Rattle.ar_board.proofs.closing.note_unmet.Goals.{then-not-is_met, else-not-is_met}
 
 abbrev none : Receipt
 none = record { run = 0; number = 0; place = 0 }
@@ -27,7 +27,7 @@ small : (run : ℕ) → run < 64 → Fits w64 (run * 16)
 small run less = omega arith
 
 pub loop-receipt-init : goal.loop-receipt-init
-loop-receipt-init g c = (last_first c.args.own.now _ refl, marked_first (histories_of c.args.cell.now) c.args.own.now c.args.marks.now.items)
+loop-receipt-init g c = (last_first c.args.own.now _ refl, marked_first (histories_of c.args.cell.now) c.args.own.now c.args.unmet.now.items)
 
 pub bounds-last-receipt : goal.bounds-last-receipt
 bounds-last-receipt g c = few g.M.BundleName.bundle c.args.own.now c.loop-receipt.receipt-index _ c.requires.bundle c.requires.own c.loop-receipt-test.true
@@ -41,9 +41,9 @@ is_met-requires g c = record { there = run_is g.M.BundleName.bundle c.args.own.n
 pub index_mut-requires : goal.index_mut-requires
 index_mut-requires g c =
     let there : (slice_index_or c.args.own.now c.loop-receipt.receipt-index none).number < length g.M.BundleName.bundle.entries = number_is g.M.BundleName.bundle c.args.own.now c.loop-receipt.receipt-index none c.requires.own c.loop-receipt-test.true in
-    let many : length c.loop-receipt.marks.items ≡ length c.args.marks.now.items = c.loop-receipt.invariant.1.as_many in
-    let all : length c.args.marks.now.items ≡ length g.M.BundleName.bundle.entries = c.requires.as_many in
-    let fits : (slice_index_or c.args.own.now c.loop-receipt.receipt-index none).number < length c.loop-receipt.marks.items = omega arith in
+    let many : length c.loop-receipt.unmet.items ≡ length c.args.unmet.now.items = c.loop-receipt.invariant.1.as_many in
+    let all : length c.args.unmet.now.items ≡ length g.M.BundleName.bundle.entries = c.requires.as_many in
+    let fits : (slice_index_or c.args.own.now c.loop-receipt.receipt-index none).number < length c.loop-receipt.unmet.items = omega arith in
     search rules
 
 pub offset_bounds-last-receipt-in-loop-receipt : goal.offset_bounds-last-receipt-in-loop-receipt
@@ -64,20 +64,20 @@ loop-receipt-preserved g c =
     let next = last_next c.args.own.now c.loop-receipt.receipt-index receipt c.loop-receipt.last so_far c.later.result inside read run_inside (same_read c.loop-receipt.last receipt.run None so_far run_inside) c.later.ensures c.loop-receipt.invariant.0 in
     let so_far_read = same_read c.loop-receipt.last receipt.run None so_far run_inside in
     let number_there : receipt.number < length g.M.BundleName.bundle.entries = number_is g.M.BundleName.bundle c.args.own.now c.loop-receipt.receipt-index none c.requires.own inside in
-    let as_many : length c.loop-receipt.marks.items ≡ length c.args.marks.now.items = c.loop-receipt.invariant.1.as_many in
-    let all : length c.args.marks.now.items ≡ length g.M.BundleName.bundle.entries = c.requires.as_many in
-    let marked : AreMarked (histories_of c.args.cell.now) (take c.loop-receipt.receipt-index c.args.own.now) c.args.marks.now.items c.loop-receipt.marks.items = c.loop-receipt.invariant.1 in
+    let as_many : length c.loop-receipt.unmet.items ≡ length c.args.unmet.now.items = c.loop-receipt.invariant.1.as_many in
+    let all : length c.args.unmet.now.items ≡ length g.M.BundleName.bundle.entries = c.requires.as_many in
+    let marked : AreMarked (histories_of c.args.cell.now) (take c.loop-receipt.receipt-index c.args.own.now) c.args.unmet.now.items c.loop-receipt.unmet.items = c.loop-receipt.invariant.1 in
     elim c.if-not-is_met.branch [
-      then-not-is_met w ↦
+      | then-not-is_met w ↦
           let unmet : IsAt (histories_of c.args.cell.now) receipt × IsBehind so_far receipt.place → ⊥ = λ both. absurd (let no = w.if-not-is_met.ensures.1 both in cc) in (
             next,
-            subst (λ (marks : Vec Bool Global). AreMarked (histories_of c.args.cell.now) (take (c.loop-receipt.receipt-index + 1) c.args.own.now) c.args.marks.now.items marks.items) (sym w.marks-is)
-            (marked_unmet (histories_of c.args.cell.now) c.args.own.now c.loop-receipt.receipt-index receipt c.loop-receipt.last so_far c.args.marks.now.items c.loop-receipt.marks.items inside read run_inside so_far_read c.loop-receipt.invariant.0 unmet (omega arith) marked),
+            subst (λ (marks : Vec Bool Global). AreMarked (histories_of c.args.cell.now) (take (c.loop-receipt.receipt-index + 1) c.args.own.now) c.args.unmet.now.items marks.items) (sym w.unmet-is)
+                (marked_unmet (histories_of c.args.cell.now) c.args.own.now c.loop-receipt.receipt-index receipt c.loop-receipt.last so_far c.args.unmet.now.items c.loop-receipt.unmet.items inside read run_inside so_far_read c.loop-receipt.invariant.0 unmet (omega arith) marked),
           )
-    | else-not-is_met w ↦
+      | else-not-is_met w ↦
           let met : IsAt (histories_of c.args.cell.now) receipt × IsBehind so_far receipt.place = w.if-not-is_met.ensures.0 refl in (
             next,
-            subst (λ (marks : Vec Bool Global). AreMarked (histories_of c.args.cell.now) (take (c.loop-receipt.receipt-index + 1) c.args.own.now) c.args.marks.now.items marks.items) (sym w.marks-is)
-            (marked_met (histories_of c.args.cell.now) c.args.own.now c.loop-receipt.receipt-index receipt c.loop-receipt.last so_far c.args.marks.now.items c.loop-receipt.marks.items inside read run_inside so_far_read c.loop-receipt.invariant.0 met marked),
+            subst (λ (marks : Vec Bool Global). AreMarked (histories_of c.args.cell.now) (take (c.loop-receipt.receipt-index + 1) c.args.own.now) c.args.unmet.now.items marks.items) (sym w.unmet-is)
+                (marked_met (histories_of c.args.cell.now) c.args.own.now c.loop-receipt.receipt-index receipt c.loop-receipt.last so_far c.args.unmet.now.items c.loop-receipt.unmet.items inside read run_inside so_far_read c.loop-receipt.invariant.0 met marked),
           )
     ]

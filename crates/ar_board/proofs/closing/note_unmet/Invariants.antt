@@ -1,10 +1,10 @@
 use Rattle.std.proofs.Common.{take}
 use Rattle.ar_board.specs.Cell.{histories_of}
 use Rattle.ar_board.specs.Private.Closing.{AreLast, AreMarked}
-use Rattle.ar_board.proofs.closing.mark_unmet.Given as goal
+use Rattle.ar_board.proofs.closing.note_unmet.Given as goal
 
 -- the marks and the last places behind the receipts so far
 abbrev pub invariant-loop-receipt : goal.invariant-loop-receipt
 invariant-loop-receipt g l =
     AreLast (take l.receipt-index l.own) l.last
-    × AreMarked (histories_of l.cell) (take l.receipt-index l.own) l.fn.marks.items l.marks.items
+    × AreMarked (histories_of l.cell) (take l.receipt-index l.own) l.fn.unmet.items l.unmet.items

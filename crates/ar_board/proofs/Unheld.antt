@@ -6,7 +6,7 @@ use Rattle.std.proofs.lemmas.Option.{slice_get_read}
 use Rattle.ar_bundle.specs.Bundle.{Bundle}
 use Rattle.ar_bundle.specs.Lawful.{numbers_of}
 use Rattle.ar_board.specs.Cell.{Cell, Stands, histories_of, history_at}
-use Rattle.ar_board.specs.Private.Closing.{IsFirstGone, IsThere}
+use Rattle.ar_board.specs.Private.Closing.{IsFirstUnheld, IsThere}
 use Rattle.ar_board.specs.Private.KeptRuns.{IsInside, cell_of, place_in}
 use Rattle.ar_board.specs.declared.kept_run.KeptRun.{KeptRun as Declared}
 use Rattle.ar_bundle.proofs.Bundles.{run_of_number}
@@ -32,11 +32,11 @@ marked_at [] number mark inside is = absurd (omega arith)
 marked_at (first ∷ marks) zero mark inside is = ap Some is
 marked_at (first ∷ marks) (suc number) mark inside is = marked_at marks number mark (omega arith) is
 
-pub first_marked : (bundle : Bundle) (cell : Cell) (marks : List Bool) (number : ℕ) → number < length bundle.entries → number < length marks → get_or marks number false ≡ true → ((other : ℕ) → other < number → IsThere cell marks other) → IsFirstGone bundle cell marks number
-first_marked bundle cell marks number there inside is earlier = record { there = there; gone = inl (marked_at marks number true inside is); earlier = earlier }
+pub first_marked : (bundle : Bundle) (cell : Cell) (marks : List Bool) (number : ℕ) → number < length bundle.entries → number < length marks → get_or marks number false ≡ true → ((other : ℕ) → other < number → IsThere cell marks other) → IsFirstUnheld bundle cell marks number
+first_marked bundle cell marks number there inside is earlier = record { there = there; unheld = inl (marked_at marks number true inside is); earlier = earlier }
 
-pub first_nowhere : (bundle : Bundle) (cell : Cell) (marks : List Bool) (number : ℕ) → number < length bundle.entries → (Stands number cell → ⊥) → ((other : ℕ) → other < number → IsThere cell marks other) → IsFirstGone bundle cell marks number
-first_nowhere bundle cell marks number there nowhere earlier = record { there = there; gone = inr nowhere; earlier = earlier }
+pub first_nowhere : (bundle : Bundle) (cell : Cell) (marks : List Bool) (number : ℕ) → number < length bundle.entries → (Stands number cell → ⊥) → ((other : ℕ) → other < number → IsThere cell marks other) → IsFirstUnheld bundle cell marks number
+first_nowhere bundle cell marks number there nowhere earlier = record { there = there; unheld = inr nowhere; earlier = earlier }
 
 pub there_next : (cell : Cell) (marks : List Bool) (number : ℕ) → number < length marks → get_or marks number false ≡ false → Stands number cell → ((other : ℕ) → other < number → IsThere cell marks other) → (other : ℕ) → other < number + 1 → IsThere cell marks other
 there_next cell marks number inside is stands earlier other below = by_test (number == other) refl where
