@@ -1,5 +1,5 @@
 -- What workers have of a board.
-use Rattle.std.proofs.Common.{◌≡◌, ◌<◌, ◌↔◌, ℕ, zero, suc, ◌+◌, ◌==◌, Bool, true, false, List, [], ◌∷◌, ◌++◌, length, Some, Result, Ok, Err, refl, sym, ◌∙◌, ap, subst, arith}
+use Rattle.std.proofs.Common.{◌≡◌, ◌<◌, ◌↔◌, ℕ, zero, suc, ◌+◌, ◌==◌, Bool, true, false, List, [], ◌∷◌, ◌++◌, length, get_or, set, Some, Result, Ok, Err, refl, sym, ◌∙◌, ap, subst, arith}
 use Rattle.std.specs.Prelude.{IfErr, slice_get}
 use Rattle.std.proofs.lemmas.Bool.Decides.{nat_tests}
 use Rattle.std.proofs.lemmas.List.{length_push, map_push}
@@ -46,6 +46,12 @@ seated_next workers seats seat is before =
         at_before seats seat (seat_of worker []) worker (before.each worker below)
 
 -- ---- closing
+
+-- a list is what it was where what was read is put back
+pub set_back : {A : Type 0} (xs : List A) (at : ℕ) (x : A) → at < length xs → x ≡ get_or xs at x → set xs at x ≡ xs
+set_back [] at x inside read = absurd (omega arith)
+set_back (first ∷ xs) zero x inside read = ap (λ (first : _). first ∷ xs) read
+set_back (first ∷ xs) (suc at) x inside read = ap (λ (rest : List _). first ∷ rest) (set_back xs at x (omega arith) read)
 
 -- a seat more was emptied
 pub given_next : (bundle : Bundle) (seats : List Seat) (receipts : List (List Receipt)) (parts amount part one worker : ℕ) (seat : Seat) (own : List Receipt) → AreGiven bundle seats receipts parts amount → seat ≡ seat_of worker own → AreOwn bundle own → part ≡ 1 → one ≡ length own

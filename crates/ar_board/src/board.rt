@@ -26,12 +26,11 @@ pub const MOST_WORKERS: usize = 16;
 pub struct Board<'b, M: BundleName, L: LockName> {
     bundle: &'b Bundle,
     cell: Mutex<RunCell<'b, M, L>>,
-    // What `close` wants: room for the histories and for the lists of receipts, whether each number is
-    // unmet, and a share without a part, into which those of the seats are merged.
+    // What `close` wants: room for the histories and for the lists of receipts, and whether each number
+    // is unmet.
     histories: Vec<History>,
     receipts: Vec<Vec<Receipt>>,
     unmet: Vec<bool>,
-    merged: Share<L>,
     ghost named: { bundle.now ≡ M.bundle },
     ghost lock: { L.lock ≡ 0 },
     ghost no_histories: { histories.items ≡ [] },
@@ -39,7 +38,7 @@ pub struct Board<'b, M: BundleName, L: LockName> {
     ghost no_receipts: { receipts.items ≡ [] },
     ghost receipt_room: { M.workers ≤ vec_capacity receipts },
     ghost none_unmet: { unmet.items ≡ replicate (length M.bundle.entries) false },
-    ghost no_part: { (merged.parts ≡ 0) × (merged.amount ≡ 0) },
+    ghost some: { 1 ≤ M.workers },
 }
 
 impl<'b, M: BundleName, L: LockName> Board<'b, M, L> {
@@ -63,8 +62,7 @@ impl<'b, M: BundleName, L: LockName> Board<'b, M, L> {
         requires parts { (blank.parts ≡ L.parts) × (L.parts ≡ M.workers) }
         ensures seats { IfOk result (λ made. AreSeated M.workers made.1.items) }
     {
-        let (book, mut all) = blank.open::<L>();
-        let merged = all.empty();
+        let (book, all) = blank.open::<L>();
         let cell = RunCell::new(alloc, bundle, workers, book)?;
         let seats = seats_of(alloc, workers, bundle.events(), all)?;
         let board = Board {
@@ -73,7 +71,6 @@ impl<'b, M: BundleName, L: LockName> Board<'b, M, L> {
             histories: Vec::with_capacity(alloc, bundle.runs().len())?,
             receipts: Vec::with_capacity(alloc, workers)?,
             unmet: vec![in alloc; false; bundle.events() as usize]?,
-            merged,
         };
         Ok((board, seats))
     }
@@ -137,7 +134,7 @@ impl<'b, M: BundleName, L: LockName> Board<'b, M, L> {
     ///
     /// `Lost` where the histories don't hold each number: where one stands nowhere, not where its receipt
     /// says, or at no later place than an earlier receipt of the same seat for the run.
-    pub fn close(self, seats: Vec<Seat<M, L>>) -> Result<Histories, Lost>
+    pub fn close(self, mut seats: Vec<Seat<M, L>>) -> Result<Histories, Lost>
         requires all { length seats.items ≡ M.workers }
         requires parts { L.parts ≡ M.workers }
         ensures closed { IfOk result (IsClosed M.bundle (receipts_of seats.items)) }
@@ -149,9 +146,9 @@ impl<'b, M: BundleName, L: LockName> Board<'b, M, L> {
             histories,
             mut receipts,
             mut unmet,
-            mut merged,
         } = self;
         let mut cell = cell.into_inner();
+        let mut merged = seats[0].empty_share();
         gather(seats, &mut receipts, &mut merged);
         cell.audit(&mut merged);
         note_all_unmet(&cell, receipts.as_slice(), &mut unmet);

@@ -80,6 +80,14 @@ impl<M: BundleName, L: LockName> Seat<M, L> {
         })
     }
 
+    /// A share of the ledger that has no part of it.
+    pub(crate) fn empty_share(&mut self) -> Share<L>
+        ensures same { self.new ≡ self.old }
+        ensures no_part { (result.parts ≡ 0) × (result.amount ≡ 0) }
+    {
+        self.share.empty()
+    }
+
     /// Which of the workers it is for, counted from 0.
     pub fn worker(&self) -> usize
         ensures own { result ≡ self.now.worker }

@@ -15,7 +15,7 @@ use Rattle.ar_queue.proofs.Sums.{all_marked_by, all_out_by, all_put_by, all_take
 
 -- ---- how often a number stands among those taken
 
-times_both : (number : ℕ) (first second : List ℕ) → times_in number (first ++ second) ≡ times_in number first + times_in number second
+pub times_both : (number : ℕ) (first second : List ℕ) → times_in number (first ++ second) ≡ times_in number first + times_in number second
 times_both number [] second = omega arith
 times_both number (own ∷ first) second = by_test (times_both number first second) (own == number) refl where
   by_test : times_in number (first ++ second) ≡ times_in number first + times_in number second → (test : Bool) → (own == number) ≡ test → times_in number (own ∷ (first ++ second)) ≡ times_in number (own ∷ first) + times_in number second
