@@ -2,16 +2,21 @@
    from 1, stands in REFUSE_CALL. It says so by a byte to file descriptor 9. The calls that the C
    library makes before this one is set up are not counted.
 
+   It refuses to start the thread whose number stands in REFUSE_THREAD, and says so likewise.
+
    Of standard output it takes so many bytes as stand in TAKE_BYTES, if that is there; then writes
    fail as on a full disk. */
 #define _GNU_SOURCE
 #include <dlfcn.h>
 #include <errno.h>
+#include <pthread.h>
+#include <stdatomic.h>
 #include <stddef.h>
 #include <stdlib.h>
 #include <unistd.h>
 
-static long refused, calls;
+static long refused, refused_thread;
+static atomic_long calls, threads;
 static int counting;
 static long left = -1;
 static ssize_t (*next_write)(int, const void *, size_t);
@@ -19,10 +24,12 @@ static void *(*next_malloc)(size_t);
 static void *(*next_realloc)(void *, size_t);
 static void *(*next_aligned_alloc)(size_t, size_t);
 static int (*next_posix_memalign)(void **, size_t, size_t);
+static int (*next_create)(pthread_t *, const pthread_attr_t *, void *(*)(void *), void *);
 
 __attribute__((constructor)) static void start(void)
 {
     const char *number = getenv("REFUSE_CALL");
+    const char *thread = getenv("REFUSE_THREAD");
     const char *bytes = getenv("TAKE_BYTES");
     next_write = dlsym(RTLD_NEXT, "write");
     left = bytes ? atol(bytes) : -1;
@@ -30,16 +37,23 @@ __attribute__((constructor)) static void start(void)
     next_realloc = dlsym(RTLD_NEXT, "realloc");
     next_aligned_alloc = dlsym(RTLD_NEXT, "aligned_alloc");
     next_posix_memalign = dlsym(RTLD_NEXT, "posix_memalign");
+    next_create = dlsym(RTLD_NEXT, "pthread_create");
     refused = number ? atol(number) : 0;
+    refused_thread = thread ? atol(thread) : 0;
     counting = 1;
+}
+
+static void tell(void)
+{
+    ssize_t told = write(9, "r", 1);
+    (void)told;
 }
 
 static int is_refused(void)
 {
-    if (!counting || ++calls != refused)
+    if (!counting || atomic_fetch_add(&calls, 1) + 1 != refused)
         return 0;
-    ssize_t told = write(9, "r", 1);
-    (void)told;
+    tell();
     return 1;
 }
 
@@ -99,4 +113,15 @@ int posix_memalign(void **result, size_t alignment, size_t size)
     if (!next_posix_memalign)
         next_posix_memalign = dlsym(RTLD_NEXT, "posix_memalign");
     return next_posix_memalign(result, alignment, size);
+}
+
+int pthread_create(pthread_t *thread, const pthread_attr_t *attributes, void *(*job)(void *), void *with)
+{
+    if (!next_create)
+        next_create = dlsym(RTLD_NEXT, "pthread_create");
+    if (atomic_fetch_add(&threads, 1) + 1 == refused_thread) {
+        tell();
+        return EAGAIN;
+    }
+    return next_create(thread, attributes, job, with);
 }

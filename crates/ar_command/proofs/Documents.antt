@@ -1,8 +1,7 @@
 -- What was read of an input says as much as all of it.
 use Rattle.std.proofs.Common.{◌≡◌, ℕ, ◌≤◌, Bool, true, false, List, [], ◌++◌, length, Option, Some, None, Result, Ok, Err, refl, sym, subst, ◌∙◌, ap, arith, length-append, append-nil}
-use Rattle.std.specs.Prelude.{IfSome, nat_lt}
+use Rattle.std.specs.Prelude.{IfOk, IfSome, OnOk, nat_lt}
 use Rattle.std.proofs.lemmas.Bool.Decides.{nat_tests}
-use Rattle.serde_json.specs.Data.{Data}
 use Rattle.ar_value.specs.Answer.{◌>>=◌}
 use Rattle.ar_value.specs.declared.fault.Fault.{Fault}
 use Rattle.ar_bundle.specs.Bundle.{Bundle}
@@ -12,17 +11,18 @@ use Rattle.ar_json.specs.Document.{json_in, most_bytes}
 use Rattle.ar_document.specs.declared.error.BundleError.{BundleError}
 use Rattle.ar_command.specs.Input.{ReadsUpToLimit}
 use Rattle.ar_eval.specs.Evaluation.{Evaluates, Follows, of_json, prepared, prepared_input}
-use Rattle.ar_command.specs.Serving.{Refuses, Says}
+use Rattle.ar_command.specs.Serving.{Refuses, Reports, Says}
 use Rattle.ar_eval.specs.declared.eval.EvalError.{EvalError}
-use Rattle.ar_command.specs.declared.serve.Closing.{Closing}
-use Rattle.ar_command.specs.declared.serve.Command.{Command}
-use Rattle.ar_command.specs.declared.serve.Command.TheVariants as commands
-use Rattle.ar_command.specs.declared.serve.Refusal.{Refusal}
-use Rattle.ar_command.specs.Private.Refusing.{IfRefused}
-use Rattle.ar_command.specs.declared.serve.ServeError.{ServeError}
-use Rattle.ar_command.specs.declared.serve.ServeError.TheVariants.{OutOfMemory, Read, Refused, Write}
+use Rattle.ar_command.specs.declared.serving.Closing.{Closing}
+use Rattle.ar_command_line.specs.declared.command_line.Command.{Command}
+use Rattle.ar_command_line.specs.declared.command_line.Command.TheVariants as commands
+use Rattle.ar_command.specs.declared.serving.Refusal.{Refusal}
+use Rattle.ar_command.specs.Private.Refusing.{IfUnanswered}
+use Rattle.ar_command.specs.declared.serving.ServeError.{ServeError}
+use Rattle.ar_command.specs.declared.serving.ServeError.TheVariants.{OutOfMemory, Read, Refused, Work, Write}
+use Rattle.ar_workers.specs.declared.error.WorkError.{WorkError}
 use Rattle.std.specs.Io.KnownBytes.{Appends}
-use Rattle.ar_command.specs.declared.serve.Refusal.TheVariants as refusals
+use Rattle.ar_command.specs.declared.serving.Refusal.TheVariants as refusals
 
 -- one input begins with the bytes that were read, all of them or too many
 by_size : (input rest bytes : List ℕ) (is_large : Bool) → nat_lt most_bytes (length bytes) ≡ is_large → input ≡ bytes ++ rest → (length bytes ≤ most_bytes → rest ≡ [])
@@ -50,11 +50,16 @@ module _ (input bytes : List ℕ) (same : json_in input ≡ json_in bytes) where
   reads_too : (answer : Result Bundle BundleError) → bundles.ReadsInput bytes answer → bundles.ReadsInput input answer
   reads_too answer is = record { follows = subst (λ json. bundles.Follows json answer) (sym same) is.follows }
 
+  reports_too : (text : List ℕ) (closing : Closing) → Reports bytes text closing → Reports input text closing
+  reports_too text closing says = record { bundle = says.bundle; reads = reads_too (Ok says.bundle) says.reads; histories = says.histories; reported = says.reported }
+
   says_too : (command : Command) (text : List ℕ) (closing : Closing) → Says command bytes text closing → Says command input text closing
+  unfolding reports_too
   says_too commands.Eval text closing says = (record { answer = says.0.answer; evaluates = evaluates_too (Ok says.0.answer) says.0.evaluates; is = says.0.is }, says.1)
   says_too commands.Check text closing says = (record { bundle = says.0.bundle; reads = reads_too (Ok says.0.bundle) says.0.reads; is = says.0.is }, says.1)
   says_too commands.List text closing says = (record { bundle = says.0.bundle; reads = reads_too (Ok says.0.bundle) says.0.reads; is = says.0.is }, says.1)
-  says_too commands.Plain text closing says = record { bundle = says.bundle; reads = reads_too (Ok says.bundle) says.reads; reported = says.reported }
+  says_too (commands.Run workers) text closing says = reports_too text closing says
+  says_too commands.Plain text closing says = record { reports = reports_too text closing says.reports; rise = says.rise }
 
   refuses_too : (command : Command) (refusal : Refusal) → Refuses command bytes refusal → Refuses command input refusal
   refuses_too commands.Eval (refusals.Eval fault) refuses = evaluates_too (Err fault) refuses
@@ -63,6 +68,8 @@ module _ (input bytes : List ℕ) (same : json_in input ≡ json_in bytes) where
   refuses_too commands.Check (refusals.Eval fault) refuses = absurd refuses
   refuses_too commands.List (refusals.Bundle error) refuses = reads_too (Err error) refuses
   refuses_too commands.List (refusals.Eval fault) refuses = absurd refuses
+  refuses_too (commands.Run workers) (refusals.Bundle error) refuses = reads_too (Err error) refuses
+  refuses_too (commands.Run workers) (refusals.Eval fault) refuses = absurd refuses
   refuses_too commands.Plain (refusals.Bundle error) refuses = reads_too (Err error) refuses
   refuses_too commands.Plain (refusals.Eval fault) refuses = absurd refuses
 
@@ -76,16 +83,20 @@ said_of_whole known after bytes command text closing reads says = of_known (λ i
 pub refused_of_whole : (known after : Option (List ℕ)) (bytes : List ℕ) (command : Command) (refusal : Refusal) → ReadsUpToLimit known after bytes → Refuses command bytes refusal → IfSome known (λ input. Refuses command input refusal)
 refused_of_whole known after bytes command refusal reads refuses = of_known (λ input. Refuses command input refusal) bytes known (same_json known after bytes reads) (λ input same. refuses_too input bytes same command refusal refuses)
 
-pub refused_by : (known after : Option (List ℕ)) (bytes : List ℕ) (command : Command) (error : ServeError) (refusal : Refusal) → ReadsUpToLimit known after bytes → IfRefused {A = Bool} (Err error) (Refuses command bytes) → error ≡ Refused refusal → IfSome known (λ input. Refuses command input refusal)
-refused_by known after bytes command (Refused own) refusal reads refuses same = let is : own ≡ refusal = cc in refused_of_whole known after bytes command refusal reads (subst (Refuses command bytes) is refuses)
-refused_by known after bytes command OutOfMemory refusal reads refuses same = absurd cc
-refused_by known after bytes command Read refusal reads refuses same = absurd refuses
-refused_by known after bytes command Write refusal reads refuses same = absurd refuses
+pub refused_by : (known after : Option (List ℕ)) (bytes : List ℕ) (command : Command) (Q : WorkError → Type 0) (error : ServeError) (refusal : Refusal) → ReadsUpToLimit known after bytes → IfUnanswered {A = Bool} (Err error) (Refuses command bytes) Q → error ≡ Refused refusal → IfSome known (λ input. Refuses command input refusal)
+refused_by known after bytes command Q (Refused own) refusal reads refuses same = let is : own ≡ refusal = cc in refused_of_whole known after bytes command refusal reads (subst (Refuses command bytes) is refuses)
+refused_by known after bytes command Q (Work own) refusal reads refuses same = absurd cc
+refused_by known after bytes command Q OutOfMemory refusal reads refuses same = absurd cc
+refused_by known after bytes command Q Read refusal reads refuses same = absurd refuses
+refused_by known after bytes command Q Write refusal reads refuses same = absurd refuses
 
 with_text : (known : Option (List ℕ)) (command : Command) (text : List ℕ) (closing : Closing) (P : List ℕ → Type 0) → IfSome known (λ input. Says command input text closing) → P text → IfSome known (λ input. (text : List ℕ) × Says command input text closing × P text)
 with_text None command text closing P says goes = tt
 with_text (Some input) command text closing P says goes = (text, says, goes)
 
-pub written_of_whole : (known after : Option (List ℕ)) (bytes : List ℕ) (command : Command) (text : List ℕ) (closing : Closing) (before contents : Option (List ℕ)) → ReadsUpToLimit known after bytes → Says command bytes text closing → Appends before contents text
-    → IfSome known (λ input. (text : List ℕ) × Says command input text closing × Appends before contents text)
-written_of_whole known after bytes command text closing before contents reads says goes = with_text known command text closing (Appends before contents) (said_of_whole known after bytes command text closing reads says) goes
+pub written_of_whole : (known after : Option (List ℕ)) (bytes : List ℕ) (command : Command) (text : List ℕ) (own : Closing) (before contents : Option (List ℕ)) (result : Result Closing ServeError) → ReadsUpToLimit known after bytes → Says command bytes text own
+    → IfOk result (λ closing. closing ≡ own) → OnOk result (Appends before contents text)
+    → IfOk result (λ closing. IfSome known (λ input. (text : List ℕ) × Says command input text closing × Appends before contents text))
+written_of_whole known after bytes command text own before contents (Ok closing) reads says same goes =
+    with_text known command text closing (Appends before contents) (said_of_whole known after bytes command text closing reads (subst (Says command bytes text) (sym same) says)) goes
+written_of_whole known after bytes command text own before contents (Err error) reads says same goes = tt

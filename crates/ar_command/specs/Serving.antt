@@ -1,5 +1,6 @@
 -- What commands write for an input, for what they refuse it, and how they end.
-use Rattle.std.specs.Prelude.{◌≡◌, ℕ, Bool, true, false, List, ◌++◌, codes, map, if◌then◌else◌, Result, Ok, Err}
+use Rattle.std.specs.Prelude.{◌≡◌, ◌≤◌, ℕ, Bool, true, false, List, ◌++◌, Option, codes, map, if◌then◌else◌, Result, Ok, Err}
+use Rattle.std.specs.Io.KnownBytes.{Appends}
 use Rattle.std.specs.List.{list_any}
 use Rattle.ar_value.specs.declared.fault.Fault.{Fault}
 use Rattle.ar_limits.specs.Metric.{is_unsuccessful}
@@ -18,14 +19,17 @@ use Rattle.ar_command.specs.declared.input.InputError.{InputError}
 use Rattle.ar_command.specs.declared.input.InputError.TheVariants as input
 use Rattle.ar_eval.specs.declared.eval.EvalError.{EvalError}
 use Rattle.ar_eval.specs.declared.eval.EvalError.TheVariants as eval
-use Rattle.ar_command.specs.declared.serve.Closing.{Closing}
-use Rattle.ar_command.specs.declared.serve.Closing.TheVariants.{Good, Bad}
-use Rattle.ar_command.specs.declared.serve.Command.{Command}
-use Rattle.ar_command.specs.declared.serve.Command.TheVariants as commands
-use Rattle.ar_command.specs.declared.serve.Refusal.{Refusal}
-use Rattle.ar_command.specs.declared.serve.Refusal.TheVariants as refusals
-use Rattle.ar_command.specs.declared.serve.ServeError.{ServeError}
-use Rattle.ar_command.specs.declared.serve.ServeError.TheVariants.{Read, Refused, Write, OutOfMemory}
+use Rattle.ar_command.specs.declared.serving.Closing.{Closing}
+use Rattle.ar_command.specs.declared.serving.Closing.TheVariants.{Good, Bad}
+use Rattle.ar_command_line.specs.declared.command_line.Command.{Command}
+use Rattle.ar_command_line.specs.declared.command_line.Command.TheVariants as commands
+use Rattle.ar_command.specs.declared.serving.Refusal.{Refusal}
+use Rattle.ar_command.specs.declared.serving.Refusal.TheVariants as refusals
+use Rattle.ar_command.specs.declared.serving.ServeError.{ServeError}
+use Rattle.ar_command.specs.declared.serving.ServeError.TheVariants.{Read, Refused, Work, Write, OutOfMemory}
+use Rattle.ar_workers.specs.Joined.{IsCause}
+use Rattle.ar_workers.specs.declared.error.WorkError.{WorkError}
+use Rattle.ar_workers.specs.declared.error.WorkError.TheVariants as work
 
 -- ---- what is written
 
@@ -51,26 +55,39 @@ pub record Shows (show : Bundle → List ℕ) (input text : List ℕ) : Type 0 w
 abbrev pub closing_of : List Phase → Closing
 closing_of phases = if list_any is_unsuccessful phases then Bad else Good
 
--- the report of histories of a bundle that are lawful and in which numbers rise, and the closing by the phases in it
-pub record IsReported (bundle : Bundle) (text : List ℕ) (closing : Closing) : Type 0 where
-  pub histories : List (List Entry)
+-- the report of lawful histories of a bundle, and the closing by the phases in it
+pub record IsReported (bundle : Bundle) (histories : List (List Entry)) (text : List ℕ) (closing : Closing) : Type 0 where
   pub lawful : AreLawful bundle histories
-  pub rise : AllRise histories
   pub is : text ≡ report bundle (map numbers_of histories)
   pub closes : closing ≡ closing_of (run_phases bundle (map numbers_of histories))
 
--- a report of the bundle of an input
+-- a report of the bundle of an input, for some lawful histories
 pub record Reports (input text : List ℕ) (closing : Closing) : Type 0 where
   pub bundle : Bundle
   pub reads : document.ReadsInput input (Ok bundle)
-  pub reported : IsReported bundle text closing
+  pub histories : List (List Entry)
+  pub reported : IsReported bundle histories text closing
+
+-- for some in which numbers rise
+pub record ReportsInOrder (input text : List ℕ) (closing : Closing) : Type 0 where
+  pub reports : Reports input text closing
+  pub rise : AllRise reports.histories
 
 -- what a command writes for an input, and how it closes
 abbrev pub Says : Command → (input text : List ℕ) → Closing → Type 0
 Says commands.Eval input text closing = Writes input text × (closing ≡ Good)
 Says commands.Check input text closing = Shows check_text input text × (closing ≡ Good)
 Says commands.List input text closing = Shows list_text input text × (closing ≡ Good)
-Says commands.Plain input text closing = Reports input text closing
+Says (commands.Run workers) input text closing = Reports input text closing
+Says commands.Plain input text closing = ReportsInOrder input text closing
+
+-- a command was carried out: what it says of the bytes that were taken was written
+pub record IsCarriedOut (command : Command) (taken_before taken_after contents_before contents_after : Option (List ℕ)) (closing : Closing) : Type 0 where
+  pub input : List ℕ
+  pub text : List ℕ
+  pub took : Appends taken_before taken_after input
+  pub says : Says command input text closing
+  pub wrote : Appends contents_before contents_after text
 
 -- ---- what is refused
 
@@ -80,6 +97,36 @@ Refuses commands.Eval input (refusals.Eval fault) = Evaluates input (Err fault)
 Refuses commands.Eval input (refusals.Bundle error) = ⊥
 Refuses command input (refusals.Bundle error) = document.ReadsInput input (Err error)
 Refuses command input (refusals.Eval fault) = ⊥
+
+-- the bytes that were taken are refused
+pub record IsRefused (command : Command) (taken_before taken_after : Option (List ℕ)) (refusal : Refusal) : Type 0 where
+  pub input : List ℕ
+  pub took : Appends taken_before taken_after input
+  pub refuses : Refuses command input refusal
+
+-- ---- workers
+
+-- a command for workers, and how many
+abbrev pub RunsWith : Command → (most_workers : ℕ) → Type 0
+RunsWith (commands.Run workers) most_workers = (1 ≤ workers) × (workers ≤ most_workers)
+RunsWith command most_workers = ⊥
+
+-- a command for one thread
+abbrev pub RunsAlone : Command → Type 0
+RunsAlone (commands.Run workers) = ⊥
+RunsAlone command = Unit {0}
+
+-- why workers give no report of the bundle of an input
+pub record Breaks (input : List ℕ) (error : WorkError) : Type 0 where
+  pub bundle : Bundle
+  pub reads : document.ReadsInput input (Ok bundle)
+  pub cause : IsCause bundle error
+
+-- and of the bytes that were taken
+pub record IsBroken (taken_before taken_after : Option (List ℕ)) (error : WorkError) : Type 0 where
+  pub input : List ℕ
+  pub took : Appends taken_before taken_after input
+  pub breaks : Breaks input error
 
 -- ---- faults of a command's parts, as the command answers them
 
@@ -95,6 +142,10 @@ abbrev pub of_bundle : BundleError → ServeError
 of_bundle bundle.OutOfMemory = OutOfMemory
 of_bundle error = Refused (refusals.Bundle error)
 
+abbrev pub of_work : WorkError → ServeError
+of_work work.OutOfMemory = OutOfMemory
+of_work error = Work error
+
 -- ---- the end
 
 -- the exit status of a command's outcome
@@ -102,6 +153,8 @@ abbrev pub status_of : Result Closing ServeError → ℕ
 status_of (Ok Good) = 0
 status_of (Ok Bad) = 1
 status_of (Err (Refused refusal)) = 2
+status_of (Err (Work work.OutOfMemory)) = 3
+status_of (Err (Work error)) = 5
 status_of (Err OutOfMemory) = 3
 status_of (Err Read) = 4
 status_of (Err Write) = 4

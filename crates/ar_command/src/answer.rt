@@ -1,24 +1,30 @@
 //! What each command says of an input.
 
-ghost use Rattle.std.specs.Prelude.{◌≡◌, Err, IfOk, map, string_bytes};
+ghost use Rattle.std.specs.Prelude.{◌≡◌, ◌≤◌, Err, IfOk, List, map, string_bytes};
 ghost use Rattle.std.specs.List.{list_any};
 ghost use Rattle.ar_bundle.specs.Lawful.{AllRise, AreLawful};
+ghost use Rattle.ar_bundle.specs.declared.history.Entry.{Entry};
 ghost use Rattle.ar_limits.specs.Metric.{is_unsuccessful};
 ghost use Rattle.ar_report.specs.Check.{check_text, list_text};
-ghost use Rattle.ar_command.specs.Private.Refusing.{IfRefused};
-ghost use Rattle.ar_command.specs.Serving.{IsReported, Refuses, Reports, Says, Shows, Writes, closing_of, line_of};
-ghost use Rattle.ar_command.specs.declared.serve.Closing.TheVariants.{Good};
-ghost use Rattle.ar_command.specs.declared.serve.Command.TheVariants as commands;
+ghost use Rattle.ar_command.specs.Private.Refusing.{IfRefused, IfUnanswered};
+ghost use Rattle.ar_command.specs.Serving.{Breaks, IsReported, Refuses, Reports, ReportsInOrder, RunsAlone, Says};
+ghost use Rattle.ar_command.specs.Serving.{Shows, Writes, closing_of, line_of};
+ghost use Rattle.ar_command.specs.declared.serving.Closing.TheVariants.{Good};
+ghost use Rattle.ar_command_line.specs.declared.command_line.Command.TheVariants as commands;
 
-use crate::serve::{Closing, Command, ServeError};
+use crate::serving::{Closing, ServeError};
+use ar_board::MOST_WORKERS;
 use ar_bundle::{Bundle, Histories};
+use ar_command_line::Command;
 use ar_document::read_bundle;
 use ar_eval::evaluate;
 use ar_limits::Phase;
 use ar_machine::Answer;
 use ar_report::{check_text, fault_name, list_text, report, run_phases};
-use ar_workers::run_plain;
+use ar_workers::{Gate, run_all, run_plain};
 use std::alloc::{AllocError, Global};
+use std::sync::Wait;
+use std::thread::Threads;
 
 /// A text to be written, and how its command closes.
 #[derive(Debug, Drop)]
@@ -27,8 +33,9 @@ pub(crate) struct Said {
     pub closing: Closing,
 }
 
-/// What a command says of an input.
+/// What a command for one thread says of an input.
 pub(crate) fn answer(alloc: Global, command: Command, input: &[u8]) -> Result<Said, ServeError>
+    requires { RunsAlone command }
     ensures said { IfOk result (λ said. Says command input.now (string_bytes said.text) said.closing) }
     ensures refused { IfRefused result (Refuses command input.now) }
 {
@@ -36,8 +43,26 @@ pub(crate) fn answer(alloc: Global, command: Command, input: &[u8]) -> Result<Sa
         Command::Eval => evaluated(alloc, input),
         Command::Check => checked(alloc, input),
         Command::List => listed(alloc, input),
-        Command::Plain => reported(alloc, input),
+        Command::Plain => reported_in_order(alloc, input),
+        Command::Run(_) => unreachable!(),
     }
+}
+
+/// What a run with workers says of an input.
+pub(crate) fn judged<G: Gate, R: Threads + Wait + Sync>(
+    rt: &R,
+    alloc: Global,
+    workers: usize,
+    input: &[u8],
+    gate: &G,
+) -> Result<Said, ServeError>
+    requires { (1 ≤ workers) × (workers ≤ MOST_WORKERS) }
+    ensures said { IfOk result (λ said. Reports input.now (string_bytes said.text) said.closing) }
+    ensures ends { IfUnanswered result (Refuses (commands.Run workers) input.now) (Breaks input.now) }
+{
+    let bundle = read_bundle(alloc, input)?;
+    let histories = run_all(rt, alloc, &bundle, workers, gate)?;
+    Ok(report_of(alloc, &bundle, &histories)?)
 }
 
 /// The line of what a condition says.
@@ -90,8 +115,8 @@ fn listed(alloc: Global, input: &[u8]) -> Result<Said, ServeError>
     })
 }
 
-fn reported(alloc: Global, input: &[u8]) -> Result<Said, ServeError>
-    ensures said { IfOk result (λ said. Says commands.Plain input.now (string_bytes said.text) said.closing) }
+fn reported_in_order(alloc: Global, input: &[u8]) -> Result<Said, ServeError>
+    ensures said { IfOk result (λ said. ReportsInOrder input.now (string_bytes said.text) said.closing) }
     ensures refused { IfRefused result (Refuses commands.Plain input.now) }
 {
     let bundle = read_bundle(alloc, input)?;
@@ -100,7 +125,8 @@ fn reported(alloc: Global, input: &[u8]) -> Result<Said, ServeError>
 
 /// The report of a bundle's plain run.
 fn run(alloc: Global, bundle: &Bundle) -> Result<Said, AllocError>
-    ensures { IfOk result (λ said. IsReported bundle.now (string_bytes said.text) said.closing) }
+    ensures { IfOk result (λ said. (histories : List (List Entry)) × AllRise histories
+        × IsReported bundle.now histories (string_bytes said.text) said.closing) }
 {
     let histories = run_plain(alloc, bundle)?;
     report_of(alloc, bundle, &histories)
@@ -110,8 +136,7 @@ fn run(alloc: Global, bundle: &Bundle) -> Result<Said, AllocError>
 #[tactic(auto, using(crate::proofs::Reporting::lawful))]
 fn report_of(alloc: Global, bundle: &Bundle, histories: &Histories) -> Result<Said, AllocError>
     requires lawful { AreLawful bundle.now histories.now }
-    requires rise { AllRise histories.now }
-    ensures { IfOk result (λ said. IsReported bundle.now (string_bytes said.text) said.closing) }
+    ensures { IfOk result (λ said. IsReported bundle.now histories.now (string_bytes said.text) said.closing) }
 {
     let text = report(alloc, bundle, histories)?;
     let phases = run_phases(alloc, bundle, histories)?;

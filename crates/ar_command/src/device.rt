@@ -3,7 +3,7 @@
 //! Both remember whether they failed, so that a contract can say that a fault was answered only
 //! where one came.
 
-ghost use Rattle.std.specs.Prelude.{◌≡◌, ℕ, List, Bool, true, Option, OnOk, OnErr};
+ghost use Rattle.std.specs.Prelude.{◌≡◌, ℕ, List, Bool, true, Option, IfOk, OnOk, OnErr, take};
 ghost use Rattle.std.specs.Io.{ReadsAtMost};
 ghost use Rattle.std.specs.Io.KnownBytes.{Appends, ReadConsumes};
 
@@ -19,6 +19,9 @@ pub trait Source {
     // The bytes that reads will give from here on, where they are known.
     ghost remaining: { Self → Option (List ℕ) };
 
+    // The bytes that reads have given so far, where they are kept.
+    ghost taken: { Self → Option (List ℕ) };
+
     // Whether a read failed.
     ghost has_failed: { Self → Bool };
 
@@ -27,6 +30,7 @@ pub trait Source {
     fn read(&mut self, buf: &mut [u8]) -> Result<usize, DeviceFault>
         ensures bound { ReadsAtMost result buf.new }
         ensures bytes { ReadConsumes (remaining self.old) (remaining self.new) result buf.new }
+        ensures takes { IfOk result (λ count. Appends (taken self.old) (taken self.new) (take count buf.new)) }
         ensures works { OnOk result (has_failed self.new ≡ has_failed self.old) }
         ensures fails { OnErr result (has_failed self.new ≡ true) };
 
@@ -54,7 +58,7 @@ pub trait Sink {
         ensures { result ≡ has_failed self.now };
 }
 
-/// A reader or a writer of the standard library's, with the last fault that it met.
+/// A reader or a writer of the standard library's, with the first fault that it met.
 #[derive(Drop)]
 pub struct Device<T> {
     inner: T,
@@ -62,9 +66,9 @@ pub struct Device<T> {
 }
 
 impl<T> Device<T> {
-    ghost use Rattle.std.specs.Prelude.{◌≡◌, false, Some};
+    ghost use Rattle.std.specs.Prelude.{◌≡◌, false};
     ghost use Rattle.std.specs.Option.{option_copied};
-    ghost use Rattle.ar_command.specs.Device.{fault_of, has_failed, inner_of};
+    ghost use Rattle.ar_command.specs.Device.{answer_of, fault_of, first_fault, has_failed, inner_of, or_first};
 
     /// A device that has met no fault.
     pub fn new(inner: T) -> Device<T>
@@ -74,35 +78,52 @@ impl<T> Device<T> {
         Device { inner, fault: None }
     }
 
-    /// The last fault that it met.
+    /// The first fault that it met.
     pub fn fault(&self) -> Option<&io::Error>
         ensures { option_copied result ≡ fault_of self.now }
     {
         self.fault.as_ref()
     }
 
-    /// Keeps the fault that the reader or the writer answered.
-    fn keep(&mut self, fault: io::Error) -> DeviceFault
-        ensures fault { fault_of self.new ≡ Some fault }
+    /// What the reader or the writer answered; the first fault is kept.
+    fn answered<A>(&mut self, answer: Result<A, io::Error>) -> Result<A, DeviceFault>
+        ensures answer { result ≡ answer_of answer }
+        ensures fault { fault_of self.new ≡ first_fault (fault_of self.old) answer }
         ensures inner { inner_of self.new ≡ inner_of self.old }
     {
-        self.fault = Some(fault);
-        DeviceFault
+        match answer {
+            Ok(value) => Ok(value),
+            Err(fault) => {
+                self.keep(fault);
+                Err(DeviceFault)
+            }
+        }
+    }
+
+    /// Keeps a fault if it is the first.
+    fn keep(&mut self, fault: io::Error)
+        ensures fault { fault_of self.new ≡ or_first (fault_of self.old) fault }
+        ensures inner { inner_of self.new ≡ inner_of self.old }
+    {
+        if self.fault.is_none() {
+            self.fault = Some(fault);
+        }
     }
 }
 
 impl<T: Read> Source for Device<T> {
+    ghost use Rattle.std.specs.Prelude.{None};
     ghost use Rattle.ar_command.specs.Device as device;
 
     ghost remaining = { λ d. T.remaining (device.inner_of d) };
 
+    ghost taken = { λ _. None };
+
     ghost has_failed = { λ d. device.has_failed d };
 
     fn read(&mut self, buf: &mut [u8]) -> Result<usize, DeviceFault> {
-        match self.inner.read(buf) {
-            Ok(count) => Ok(count),
-            Err(fault) => Err(self.keep(fault)),
-        }
+        let answer = self.inner.read(buf);
+        self.answered(answer)
     }
 
     fn failed(&self) -> bool {
@@ -118,10 +139,8 @@ impl<T: Write> Sink for Device<T> {
     ghost has_failed = { λ d. device.has_failed d };
 
     fn write_all(&mut self, bytes: &[u8]) -> Result<(), DeviceFault> {
-        match self.inner.write_all(bytes) {
-            Ok(()) => Ok(()),
-            Err(fault) => Err(self.keep(fault)),
-        }
+        let answer = self.inner.write_all(bytes);
+        self.answered(answer)
     }
 
     fn failed(&self) -> bool {

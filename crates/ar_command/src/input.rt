@@ -1,6 +1,7 @@
 //! Reading a whole document.
 
 ghost use Rattle.std.specs.Prelude.{◌≡◌, false, true, IfOk, length};
+ghost use Rattle.std.specs.Io.KnownBytes.{Appends};
 ghost use Rattle.ar_command.specs.Input.{ReadsUpToLimit};
 
 use crate::device::Source;
@@ -40,7 +41,9 @@ fn zeros(alloc: Global, len: usize) -> Result<Vec<u8>, AllocError>
 pub fn read_input<R: Source>(alloc: Global, source: &mut R) -> Result<Vec<u8>, InputError>
     requires { R.has_failed source.old ≡ false }
     ensures ok { IfOk result (λ bytes. ReadsUpToLimit (R.remaining source.old) (R.remaining source.new) bytes.items) }
+    ensures taken { IfOk result (λ bytes. Appends (R.taken source.old) (R.taken source.new) bytes.items) }
     ensures read { result ≡ Err InputError.Read → R.has_failed source.new ≡ true }
+    ensures told { R.has_failed source.new ≡ true → result ≡ Err InputError.Read }
 {
     let mut bytes = Vec::new(alloc);
     let mut chunk = zeros(alloc, CHUNK)?;

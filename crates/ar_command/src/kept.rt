@@ -52,10 +52,12 @@ impl<S> Kept<S> {
 }
 
 impl<S: Source> Source for Kept<S> {
-    ghost use Rattle.std.specs.Prelude.{◌||◌};
+    ghost use Rattle.std.specs.Prelude.{◌||◌, Some};
     ghost use Rattle.ar_command.specs.Kept as kept;
 
     ghost remaining = { λ k. S.remaining (kept.source_of k) };
+
+    ghost taken = { λ k. Some (kept.bytes_of k) };
 
     ghost has_failed = { λ k. kept.wants_memory k || S.has_failed (kept.source_of k) };
 

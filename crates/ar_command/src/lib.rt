@@ -1,12 +1,13 @@
 //! The commands of the program, each from the bytes read to the bytes written.
 //!
-//! [`serve_plain`] carries a command out over any reader and writer, and its contract is the
-//! program's promise: what is written is the stated function of the bytes that were read, or the
-//! input is refused by the first fault that stands in it and nothing is written. Only want of memory
-//! and a failed read or write can keep it from that. What is left to the program are the command
-//! line, the words of refusals and the exit status. What `eval` answers is `ar_eval`'s.
+//! [`serve`] runs a document with workers and [`serve_plain`] carries out the other commands, over
+//! any reader and writer, and their contracts are the program's promise: what is written is what the
+//! command says of the bytes that were taken, or the input is refused by the first fault that stands
+//! in it and nothing is written. Only want of memory, a failed read or write, a thread that can't be
+//! started and a lost number can keep them from that. What is left to the program are the words of
+//! refusals and the exit status. What `eval` answers is `ar_eval`'s.
 //!
-//! - [`serve`]: a command, from the bytes read to the bytes written
+//! - [`serving`]: a command, from the bytes read to the bytes written
 //! - `answer`: what each command says of an input
 //! - [`input`]: reading a whole document
 //! - [`device`]: readers and writers that remember whether they failed
@@ -18,10 +19,11 @@ mod answer;
 pub mod device;
 pub mod input;
 pub mod kept;
-pub mod serve;
+pub mod serving;
 pub mod status;
 
+pub use ar_command_line::Command;
 pub use ar_eval::{EvalError, eval};
 pub use device::{Device, DeviceFault, Sink, Source};
 pub use kept::Kept;
-pub use serve::{Closing, Command, Refusal, ServeError, serve_plain};
+pub use serving::{Closing, Refusal, ServeError, serve, serve_plain};

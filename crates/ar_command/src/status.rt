@@ -3,7 +3,8 @@
 ghost use Rattle.std.specs.Prelude.{◌≡◌};
 ghost use Rattle.ar_command.specs.Serving.{status_of};
 
-use crate::serve::{Closing, ServeError};
+use crate::serving::{Closing, ServeError};
+use ar_workers::WorkError;
 
 /// The command was carried out.
 pub const GOOD: u8 = 0;
@@ -15,6 +16,8 @@ pub const REFUSED: u8 = 2;
 pub const OUT_OF_MEMORY: u8 = 3;
 /// A read or a write failed.
 pub const DEVICE: u8 = 4;
+/// A thread couldn't be started, or a number was lost.
+pub const WORKERS: u8 = 5;
 
 /// The exit status of a command's outcome.
 pub fn status_of(outcome: &Result<Closing, ServeError>) -> u8
@@ -24,7 +27,8 @@ pub fn status_of(outcome: &Result<Closing, ServeError>) -> u8
         Ok(Closing::Good) => GOOD,
         Ok(Closing::Bad) => BAD,
         Err(ServeError::Refused(_)) => REFUSED,
-        Err(ServeError::OutOfMemory) => OUT_OF_MEMORY,
+        Err(ServeError::OutOfMemory | ServeError::Work(WorkError::OutOfMemory)) => OUT_OF_MEMORY,
         Err(ServeError::Read | ServeError::Write) => DEVICE,
+        Err(ServeError::Work(WorkError::NoThread | WorkError::Lost { .. })) => WORKERS,
     }
 }

@@ -1,5 +1,7 @@
 //! Commands on inputs that come a byte at a time, that can't be read to their end, and that are kept.
 
+ghost use Rattle.ar_command.specs.Serving.{RunsAlone};
+
 use ar_command::{Closing, Command, Device, DeviceFault, Kept, ServeError, Source, serve_plain};
 use std::alloc::Global;
 use std::io::Read;
@@ -9,28 +11,21 @@ use std::process::Abort;
 const DOCUMENT: &str =
     r#"{"manifest":{"apiVersion":"argoproj.io/v1alpha1","kind":"AnalysisTemplate","metadata":{"name":"t"},"spec":{"metrics":[{"name":"m","successCondition":"result > 1"}]}},"shapes":{"m":"whole"},"runs":[{"name":"a"},{"name":"b"}],"measurements":[{"run":"a","metric":"m","value":2}]}"#;
 
-/// The commands, and what each writes for the document.
-const ANSWERS: [(Command, &str); 3] = [
-    (
-        Command::Plain,
-        "\
+/// What the commands write for the document.
+const PLAIN: &str = "\
 run a Successful
 metric m Successful successful=1 failed=0 inconclusive=0 error=0 consecutiveError=0
 event 0 m Successful closed Successful
 run b Pending
 metric m Pending successful=0 failed=0 inconclusive=0 error=0 consecutiveError=0
-",
-    ),
-    (
-        Command::Check,
-        "\
+";
+
+const CHECK: &str = "\
 run a metric m success operations=4 depth=2 budget=4
 run b metric m success operations=4 depth=2 budget=4
-",
-    ),
-    (
-        Command::List,
-        "\
+";
+
+const LIST: &str = "\
 run a metric m success
 0 LoadResult
 1 PushWhole 1
@@ -41,9 +36,7 @@ run b metric m success
 1 PushWhole 1
 2 GtW
 3 Return
-",
-    ),
-];
+";
 
 /// A source that gives a byte a read, and fails once its reads are used up.
 #[derive(Drop)]
@@ -54,9 +47,11 @@ struct Failing<'a> {
 }
 
 impl Source for Failing<'_> {
-    ghost use Rattle.std.specs.Prelude.{Some};
+    ghost use Rattle.std.specs.Prelude.{None, Some};
 
     ghost remaining = { λ s. Some s.rest.now };
+
+    ghost taken = { λ _. None };
 
     ghost has_failed = { λ s. s.has_failed };
 
@@ -87,7 +82,9 @@ fn served(
     command: Command,
     reads: usize,
     output: &mut Vec<u8>,
-) -> Result<Closing, ServeError> {
+) -> Result<Closing, ServeError>
+    requires { RunsAlone command }
+{
     let mut reader = Failing {
         rest: DOCUMENT.as_bytes(),
         reads,
@@ -97,24 +94,36 @@ fn served(
     serve_plain(alloc, command, &mut reader, &mut writer)
 }
 
+/// Asserts what a command writes of an input that comes a byte at a time.
+fn assert_slow(rt: &impl Abort, alloc: Global, command: Command, expected: &str)
+    requires { RunsAlone command }
+{
+    let mut output = Vec::new(alloc);
+    let outcome = served(alloc, command, DOCUMENT.len() + 1, &mut output);
+    assert!(rt; matches!(outcome, Ok(Closing::Good)), "{command:?}");
+    assert_eq!(rt; output.as_slice(), expected.as_bytes(), "{command:?}");
+}
+
 /// An input that comes a byte at a time is answered as any other.
 #[test]
 fn a_byte_a_read(rt: HostRuntime) {
-    for (command, expected) in ANSWERS {
-        let mut output = Vec::new(rt.alloc());
-        let outcome = served(rt.alloc(), command, DOCUMENT.len() + 1, &mut output);
-        assert_eq!(rt; outcome, Ok(Closing::Good), "{command:?}");
-        assert_eq!(rt; output.as_slice(), expected.as_bytes(), "{command:?}");
-    }
+    assert_slow(&rt, rt.alloc(), Command::Plain, PLAIN);
+    assert_slow(&rt, rt.alloc(), Command::Check, CHECK);
+    assert_slow(&rt, rt.alloc(), Command::List, LIST);
 }
 
 /// Asserts that a command tells so and writes nothing, where its reader fails: at once, inside the
 /// document, and where the end would be found.
-fn assert_failing(rt: &impl Abort, alloc: Global, command: Command) {
+fn assert_failing(rt: &impl Abort, alloc: Global, command: Command)
+    requires { RunsAlone command }
+{
     for reads in [0, 1, 100, DOCUMENT.len() - 1, DOCUMENT.len()] {
         let mut output = Vec::new(alloc);
         let outcome = served(alloc, command, reads, &mut output);
-        assert_eq!(rt; outcome, Err(ServeError::Read), "{command:?}, {reads}");
+        assert!(rt;
+            matches!(outcome, Err(ServeError::Read)),
+            "{command:?}, {reads}"
+        );
         assert!(rt; output.is_empty(), "{command:?}, {reads}");
     }
 }
@@ -122,22 +131,29 @@ fn assert_failing(rt: &impl Abort, alloc: Global, command: Command) {
 /// A failed read is told, and nothing is written.
 #[test]
 fn failing_reads(rt: HostRuntime) {
-    for (command, _) in ANSWERS {
-        assert_failing(&rt, rt.alloc(), command);
-    }
+    assert_failing(&rt, rt.alloc(), Command::Plain);
+    assert_failing(&rt, rt.alloc(), Command::Check);
+    assert_failing(&rt, rt.alloc(), Command::List);
+}
+
+/// Asserts what a command writes of an input that is kept, which has all been read then.
+fn assert_kept(rt: &impl Abort, alloc: Global, command: Command, expected: &str)
+    requires { RunsAlone command }
+{
+    let mut output = Vec::new(alloc);
+    let mut reader = Kept::new(alloc, Device::new(DOCUMENT.as_bytes()));
+    let mut writer = Device::new(&mut output);
+    let outcome = serve_plain(alloc, command, &mut reader, &mut writer);
+    assert!(rt; matches!(outcome, Ok(Closing::Good)), "{command:?}");
+    assert_eq!(rt; output.as_slice(), expected.as_bytes(), "{command:?}");
+    assert!(rt; reader.bytes() == DOCUMENT.as_bytes(), "{command:?}");
+    assert!(rt; !reader.failed() && !reader.wants_memory());
 }
 
 /// A source that keeps what was read has read it all once a document is answered.
 #[test]
 fn kept_input(rt: HostRuntime) {
-    for (command, expected) in ANSWERS {
-        let mut output = Vec::new(rt.alloc());
-        let mut reader = Kept::new(rt.alloc(), Device::new(DOCUMENT.as_bytes()));
-        let mut writer = Device::new(&mut output);
-        let outcome = serve_plain(rt.alloc(), command, &mut reader, &mut writer);
-        assert_eq!(rt; outcome, Ok(Closing::Good), "{command:?}");
-        assert_eq!(rt; output.as_slice(), expected.as_bytes(), "{command:?}");
-        assert!(rt; reader.bytes() == DOCUMENT.as_bytes(), "{command:?}");
-        assert!(rt; !reader.failed() && !reader.wants_memory());
-    }
+    assert_kept(&rt, rt.alloc(), Command::Plain, PLAIN);
+    assert_kept(&rt, rt.alloc(), Command::Check, CHECK);
+    assert_kept(&rt, rt.alloc(), Command::List, LIST);
 }

@@ -10,6 +10,7 @@
 //! - `boards`: posts and looks by the seats of a board, and what closing it gives
 //! - `cells`: what a board keeps under a lock: posts, and looks with receipts
 //! - `commands`: commands on inputs that come a byte at a time, that can't be read, and that are kept
+//! - `workers`: runs with workers, two of which judge at once
 //! - `laws`: laws
 #![tactic(auto)]
 
@@ -31,3 +32,5 @@ mod phases;
 mod templates;
 #[cfg(test)]
 mod values;
+#[cfg(test)]
+mod workers;

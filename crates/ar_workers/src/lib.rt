@@ -6,6 +6,15 @@
 //! - `plain`: the plain run
 #![tactic(auto)]
 
+mod error;
+mod feed;
+mod gate;
 mod plain;
+mod running;
+mod side_by_side;
+mod worker;
 
+pub use error::WorkError;
+pub use gate::{FreeGate, Gate};
 pub use plain::run_plain;
+pub use running::run_all;

@@ -2,76 +2,106 @@
 //! docs/LANGUAGE.md lists where it differs from Argo Rollouts' controller.
 //!
 //! The program reads one JSON document from standard input, carries a command out on it, and
-//! writes the answer to standard output. `ar_command::serve_plain` is all of that over any reader
-//! and writer. What is left to this crate are the command line, the words of refusals and the exit
-//! status.
+//! writes the answer to standard output. `ar_command` is all of that over any reader and writer:
+//! `serve` with workers, `serve_plain` without. `ar_command_line` says what the words of the command
+//! line ask for. What is left to this crate are the words of refusals and the exit status.
 //!
-//! - `command_line`: the command line, read with `clap`
 //! - `words`: the words of a refusal, with names of the document that was read, which `ar_words` finds
 #![tactic(auto)]
 
-mod command_line;
 mod words;
 
-use ar_command::{Command, Device, Kept, Refusal, ServeError, serve_plain, status};
-use command_line::{Request, UsageError, request_of};
+ghost use Rattle.std.specs.Prelude.{◌≡◌, ◌≤◌, ℕ, Ok};
+ghost use Rattle.ar_command_line.specs.declared.command_line.Command.TheVariants as commands;
+
+use ar_board::MOST_WORKERS;
+use ar_command::{Command, Device, Kept, Refusal, ServeError, serve, serve_plain, status};
+use ar_command_line::{UsageError, command_of, shown};
+use ar_workers::{FreeGate, WorkError};
 use std::alloc::AllocError;
 use std::process::ExitCode;
 use std::rt::Env;
+use std::sync::Wait;
+use std::thread::Threads;
 use std::{env, io};
 use words::refusal_text;
+
+/// What a command line can ask for.
+#[derive(Drop)]
+enum Request {
+    CarryOut(Command),
+    /// The text of `--help` or `--version`.
+    Show(String),
+}
 
 fn main(rt: HostRuntime) -> ExitCode {
     ExitCode::from(run(&rt))
 }
 
 /// Does what the command line asks for, and answers the exit status.
-fn run<R: Env + AllocGlobal + Input + Print + Eprint>(rt: &R) -> u8 {
-    match request(rt) {
-        Ok(Request::Run(command)) => carry_out(rt, command),
+fn run<R: Env + AllocGlobal + Input + Print + Eprint + Threads + Wait + Sync>(rt: &R) -> u8 {
+    match requested(rt) {
+        Ok(Request::CarryOut(command)) => carry_out(rt, command),
         Ok(Request::Show(text)) => match rt.print(text) {
             Ok(()) => status::GOOD,
-            Err(error) => { end(rt, ServeError::Write, Some(&error)) }
+            Err(error) => end(rt, ServeError::Write, Some(&error)),
         },
         Err(error) => {
             let _ = eprintln!(rt; "argo_judge: {error}");
             match error {
-                UsageError::Words | UsageError::Workers | UsageError::OnlyPlain => {
-                    status::REFUSED
-                }
+                UsageError::Words | UsageError::Workers => status::REFUSED,
                 UsageError::OutOfMemory => status::OUT_OF_MEMORY,
             }
         }
     }
 }
 
-fn request<R: Env + AllocGlobal>(rt: &R) -> Result<Request, UsageError> {
-    let arguments = match env::args(rt) {
-        Ok(arguments) => arguments,
+/// What the command line asks for.
+fn requested<R: Env + AllocGlobal>(rt: &R) -> Result<Request, UsageError>
+    ensures { (n : ℕ) → result ≡ Ok (Request.CarryOut (commands.Run n)) → (1 ≤ n) × (n ≤ MOST_WORKERS) }
+{
+    let words = arguments(rt)?;
+    match shown(rt.alloc(), &words)? {
+        Some(text) => Ok(Request::Show(text)),
+        None => Ok(Request::CarryOut(command_of(rt.alloc(), words)?)),
+    }
+}
+
+/// The words of the command line, the program's name first.
+fn arguments<R: Env + AllocGlobal>(rt: &R) -> Result<Vec<String>, UsageError> {
+    let given = match env::args(rt) {
+        Ok(given) => given,
         Err(error) if error.kind() == io::ErrorKind::OutOfMemory => {
             return Err(UsageError::OutOfMemory);
         }
         Err(_) => return Err(UsageError::Words),
     };
     let mut words = Vec::new(rt.alloc());
-    for word in arguments {
+    for word in given {
         words.push(word).map_err(AllocError::from)?;
     }
-    request_of(rt.alloc(), words.as_slice())
+    Ok(words)
 }
 
 /// Carries a command out on the standard streams, and tells of a fault in one line.
-fn carry_out<R: AllocGlobal + Input + Print + Eprint>(rt: &R, command: Command) -> u8 {
+fn carry_out<R>(rt: &R, command: Command) -> u8
+where
+    R: AllocGlobal + Input + Print + Eprint + Threads + Wait + Sync,
+    requires { (n : ℕ) → command ≡ commands.Run n → (1 ≤ n) × (n ≤ MOST_WORKERS) }
+{
     let mut reader = Kept::new(rt.alloc(), Device::new(rt.reader()));
     let mut writer = Device::new(io::writer(rt));
-    let outcome = serve_plain(rt.alloc(), command, &mut reader, &mut writer);
+    let outcome = match command {
+        Command::Run(_) => { serve(rt, rt.alloc(), command, &mut reader, &mut writer, &FreeGate) }
+        _ => serve_plain(rt.alloc(), command, &mut reader, &mut writer),
+    };
     match outcome {
         Ok(_) => status::status_of(&outcome),
         Err(ServeError::Refused(refusal)) => refuse(rt, reader.bytes(), refusal),
         Err(ServeError::Read) if reader.wants_memory() => end(rt, ServeError::OutOfMemory, None),
         Err(ServeError::Read) => end(rt, ServeError::Read, reader.source().fault()),
         Err(ServeError::Write) => end(rt, ServeError::Write, writer.fault()),
-        Err(ServeError::OutOfMemory) => end(rt, ServeError::OutOfMemory, None),
+        Err(error) => end(rt, error, None),
     }
 }
 
@@ -88,14 +118,20 @@ fn refuse<R: AllocGlobal + Eprint>(rt: &R, input: &[u8], refusal: Refusal) -> u8
 
 /// Tells of a fault, and answers its exit status.
 fn end<R: Eprint>(rt: &R, error: ServeError, cause: Option<&io::Error>) -> u8 {
-    tell(rt, error, cause);
+    tell(rt, &error, cause);
     status::status_of(&Err(error))
 }
 
-/// Tells of a fault in one line, with what the system says of it.
-fn tell<R: Eprint>(rt: &R, error: ServeError, cause: Option<&io::Error>) {
-    let _ = match cause {
-        Some(cause) => eprintln!(rt; "argo_judge: {error}: {cause}"),
-        None => eprintln!(rt; "argo_judge: {error}"),
+/// Tells of a fault in one line, with what the system says of it, or with what can be done.
+fn tell<R: Eprint>(rt: &R, error: &ServeError, cause: Option<&io::Error>) {
+    let _ = match (error, cause) {
+        (_, Some(cause)) => eprintln!(rt; "argo_judge: {error}: {cause}"),
+        (ServeError::Work(WorkError::NoThread), None) => {
+            eprintln!(rt; "argo_judge: {error}; try fewer --workers, or --plain, which starts none")
+        }
+        (ServeError::Work(WorkError::Lost { .. }), None) => {
+            eprintln!(rt; "argo_judge: {error}; please report this; --plain judges without workers")
+        }
+        (_, None) => eprintln!(rt; "argo_judge: {error}"),
     };
 }

@@ -8,10 +8,11 @@
 //!
 //! `ar_cases` answers those that need neither a judge nor a bundle.
 //!
-//! - `phases`, `judges`, `documents`, `boards`: the other calls, by their subjects
+//! - `phases`, `judges`, `documents`, `boards`, `commands`: the other calls, by their subjects
 #![tactic(auto)]
 
 mod boards;
+mod commands;
 mod documents;
 mod judges;
 mod phases;
@@ -87,6 +88,9 @@ fn put_answer(alloc: Global, call: &str, case: &Json, out: &mut String) -> Writt
     }
     if is_other(written) {
         written = boards::put(alloc, call, case, out);
+    }
+    if is_other(written) {
+        written = commands::put(alloc, call, case, out);
     }
     written
 }

@@ -1,13 +1,19 @@
 -- Refusals of a command's parts.
 use Rattle.std.specs.Prelude.{Result, Ok, Err}
-use Rattle.ar_command.specs.declared.serve.Refusal.{Refusal}
-use Rattle.ar_command.specs.declared.serve.ServeError.{ServeError}
-use Rattle.ar_command.specs.declared.serve.ServeError.TheVariants.{Read, Refused, Write, OutOfMemory}
+use Rattle.ar_workers.specs.declared.error.WorkError.{WorkError}
+use Rattle.ar_command.specs.declared.serving.Refusal.{Refusal}
+use Rattle.ar_command.specs.declared.serving.ServeError.{ServeError}
+use Rattle.ar_command.specs.declared.serving.ServeError.TheVariants.{Read, Refused, Work, Write, OutOfMemory}
 
--- what a refusal says; no reader and no writer failed
+-- what a refusal says, and what an end of workers; no reader and no writer failed
+abbrev pub IfUnanswered : {A : Type 0} → Result A ServeError → (Refusal → Type 0) → (WorkError → Type 0) → Type 0
+IfUnanswered (Ok x) P Q = Unit {0}
+IfUnanswered (Err (Refused refusal)) P Q = P refusal
+IfUnanswered (Err (Work error)) P Q = Q error
+IfUnanswered (Err OutOfMemory) P Q = Unit {0}
+IfUnanswered (Err Read) P Q = ⊥
+IfUnanswered (Err Write) P Q = ⊥
+
+-- what a refusal says; there were no workers
 abbrev pub IfRefused : {A : Type 0} → Result A ServeError → (Refusal → Type 0) → Type 0
-IfRefused (Ok x) P = Unit {0}
-IfRefused (Err (Refused refusal)) P = P refusal
-IfRefused (Err OutOfMemory) P = Unit {0}
-IfRefused (Err Read) P = ⊥
-IfRefused (Err Write) P = ⊥
+IfRefused result P = IfUnanswered result P (λ error. ⊥)

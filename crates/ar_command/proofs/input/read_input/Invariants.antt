@@ -1,5 +1,5 @@
 use Rattle.std.proofs.Common.{◌≡◌, ◌≤◌, false, length}
-use Rattle.std.specs.Io.KnownBytes.{Consumes}
+use Rattle.std.specs.Io.KnownBytes.{Appends, Consumes}
 use Rattle.ar_json.specs.Document.{most_bytes}
 use Rattle.ar_command.proofs.input.read_input.Given as goal
 
@@ -8,6 +8,7 @@ abbrev pub invariant-loop-turn : goal.invariant-loop-turn
 invariant-loop-turn g l = record {
   works : g.R.Source.has_failed l.source ≡ false;
   front : Consumes (g.R.Source.remaining l.initial.source) (g.R.Source.remaining l.source) l.bytes.items;
+  taken : Appends (g.R.Source.taken l.initial.source) (g.R.Source.taken l.source) l.bytes.items;
   turns : l._turn ≤ length l.bytes.items;
   few : length l.bytes.items ≤ most_bytes;
 }

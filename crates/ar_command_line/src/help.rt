@@ -1,12 +1,6 @@
-//! The command line, read with `clap`.
+//! The texts of `--help`.
 
-use ar_command::Command;
-use clap::error::ErrorKind;
-use clap::{Arg, ArgAction, ArgMatches};
-use std::alloc::{AllocError, Global};
-use thiserror::Error;
-
-const HELP: &str =
+pub(crate) const HELP: &str =
     "Each command reads one JSON document from standard input and writes its answer to standard output.
 A fault is one line on standard error: where it stands, its name, and what was expected.
 
@@ -24,6 +18,7 @@ Exit status:
   2  the command line or the input is refused
   3  out of memory
   4  a read or a write failed
+  5  run: a thread couldn't be started, or a number was lost; try again, or with --plain
 
 Examples:
   echo '{\"condition\":\"result >= 0.95\",\"shape\":\"decimal\",\"value\":\"0.9523\"}' | argo_judge eval
@@ -31,9 +26,10 @@ Examples:
   kubectl get analysistemplate success-rate -o json |
     jq '{manifest: ., shapes: {\"success-rate\": {list: \"decimal\", max: 10}}, runs: [{name: \"canary-1\"}],
          measurements: [{run: \"canary-1\", metric: \"success-rate\", value: [\"0.97\"]}]}' |
-    argo_judge run --plain";
+    argo_judge run";
 
-const EVAL_HELP: &str = "Standard input is {\"condition\":TEXT,\"shape\":SHAPE,\"value\":VALUE}.
+pub(crate) const EVAL_HELP: &str =
+    "Standard input is {\"condition\":TEXT,\"shape\":SHAPE,\"value\":VALUE}.
   condition  as a successCondition or failureCondition of Argo Rollouts: `result`, literals,
              fields, indices, + - * / %, == != < <= > >=, in, not in, and, or, not, ? :, lists,
              len, isNil, default, all, any, count, filter; {{args.x}} is no part of it: arguments
@@ -85,7 +81,7 @@ Members that aren't named here are ignored.
     };
 }
 
-const CHECK_HELP: &str = document_help!(
+pub(crate) const CHECK_HELP: &str = document_help!(
     "Standard output has a line for each condition of each run, its arguments put in: how many
 operations its code has, how many operands it holds at once at most, and what it costs at most:
 
@@ -93,7 +89,7 @@ operations its code has, how many operands it holds at once at most, and what it
   run canary-2 metric success-rate success operations=6 depth=2 budget=6"
 );
 
-const LIST_HELP: &str = document_help!(
+pub(crate) const LIST_HELP: &str = document_help!(
     "Standard output has the code of each condition of each run, its arguments put in, an operation
 a line; decimals are in millionths:
 
@@ -113,7 +109,7 @@ a line; decimals are in millionths:
   5 Return"
 );
 
-const RUN_HELP: &str = document_help!(
+pub(crate) const RUN_HELP: &str = document_help!(
     "Standard output has for each run its phase, then each metric with its phase and counts, then
 what happened to it, by its number in `measurements`, from 0:
 
@@ -126,139 +122,10 @@ what happened to it, by its number in `measurements`, from 0:
   event 1 success-rate Failed closed Failed
 
 A phase is Pending, Running, Successful, Failed, Error or Inconclusive. The exit status is 1 where a
-run is Failed, Error or Inconclusive, as it is here."
+run is Failed, Error or Inconclusive, as it is here.
+
+Workers are threads that judge measurements side by side. With several workers the events of a run
+stand in the order in which they were posted to its history, which may differ from the order of
+their numbers, and from one start to the next. With --plain they stand in the order of their
+numbers."
 );
-
-/// What a command line asks for.
-#[derive(Debug, Drop)]
-pub enum Request {
-    Run(Command),
-    /// The text of `--help` or `--version`.
-    Show(String),
-}
-
-/// Why a command line asks for nothing.
-#[derive(Clone, Copy, Debug, PartialEq, Eq, Error)]
-pub enum UsageError {
-    #[error("command line: Words: expected `eval`, `check`, `list` or `run --plain`, with the document on standard input, or --help")]
-    Words,
-    #[error("command line, --workers: Workers: expected a whole number from 1 to 16")]
-    Workers,
-    /// It asks for a run with workers.
-    #[error("command line, run: OnlyPlain: runs with several workers aren't there yet; expected `run --plain`, which has none")]
-    OnlyPlain,
-    #[error("out of memory")]
-    OutOfMemory,
-}
-
-impl From<AllocError> for UsageError {
-    ghost use Rattle.std.specs.Prelude.{◌≡◌};
-    ghost use Rattle.argo_judge.specs.declared.command_line.UsageError.TheVariants.{OutOfMemory};
-
-    ghost from_gives = { λ _ e. e ≡ OutOfMemory };
-
-    fn from(_error: AllocError) -> UsageError {
-        UsageError::OutOfMemory
-    }
-}
-
-/// What the words ask for, the program's name first.
-///
-/// # Errors
-///
-/// `Words` where they are no command line of the program's, then `Workers` where the number of
-/// workers is none from 1 to 16, then `OnlyPlain` for a run without `--plain`.
-pub(crate) fn request_of(alloc: Global, words: &[String]) -> Result<Request, UsageError> {
-    match application(alloc)?.try_get_matches_from(words) {
-        Ok(matches) => Ok(Request::Run(command_of(&matches)?)),
-        Err(error) => match error.kind() {
-            ErrorKind::DisplayHelp | ErrorKind::DisplayVersion => {
-                Ok(Request::Show(format!(in alloc; "{error}")?))
-            }
-            ErrorKind::OutOfMemory => Err(UsageError::OutOfMemory),
-            _ => Err(UsageError::Words),
-        },
-    }
-}
-
-fn command_of(matches: &ArgMatches<'_>) -> Result<Command, UsageError> {
-    match matches.subcommand() {
-        Some(("eval", _)) => Ok(Command::Eval),
-        Some(("check", _)) => Ok(Command::Check),
-        Some(("list", _)) => Ok(Command::List),
-        Some(("run", run)) => run_of(run),
-        _ => Err(UsageError::Words),
-    }
-}
-
-/// What `run` asks for. A run without workers has no use for their number, which is checked all
-/// the same.
-fn run_of(matches: &ArgMatches<'_>) -> Result<Command, UsageError> {
-    if let Some(number) = matches.get_str("workers")
-        && !is_number_of_workers(number)
-    {
-        return Err(UsageError::Workers);
-    }
-    if matches.get_flag("plain") {
-        Ok(Command::Plain)
-    } else {
-        Err(UsageError::OnlyPlain)
-    }
-}
-
-fn is_number_of_workers(text: &str) -> bool {
-    matches!(text.parse::<u64>(), Ok(1..=16))
-}
-
-fn application<'a>(alloc: Global) -> Result<clap::Command<'a>, AllocError> {
-    clap::Command::new(alloc, "argo_judge")
-        .version("0.1.0")
-        .about("Judges canary measurements by the conditions of Argo Rollouts' analysis")
-        .after_help(HELP)
-        .disable_help_subcommand(true)
-        .subcommand_required(true)
-        .subcommand(subcommand(alloc, "eval", "Judge one condition on one value", EVAL_HELP))?
-        .subcommand(subcommand(
-            alloc,
-            "check",
-            "Check a document, and tell what its conditions cost at most",
-            CHECK_HELP,
-        ))?
-        .subcommand(subcommand(
-            alloc,
-            "list",
-            "Check a document, and list the code of its conditions",
-            LIST_HELP,
-        ))?
-        .subcommand(run(alloc)?)
-}
-
-fn subcommand<'a>(
-    alloc: Global,
-    name: &'a str,
-    about: &'a str,
-    help: &'a str,
-) -> clap::Command<'a> {
-    clap::Command::new(alloc, name)
-        .about(about)
-        .after_help(help)
-}
-
-fn run<'a>(alloc: Global) -> Result<clap::Command<'a>, AllocError> {
-    let workers = Arg::new(alloc, "workers")
-        .long("workers")
-        .value_name("N")
-        .help("How many workers judge, 1 to 16; without a meaning beside --plain");
-    let plain = Arg::new(alloc, "plain")
-        .long("plain")
-        .action(ArgAction::SetTrue)
-        .help("Judge without workers, one measurement after another");
-    subcommand(
-        alloc,
-        "run",
-        "Judge a document's measurements, and report its runs",
-        RUN_HELP,
-    )
-    .arg(workers)?
-    .arg(plain)
-}

@@ -1,0 +1,69 @@
+-- Worked command lines, computed by the definitions alone.
+use Rattle.std.proofs.Common.{◌≡◌, List, [], ◌∷◌, Result, Ok, Err, codes, refl}
+use Rattle.clap.specs.Words.{Kinds, Text, fault_of, subcommand_of}
+use Rattle.clap.specs.declared.error.kind.ErrorKind.TheVariants as kind
+use Rattle.clap.proofs.OnLiterals.{clap_on_literals}
+use Rattle.ar_command_line.specs.CommandLine.{application, command_named}
+use Rattle.ar_command_line.specs.declared.command_line.Command.{Command}
+use Rattle.ar_command_line.specs.declared.command_line.Command.TheVariants.{Eval, Run, Plain}
+use Rattle.ar_command_line.specs.declared.command_line.UsageError.{UsageError}
+use Rattle.ar_command_line.specs.declared.command_line.UsageError.TheVariants.{Workers}
+
+-- what is answered for the words behind the program's name, where `clap` finds no fault in them
+abbrev asked : List Text → Result Command UsageError
+asked words = command_named (subcommand_of application (codes "argo_judge" ∷ words))
+
+abbrev faults : List Text → Kinds
+faults words = fault_of application (codes "argo_judge" ∷ words)
+
+abbrev run_with : Text → List Text
+run_with number = codes "run" ∷ codes "--workers" ∷ number ∷ []
+
+eval : (faults (codes "eval" ∷ []) ≡ []) × (asked (codes "eval" ∷ []) ≡ Ok Eval)
+unfolding application clap_on_literals
+eval = (refl, refl)
+
+four : (faults (codes "run" ∷ []) ≡ []) × (asked (codes "run" ∷ []) ≡ Ok (Run 4))
+unfolding application clap_on_literals
+four = (refl, refl)
+
+two : (faults (run_with (codes "2")) ≡ []) × (asked (run_with (codes "2")) ≡ Ok (Run 2))
+unfolding application clap_on_literals
+two = (refl, refl)
+
+sixteen : (faults (codes "run" ∷ codes "--workers=16" ∷ []) ≡ []) × (asked (codes "run" ∷ codes "--workers=16" ∷ []) ≡ Ok (Run 16))
+unfolding application clap_on_literals
+sixteen = (refl, refl)
+
+plain : (faults (codes "run" ∷ codes "--plain" ∷ []) ≡ []) × (asked (codes "run" ∷ codes "--plain" ∷ []) ≡ Ok Plain)
+unfolding application clap_on_literals
+plain = (refl, refl)
+
+number_unused : asked (codes "run" ∷ codes "--plain" ∷ codes "--workers" ∷ codes "3" ∷ []) ≡ Ok Plain
+unfolding application clap_on_literals
+number_unused = refl
+
+number_checked : asked (codes "run" ∷ codes "--plain" ∷ codes "--workers" ∷ codes "0" ∷ []) ≡ Err Workers
+unfolding application clap_on_literals
+number_checked = refl
+
+bad_numbers : (asked (run_with (codes "0")) ≡ Err Workers) × (asked (run_with (codes "17")) ≡ Err Workers) × (asked (run_with (codes "x")) ≡ Err Workers)
+unfolding application clap_on_literals
+bad_numbers = (refl, refl, refl)
+
+no_command : faults [] ≡ kind.MissingSubcommand ∷ []
+unfolding application clap_on_literals
+no_command = refl
+
+flags_of_run : (faults (codes "eval" ∷ codes "--plain" ∷ []) ≡ kind.UnknownArgument ∷ [])
+    × (faults (codes "--workers" ∷ codes "2" ∷ codes "run" ∷ []) ≡ kind.UnknownArgument ∷ [])
+unfolding application clap_on_literals
+flags_of_run = (refl, refl)
+
+twice : faults (codes "run" ∷ codes "--plain" ∷ codes "--plain" ∷ []) ≡ kind.ArgumentConflict ∷ []
+unfolding application clap_on_literals
+twice = refl
+
+requests : (faults (codes "run" ∷ codes "--help" ∷ []) ≡ kind.DisplayHelp ∷ []) × (faults (codes "--version" ∷ []) ≡ kind.DisplayVersion ∷ [])
+unfolding application clap_on_literals
+requests = (refl, refl)

@@ -1,0 +1,167 @@
+-- Where `clap` finds no fault in the words, they name a command, but for the number of workers.
+use Rattle.std.proofs.Common.{◌≡◌, ◌≢◌, Bool, true, false, List, [], ◌∷◌, Option, Some, None, Ok, Err, option_map, is_some, refl, ap, cond, find, ◌∙◌, sym, subst, Result, inl, inr, IfOk}
+use Rattle.std.specs.Prelude.{⊤, unwrap_or}
+use Rattle.std.specs.Prelude.{IsErr}
+use Rattle.std.specs.Result.{result_err}
+use Rattle.std.proofs.lemmas.Result.{IfOk-weaker}
+use Rattle.clap.specs.Words.{App, HasKind, HasMatchesOf, IsAmong, FailsBy, Kinds, Row, Shape, Text, fault_of, is_simple, is_simple_and_free, kind_of, subcommand_of, subcommand_rows_of}
+use Rattle.clap.specs.Faults.{check_fault, defaults_fault, entered_fault, level_fault, settle_fault, walk_fault}
+use Rattle.clap.specs.Walk.{Held, Names, finished, nothing_held, settled, walk, walk_from}
+use Rattle.clap.specs.Kinds.{or_else}
+use Rattle.clap.specs.Simple.{argument_words, built, entered, names_of, rows_at}
+use Rattle.clap.specs.declared.error.Error.{Error}
+use Rattle.clap.specs.declared.error.kind.ErrorKind.{ErrorKind}
+use Rattle.clap.specs.declared.error.kind.ErrorKind.TheVariants.{OutOfMemory}
+use Rattle.clap.specs.declared.parser.matches.ArgMatches.{ArgMatches}
+use Rattle.ar_command_line.specs.CommandLine.{Shows, application, command_named, is_request, named, of_kind, run_named, workers_of}
+use Rattle.ar_command_line.specs.declared.command_line.Command.{Command}
+use Rattle.ar_command_line.specs.declared.command_line.UsageError.{UsageError}
+use Rattle.ar_command_line.specs.declared.command_line.UsageError.TheVariants.{Words, Workers}
+
+-- ---- the command line is one of those of which `clap` tells what a parse gives
+
+pub simple : is_simple application ≡ true
+unfolding application
+simple = refl
+
+pub simple_and_free : is_simple_and_free application ≡ true
+unfolding application
+simple_and_free = refl
+
+-- ---- a subcommand is named
+
+later : (a b : Kinds) → or_else a b ≡ [] → b ≡ []
+later [] b none = none
+later (k ∷ ks) b none = cc
+
+has_subcommand : (s : Shape) (rows : List Row) (has : Bool) → s.arg_required_else_help ≡ false → s.subcommand_required ≡ true → check_fault s rows has ≡ [] → has ≡ true
+has_subcommand s rows true help required none = refl
+has_subcommand s rows false help required none = let bad = rw (help, required) at none in cc
+
+-- each of the subcommands is known
+abbrev AllKnown : List Shape → Type 0
+AllKnown [] = ⊤
+AllKnown (s ∷ rest) = ((rows : List Row) → named s.name rows ≢ Err Words) × AllKnown rest
+
+run_known : (rows : List Row) → run_named rows ≢ Err Words
+run_known rows = go (workers_of rows) refl
+  where
+    go : (o : Option _) → workers_of rows ≡ o → run_named rows ≢ Err Words
+    go (Some n) is bad = let bad2 = rw is at bad in cc
+    go None is bad = let bad2 = rw is at bad in cc
+
+all_known : AllKnown (built application).subs
+unfolding application
+all_known = (λ rows bad. cc, (λ rows bad. cc, (λ rows bad. cc, (run_known, tt))))
+
+known : (f : Shape → Bool) (words : List Text) (subs : List Shape) → AllKnown subs
+    → is_some (option_map (λ s. rows_at s words) (find f subs)) ≡ true → command_named (option_map (λ s. rows_at s words) (find f subs)) ≢ Err Words
+known f words [] all = λ some. cc
+known f words (s ∷ rest) all = go (f s) (known f words rest all.1)
+  where
+    go : (b : Bool)
+        → (is_some (option_map (λ s. rows_at s words) (find f rest)) ≡ true → command_named (option_map (λ s. rows_at s words) (find f rest)) ≢ Err Words)
+        → is_some (option_map (λ s. rows_at s words) (cond b (Some s) (find f rest))) ≡ true
+        → command_named (option_map (λ s. rows_at s words) (cond b (Some s) (find f rest))) ≢ Err Words
+    go true below some = all.0 (rows_at s words).1
+    go false below some = below some
+
+entered_known : (stop : Option (Text × List Text)) → is_some (entered (built application) stop) ≡ true → command_named (entered (built application) stop) ≢ Err Words
+entered_known None some = cc
+entered_known (Some p) some = known _ p.1 (built application).subs all_known some
+
+-- a level of a parse where a subcommand is required, and no fault is found
+level_has : (s : Shape) (names : Names) (h : Held) (words : List Text) (has : Bool) (below : Kinds) → s.arg_required_else_help ≡ false → s.subcommand_required ≡ true
+    → level_fault s names h words has below ≡ [] → has ≡ true
+level_has s names h words has below help required none =
+    let end = (walk s.rules names h words).held in
+    let behind_walk = later (walk_fault s names (walk_from h) words) _ none in
+    let behind_below = later below _ behind_walk in
+    let behind_settling = later (settle_fault s.rules s.args_override_self end) _ behind_below in
+    let checked = later (defaults_fault (settled s.rules end).rows s.rules) _ behind_settling in
+    has_subcommand s (finished s.rules end) has help required checked
+
+-- where `clap` finds no fault, the words name a command, but for its number of workers
+pub named_or_workers : (words : List Text) → fault_of application words ≡ [] → command_named (subcommand_of application words) ≢ Err Words
+unfolding application
+named_or_workers words none =
+    let whole = built application in
+    let rest = argument_words application words in
+    let stop = (walk whole.top.rules (names_of whole) nothing_held rest).stopped in
+    entered_known stop
+    (level_has whole.top (names_of whole) nothing_held rest (is_some (entered whole stop)) (entered_fault whole stop) refl refl none)
+
+-- ---- a parse of the words
+
+pub subcommand_is : (a : App) (words : List Text) (m : ArgMatches) → a ≡ application → HasMatchesOf a words m → subcommand_rows_of m ≡ subcommand_of application words
+subcommand_is a words m is matches = (subst (λ (x : App). HasMatchesOf x words m) is matches simple).1
+
+-- an outcome of a parse of the words by the command line
+abbrev pub Parses : App → List Text → Result ArgMatches Error → Type 0
+Parses a words r = is_simple_and_free a ≡ true → FailsBy (fault_of a words) r
+
+pub taken : (a : App) (words : List Text) (m : ArgMatches) → a ≡ application → Parses a words (Ok m) → fault_of application words ≡ []
+taken a words m is parses = subst (λ (x : App). Parses x words (Ok m)) is parses simple_and_free
+
+no_kind : (kinds : Kinds) (e : Error) → HasKind kinds e → kind_of e ≢ OutOfMemory → kinds ≢ []
+no_kind [] e (inl memory) other none = other memory
+no_kind [] e (inr among) other none = absurd among
+no_kind (k ∷ ks) e has other none = cc
+
+pub refused : (a : App) (words : List Text) (e : Error) → a ≡ application → Parses a words (Err e) → kind_of e ≢ OutOfMemory → fault_of application words ≢ []
+refused a words e is parses = no_kind (fault_of application words) e (subst (λ (x : App). Parses x words (Err e)) is parses simple_and_free)
+
+-- the answer where `clap` refuses the words
+pub refused_words : (a : App) (words : List Text) (e : Error) → a ≡ application → Parses a words (Err e) → of_kind (kind_of e) ≡ Words
+    → fault_of application words ≢ []
+refused_words a words e is parses answer = refused a words e is parses (λ memory. let bad = rw memory at answer in cc)
+
+-- and where it takes them
+pub record Answers (given : List Text) (r : Result Command UsageError) : Type 0 where
+  pub named : IfOk r (λ command. (fault_of application given ≡ []) × (command_named (subcommand_of application given) ≡ Ok command))
+  pub words : r ≡ Err Words → fault_of application given ≢ []
+  pub workers : r ≡ Err Workers → (fault_of application given ≡ []) × (command_named (subcommand_of application given) ≡ Err Workers)
+
+if_named : {P : Type 0} (x r : Result Command UsageError) → r ≡ x → P → IfOk r (λ command. P × (x ≡ Ok command))
+if_named x (Ok command) is p = (p, sym is)
+if_named x (Err error) is p = tt
+
+pub answers : (a : App) (words : List Text) (m : ArgMatches) (r : Result Command UsageError) → a ≡ application → Parses a words (Ok m)
+    → HasMatchesOf a words m → r ≡ command_named (subcommand_rows_of m) → Answers words r
+answers a words m r is parses matches answer =
+    let free = taken a words m is parses in
+    let same : r ≡ command_named (subcommand_of application words) = answer ∙ ap command_named (subcommand_is a words m is matches) in
+    record {
+      named = if_named _ r same free;
+      words = λ bad _. named_or_workers words free (sym same ∙ bad);
+      workers = λ bad. (free, sym same ∙ bad);
+    }
+
+pub same_error : (e f : UsageError) → ◌≡◌ {A = Result Command UsageError} (Err e) (Err f) → e ≡ f
+same_error e f is = ap (λ (r : Result Command UsageError). unwrap_or (result_err r) e) is
+
+-- ---- the texts of `--help` and `--version`
+
+pub taken_shows : (a : App) (words : List Text) (m : ArgMatches) → a ≡ application → Parses a words (Ok m) → Shows (fault_of application words) false
+taken_shows a words m is parses = subst (λ (kinds : Kinds). Shows kinds false) (sym (taken a words m is parses)) refl
+
+among_shows : (k : ErrorKind) (kinds : Kinds) → IsAmong k kinds → Shows kinds (is_request k)
+among_shows k [] among = absurd among
+among_shows k (x ∷ []) (inl is) = ap is_request is
+among_shows k (x ∷ []) (inr among) = absurd among
+among_shows k (x ∷ y ∷ rest) (inl is) = inl (ap is_request is)
+among_shows k (x ∷ y ∷ rest) (inr among) = inr (among_shows k (y ∷ rest) among)
+
+no_ok : {X F : Type 0} (P : X → Type 0) (r : Result X F) → IsErr r → IfOk r P
+no_ok P (Ok x) is = cc
+no_ok P (Err f) is = tt
+
+pub error_shows : {X F : Type 0} (a : App) (words : List Text) (e : Error) (r : Result (Option X) F) → a ≡ application → Parses a words (Err e)
+    → IfOk r (λ text. is_some text ≡ is_request (kind_of e)) → (kind_of e ≡ OutOfMemory → IsErr r)
+    → IfOk r (λ text. Shows (fault_of application words) (is_some text))
+error_shows {X} {F} a words e r is parses told memory = go (subst (λ (x : App). Parses x words (Err e)) is parses simple_and_free)
+  where
+    go : HasKind (fault_of application words) e → IfOk r (λ text. Shows (fault_of application words) (is_some text))
+    go (inl none) = no_ok _ r (memory none)
+    go (inr among) =
+        IfOk-weaker r _ _ (λ text same. subst (Shows (fault_of application words)) (sym same) (among_shows (kind_of e) (fault_of application words) among)) told

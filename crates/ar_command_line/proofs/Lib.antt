@@ -1,0 +1,5 @@
+pub mod Bounds
+pub mod Building
+pub mod Facts
+pub mod Faults
+pub mod Parsing

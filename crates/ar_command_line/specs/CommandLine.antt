@@ -1,0 +1,107 @@
+-- The command line, and what its words ask for.
+use Rattle.std.specs.Prelude.{◌≡◌, ◌⊎◌, ℕ, Bool, true, false, List, [], ◌∷◌, fold, map, codes, Option, Some, None, if◌then◌else◌}
+use Rattle.std.specs.Prelude.{Result, Ok, Err}
+use Rattle.std.specs.Prelude.{String, string_bytes}
+use Rattle.std.specs.declared.alloc.Global.{Global}
+use Rattle.std.specs.Option.{option_map_or}
+use Rattle.std.specs.Str.{bytes_eq}
+use Rattle.std.specs.Str.Parse.{digits_value, without_leading_plus}
+use Rattle.clap.specs.Words.{App, Kinds, Row, Rule, Text, first_of, new_app, new_rule, one_of, with_rule, with_subcommand}
+use Rattle.clap.specs.Simple.{new_shape}
+use Rattle.clap.specs.ValueTests.{is_unsigned_in}
+use Rattle.clap.specs.declared.builder.action.ArgAction.TheVariants.{SetTrue}
+use Rattle.clap.specs.declared.error.kind.ErrorKind.{ErrorKind}
+use Rattle.clap.specs.declared.error.kind.ErrorKind.TheVariants as kind
+use Rattle.ar_command_line.specs.declared.command_line.Command.{Command}
+use Rattle.ar_command_line.specs.declared.command_line.Command.TheVariants.{Eval, Check, List as ListCodes, Run, Plain}
+use Rattle.ar_command_line.specs.declared.command_line.UsageError.{UsageError}
+use Rattle.ar_command_line.specs.declared.command_line.UsageError.TheVariants.{Words, Workers, OutOfMemory}
+
+-- ---- the command line, as `clap`'s specifications see it
+
+-- `--workers N`
+abbrev pub workers_option : Rule
+workers_option = record (new_rule (codes "workers")) { long = Some (codes "workers"); value_names = 1 }
+
+-- `--plain`
+abbrev pub plain_flag : Rule
+plain_flag = record (new_rule (codes "plain")) { long = Some (codes "plain"); action = Some SetTrue }
+
+abbrev pub run_app : App
+run_app = with_rule (with_rule (new_app (codes "run")) workers_option) plain_flag
+
+-- the program's own name and settings: a subcommand has to be named, and `help` is none
+abbrev pub program : App
+program = record (new_app (codes "argo_judge")) {
+  top = record (new_shape (codes "argo_judge")) {
+    has_version = true;
+    disable_help_subcommand = true;
+    subcommand_required = true;
+  };
+}
+
+unfoldable pub application : App
+application =
+    fold with_subcommand program
+    (new_shape (codes "eval") ∷ new_shape (codes "check") ∷ new_shape (codes "list") ∷ run_app.top ∷ [])
+
+-- ---- what is asked for
+
+abbrev pub most_workers : ℕ
+most_workers = 16
+
+abbrev pub default_workers : ℕ
+default_workers = 4
+
+-- the number of workers that a text names: the number that `usize` reads from it, where that is from 1 to 16
+abbrev pub number_of_workers : Text → Option ℕ
+number_of_workers text =
+    if is_unsigned_in 1 most_workers text then Some (digits_value 10 (without_leading_plus text)) else None
+
+-- the number that `run` was given, or else 4
+abbrev pub workers_of : List Row → Option ℕ
+workers_of rows = option_map_or number_of_workers (first_of (codes "workers") rows) (Some default_workers)
+
+-- `run` was given `--plain`
+abbrev pub is_plain : List Row → Bool
+is_plain rows = option_map_or (λ text. bytes_eq text (codes "true")) (one_of (codes "plain") rows) false
+
+-- `run` in one thread has no use for a number of workers, but a bad one is refused all the same
+abbrev pub run_named : List Row → Result Command UsageError
+run_named rows =
+    option_map_or (λ n. Ok (if is_plain rows then Plain else Run n)) (workers_of rows) (Err Workers)
+
+abbrev pub named : Text → List Row → Result Command UsageError
+named name rows =
+    if bytes_eq name (codes "eval") then Ok Eval
+    else (if bytes_eq name (codes "check") then Ok Check
+    else (if bytes_eq name (codes "list") then Ok ListCodes
+    else (if bytes_eq name (codes "run") then run_named rows else Err Words)))
+
+-- the command that a subcommand names, with its matches
+abbrev pub command_named : Option (Text × List Row) → Result Command UsageError
+command_named None = Err Words
+command_named (Some subcommand) = named subcommand.0 subcommand.1
+
+-- the words as texts
+abbrev pub texts_of : List (String Global) → List Text
+texts_of = map string_bytes
+
+-- an error of `clap`, as it is answered: want of memory, or else that it refuses the words
+abbrev pub of_kind : ErrorKind → UsageError
+of_kind kind.OutOfMemory = OutOfMemory
+of_kind _ = Words
+
+-- ---- the texts of `--help` and `--version`
+
+-- an error of this kind stands for such a text
+abbrev pub is_request : ErrorKind → Bool
+is_request kind.DisplayHelp = true
+is_request kind.DisplayVersion = true
+is_request _ = false
+
+-- whether a text is shown, by the kind of fault that `clap` finds, or by one of those that it may find
+abbrev pub Shows : Kinds → Bool → Type 0
+Shows [] shows = shows ≡ false
+Shows (kind ∷ []) shows = shows ≡ is_request kind
+Shows (kind ∷ other ∷ kinds) shows = (shows ≡ is_request kind) ⊎ Shows (other ∷ kinds) shows

@@ -1,0 +1,263 @@
+//! The command line, read with `clap`.
+
+ghost use Rattle.std.specs.Prelude.{◌≡◌, ◌≢◌, ◌≤◌, ℕ, [], is_some, Err, IfOk, IsErr, Ok};
+ghost use Rattle.clap.specs.Words.{app_of, fault_of, found_of, kind_of, new_app, rows_of, subcommand_of, subcommand_rows_of};
+ghost use Rattle.ar_command_line.specs.CommandLine.{Shows, application, command_named, is_plain, is_request, most_workers, named, number_of_workers, program, run_app, run_named, texts_of, workers_of};
+
+use crate::help::{CHECK_HELP, EVAL_HELP, HELP, LIST_HELP, RUN_HELP};
+use clap::error::ErrorKind;
+use clap::{Arg, ArgAction, ArgMatches};
+use std::alloc::{AllocError, Global};
+use thiserror::Error;
+
+/// The greatest number of workers that may be asked for.
+pub const MOST_WORKERS: usize = 16;
+
+/// How many workers judge where the words name no number.
+pub const DEFAULT_WORKERS: usize = 4;
+
+/// What the program can be asked to do.
+#[derive(Clone, Copy, Debug, PartialEq, Eq)]
+pub enum Command {
+    /// Judge one condition on one value.
+    Eval,
+    /// Tell the bounds of each condition of a bundle.
+    Check,
+    /// List the code of each condition of a bundle.
+    List,
+    /// Run a bundle with so many workers, from 1 to 16, and report its runs.
+    Run(usize),
+    /// Run a bundle in one thread, and report its runs.
+    Plain,
+}
+
+/// Why a command line asks for nothing.
+#[derive(Clone, Copy, Debug, PartialEq, Eq, Error)]
+pub enum UsageError {
+    #[error("command line: Words: expected `eval`, `check`, `list` or `run`, with the document on standard input, or --help")]
+    Words,
+    #[error("command line, --workers: Workers: expected a whole number from 1 to 16")]
+    Workers,
+    #[error("out of memory")]
+    OutOfMemory,
+}
+
+impl From<AllocError> for UsageError {
+    ghost use Rattle.std.specs.Prelude.{◌≡◌};
+    ghost use Rattle.ar_command_line.specs.declared.command_line.UsageError.TheVariants.{OutOfMemory};
+
+    ghost from_gives = { λ _ e. e ≡ OutOfMemory };
+
+    fn from(_error: AllocError) -> UsageError {
+        UsageError::OutOfMemory
+    }
+}
+
+impl From<clap::Error> for UsageError {
+    ghost use Rattle.std.specs.Prelude.{◌≡◌};
+    ghost use Rattle.clap.specs.Words.{kind_of};
+    ghost use Rattle.ar_command_line.specs.CommandLine.{of_kind};
+
+    ghost from_gives = { λ error e. e ≡ of_kind (kind_of error) };
+
+    fn from(error: clap::Error) -> UsageError {
+        match error.kind() {
+            ErrorKind::OutOfMemory => UsageError::OutOfMemory,
+            _ => UsageError::Words,
+        }
+    }
+}
+
+/// What the words of a command line ask for, of which the first is the program's name.
+///
+/// # Errors
+///
+/// `Words` where they are no command line of the program's, or ask for a text by `--help` or
+/// `--version`; then `Workers` where `--workers` names no number from 1 to 16; `OutOfMemory` for
+/// want of memory.
+pub fn command_of(alloc: Global, words: Vec<String>) -> Result<Command, UsageError>
+    // The command is the one that the words name, and `clap` finds no fault in them.
+    ensures named { IfOk result (λ command. (fault_of application (texts_of words.items) ≡ [])
+        × (command_named (subcommand_of application (texts_of words.items)) ≡ Ok command)) }
+
+    ensures bounds { (n : ℕ) → result ≡ Ok (Command.Run n) → (1 ≤ n) × (n ≤ most_workers) }
+
+    // Words are refused only where `clap` finds a fault.
+    ensures words { result ≡ Err UsageError.Words → fault_of application (texts_of words.items) ≢ [] }
+
+    // A number of workers is refused only where the words are good but for that.
+    ensures workers { result ≡ Err UsageError.Workers → (fault_of application (texts_of words.items) ≡ [])
+        × (command_named (subcommand_of application (texts_of words.items)) ≡ Err UsageError.Workers) }
+{
+    let command_line = application(alloc)?;
+    let matches = command_line.try_get_matches_from(words.as_slice())?;
+    command_named(&matches)
+}
+
+/// The text of `--help` or `--version`, where the words of a command line ask for one.
+///
+/// # Errors
+///
+/// Want of memory.
+pub fn shown(alloc: Global, words: &[String]) -> Result<Option<String>, AllocError>
+    // `clap` tells of such a request as of a fault, by its kind.
+    ensures { IfOk result (λ text. Shows (fault_of application (texts_of words.now)) (is_some text)) }
+{
+    match application(alloc)?.try_get_matches_from(words) {
+        Ok(_) => Ok(None),
+        Err(error) => text_of(alloc, &error),
+    }
+}
+
+/// The text that an error of `clap` stands for, where it is a request for one.
+fn text_of(alloc: Global, error: &clap::Error) -> Result<Option<String>, AllocError>
+    ensures kind { IfOk result (λ text. is_some text ≡ is_request (kind_of error.now)) }
+    ensures memory { kind_of error.now ≡ ErrorKind.OutOfMemory → IsErr result }
+{
+    match error.kind() {
+        ErrorKind::DisplayHelp | ErrorKind::DisplayVersion => {
+            Ok(Some(format!(in alloc; "{error}")?))
+        }
+        ErrorKind::OutOfMemory => Err(AllocError),
+        _ => Ok(None),
+    }
+}
+
+/// The command that the parsed words name.
+fn command_named(matches: &ArgMatches<'_>) -> Result<Command, UsageError>
+    ensures { result ≡ command_named (subcommand_rows_of matches.now) }
+{
+    match matches.subcommand() {
+        Some((name, matches)) => named(name, matches),
+        None => Err(UsageError::Words),
+    }
+}
+
+/// The command that a subcommand with these arguments names.
+fn named(name: &str, matches: &ArgMatches<'_>) -> Result<Command, UsageError>
+    ensures { result ≡ named name.now (rows_of (found_of matches.now)) }
+{
+    match name {
+        "eval" => Ok(Command::Eval),
+        "check" => Ok(Command::Check),
+        "list" => Ok(Command::List),
+        "run" => run_named(matches),
+        _ => Err(UsageError::Words),
+    }
+}
+
+/// The command that `run` with these arguments asks for. A run in one thread has no use for a
+/// number of workers, which is looked at all the same.
+fn run_named(matches: &ArgMatches<'_>) -> Result<Command, UsageError>
+    ensures { result ≡ run_named (rows_of (found_of matches.now)) }
+{
+    let workers = workers_of(matches).ok_or(UsageError::Workers)?;
+    if is_plain(matches) {
+        Ok(Command::Plain)
+    } else {
+        Ok(Command::Run(workers))
+    }
+}
+
+/// The number of workers that `run` is given, and `DEFAULT_WORKERS` where it is given none.
+#[tactic(auto, using(crate::proofs::Parsing::first_text))]
+fn workers_of(matches: &ArgMatches<'_>) -> Option<usize>
+    ensures { result ≡ workers_of (rows_of (found_of matches.now)) }
+{
+    match matches.get_str("workers") {
+        Some(text) => number_of_workers(text),
+        None => Some(DEFAULT_WORKERS),
+    }
+}
+
+/// The number of workers that a text names.
+#[tactic(auto, using(crate::proofs::Parsing::too_few, crate::proofs::Parsing::too_many))]
+fn number_of_workers(text: &str) -> Option<usize>
+    ensures { result ≡ number_of_workers text.now }
+{
+    let Ok(number) = text.parse::<usize>() else {
+        return None;
+    };
+    if 1 <= number && number <= MOST_WORKERS {
+        Some(number)
+    } else {
+        None
+    }
+}
+
+/// Whether `run` is given `--plain`.
+#[tactic(auto, using(crate::proofs::Parsing::plain_read))]
+fn is_plain(matches: &ArgMatches<'_>) -> bool
+    ensures { result ≡ is_plain (rows_of (found_of matches.now)) }
+{
+    // As `get_flag`, whose contract leaves open what a text other than `true` and `false` gives.
+    matches.get_one("plain").unwrap_or(false)
+}
+
+/// The command line, as `clap` reads it.
+fn application<'a>(alloc: Global) -> Result<clap::Command<'a>, AllocError>
+    ensures { IfOk result (λ command. app_of command ≡ application) }
+{
+    program(alloc)
+        .subcommand(subcommand(alloc, "eval", "Judge one condition on one value", EVAL_HELP))?
+        .subcommand(subcommand(
+            alloc,
+            "check",
+            "Check a document, and tell what its conditions cost at most",
+            CHECK_HELP,
+        ))?
+        .subcommand(subcommand(
+            alloc,
+            "list",
+            "Check a document, and list the code of its conditions",
+            LIST_HELP,
+        ))?
+        .subcommand(run(alloc)?)
+}
+
+/// The program's own part of the command line.
+fn program<'a>(alloc: Global) -> clap::Command<'a>
+    ensures { app_of result ≡ program }
+{
+    clap::Command::new(alloc, "argo_judge")
+        .version("0.1.0")
+        .about("Judges canary measurements by the conditions of Argo Rollouts' analysis")
+        .after_help(HELP)
+        .disable_help_subcommand(true)
+        .subcommand_required(true)
+}
+
+/// A subcommand with no arguments.
+fn subcommand<'a>(alloc: Global, name: &'a str, about: &'a str, help: &'a str) -> clap::Command<'a>
+    ensures { app_of result ≡ new_app name.entry.now }
+{
+    clap::Command::new(alloc, name)
+        .about(about)
+        .after_help(help)
+}
+
+/// The subcommand `run`.
+fn run<'a>(alloc: Global) -> Result<clap::Command<'a>, AllocError>
+    ensures { IfOk result (λ command. app_of command ≡ run_app) }
+{
+    let workers = Arg::new(alloc, "workers")
+        .long("workers")
+        .value_name("N")
+        .help(
+            "How many workers judge, 1 to 16, 4 unless it is given; workers are threads that judge side by side",
+        );
+    let plain = Arg::new(alloc, "plain")
+        .long("plain")
+        .action(ArgAction::SetTrue)
+        .help(
+            "Judge without workers, one measurement after another; --workers is then checked, but not used",
+        );
+    subcommand(
+        alloc,
+        "run",
+        "Judge a document's measurements, and report its runs",
+        RUN_HELP,
+    )
+    .arg(workers)?
+    .arg(plain)
+}

@@ -1,0 +1,42 @@
+-- What workers come to.
+use Rattle.std.proofs.Common.{◌≡◌, ◌<◌, ◌≤◌, ℕ, zero, suc, List, [], ◌∷◌, length, Some, refl, sym, ◌∙◌, ap, subst, arith}
+use Rattle.std.specs.Prelude.{slice_get}
+use Rattle.std.specs.List.{AllByRecursion}
+use Rattle.ar_bundle.specs.Bundle.{Bundle}
+use Rattle.ar_board.specs.Board.{AreSeated, Seat, seat_of}
+use Rattle.ar_board.specs.declared.receipt.Receipt.{Receipt}
+use Rattle.ar_queue.specs.Rule.{HasTakenAll, IsDone}
+use Rattle.ar_queue.specs.declared.queue.View.{View}
+use Rattle.ar_workers.specs.Joined.{IsCause, NameEachOnce}
+use Rattle.ar_workers.specs.Private.Gathered.{AreAllNamed, IsFeeder, told}
+use Rattle.ar_workers.specs.declared.error.Unfinished.{Unfinished}
+use Rattle.ar_workers.specs.declared.error.Unfinished.TheVariants as early
+use Rattle.ar_workers.specs.declared.error.WorkError.{WorkError}
+
+pub is_cause : (bundle : Bundle) (cause : Unfinished) (error : WorkError) → error ≡ told cause → IsCause bundle error
+is_cause bundle early.NoThread error is = subst (IsCause bundle) (sym is) tt
+is_cause bundle early.OutOfMemory error is = subst (IsCause bundle) (sym is) tt
+
+pub is_done : (view : View) (workers : ℕ) → 1 ≤ workers → IsFeeder view 0 workers → IsDone view
+is_done view workers some is =
+    let joined = is.has_joined in
+    record { feeds = is.feeds; live = is.live; out = is.has_out; ended = omega arith }
+
+pub each_once : (events : ℕ) (view : View) (receipts : List (List Receipt)) (doubles : List ℕ) → HasTakenAll events view → AreAllNamed view.taken receipts doubles → NameEachOnce events receipts doubles
+each_once events view receipts doubles all named number = sym (named number) ∙ all number
+
+fresh_from : (seats : List Seat) → ((at : ℕ) (seat : Seat) → slice_get seats at ≡ Some seat → seat.receipts ≡ []) → AllByRecursion (λ (seat : Seat). seat.receipts ≡ []) seats
+fresh_from [] each = tt
+fresh_from (seat ∷ seats) each = (each 0 seat refl, fresh_from seats (λ at seat there. each (suc at) seat there))
+
+inside : (seats : List Seat) (at : ℕ) (seat : Seat) → slice_get seats at ≡ Some seat → at < length seats
+inside [] at seat there = absurd cc
+inside (first ∷ seats) zero seat there = omega arith
+inside (first ∷ seats) (suc at) seat there = let less = inside seats at seat there in omega arith
+
+pub all_fresh : (workers : ℕ) (seats : List Seat) → AreSeated workers seats → AllByRecursion (λ (seat : Seat). seat.receipts ≡ []) seats
+all_fresh workers seats are = fresh_from seats (λ at seat there.
+    let less = inside seats at seat there in
+    let many = are.as_many in
+    let is : Some seat ≡ Some (seat_of at []) = sym there ∙ are.each at (omega arith) in
+    (let same : seat ≡ seat_of at [] = cc in ap (λ (seat : Seat). seat.receipts) same))

@@ -1,0 +1,84 @@
+-- The feeder's pass, while items are put, passes split off and joined.
+use Rattle.std.proofs.Common.{◌≡◌, ◌<◌, ℕ, suc, ◌+◌, List, [], ◌∷◌, ◌++◌, length, map, refl, sym, ◌∙◌, ap, subst, arith}
+use Rattle.std.proofs.lemmas.List.{map_push}
+use Rattle.ar_bundle.specs.Lawful.{times_in}
+use Rattle.ar_board.specs.Board.{Seat, receipts_of}
+use Rattle.ar_board.specs.declared.receipt.Receipt.{Receipt}
+use Rattle.ar_queue.specs.Rule.{CanPut, after_put, joined, split_off}
+use Rattle.ar_queue.specs.declared.queue.Item.TheVariants.{Number, End}
+use Rattle.ar_queue.specs.declared.queue.View.{View}
+use Rattle.ar_workers.specs.Joined.{AreNamed, at_end, feeding, named_by}
+use Rattle.ar_workers.specs.Private.Gathered.{AreAllNamed, IsFeeder}
+use Rattle.ar_queue.proofs.Steps.{times_both}
+
+-- ---- items are put
+
+pub can_number : (events number : ℕ) (view : View) → view ≡ feeding number 0 → number < events → CanPut events view (Number number)
+can_number events number view is less = subst (λ (view : View). CanPut events view (Number number)) (sym is) (refl, refl, refl, less)
+
+pub next_number : (number : ℕ) (before after : View) → before ≡ feeding number 0 → after ≡ after_put before (Number number) → after ≡ feeding (number + 1) 0
+next_number number before after is put =
+    let next : suc number ≡ number + 1 = omega arith in
+    put ∙ (ap (λ (view : View). after_put view (Number number)) is ∙ ap (λ (put : ℕ). feeding put 0) next)
+
+pub can_mark : (events marks : ℕ) (view : View) → view ≡ feeding events marks → CanPut events view End
+can_mark events marks view is = subst (λ (view : View). CanPut events view End) (sym is) (refl, refl)
+
+pub next_mark : (events marks : ℕ) (before after : View) → before ≡ feeding events marks → after ≡ after_put before End → after ≡ feeding events (marks + 1)
+next_mark events marks before after is put =
+    let next : suc marks ≡ marks + 1 = omega arith in
+    put ∙ (ap (λ (view : View). after_put view End) is ∙ ap (feeding events) next)
+
+-- ---- passes are split off and joined
+
+pub feeder_split : (before after : View) (out : ℕ) → IsFeeder before out 0 → after ≡ split_off before → IsFeeder after (suc out) 0
+feeder_split before after out is split =
+    record {
+      feeds = ap (λ (view : View). view.feeds) split ∙ is.feeds;
+      live = ap (λ (view : View). view.live) split ∙ is.live;
+      has_out = ap (λ (view : View). view.out) split ∙ ap suc is.has_out;
+      has_joined = ap (λ (view : View). view.ended) split ∙ is.has_joined;
+    }
+
+pub feeder_join : (before other after : View) (out joined_before : ℕ) → IsFeeder before (suc out) joined_before → other ≡ at_end other.taken → after ≡ joined before other → IsFeeder after out (suc joined_before)
+feeder_join before other after out joined_before is ended join =
+    let out_now = ap (λ (view : View). view.out) join in
+    let out_was = is.has_out in
+    let ended_now = ap (λ (view : View). view.ended) join in
+    let ended_was = is.has_joined in
+    let own = ap (λ (view : View). view.ended) ended in
+    record {
+      feeds = ap (λ (view : View). view.feeds) join ∙ is.feeds;
+      live = ap (λ (view : View). view.live) join ∙ is.live;
+      has_out = omega arith;
+      has_joined = omega arith;
+    }
+
+-- ---- receipts and doubles
+
+abbrev number_of : Receipt → ℕ
+number_of receipt = receipt.number
+
+named_push : (number : ℕ) (receipts : List (List Receipt)) (own : List Receipt) → times_in number (named_by (receipts ++ own ∷ [])) ≡ times_in number (named_by receipts) + times_in number (map number_of own)
+named_push number [] own = let all = times_both number (map number_of own) [] in omega arith
+named_push number (first ∷ receipts) own =
+    let rest = named_push number receipts own in
+    let all = times_both number (map number_of first) (named_by (receipts ++ own ∷ [])) in
+    let before = times_both number (map number_of first) (named_by receipts) in
+    omega arith
+
+pub named_join : (before other after : View) (seats : List Seat) (seat : Seat) (doubles own_doubles : List ℕ) → AreAllNamed before.taken (receipts_of seats) doubles → AreNamed other.taken seat.receipts own_doubles → after ≡ joined before other
+    → AreAllNamed after.taken (receipts_of (seats ++ seat ∷ [])) (doubles ++ own_doubles)
+named_join before other after seats seat doubles own_doubles all own join number =
+    let taken = ap (λ (view : View). times_in number view.taken) join in
+    let both = times_both number before.taken other.taken in
+    let was = all number in
+    let its = own number in
+    let lists = ap (λ (receipts : List (List Receipt)). times_in number (named_by receipts)) (map_push (λ (seat : Seat). seat.receipts) seats seat) in
+    let pushed = named_push number (receipts_of seats) seat.receipts in
+    let double = times_both number doubles own_doubles in
+    omega arith
+
+pub nothing_left : {A : Type 0} (xs : List A) → length xs ≡ 0 → xs ≡ []
+nothing_left [] none = refl
+nothing_left (x ∷ xs) none = absurd (omega arith)

@@ -1,0 +1,8 @@
+use Rattle.std.proofs.Common.{◌≡◌, length}
+use Rattle.crossbeam_queue.specs.Passes.{IsPassOf, view}
+use Rattle.ar_workers.specs.Joined.{feeding}
+use Rattle.ar_workers.proofs.feed.put_marks.Given as goal
+
+-- so many marks were put
+abbrev pub invariant-loop-mark : goal.invariant-loop-mark
+invariant-loop-mark g l = IsPassOf l.queue l.pass × (view l.pass ≡ feeding (length g.M.BundleName.bundle.entries) l._mark)

@@ -1,0 +1,19 @@
+use Rattle.std.proofs.Common.{◌≡◌, ◌≤◌, [], ◌++◌, length}
+use Rattle.std.specs.List.{AllByRecursion}
+use Rattle.std.specs.Vec.{vec_capacity}
+use Rattle.std.specs.Vec.Iter.{into_iter_items, into_iter_len}
+use Rattle.crossbeam_queue.specs.Passes.{IsPassOf, view}
+use Rattle.ar_workers.specs.Private.Gathered.{IsFeeder}
+use Rattle.ar_workers.proofs.side_by_side.start_all.Given as goal
+
+-- a worker was started for each seat so far
+abbrev pub invariant-loop-seat : goal.invariant-loop-seat
+invariant-loop-seat g l =
+    (l.yielded ++ into_iter_items l.seat-iterator ≡ into_iter_items l.initial.seat-iterator)
+    × (into_iter_len l.seat-iterator ≡ length (into_iter_items l.seat-iterator))
+    × AllByRecursion (λ seat. seat.receipts ≡ []) (into_iter_items l.seat-iterator)
+    × (length l.handles.items ≡ length l.yielded)
+    × (length (into_iter_items l.initial.seat-iterator) ≤ vec_capacity l.handles)
+    × IsPassOf l.queue l.pass
+    × IsFeeder (view l.pass) (length l.yielded) 0
+    × ((view l.pass).taken ≡ [])

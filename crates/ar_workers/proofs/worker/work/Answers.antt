@@ -1,0 +1,14 @@
+use Rattle.std.proofs.Common.{rules, List, ℕ, sym, subst}
+use Rattle.crossbeam_queue.specs.Passes.{view}
+use Rattle.ar_workers.specs.Joined.{AreNamed}
+use Rattle.ar_workers.proofs.Named.{taken_next, view_next}
+use Rattle.ar_workers.proofs.worker.work.Goals as goal
+
+pub loop-preserved : goal.loop-preserved
+loop-preserved g c =
+    let next = view_next (view c.loop.pass) (view c.take.new.pass) c.in-Number.number c.loop.invariant.1 c.in-Number.ensures.taken in (
+      search rules,
+      next.0,
+      subst (λ (taken : List ℕ). AreNamed taken c.settle.new.seat.receipts c.settle.new.doubles.items) (sym next.1)
+          (taken_next c.in-Number.number (view c.loop.pass).taken c.loop.doubles.items c.settle.new.doubles.items c.loop.seat.receipts c.settle.new.seat.receipts c.loop.invariant.2 c.in-Ok.ensures.named),
+    )

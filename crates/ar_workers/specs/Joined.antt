@@ -1,0 +1,67 @@
+-- What workers bring back: the pass of the queue, and receipts and doubles, which name just the numbers that the pass took.
+use Rattle.std.specs.Prelude.{◌≡◌, ◌<◌, ◌+◌, ◌++◌, ℕ, List, [], ◌∷◌, length, map}
+use Rattle.ar_bundle.specs.Bundle.{Bundle}
+use Rattle.ar_bundle.specs.Lawful.{AreHistoriesSoFar, times_in}
+use Rattle.ar_board.specs.Receipts.{Hold}
+use Rattle.ar_board.specs.declared.lost.Lost.{Lost as Losing}
+use Rattle.ar_board.specs.declared.receipt.Receipt.{Receipt}
+use Rattle.atomic_table.specs.Seated.{TableId}
+use Rattle.ar_queue.specs.Rule.{once_below}
+use Rattle.ar_workers.specs.declared.error.WorkError.{WorkError}
+use Rattle.ar_workers.specs.declared.error.WorkError.TheVariants.{Lost, NoThread, OutOfMemory}
+use Rattle.ar_queue.specs.declared.queue.View.{View}
+
+-- a worker's pass that has taken some numbers, before it has met an end mark and behind that
+abbrev pub working : (taken : List ℕ) → View
+working taken = record { feeds = 0; live = 1; put = 0; marks = 0; out = 0; ended = 0; taken = taken }
+
+abbrev pub at_end : (taken : List ℕ) → View
+at_end taken = record { feeds = 0; live = 1; put = 0; marks = 0; out = 0; ended = 1; taken = taken }
+
+-- how often receipts and doubles name a number
+abbrev pub times_named : (number : ℕ) → List Receipt → (doubles : List ℕ) → ℕ
+times_named number receipts doubles = times_in number (map (λ receipt. receipt.number) receipts) + times_in number doubles
+
+-- one number more is named, once more
+abbrev pub IsNamed : (number : ℕ) → (before : List Receipt) → (doubles_before : List ℕ) → (after : List Receipt) → (doubles_after : List ℕ) → Type 0
+IsNamed number before doubles_before after doubles_after =
+    (other : ℕ) → times_named other after doubles_after ≡ times_named other before doubles_before + times_in other (number ∷ [])
+
+-- just the numbers that were taken are named, each as often
+abbrev pub AreNamed : (taken : List ℕ) → List Receipt → (doubles : List ℕ) → Type 0
+AreNamed taken receipts doubles = (number : ℕ) → times_in number taken ≡ times_named number receipts doubles
+
+-- ---- the feeder
+
+-- the feeder's pass that has put so many numbers and end marks, and split nothing
+abbrev pub feeding : (put marks : ℕ) → View
+feeding put marks = record { feeds = 1; live = 1; put = put; marks = marks; out = 0; ended = 0; taken = [] }
+
+-- ---- all workers
+
+-- the numbers that receipts of all seats name
+abbrev pub named_by : List (List Receipt) → List ℕ
+named_by [] = []
+named_by (own ∷ receipts) = map (λ receipt. receipt.number) own ++ named_by receipts
+
+-- the receipts of all seats and the doubles together name each number of the bundle exactly once, and no other
+abbrev pub NameEachOnce : (events : ℕ) → List (List Receipt) → (doubles : List ℕ) → Type 0
+NameEachOnce events receipts doubles = (number : ℕ) → times_in number (named_by receipts) + times_in number doubles ≡ once_below number events
+
+-- what shows that a number was lost: each number was posted once, and the one that is told is a double, or has a receipt that
+-- isn't met
+pub record IsShown (bundle : Bundle) (lost : Losing) (doubles : List ℕ) : Type 0 where
+  pub each_once : NameEachOnce (length bundle.entries) (map (λ own. own.items) lost.receipts.items) doubles
+  pub so_far : AreHistoriesSoFar bundle lost.histories
+  pub not_held : Hold lost.histories (map (λ own. own.items) lost.receipts.items) lost.number → ⊥
+  pub there : lost.number < length bundle.entries
+
+-- why workers give no histories: no cause is claimed where a thread couldn't be started or memory was wanting
+abbrev pub IsCause : Bundle → WorkError → Type 0
+IsCause bundle NoThread = Unit {0}
+IsCause bundle OutOfMemory = Unit {0}
+IsCause bundle (Lost lost doubles) = IsShown bundle lost doubles.items
+
+-- no queue, where a name stands for none
+abbrev pub no_queue : TableId
+no_queue = record { words = 0; slots = 0; views_name = 0; atom = 0; block = 0; offset = 0; slot_names = [] }

@@ -1,0 +1,59 @@
+//! Why workers give no histories.
+
+ghost use Rattle.ar_workers.specs.declared.error.WorkError.TheVariants.{OutOfMemory};
+ghost use Rattle.std.specs.Prelude.{◌≡◌};
+
+use ar_board::Lost;
+use std::alloc::AllocError;
+use thiserror::Error;
+
+/// Why workers give no histories. Of several causes that stand, the first of these is told.
+#[derive(Debug, Drop, Error)]
+pub enum WorkError {
+    /// A thread couldn't be started; those that were have ended.
+    #[error("run: NoThread: a thread for a worker couldn't be started")]
+    NoThread,
+    #[error("out of memory")]
+    OutOfMemory,
+    /// A number was lost: what closing the board gave, and the numbers whose post was a double.
+    #[error("run, measurement {number}: Lost: its entry isn't in the histories", number = .lost.number)]
+    Lost { lost: Lost, doubles: Vec<u64> },
+}
+
+/// Why workers ended early.
+#[derive(Debug, Drop)]
+pub(crate) enum Unfinished {
+    NoThread,
+    OutOfMemory,
+}
+
+impl From<AllocError> for Unfinished {
+    ghost use Rattle.ar_workers.specs.declared.error.Unfinished.TheVariants as early;
+
+    ghost from_gives = { λ _ cause. cause ≡ early.OutOfMemory };
+
+    fn from(_error: AllocError) -> Unfinished {
+        Unfinished::OutOfMemory
+    }
+}
+
+impl From<Unfinished> for WorkError {
+    ghost use Rattle.ar_workers.specs.Private.Gathered.{told};
+
+    ghost from_gives = { λ cause error. error ≡ told cause };
+
+    fn from(cause: Unfinished) -> WorkError {
+        match cause {
+            Unfinished::NoThread => WorkError::NoThread,
+            Unfinished::OutOfMemory => WorkError::OutOfMemory,
+        }
+    }
+}
+
+impl From<AllocError> for WorkError {
+    ghost from_gives = { λ _ error. error ≡ OutOfMemory };
+
+    fn from(_error: AllocError) -> WorkError {
+        WorkError::OutOfMemory
+    }
+}

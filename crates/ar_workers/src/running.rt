@@ -1,0 +1,163 @@
+//! The runs of a bundle, judged by several workers.
+
+ghost use Rattle.std.specs.Prelude.{◌≡◌, ◌≤◌, [], IfErr, IfOk, length};
+ghost use Rattle.std.specs.List.{AllByRecursion};
+ghost use Rattle.crossbeam_queue.specs.Passes.{IsPassOf, view};
+ghost use Rattle.ar_board.specs.Board.{receipts_of};
+ghost use Rattle.ar_bundle.specs.Bundle.{IsBundle};
+ghost use Rattle.ar_bundle.specs.Lawful.{AreLawful};
+ghost use Rattle.ar_workers.specs.Joined.{IsCause};
+ghost use Rattle.ar_workers.specs.Private.Gathered.{AreAllNamed, IsFeeder};
+
+use crate::error::{Unfinished, WorkError};
+use crate::feed::{put_marks, put_numbers};
+use crate::gate::Gate;
+use crate::side_by_side::{Gathered, in_scope};
+use crate::worker::QueueName;
+use ar_board::{Board, BundleName, LockName, MOST_WORKERS, Seat};
+use ar_bundle::{Bundle, Histories};
+use ar_queue::{Item, Queue, View, learn, open};
+use crossbeam_queue::Pass;
+use std::alloc::Global;
+use std::marker::Brand;
+use std::sync::Wait;
+use std::sync::ledger::Blank;
+use std::thread;
+use std::thread::Threads;
+
+/// The histories of a bundle's runs, by so many workers, each in a thread of its own: they take the
+/// bundle's numbers from one queue, judge them, and post them to one board.
+///
+/// # Errors
+///
+/// Where a thread couldn't be started, where memory was wanting, or where a number was lost, in this
+/// order.
+pub fn run_all<G: Gate, R: Threads + Wait + Sync>(
+    rt: &R,
+    alloc: Global,
+    bundle: &Bundle,
+    workers: usize,
+    gate: &G,
+) -> Result<Histories, WorkError>
+    requires most { (1 ≤ workers) × (workers ≤ MOST_WORKERS) }
+    ensures lawful { IfOk result (AreLawful bundle.now) }
+    ensures cause { IfErr result (IsCause bundle.now) }
+{
+    let blank = Blank::new(workers as u64);
+    run_named::<Brand, Brand, G, R>(rt, alloc, bundle, workers, blank, gate)
+}
+
+/// The same, by the names of the bundle and of the board's lock.
+#[tactic(auto, using(crate::proofs::Ending::all_fresh))]
+fn run_named<M, L, G, R>(
+    rt: &R,
+    alloc: Global,
+    bundle: &Bundle,
+    workers: usize,
+    blank: Blank,
+    gate: &G,
+) -> Result<Histories, WorkError>
+where
+    M: BundleName + Send + Sync,
+    L: LockName + Send + Sync,
+    G: Gate,
+    R: Threads + Wait + Sync,
+    requires bundle { bundle.now ≡ M.bundle }
+    requires workers { workers ≡ M.workers }
+    requires most { (1 ≤ workers) × (workers ≤ MOST_WORKERS) }
+    requires lock { L.lock ≡ 0 }
+    requires name { blank.name ≡ L.name }
+    requires blank { blank.parts ≡ L.parts }
+    requires parts { L.parts ≡ M.workers }
+    ensures lawful { IfOk result (AreLawful M.bundle) }
+    ensures cause { IfErr result (IsCause M.bundle) }
+{
+    let (board, seats) = Board::<M, L>::new(alloc, blank, bundle, workers)?;
+    let events = bundle.events();
+    let (queue, mut pass) = open::<M>(alloc, events as usize + workers)?;
+    put_numbers(rt, &queue, &mut pass, events);
+    put_marks(rt, &queue, &mut pass, workers);
+    run_with::<M, L, Brand, G, R>(rt, alloc, bundle, board, seats, queue, pass, gate)
+}
+
+/// The same, by the name of the queue, too, which has been fed.
+#[tactic(auto, using(crate::proofs::Ending::is_cause, crate::proofs::Ending::is_done, crate::proofs::Ending::each_once))]
+fn run_with<M, L, T, G, R>(
+    rt: &R,
+    alloc: Global,
+    bundle: &Bundle,
+    board: Board<'_, M, L>,
+    seats: Vec<Seat<M, L>>,
+    queue: Queue<M>,
+    pass: Pass<Item, View>,
+    gate: &G,
+) -> Result<Histories, WorkError>
+where
+    M: BundleName + Send + Sync,
+    L: LockName + Send + Sync,
+    T: QueueName + Send,
+    G: Gate,
+    R: Threads + Wait + Sync,
+    requires bundle { bundle.now ≡ M.bundle }
+    requires parts { L.parts ≡ M.workers }
+    requires queue { queue.table.shared.table_id ≡ T.table }
+    requires pass { IsPassOf queue pass }
+    requires fed { IsFeeder (view pass) 0 0 × ((view pass).taken ≡ []) }
+    requires seats { (length seats.items ≡ M.workers) × (1 ≤ M.workers) }
+    requires fresh { AllByRecursion (λ seat. seat.receipts ≡ []) seats.items }
+    ensures lawful { IfOk result (AreLawful M.bundle) }
+    ensures cause { IfErr result (IsCause M.bundle) }
+{
+    let Gathered {
+        mut pass,
+        seats,
+        doubles,
+    } = in_threads::<M, L, T, G, R>(rt, alloc, bundle, &board, &queue, seats, pass, gate)?;
+    learn(&queue, &mut pass);
+    match board.close(seats) {
+        Ok(histories) => Ok(histories),
+        Err(lost) => Err(WorkError::Lost { lost, doubles }),
+    }
+}
+
+/// Starts the workers, each in a thread of its own, and joins them all.
+fn in_threads<'x, 'b, M, L, T, G, R>(
+    rt: &'x R,
+    alloc: Global,
+    bundle: &'x Bundle,
+    board: &'x Board<'b, M, L>,
+    queue: &'x Queue<M>,
+    seats: Vec<Seat<M, L>>,
+    pass: Pass<Item, View>,
+    gate: &'x G,
+) -> Result<Gathered<M, L>, Unfinished>
+where
+    M: BundleName + Send + Sync,
+    L: LockName + Send + Sync,
+    T: QueueName + Send,
+    G: Gate,
+    R: Threads + Wait + Sync,
+    requires bundle { bundle.now ≡ M.bundle }
+    requires queue { queue.now.table.shared.table_id ≡ T.table }
+    requires pass { IsPassOf queue.now pass }
+    requires fed { IsFeeder (view pass) 0 0 × ((view pass).taken ≡ []) }
+    requires fresh { AllByRecursion (λ seat. seat.receipts ≡ []) seats.items }
+    ensures pass { IfOk result (λ all. IsPassOf queue.entry.now all.pass) }
+    ensures joined { IfOk result (λ all. IsFeeder (view all.pass) 0 (length seats.items)) }
+    ensures named { IfOk result (λ all.
+        AreAllNamed (view all.pass).taken (receipts_of all.seats.items) all.doubles.items) }
+    ensures seats { IfOk result (λ all. length all.seats.items ≡ length seats.items) }
+{
+    thread::scope(
+        thread::scope_env(),
+        rt,
+        move |scope| -> Result<Gathered<M, L>, Unfinished>
+            requires { (bundle.now ≡ M.bundle) × (queue.now.table.shared.table_id ≡ T.table) × IsPassOf queue.now pass
+                × IsFeeder (view pass) 0 0 × ((view pass).taken ≡ []) × AllByRecursion (λ seat. seat.receipts ≡ []) seats.items }
+            ensures { IfOk result (λ all. IsPassOf queue.entry.now all.pass
+                × IsFeeder (view all.pass) 0 (length seats.items)
+                × AreAllNamed (view all.pass).taken (receipts_of all.seats.items) all.doubles.items
+                × (length all.seats.items ≡ length seats.items)) }
+        { in_scope::<_, M, L, T, G, R>(scope, rt, alloc, bundle, board, queue, seats, pass, gate) },
+    )
+}

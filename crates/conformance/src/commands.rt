@@ -1,0 +1,35 @@
+//! Calls on command lines.
+
+use ar_cases::fault::{CaseFault, Written};
+use ar_cases::members;
+use ar_command_line::{UsageError, command_of};
+use serde_json::Value as Json;
+use std::alloc::Global;
+use std::fmt::Write;
+
+pub(crate) fn put(alloc: Global, call: &str, case: &Json, out: &mut String) -> Written {
+    match call {
+        "command_of" => put_command(alloc, case, out),
+        _ => Err(CaseFault::UnknownCall),
+    }
+}
+
+/// The command that words ask for, or why they ask for none.
+fn put_command(alloc: Global, case: &Json, out: &mut String) -> Written {
+    let words = words_of(alloc, members::list(case, "command")?)?;
+    match command_of(alloc, words) {
+        Ok(command) => write!(out, "{command:?}")?,
+        Err(UsageError::OutOfMemory) => return Err(CaseFault::OutOfMemory),
+        Err(error) => write!(out, "{error:?}")?,
+    }
+    Ok(())
+}
+
+fn words_of(alloc: Global, items: &[Json]) -> Result<Vec<String>, CaseFault> {
+    let mut words = Vec::new(alloc);
+    for item in items {
+        let word = item.as_str().ok_or(CaseFault::Member)?;
+        words.push(word.to_string(alloc)?)?;
+    }
+    Ok(words)
+}
