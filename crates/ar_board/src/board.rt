@@ -18,10 +18,13 @@ use std::alloc::{AllocError, Global};
 use std::sync::ledger::{Blank, Share};
 use std::sync::{Mutex, Wait};
 
+#[cfg(test)]
+mod tests;
+
 /// The most workers that a board has seats for.
 pub const MOST_WORKERS: usize = 16;
 
-/// The runs of a bundle, to which workers post from several threads. They are kept under a lock.
+/// The runs of a bundle, to which workers post from threads of their own. They are kept under a lock.
 #[derive(Drop)]
 pub struct Board<'b, M: BundleName, L: LockName> {
     bundle: &'b Bundle,
