@@ -1,2 +1,5 @@
 pub mod Documents
 pub mod Reporting
+pub mod OneText
+pub mod OneNumbering
+pub mod OneReport

@@ -4,3 +4,4 @@ pub mod Device
 pub mod Kept
 pub mod Input
 pub mod Serving
+pub mod Alike

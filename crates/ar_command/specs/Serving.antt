@@ -1,5 +1,5 @@
 -- What commands write for an input, for what they refuse it, and how they end.
-use Rattle.std.specs.Prelude.{◌≡◌, ◌≤◌, ℕ, Bool, true, false, List, ◌++◌, Option, codes, map, if◌then◌else◌, Result, Ok, Err}
+use Rattle.std.specs.Prelude.{◌≡◌, ◌≢◌, ◌≤◌, ℕ, Bool, true, false, List, ◌++◌, Option, codes, map, if◌then◌else◌, Result, Ok, Err}
 use Rattle.std.specs.Io.KnownBytes.{Appends}
 use Rattle.std.specs.List.{list_any}
 use Rattle.ar_value.specs.declared.fault.Fault.{Fault}
@@ -116,11 +116,12 @@ abbrev pub RunsAlone : Command → Type 0
 RunsAlone (commands.Run workers) = ⊥
 RunsAlone command = Unit {0}
 
--- why workers give no report of the bundle of an input
+-- why workers give no report of the bundle of an input; want of memory is answered as such
 pub record Breaks (input : List ℕ) (error : WorkError) : Type 0 where
   pub bundle : Bundle
   pub reads : document.ReadsInput input (Ok bundle)
   pub cause : IsCause bundle error
+  pub not_memory : error ≢ work.OutOfMemory
 
 -- and of the bytes that were taken
 pub record IsBroken (taken_before taken_after : Option (List ℕ)) (error : WorkError) : Type 0 where

@@ -120,11 +120,11 @@ fn reported_in_order(alloc: Global, input: &[u8]) -> Result<Said, ServeError>
     ensures refused { IfRefused result (Refuses commands.Plain input.now) }
 {
     let bundle = read_bundle(alloc, input)?;
-    Ok(run(alloc, &bundle)?)
+    Ok(plain_report(alloc, &bundle)?)
 }
 
 /// The report of a bundle's plain run.
-fn run(alloc: Global, bundle: &Bundle) -> Result<Said, AllocError>
+fn plain_report(alloc: Global, bundle: &Bundle) -> Result<Said, AllocError>
     ensures { IfOk result (λ said. (histories : List (List Entry)) × AllRise histories
         × IsReported bundle.now histories (string_bytes said.text) said.closing) }
 {

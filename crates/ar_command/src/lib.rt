@@ -13,12 +13,14 @@
 //! - [`device`]: readers and writers that remember whether they failed
 //! - [`kept`]: a reader that keeps what was read
 //! - [`status`]: exit statuses
+//! - [`laws`]: that an input is one bundle, and has one text
 #![tactic(auto)]
 
 mod answer;
 pub mod device;
 pub mod input;
 pub mod kept;
+pub mod laws;
 pub mod serving;
 pub mod status;
 

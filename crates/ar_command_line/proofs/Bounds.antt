@@ -8,7 +8,7 @@ use Rattle.clap.specs.Words.{Row, Text, first_of}
 use Rattle.clap.specs.ValueTests.{is_unsigned_in}
 use Rattle.clap.specs.declared.builder.value_parser.ValueParser.TheVariants as vp
 use Rattle.clap.proofs.ValueTestLemmas.{accepts-Accepts}
-use Rattle.ar_command_line.specs.CommandLine.{command_named, is_plain, named, number_of_workers, run_named, workers_of}
+use Rattle.ar_command_line.specs.CommandLine.{command_named, is_plain, named, number_of_workers, run_command, workers_of}
 use Rattle.ar_command_line.specs.declared.command_line.Command.{Command}
 use Rattle.ar_command_line.specs.declared.command_line.Command.TheVariants.{Eval, Check, List as ListCodes, Run, Plain}
 use Rattle.ar_command_line.specs.declared.command_line.UsageError.{UsageError}
@@ -33,7 +33,7 @@ given_bounds : (given : Option Text) (n : ℕ) → option_map_or number_of_worke
 given_bounds None n is = let same : 4 ≡ n = cc in (omega (arith, same), omega (arith, same))
 given_bounds (Some text) n is = number_bounds text n is
 
-run_bounds : (rows : List Row) (n : ℕ) → run_named rows ≡ Ok (Run n) → Bounds n
+run_bounds : (rows : List Row) (n : ℕ) → run_command rows ≡ Ok (Run n) → Bounds n
 run_bounds rows n = go (workers_of rows) refl (is_plain rows)
   where
     go : (o : Option ℕ) → workers_of rows ≡ o → (plain : Bool) → ◌≡◌ {A = Result Command UsageError} (option_map_or (λ k. Ok (cond plain Plain (Run k))) o (Err Workers)) (Ok (Run n)) → Bounds n
@@ -45,8 +45,8 @@ named_bounds : (name : Text) (rows : List Row) (n : ℕ) → named name rows ≡
 named_bounds name rows n =
     go (bytes_eq name (codes "eval")) (bytes_eq name (codes "check")) (bytes_eq name (codes "list")) (bytes_eq name (codes "run")) (run_bounds rows n)
   where
-    go : (a b c d : Bool) → (run_named rows ≡ Ok (Run n) → Bounds n)
-        → ◌≡◌ {A = Result Command UsageError} (cond a (Ok Eval) (cond b (Ok Check) (cond c (Ok ListCodes) (cond d (run_named rows) (Err Words))))) (Ok (Run n)) → Bounds n
+    go : (a b c d : Bool) → (run_command rows ≡ Ok (Run n) → Bounds n)
+        → ◌≡◌ {A = Result Command UsageError} (cond a (Ok Eval) (cond b (Ok Check) (cond c (Ok ListCodes) (cond d (run_command rows) (Err Words))))) (Ok (Run n)) → Bounds n
     go true b c d known is = cc
     go false true c d known is = cc
     go false false true d known is = cc

@@ -13,7 +13,7 @@ use Rattle.clap.specs.declared.error.Error.{Error}
 use Rattle.clap.specs.declared.error.kind.ErrorKind.{ErrorKind}
 use Rattle.clap.specs.declared.error.kind.ErrorKind.TheVariants.{OutOfMemory}
 use Rattle.clap.specs.declared.parser.matches.ArgMatches.{ArgMatches}
-use Rattle.ar_command_line.specs.CommandLine.{Shows, application, command_named, is_request, named, of_kind, run_named, workers_of}
+use Rattle.ar_command_line.specs.CommandLine.{AsksForText, application, command_named, is_request, named, of_kind, run_command, workers_of}
 use Rattle.ar_command_line.specs.declared.command_line.Command.{Command}
 use Rattle.ar_command_line.specs.declared.command_line.UsageError.{UsageError}
 use Rattle.ar_command_line.specs.declared.command_line.UsageError.TheVariants.{Words, Workers}
@@ -43,10 +43,10 @@ abbrev AllKnown : List Shape → Type 0
 AllKnown [] = ⊤
 AllKnown (s ∷ rest) = ((rows : List Row) → named s.name rows ≢ Err Words) × AllKnown rest
 
-run_known : (rows : List Row) → run_named rows ≢ Err Words
+run_known : (rows : List Row) → run_command rows ≢ Err Words
 run_known rows = go (workers_of rows) refl
   where
-    go : (o : Option _) → workers_of rows ≡ o → run_named rows ≢ Err Words
+    go : (o : Option _) → workers_of rows ≡ o → run_command rows ≢ Err Words
     go (Some n) is bad = let bad2 = rw is at bad in cc
     go None is bad = let bad2 = rw is at bad in cc
 
@@ -142,10 +142,10 @@ same_error e f is = ap (λ (r : Result Command UsageError). unwrap_or (result_er
 
 -- ---- the texts of `--help` and `--version`
 
-pub taken_shows : (a : App) (words : List Text) (m : ArgMatches) → a ≡ application → Parses a words (Ok m) → Shows (fault_of application words) false
-taken_shows a words m is parses = subst (λ (kinds : Kinds). Shows kinds false) (sym (taken a words m is parses)) refl
+pub taken_shows : (a : App) (words : List Text) (m : ArgMatches) → a ≡ application → Parses a words (Ok m) → AsksForText (fault_of application words) false
+taken_shows a words m is parses = subst (λ (kinds : Kinds). AsksForText kinds false) (sym (taken a words m is parses)) refl
 
-among_shows : (k : ErrorKind) (kinds : Kinds) → IsAmong k kinds → Shows kinds (is_request k)
+among_shows : (k : ErrorKind) (kinds : Kinds) → IsAmong k kinds → AsksForText kinds (is_request k)
 among_shows k [] among = absurd among
 among_shows k (x ∷ []) (inl is) = ap is_request is
 among_shows k (x ∷ []) (inr among) = absurd among
@@ -158,10 +158,10 @@ no_ok P (Err f) is = tt
 
 pub error_shows : {X F : Type 0} (a : App) (words : List Text) (e : Error) (r : Result (Option X) F) → a ≡ application → Parses a words (Err e)
     → IfOk r (λ text. is_some text ≡ is_request (kind_of e)) → (kind_of e ≡ OutOfMemory → IsErr r)
-    → IfOk r (λ text. Shows (fault_of application words) (is_some text))
+    → IfOk r (λ text. AsksForText (fault_of application words) (is_some text))
 error_shows {X} {F} a words e r is parses told memory = go (subst (λ (x : App). Parses x words (Err e)) is parses simple_and_free)
   where
-    go : HasKind (fault_of application words) e → IfOk r (λ text. Shows (fault_of application words) (is_some text))
+    go : HasKind (fault_of application words) e → IfOk r (λ text. AsksForText (fault_of application words) (is_some text))
     go (inl none) = no_ok _ r (memory none)
     go (inr among) =
-        IfOk-weaker r _ _ (λ text same. subst (Shows (fault_of application words)) (sym same) (among_shows (kind_of e) (fault_of application words) among)) told
+        IfOk-weaker r _ _ (λ text same. subst (AsksForText (fault_of application words)) (sym same) (among_shows (kind_of e) (fault_of application words) among)) told

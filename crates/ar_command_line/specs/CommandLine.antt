@@ -67,8 +67,8 @@ abbrev pub is_plain : List Row → Bool
 is_plain rows = option_map_or (λ text. bytes_eq text (codes "true")) (one_of (codes "plain") rows) false
 
 -- `run` in one thread has no use for a number of workers, but a bad one is refused all the same
-abbrev pub run_named : List Row → Result Command UsageError
-run_named rows =
+abbrev pub run_command : List Row → Result Command UsageError
+run_command rows =
     option_map_or (λ n. Ok (if is_plain rows then Plain else Run n)) (workers_of rows) (Err Workers)
 
 abbrev pub named : Text → List Row → Result Command UsageError
@@ -76,7 +76,7 @@ named name rows =
     if bytes_eq name (codes "eval") then Ok Eval
     else (if bytes_eq name (codes "check") then Ok Check
     else (if bytes_eq name (codes "list") then Ok ListCodes
-    else (if bytes_eq name (codes "run") then run_named rows else Err Words)))
+    else (if bytes_eq name (codes "run") then run_command rows else Err Words)))
 
 -- the command that a subcommand names, with its matches
 abbrev pub command_named : Option (Text × List Row) → Result Command UsageError
@@ -101,7 +101,7 @@ is_request kind.DisplayVersion = true
 is_request _ = false
 
 -- whether a text is shown, by the kind of fault that `clap` finds, or by one of those that it may find
-abbrev pub Shows : Kinds → Bool → Type 0
-Shows [] shows = shows ≡ false
-Shows (kind ∷ []) shows = shows ≡ is_request kind
-Shows (kind ∷ other ∷ kinds) shows = (shows ≡ is_request kind) ⊎ Shows (other ∷ kinds) shows
+abbrev pub AsksForText : Kinds → Bool → Type 0
+AsksForText [] shows = shows ≡ false
+AsksForText (kind ∷ []) shows = shows ≡ is_request kind
+AsksForText (kind ∷ other ∷ kinds) shows = (shows ≡ is_request kind) ⊎ AsksForText (other ∷ kinds) shows

@@ -2,7 +2,7 @@
 
 ghost use Rattle.std.specs.Prelude.{◌≡◌, ◌≢◌, ◌≤◌, ℕ, [], is_some, Err, IfOk, IsErr, Ok};
 ghost use Rattle.clap.specs.Words.{app_of, fault_of, found_of, kind_of, new_app, rows_of, subcommand_of, subcommand_rows_of};
-ghost use Rattle.ar_command_line.specs.CommandLine.{Shows, application, command_named, is_plain, is_request, most_workers, named, number_of_workers, program, run_app, run_named, texts_of, workers_of};
+ghost use Rattle.ar_command_line.specs.CommandLine.{AsksForText, application, command_named, is_plain, is_request, most_workers, named, number_of_workers, program, run_app, run_command, texts_of, workers_of};
 
 use crate::help::{CHECK_HELP, EVAL_HELP, HELP, LIST_HELP, RUN_HELP};
 use clap::error::ErrorKind;
@@ -11,7 +11,7 @@ use std::alloc::{AllocError, Global};
 use thiserror::Error;
 
 /// The greatest number of workers that may be asked for.
-pub const MOST_WORKERS: usize = 16;
+const MOST_WORKERS: usize = 16;
 
 /// How many workers judge where the words name no number.
 pub const DEFAULT_WORKERS: usize = 4;
@@ -101,7 +101,7 @@ pub fn command_of(alloc: Global, words: Vec<String>) -> Result<Command, UsageErr
 /// Want of memory.
 pub fn shown(alloc: Global, words: &[String]) -> Result<Option<String>, AllocError>
     // `clap` tells of such a request as of a fault, by its kind.
-    ensures { IfOk result (λ text. Shows (fault_of application (texts_of words.now)) (is_some text)) }
+    ensures { IfOk result (λ text. AsksForText (fault_of application (texts_of words.now)) (is_some text)) }
 {
     match application(alloc)?.try_get_matches_from(words) {
         Ok(_) => Ok(None),
@@ -141,15 +141,15 @@ fn named(name: &str, matches: &ArgMatches<'_>) -> Result<Command, UsageError>
         "eval" => Ok(Command::Eval),
         "check" => Ok(Command::Check),
         "list" => Ok(Command::List),
-        "run" => run_named(matches),
+        "run" => run_command(matches),
         _ => Err(UsageError::Words),
     }
 }
 
 /// The command that `run` with these arguments asks for. A run in one thread has no use for a
 /// number of workers, which is looked at all the same.
-fn run_named(matches: &ArgMatches<'_>) -> Result<Command, UsageError>
-    ensures { result ≡ run_named (rows_of (found_of matches.now)) }
+fn run_command(matches: &ArgMatches<'_>) -> Result<Command, UsageError>
+    ensures { result ≡ run_command (rows_of (found_of matches.now)) }
 {
     let workers = workers_of(matches).ok_or(UsageError::Workers)?;
     if is_plain(matches) {

@@ -18,7 +18,8 @@ Exit status:
   2  the command line or the input is refused
   3  out of memory
   4  a read or a write failed
-  5  run: a thread couldn't be started, or a number was lost; try again, or with --plain
+  5  run: a thread couldn't be started (try fewer workers, or --plain), or a measurement was lost
+     (please report that)
 
 Examples:
   echo '{\"condition\":\"result >= 0.95\",\"shape\":\"decimal\",\"value\":\"0.9523\"}' | argo_judge eval

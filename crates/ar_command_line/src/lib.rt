@@ -14,4 +14,4 @@
 mod command_line;
 mod help;
 
-pub use command_line::{Command, DEFAULT_WORKERS, MOST_WORKERS, UsageError, command_of, shown};
+pub use command_line::{Command, DEFAULT_WORKERS, UsageError, command_of, shown};

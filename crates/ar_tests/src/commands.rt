@@ -4,6 +4,7 @@ ghost use Rattle.ar_command.specs.Serving.{RunsAlone};
 
 use ar_command::{Closing, Command, Device, DeviceFault, Kept, ServeError, Source, serve_plain};
 use std::alloc::Global;
+use std::io;
 use std::io::Read;
 use std::process::Abort;
 
@@ -156,4 +157,31 @@ fn kept_input(rt: HostRuntime) {
     assert_kept(&rt, rt.alloc(), Command::Plain, PLAIN);
     assert_kept(&rt, rt.alloc(), Command::Check, CHECK);
     assert_kept(&rt, rt.alloc(), Command::List, LIST);
+}
+
+/// A reader that fails once, and then is at its end.
+#[derive(Drop)]
+struct FailingOnce {
+    has_failed: bool,
+}
+
+impl Read for FailingOnce {
+    fn read(&mut self, _buf: &mut [u8]) -> Result<usize, io::Error> {
+        if self.has_failed {
+            return Ok(0);
+        }
+        self.has_failed = true;
+        Err(io::Error::from(io::ErrorKind::BrokenPipe))
+    }
+}
+
+/// A device hands on the fault of its reader, and keeps it where a later read succeeds.
+#[test]
+fn a_device_keeps_its_fault(rt: HostRuntime) {
+    let mut device = Device::new(FailingOnce { has_failed: false });
+    let mut buf = [0u8; 4];
+    assert!(rt; device.read(&mut buf).is_err());
+    assert!(rt; device.read(&mut buf).is_ok());
+    assert!(rt; device.failed());
+    assert!(rt; matches!(device.fault(), Some(fault) if fault.kind() == io::ErrorKind::BrokenPipe));
 }

@@ -27,6 +27,10 @@ metric m Successful successful=1 failed=0 inconclusive=0 error=0 consecutiveErro
 event 1 m Successful closed Successful
 ";
 
+/// A run that is measured three times, and stays open.
+const THREE_ENTRIES: &str =
+    r#"{"manifest":{"apiVersion":"argoproj.io/v1alpha1","kind":"AnalysisTemplate","metadata":{"name":"t"},"spec":{"metrics":[{"name":"m","interval":"1m","successCondition":"result > 1"}]}},"shapes":{"m":"whole"},"runs":[{"name":"r0"}],"measurements":[{"run":"r0","metric":"m","value":2},{"run":"r0","metric":"m","value":3},{"run":"r0","metric":"m","value":4}]}"#;
+
 /// A gate at which numbers 0 and 1 wait for each other.
 #[derive(Drop)]
 struct Meeting {
@@ -86,6 +90,105 @@ fn two_workers_meet(rt: HostRuntime) -> Result<(), Fail> {
     };
     assert_eq!(rt; numbers(alloc, &histories)?.as_str(), "0 / 1 / ");
     assert!(rt; meeting.is_held());
+    Ok(())
+}
+
+/// A gate at which number 0 is held until number 2 has come.
+#[derive(Drop)]
+struct Holding {
+    came: AtomicBool,
+    held: AtomicBool,
+}
+
+impl Gate for Holding {
+    fn pass(&self, _worker: usize, number: u64) {
+        if number == 2 {
+            self.came.store(true, Ordering::SeqCst);
+        }
+        if number == 0 {
+            for _ in 0..TURNS {
+                if self.came.load(Ordering::SeqCst) {
+                    self.held.store(true, Ordering::SeqCst);
+                    return;
+                }
+                spin_loop();
+            }
+        }
+    }
+}
+
+/// While one worker holds number 0 the other posts number 1, which the history then shows before it.
+#[test]
+fn posted_before_one_that_is_held(rt: HostRuntime) -> Result<(), Fail> {
+    let alloc = rt.alloc();
+    let bundle = read_bundle(alloc, THREE_ENTRIES.as_bytes())?;
+    let holding = Holding {
+        came: AtomicBool::new(false),
+        held: AtomicBool::new(false),
+    };
+    let Ok(histories) = run_all(&rt, alloc, &bundle, 2, &holding) else {
+        return Err(Fail::from("expected histories"));
+    };
+    assert!(rt; holding.held.load(Ordering::SeqCst));
+    let numbers = numbers(alloc, &histories)?;
+    assert!(rt; numbers.as_str() == "1 0 2 / " || numbers.as_str() == "1 2 0 / ");
+    Ok(())
+}
+
+/// A gate at which three workers wait for each other, each with its first number.
+#[derive(Drop)]
+struct Crowd {
+    came: [AtomicUsize; 3],
+    met: AtomicUsize,
+}
+
+impl Crowd {
+    /// How many of the workers have come.
+    fn present(&self) -> usize {
+        let mut present = 0;
+        for came in &self.came {
+            if came.load(Ordering::SeqCst) > 0 {
+                present += 1;
+            }
+        }
+        present
+    }
+}
+
+impl Gate for Crowd {
+    fn pass(&self, worker: usize, _number: u64) {
+        let Some(came) = self.came.get(worker) else {
+            return;
+        };
+        came.fetch_add(1, Ordering::SeqCst);
+        for _ in 0..TURNS {
+            if self.present() == self.came.len() {
+                self.met.fetch_add(1, Ordering::SeqCst);
+                return;
+            }
+            spin_loop();
+        }
+    }
+}
+
+/// As many workers as were asked for come to the gate, each with a number of its own, and once for it.
+#[test]
+fn each_worker_comes(rt: HostRuntime) -> Result<(), Fail> {
+    let alloc = rt.alloc();
+    let bundle = read_bundle(alloc, THREE_ENTRIES.as_bytes())?;
+    let crowd = Crowd {
+        came: [
+            AtomicUsize::new(0),
+            AtomicUsize::new(0),
+            AtomicUsize::new(0),
+        ],
+        met: AtomicUsize::new(0),
+    };
+    assert!(rt; run_all(&rt, alloc, &bundle, 3, &crowd).is_ok());
+    for came in &crowd.came {
+        assert_eq!(rt; came.load(Ordering::SeqCst), 1);
+    }
+    assert_eq!(rt; crowd.met.load(Ordering::SeqCst), 3);
     Ok(())
 }
 

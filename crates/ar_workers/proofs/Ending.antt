@@ -1,13 +1,18 @@
 -- What workers come to.
-use Rattle.std.proofs.Common.{◌≡◌, ◌<◌, ◌≤◌, ℕ, zero, suc, List, [], ◌∷◌, length, Some, refl, sym, ◌∙◌, ap, subst, arith}
-use Rattle.std.specs.Prelude.{slice_get}
+use Rattle.std.proofs.Common.{◌≡◌, ◌<◌, ◌≤◌, ◌+◌, ℕ, zero, suc, Bool, true, false, List, [], ◌∷◌, length, map, Some, refl, sym, ◌∙◌, ap, subst, arith, inl, inr}
+use Rattle.std.specs.Prelude.{◌⊎◌, nat_lt, slice_get}
+use Rattle.std.proofs.lemmas.Bool.Decides.{nat_tests}
+use Rattle.std.specs.declared.alloc.Global.{Global}
+use Rattle.std.specs.declared.vec.Vec.{Vec}
 use Rattle.std.specs.List.{AllByRecursion}
 use Rattle.ar_bundle.specs.Bundle.{Bundle}
-use Rattle.ar_board.specs.Board.{AreSeated, Seat, seat_of}
+use Rattle.ar_bundle.specs.Lawful.{times_in}
+use Rattle.ar_board.specs.Board.{AreSeated, IsLost, Seat, seat_of}
+use Rattle.ar_board.specs.declared.lost.Lost.{Lost as Losing}
 use Rattle.ar_board.specs.declared.receipt.Receipt.{Receipt}
-use Rattle.ar_queue.specs.Rule.{HasTakenAll, IsDone}
+use Rattle.ar_queue.specs.Rule.{HasTakenAll, IsDone, once_below}
 use Rattle.ar_queue.specs.declared.queue.View.{View}
-use Rattle.ar_workers.specs.Joined.{IsCause, NameEachOnce}
+use Rattle.ar_workers.specs.Joined.{IsCause, IsDoubleOrReceived, IsShown, NameEachOnce, named_by}
 use Rattle.ar_workers.specs.Private.Gathered.{AreAllNamed, IsFeeder, told}
 use Rattle.ar_workers.specs.declared.error.Unfinished.{Unfinished}
 use Rattle.ar_workers.specs.declared.error.Unfinished.TheVariants as early
@@ -40,3 +45,18 @@ all_fresh workers seats are = fresh_from seats (λ at seat there.
     let many = are.as_many in
     let is : Some seat ≡ Some (seat_of at []) = sym there ∙ are.each at (omega arith) in
     (let same : seat ≡ seat_of at [] = cc in ap (λ (seat : Seat). seat.receipts) same))
+
+-- what closing gave for the seats' receipts it gave for those that are handed out
+pub handed_out : (bundle : Bundle) (receipts : List (List Receipt)) (lost : Losing) → IsLost bundle receipts lost → IsLost bundle (map (λ own. own.items) lost.receipts.items) lost
+handed_out bundle receipts lost is = subst (λ own. IsLost bundle own lost) (sym is.same_receipts) is
+
+named_once : (number events : ℕ) (test : Bool) → nat_lt number events ≡ test → number < events → (some others : ℕ) → some + others ≡ once_below number events → (0 < others) ⊎ (0 < some)
+named_once number events true is below some zero all = inr (let one : once_below number events ≡ 1 = rw is refl in omega arith)
+named_once number events true is below some (suc others) all = inl (omega arith)
+named_once number events false is below some others all = absurd (grind (arith, nat_tests))
+
+pub double_or_received : (bundle : Bundle) (lost : Losing) (doubles : List ℕ) → IsShown bundle lost doubles → IsDoubleOrReceived lost.number (map (λ own. own.items) lost.receipts.items) doubles
+double_or_received bundle lost doubles shown =
+    let events = length bundle.entries in
+    let receipts = map (λ (own : Vec Receipt Global). own.items) lost.receipts.items in
+    named_once lost.number events (nat_lt lost.number events) refl shown.losing.there (times_in lost.number (named_by receipts)) (times_in lost.number doubles) (shown.each_once lost.number)

@@ -1,8 +1,8 @@
 -- What workers bring back: the pass of the queue, and receipts and doubles, which name just the numbers that the pass took.
-use Rattle.std.specs.Prelude.{◌≡◌, ◌<◌, ◌+◌, ◌++◌, ℕ, List, [], ◌∷◌, length, map}
+use Rattle.std.specs.Prelude.{◌≡◌, ◌<◌, ◌⊎◌, ◌+◌, ◌++◌, ℕ, List, [], ◌∷◌, length, map}
 use Rattle.ar_bundle.specs.Bundle.{Bundle}
-use Rattle.ar_bundle.specs.Lawful.{AreHistoriesSoFar, times_in}
-use Rattle.ar_board.specs.Receipts.{Hold}
+use Rattle.ar_bundle.specs.Lawful.{times_in}
+use Rattle.ar_board.specs.Board.{IsLost}
 use Rattle.ar_board.specs.declared.lost.Lost.{Lost as Losing}
 use Rattle.ar_board.specs.declared.receipt.Receipt.{Receipt}
 use Rattle.atomic_table.specs.Seated.{TableId}
@@ -48,13 +48,15 @@ named_by (own ∷ receipts) = map (λ receipt. receipt.number) own ++ named_by r
 abbrev pub NameEachOnce : (events : ℕ) → List (List Receipt) → (doubles : List ℕ) → Type 0
 NameEachOnce events receipts doubles = (number : ℕ) → times_in number (named_by receipts) + times_in number doubles ≡ once_below number events
 
--- what shows that a number was lost: each number was posted once, and the one that is told is a double, or has a receipt that
--- isn't met
+-- what shows that a number was lost: receipts and doubles name each number once, and closing the board gave this for the
+-- receipts
 pub record IsShown (bundle : Bundle) (lost : Losing) (doubles : List ℕ) : Type 0 where
   pub each_once : NameEachOnce (length bundle.entries) (map (λ own. own.items) lost.receipts.items) doubles
-  pub so_far : AreHistoriesSoFar bundle lost.histories
-  pub not_held : Hold lost.histories (map (λ own. own.items) lost.receipts.items) lost.number → ⊥
-  pub there : lost.number < length bundle.entries
+  pub losing : IsLost bundle (map (λ own. own.items) lost.receipts.items) lost
+
+-- a number is a double, or there is a receipt for it
+abbrev pub IsDoubleOrReceived : (number : ℕ) → List (List Receipt) → (doubles : List ℕ) → Type 0
+IsDoubleOrReceived number receipts doubles = (0 < times_in number doubles) ⊎ (0 < times_in number (named_by receipts))
 
 -- why workers give no histories: no cause is claimed where a thread couldn't be started or memory was wanting
 abbrev pub IsCause : Bundle → WorkError → Type 0
@@ -62,6 +64,6 @@ IsCause bundle NoThread = Unit {0}
 IsCause bundle OutOfMemory = Unit {0}
 IsCause bundle (Lost lost doubles) = IsShown bundle lost doubles.items
 
--- no queue, where a name stands for none
+-- a caller that takes `Brand` says which queue it means; this stands where none does
 abbrev pub no_queue : TableId
 no_queue = record { words = 0; slots = 0; views_name = 0; atom = 0; block = 0; offset = 0; slot_names = [] }

@@ -16,7 +16,7 @@ pub enum WorkError {
     #[error("out of memory")]
     OutOfMemory,
     /// A number was lost: what closing the board gave, and the numbers whose post was a double.
-    #[error("run, measurement {number}: Lost: its entry isn't in the histories", number = .lost.number)]
+    #[error("run, measurement {number}: Lost: the histories don't hold it", number = .lost.number)]
     Lost { lost: Lost, doubles: Vec<u64> },
 }
 

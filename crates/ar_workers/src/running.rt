@@ -47,7 +47,8 @@ pub fn run_all<G: Gate, R: Threads + Wait + Sync>(
     run_named::<Brand, Brand, G, R>(rt, alloc, bundle, workers, blank, gate)
 }
 
-/// The same, by the names of the bundle and of the board's lock.
+/// The same, by names of the bundle and of the board's lock: contracts of a board speak of it by names,
+/// which a call of a function over them picks.
 #[tactic(auto, using(crate::proofs::Ending::all_fresh))]
 fn run_named<M, L, G, R>(
     rt: &R,
@@ -80,8 +81,8 @@ where
     run_with::<M, L, Brand, G, R>(rt, alloc, bundle, board, seats, queue, pass, gate)
 }
 
-/// The same, by the name of the queue, too, which has been fed.
-#[tactic(auto, using(crate::proofs::Ending::is_cause, crate::proofs::Ending::is_done, crate::proofs::Ending::each_once))]
+/// The same, by a name of the queue, too, which has been fed: it can be named only once it is there.
+#[tactic(auto, using(crate::proofs::Ending::is_cause, crate::proofs::Ending::is_done, crate::proofs::Ending::each_once, crate::proofs::Ending::handed_out))]
 fn run_with<M, L, T, G, R>(
     rt: &R,
     alloc: Global,
