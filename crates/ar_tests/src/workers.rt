@@ -143,15 +143,9 @@ struct Crowd {
 }
 
 impl Crowd {
-    /// How many of the workers have come.
-    fn present(&self) -> usize {
-        let mut present = 0;
-        for came in &self.came {
-            if came.load(Ordering::SeqCst) > 0 {
-                present += 1;
-            }
-        }
-        present
+    /// Whether all of the workers have come.
+    fn is_whole(&self) -> bool {
+        self.came.iter().all(|came| came.load(Ordering::SeqCst) > 0)
     }
 }
 
@@ -162,7 +156,7 @@ impl Gate for Crowd {
         };
         came.fetch_add(1, Ordering::SeqCst);
         for _ in 0..TURNS {
-            if self.present() == self.came.len() {
+            if self.is_whole() {
                 self.met.fetch_add(1, Ordering::SeqCst);
                 return;
             }
