@@ -49,7 +49,7 @@ fn answer<M: BundleName, L: LockName>(
 }
 
 /// The numbers of histories, run by run.
-fn numbers(alloc: Global, histories: &Histories) -> Result<String, Fail> {
+pub(crate) fn numbers(alloc: Global, histories: &Histories) -> Result<String, Fail> {
     let mut text = String::new(alloc);
     for history in histories.runs() {
         for entry in history.entries() {

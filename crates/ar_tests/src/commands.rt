@@ -132,6 +132,7 @@ fn assert_failing(rt: &impl Abort, alloc: Global, command: Command)
 /// A failed read is told, and nothing is written.
 #[test]
 fn failing_reads(rt: HostRuntime) {
+    assert_fault_is_kept(&rt);
     assert_failing(&rt, rt.alloc(), Command::Plain);
     assert_failing(&rt, rt.alloc(), Command::Check);
     assert_failing(&rt, rt.alloc(), Command::List);
@@ -175,9 +176,8 @@ impl Read for FailingOnce {
     }
 }
 
-/// A device hands on the fault of its reader, and keeps it where a later read succeeds.
-#[test]
-fn a_device_keeps_its_fault(rt: HostRuntime) {
+/// Asserts that a device hands on the fault of its reader, and keeps it where a later read succeeds.
+fn assert_fault_is_kept(rt: &impl Abort) {
     let mut device = Device::new(FailingOnce { has_failed: false });
     let mut buf = [0u8; 4];
     assert!(rt; device.read(&mut buf).is_err());

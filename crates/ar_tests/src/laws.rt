@@ -23,4 +23,7 @@ fn can_be_called(_: HostRuntime) {
     ar_board::laws::lawful_at_rest();
     ar_bundle::laws::lawful_are_so_far();
     ar_board::laws::receipts_are_met_or_not();
+    ar_workers::laws::lost_is_double_or_received();
+    ar_command::laws::one_bundle();
+    ar_command::laws::one_text();
 }

@@ -1,18 +1,13 @@
 //! Runs with workers: that two of them judge at once, and what they report.
 
-ghost use Rattle.std.specs.Prelude.{◌≤◌};
-
+use crate::boards::numbers;
 use crate::cells::TWO_RUNS;
-use ar_bundle::Histories;
 use ar_command::{Closing, Command, Device, Kept, serve};
 use ar_document::read_bundle;
-use ar_workers::{FreeGate, Gate, run_all};
-use std::alloc::{AllocError, Global};
+use ar_workers::{Gate, run_all};
 use std::hint::spin_loop;
-use std::sync::Wait;
 use std::sync::atomic::{AtomicBool, AtomicUsize, Ordering};
 use std::test::Fail;
-use std::thread::Threads;
 
 /// How often a number looks whether the other has come.
 const TURNS: u32 = 10_000_000;
@@ -66,19 +61,6 @@ impl Gate for Meeting {
     }
 }
 
-/// The numbers of histories, run by run.
-fn numbers(alloc: Global, histories: &Histories) -> Result<String, AllocError> {
-    let mut text = String::new(alloc);
-    for history in histories.runs() {
-        for entry in history.entries() {
-            let number = entry.number;
-            text.push_str(format!(in alloc; "{number} ")?.as_str())?;
-        }
-        text.push_str("/ ")?;
-    }
-    Ok(text)
-}
-
 /// Two workers judge at the same time: each waits for the other's number before it judges its own.
 #[test]
 fn two_workers_meet(rt: HostRuntime) -> Result<(), Fail> {
@@ -91,6 +73,21 @@ fn two_workers_meet(rt: HostRuntime) -> Result<(), Fail> {
     assert_eq!(rt; numbers(alloc, &histories)?.as_str(), "0 / 1 / ");
     assert!(rt; meeting.is_held());
     Ok(())
+}
+
+/// So they do where a document is served.
+#[test]
+fn two_workers_meet_in_a_command(rt: HostRuntime) {
+    let alloc = rt.alloc();
+    let meeting = Meeting::new();
+    let mut output = Vec::new(alloc);
+    let mut reader = Kept::new(alloc, Device::new(TWO_RUNS.as_bytes()));
+    let mut writer = Device::new(&mut output);
+    let command = Command::Run(2);
+    let outcome = serve(&rt, alloc, command, &mut reader, &mut writer, &meeting);
+    assert!(rt; matches!(outcome, Ok(Closing::Good)));
+    assert_eq!(rt; output.as_slice(), REPORT.as_bytes());
+    assert!(rt; meeting.is_held());
 }
 
 /// A gate at which number 0 is held until number 2 has come.
@@ -183,51 +180,5 @@ fn each_worker_comes(rt: HostRuntime) -> Result<(), Fail> {
         assert_eq!(rt; came.load(Ordering::SeqCst), 1);
     }
     assert_eq!(rt; crowd.met.load(Ordering::SeqCst), 3);
-    Ok(())
-}
-
-/// What a command with workers writes of `TWO_RUNS`, as it closes.
-fn served<G: Gate, R: Threads + Wait + Sync>(
-    rt: &R,
-    alloc: Global,
-    workers: usize,
-    gate: &G,
-) -> Result<Vec<u8>, Fail>
-    requires { (1 ≤ workers) × (workers ≤ 16) }
-{
-    let mut output = Vec::new(alloc);
-    let mut reader = Kept::new(alloc, Device::new(TWO_RUNS.as_bytes()));
-    let mut writer = Device::new(&mut output);
-    match serve(
-        rt,
-        alloc,
-        Command::Run(workers),
-        &mut reader,
-        &mut writer,
-        gate,
-    ) {
-        Ok(Closing::Good) => Ok(output),
-        Ok(Closing::Bad) => Err(Fail::from("expected a good closing")),
-        Err(error) => Err(Fail::from(error)),
-    }
-}
-
-/// So they do where a document is served.
-#[test]
-fn two_workers_meet_in_a_command(rt: HostRuntime) -> Result<(), Fail> {
-    let meeting = Meeting::new();
-    let output = served(&rt, rt.alloc(), 2, &meeting)?;
-    assert_eq!(rt; output.as_slice(), REPORT.as_bytes());
-    assert!(rt; meeting.is_held());
-    Ok(())
-}
-
-/// Other numbers of workers report the same.
-#[test]
-fn one_and_eight_workers(rt: HostRuntime) -> Result<(), Fail> {
-    let one = served(&rt, rt.alloc(), 1, &FreeGate)?;
-    assert_eq!(rt; one.as_slice(), REPORT.as_bytes());
-    let eight = served(&rt, rt.alloc(), 8, &FreeGate)?;
-    assert_eq!(rt; eight.as_slice(), REPORT.as_bytes());
     Ok(())
 }
