@@ -97,6 +97,7 @@ module _ (one other : Bundle) (same_run : (number : ℕ) → run_of one number �
     where
       also_is : run_of other number ≡ Some at
       also_is = sym (same_run number) ∙ is
+
       by_place : (test : Bool) → (at == from) ≡ test → times_in number (numbers_of history) ≡ times_in number (numbers_of its)
       by_place true here =
           let place : at ≡ from = grind (arith, nat_tests) in

@@ -163,7 +163,7 @@ module _ (one other : Bundle) (same : IsSameBundle one other) where
       let run : entry.run ≡ its.run = ap (λ (e : Entry). e.run) view in
       let what : what_view entry.what ≡ what_view its.what = ap (λ (e : Entry). e.what) view in
       rw run (mapped (finding_text one.metrics entry.what) (finding_text other.metrics its.what) (found_of one its.run entry.what) (found_of other its.run its.what)
-          (λ finding. same_finding_text entry.what its.what finding what) (same_found its.run entry.what its.what what))
+      (λ finding. same_finding_text entry.what its.what finding what) (same_found its.run entry.what its.what what))
   found_text_by (Some entry) None view = absurd view
   found_text_by None (Some its) view = absurd view
   found_text_by None None view = refl
@@ -232,9 +232,10 @@ one_report input text other closing closing_of_other says also =
     let its = also.reports in
     let same = one_bundle input one.bundle its.bundle one.reads its.reads in
     let as_many : length one.bundle.entries ≡ length its.bundle.entries = sym (length-map one.bundle.entries entry_view) ∙ (ap length same.entries ∙ length-map its.bundle.entries entry_view) in
-    let numbers = same_numbers one.bundle its.bundle (same_run one.bundle its.bundle same) one.histories its.histories (as_many_runs one.bundle its.bundle same one.bundle.runs its.bundle.runs same.runs) as_many one.reported.lawful says.rise its.reported.lawful also.rise in
-    (one.reported.is ∙ (same_report one.bundle its.bundle same (map numbers_of one.histories) ∙ (ap (report its.bundle) numbers ∙ sym its.reported.is)),
-     one.reported.closes ∙ (same_closing one.bundle its.bundle same (map numbers_of one.histories) ∙ (ap (λ n. closing_of (run_phases its.bundle n)) numbers ∙ sym its.reported.closes)))
+    let numbers = same_numbers one.bundle its.bundle (same_run one.bundle its.bundle same) one.histories its.histories (as_many_runs one.bundle its.bundle same one.bundle.runs its.bundle.runs same.runs) as_many one.reported.lawful says.rise its.reported.lawful also.rise in (
+      one.reported.is ∙ (same_report one.bundle its.bundle same (map numbers_of one.histories) ∙ (ap (report its.bundle) numbers ∙ sym its.reported.is)),
+      one.reported.closes ∙ (same_closing one.bundle its.bundle same (map numbers_of one.histories) ∙ (ap (λ n. closing_of (run_phases its.bundle n)) numbers ∙ sym its.reported.closes)),
+    )
 
 pub one_text : (command : Command) (input text other : List ℕ) (closing closing_of_other : Closing) → RunsAlone command → Says command input text closing → Says command input other closing_of_other
     → (text ≡ other) × (closing ≡ closing_of_other)

@@ -62,10 +62,13 @@ one_judges [] (own ∷ bound) some others are also = absurd are
 one_judges (metric ∷ metrics) [] some others are also = absurd are
 one_judges (metric ∷ metrics) (own ∷ bound) [] others are also = absurd are
 one_judges (metric ∷ metrics) (own ∷ bound) (one ∷ some) [] are also = absurd also
-one_judges (metric ∷ metrics) (own ∷ bound) (one ∷ some) (other ∷ others) are also =
-    ((one_choice metric.shape own.success_condition one.success other.success are.0.success_is also.0.success_is,
-      one_choice metric.shape own.failure_condition one.failure other.failure are.0.failure_is also.0.failure_is),
-     one_judges metrics bound some others are.1 also.1)
+one_judges (metric ∷ metrics) (own ∷ bound) (one ∷ some) (other ∷ others) are also = (
+  (
+    one_choice metric.shape own.success_condition one.success other.success are.0.success_is also.0.success_is,
+    one_choice metric.shape own.failure_condition one.failure other.failure are.0.failure_is also.0.failure_is,
+  ),
+  one_judges metrics bound some others are.1 also.1,
+)
 
 one_part : (opened : Opened) (run : Run) (one other : RunPart) → IsPart opened run one → IsPart opened run other → IsSameRun one other
 one_part opened run one other is also =

@@ -11,4 +11,4 @@ returns-in_err-said-clause-refused_of_known g c refusal same =
 pub returns-clause-written_of_known : goal.returns-clause-written_of_known
 returns-clause-written_of_known g c =
     written_of_whole (g.S.Source.remaining c.args.reader.now) (g.S.Source.remaining c.read_input.new.source) c.deref.result.now c.args.command (string_bytes c.in_ok-said.said.text) c.in_ok-said.said.closing (g.W.Sink.contents c.args.writer.now) (g.W.Sink.contents c.write.new.writer) c.write.result
-        (subst (ReadsUpToLimit (g.S.Source.remaining c.args.reader.now) (g.S.Source.remaining c.read_input.new.source)) (sym c.deref.ensures.value) c.in_ok-input.ensures.ok) (c.in_ok-said.ensures).said c.write.ensures.closing c.write.ensures.wrote
+    (subst (ReadsUpToLimit (g.S.Source.remaining c.args.reader.now) (g.S.Source.remaining c.read_input.new.source)) (sym c.deref.ensures.value) c.in_ok-input.ensures.ok) (c.in_ok-said.ensures).said c.write.ensures.closing c.write.ensures.wrote
