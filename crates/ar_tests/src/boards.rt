@@ -5,9 +5,10 @@ ghost use Rattle.std.specs.Prelude.{◌≡◌, ◌≤◌, length};
 
 use crate::cells::TWO_RUNS;
 use ar_board::{Board, BundleName, LockName, Lost, Seat};
-use ar_bundle::{Bundle, Histories};
+use ar_bundle::{Bundle, Histories, History};
 use ar_document::read_bundle;
 use std::alloc::Global;
+use std::fmt::{Debug, Write};
 use std::marker::Brand;
 use std::sync::Wait;
 use std::sync::ledger::Blank;
@@ -22,67 +23,99 @@ enum Call {
     Look(usize, usize),
 }
 
-/// What comes of a call by the seat of a worker that is there.
-fn answer<M: BundleName, L: LockName>(
+/// Writes an answer, a line.
+fn put_line<T: Debug>(text: &mut String, answer: &T) -> Result<(), Fail> {
+    writeln!(text, "{answer:?}")?;
+    Ok(())
+}
+
+/// Writes what comes of a call by the seat of a worker that is there.
+fn put_answer<M: BundleName, L: LockName>(
     rt: &impl Wait,
     alloc: Global,
     bundle: &Bundle,
     board: &Board<'_, M, L>,
     seats: &mut Vec<Seat<M, L>>,
     call: Call,
-) -> Result<String, Fail>
+    text: &mut String,
+) -> Result<(), Fail>
     requires bundle { bundle.now ≡ M.bundle }
     ensures seats { length seats.new.items ≡ length seats.old.items }
 {
     match call {
         Call::Post(seat, number) if seat < seats.len() && number < bundle.events() => {
             let finding = bundle.finding(alloc, number)?;
-            let outcome = board.post(rt, &mut seats[seat], number, finding);
-            Ok(format!(in alloc; "{outcome:?}")?)
+            put_line(text, &board.post(rt, &mut seats[seat], number, finding))
         }
         Call::Look(seat, run) if seat < seats.len() && run < bundle.runs().len() => {
-            let outcome = board.look(rt, alloc, &seats[seat], run);
-            Ok(format!(in alloc; "{outcome:?}")?)
+            put_line(text, &board.look(rt, alloc, &seats[seat], run))
         }
         Call::Post(..) | Call::Look(..) => Err(Fail::from("expected what is there")),
     }
 }
 
-/// The numbers of histories, run by run.
-pub(crate) fn numbers(alloc: Global, histories: &Histories) -> Result<String, Fail> {
-    let mut text = String::new(alloc);
+/// Writes what calls come to, a line each.
+fn put_answers<M: BundleName, L: LockName>(
+    rt: &impl Wait,
+    alloc: Global,
+    bundle: &Bundle,
+    board: &Board<'_, M, L>,
+    seats: &mut Vec<Seat<M, L>>,
+    calls: &[Call],
+    text: &mut String,
+) -> Result<(), Fail>
+    requires bundle { bundle.now ≡ M.bundle }
+    requires seats { length seats.old.items ≡ M.workers }
+    ensures seats { length seats.new.items ≡ M.workers }
+{
+    for call in calls {
+        put_answer(rt, alloc, bundle, board, seats, *call, text)?;
+    }
+    Ok(())
+}
+
+/// Writes the numbers of a history.
+fn put_history(text: &mut String, history: &History) -> Result<(), Fail> {
+    for entry in history.entries() {
+        write!(text, "{} ", entry.number)?;
+    }
+    write!(text, "/ ")?;
+    Ok(())
+}
+
+/// Writes the numbers of histories, run by run.
+fn put_histories(text: &mut String, histories: &Histories) -> Result<(), Fail> {
     for history in histories.runs() {
-        for entry in history.entries() {
-            let number = entry.number;
-            text.push_str(format!(in alloc; "{number} ")?.as_str())?;
-        }
-        text.push_str("/ ")?;
+        put_history(text, history)?;
     }
-    Ok(text)
+    Ok(())
 }
 
-/// What closing gives: the numbers of the histories, behind the number that is lost, if one is.
-fn closed(alloc: Global, outcome: &Result<Histories, Lost>) -> Result<String, Fail> {
+/// Writes the number that is lost, and then what there is.
+fn put_lost(text: &mut String, lost: &Lost) -> Result<(), Fail> {
+    write!(text, "lost {}: ", lost.number)?;
+    put_histories(text, &lost.histories)?;
+    put_line(text, &lost.receipts)
+}
+
+/// Writes what closing gives.
+fn put_closed(text: &mut String, outcome: &Result<Histories, Lost>) -> Result<(), Fail> {
     match outcome {
-        Ok(histories) => numbers(alloc, histories),
-        Err(lost) => {
-            let number = lost.number;
-            let numbers = numbers(alloc, &lost.histories)?;
-            let receipts = &lost.receipts;
-            Ok(format!(in alloc; "lost {number}: {numbers}{receipts:?}")?)
-        }
+        Ok(histories) => put_histories(text, histories),
+        Err(lost) => put_lost(text, lost),
     }
 }
 
-/// What calls at a new board come to, and what closing gives behind them, a line each.
-fn answers<M: BundleName, L: LockName, R: Wait>(
+/// Writes what calls at a new board come to, and what closing gives behind them.
+fn put_board<M: BundleName, L: LockName, R: Wait>(
     rt: &R,
     alloc: Global,
     bundle: &Bundle,
     workers: usize,
     blank: Blank,
     calls: &[Call],
-) -> Result<String, Fail>
+    text: &mut String,
+) -> Result<(), Fail>
     requires bundle { bundle.now ≡ M.bundle }
     requires workers { workers ≡ M.workers }
     requires most { (1 ≤ workers) × (workers ≤ 16) }
@@ -92,18 +125,11 @@ fn answers<M: BundleName, L: LockName, R: Wait>(
     requires parts { L.parts ≡ M.workers }
 {
     let (board, mut seats) = Board::<M, L>::new(alloc, blank, bundle, workers)?;
-    let mut text = String::new(alloc);
-    for call in calls {
-        let answer = answer(rt, alloc, bundle, &board, &mut seats, *call)?;
-        text.push_str(answer.as_str())?;
-        text.push_str("\n")?;
-    }
-    let outcome = board.close(seats);
-    text.push_str(closed(alloc, &outcome)?.as_str())?;
-    Ok(text)
+    put_answers(rt, alloc, bundle, &board, &mut seats, calls, text)?;
+    put_closed(text, &board.close(seats))
 }
 
-/// The same for the bundle of two runs.
+/// What calls at a new board of the bundle of two runs come to, and what closing gives, a line each.
 fn on_two_runs<R: Wait>(
     rt: &R,
     alloc: Global,
@@ -113,14 +139,10 @@ fn on_two_runs<R: Wait>(
     requires most { (1 ≤ workers) × (workers ≤ 16) }
 {
     let bundle = read_bundle(alloc, TWO_RUNS.as_bytes())?;
-    answers::<Brand, Brand, R>(
-        rt,
-        alloc,
-        &bundle,
-        workers,
-        Blank::new(workers as u64),
-        calls,
-    )
+    let blank = Blank::new(workers as u64);
+    let mut text = String::new(alloc);
+    put_board::<Brand, Brand, R>(rt, alloc, &bundle, workers, blank, calls, &mut text)?;
+    Ok(text)
 }
 
 /// A number that nobody posted is lost; once both are posted the histories have both.
@@ -139,7 +161,8 @@ fn one_seat(rt: HostRuntime) -> Result<(), Fail> {
 Ok(Snapshot { phase: Successful, metrics: [Successful], posts: [1] })
 Err(Double)
 Ok(Snapshot { phase: Successful, metrics: [Successful], posts: [1] })
-lost 1: 0 / / [[Receipt { run: 0, number: 0, place: 0 }]]"
+lost 1: 0 / / [[Receipt { run: 0, number: 0, place: 0 }]]
+"
     );
     let all = on_two_runs(&rt, rt.alloc(), 1, &[Call::Post(0, 0), Call::Post(0, 1)])?;
     assert_eq!(rt;

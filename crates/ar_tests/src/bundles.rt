@@ -62,6 +62,12 @@ const fn entry(number: u64, verdict: Verdict, effect: Effect) -> Entry {
     }
 }
 
+/// Whether a run's history has so many entries, of which these are the first and the last.
+fn has_ends(histories: &Histories, run: usize, length: usize, first: Entry, last: Entry) -> bool {
+    let history = history_of(histories, run);
+    history.len() == length && history.first() == Some(&first) && history.last() == Some(&last)
+}
+
 /// The histories of a document's plain run.
 fn histories(alloc: Global, document: &str) -> Result<Histories, Fail> {
     let bundle = read_bundle(alloc, document.as_bytes())?;
@@ -70,47 +76,49 @@ fn histories(alloc: Global, document: &str) -> Result<Histories, Fail> {
 
 #[test]
 fn many_events_of_one_run(rt: HostRuntime) -> Result<(), Fail> {
-    let alloc = rt.alloc();
-    let document = document(alloc, 1, 100_000, 1)?;
-    let histories = histories(alloc, document.as_str())?;
-    let history = history_of(&histories, 0);
-    assert_eq!(rt; history.len(), 100_000);
+    let document = document(rt.alloc(), 1, 100_000, 1)?;
+    let histories = histories(rt.alloc(), document.as_str())?;
     let first = entry(0, Verdict::Successful, Effect::Applied);
-    assert_eq!(rt; history.first(), Some(&first));
     let last = entry(99_999, Verdict::Successful, Effect::Applied);
-    assert_eq!(rt; history.last(), Some(&last));
+    assert!(rt; has_ends(&histories, 0, 100_000, first, last));
     Ok(())
+}
+
+/// Whether the history of a failed run has so many entries, the last of which is of this number.
+fn has_failed(histories: &Histories, run: u32, length: usize, last: u64) -> bool {
+    let first = entry(run.into(), Verdict::Failed, Effect::Closed(Phase::Failed));
+    let last = entry(last, Verdict::Failed, Effect::Late);
+    has_ends(histories, run as usize, length, first, last)
 }
 
 /// The runs in turn: 1,563 events for each of the first 32, 1,562 for the others.
 #[test]
 fn many_events_of_many_runs(rt: HostRuntime) -> Result<(), Fail> {
-    let alloc = rt.alloc();
-    let document = document(alloc, 64, 100_000, 0)?;
-    let histories = histories(alloc, document.as_str())?;
-    for (run, length, last) in [(0, 1563, 99_968), (31, 1563, 99_999), (63, 1562, 99_967)] {
-        let history = history_of(&histories, run);
-        assert_eq!(rt; history.len(), length, "{run}");
-        let first = entry(run as u64, Verdict::Failed, Effect::Closed(Phase::Failed));
-        assert_eq!(rt; history.first(), Some(&first), "{run}");
-        let last = entry(last, Verdict::Failed, Effect::Late);
-        assert_eq!(rt; history.last(), Some(&last), "{run}");
-    }
+    let document = document(rt.alloc(), 64, 100_000, 0)?;
+    let histories = histories(rt.alloc(), document.as_str())?;
+    assert!(rt; has_failed(&histories, 0, 1563, 99_968));
+    assert!(rt; has_failed(&histories, 31, 1563, 99_999));
+    assert!(rt; has_failed(&histories, 63, 1562, 99_967));
     Ok(())
 }
 
-/// Lists are given back as they were handed in.
-#[test]
-fn given_back(rt: HostRuntime) -> Result<(), Fail> {
-    let alloc = rt.alloc();
-    let only = entry(7, Verdict::Failed, Effect::Late);
+/// A history of one entry.
+fn history(alloc: Global, only: Entry) -> Result<History, Fail> {
     let mut history = History::new(alloc);
     history.push(only)?;
-    let histories = Histories::from(vec![in alloc; history]?);
-    for history in histories.into_vec() {
-        let entries = History::from(history.into_vec());
-        assert_eq!(rt; entries.entries(), [only].as_slice());
-    }
+    Ok(history)
+}
+
+/// Whether histories, and a history of them, are given back as they were handed in.
+fn are_histories_given_back(alloc: Global) -> Result<bool, Fail> {
+    let only = entry(7, Verdict::Failed, Effect::Late);
+    let history = History::from(history(alloc, only)?.into_vec());
+    let histories = Histories::from(vec![in alloc; history]?).into_vec();
+    Ok(matches!(histories.as_slice(), [history] if history.entries() == [only].as_slice()))
+}
+
+/// Whether limits are.
+fn are_limits_given_back(alloc: Global) -> Result<bool, Fail> {
     let limits = Limits {
         failure: 1,
         inconclusive: 2,
@@ -118,7 +126,14 @@ fn given_back(rt: HostRuntime) -> Result<(), Fail> {
         count: Some(4),
     };
     let list = RunLimits::from(vec![in alloc; limits]?).into_vec();
-    assert_eq!(rt; list.as_slice(), [limits].as_slice());
-    assert!(rt; Judges::from(Vec::new(alloc)).into_vec().is_empty());
+    Ok(list.as_slice() == [limits].as_slice())
+}
+
+/// Lists are given back as they were handed in.
+#[test]
+fn given_back(rt: HostRuntime) -> Result<(), Fail> {
+    assert!(rt; are_histories_given_back(rt.alloc())?);
+    assert!(rt; are_limits_given_back(rt.alloc())?);
+    assert!(rt; Judges::from(Vec::new(rt.alloc())).into_vec().is_empty());
     Ok(())
 }

@@ -89,6 +89,47 @@ fn answer<M: BundleName, L: LockName>(
     }
 }
 
+/// Whether a call comes to this.
+fn is_answered<M: BundleName, L: LockName>(
+    alloc: Global,
+    bundle: &Bundle,
+    workers: usize,
+    cell: &mut RunCell<'_, M, L>,
+    mine: &mut Share<L>,
+    call: Call,
+    expected: &str,
+) -> Result<bool, Fail>
+    requires bundle { bundle.now ≡ M.bundle }
+    requires workers { workers ≡ M.workers }
+    requires lock { L.lock ≡ 0 }
+    requires part { 0 < mine.old.parts }
+    ensures part { 0 < mine.new.parts }
+{
+    Ok(answer(alloc, bundle, workers, cell, mine, call)?.as_str() == expected)
+}
+
+/// Asserts what each call comes to.
+fn assert_answers<M: BundleName, L: LockName>(
+    rt: &impl Abort,
+    alloc: Global,
+    bundle: &Bundle,
+    workers: usize,
+    cell: &mut RunCell<'_, M, L>,
+    mine: &mut Share<L>,
+    calls: &[(Call, &str)],
+) -> Result<(), Fail>
+    requires bundle { bundle.now ≡ M.bundle }
+    requires workers { workers ≡ M.workers }
+    requires lock { L.lock ≡ 0 }
+    requires part { 0 < mine.old.parts }
+{
+    for (call, expected) in calls {
+        let is_right = is_answered(alloc, bundle, workers, cell, mine, *call, expected)?;
+        assert!(rt; is_right, "{call:?}");
+    }
+    Ok(())
+}
+
 /// Asserts what each call on an empty cell comes to, of so many workers.
 fn assert_calls<M: BundleName, L: LockName>(
     rt: &impl Abort,
@@ -107,11 +148,7 @@ fn assert_calls<M: BundleName, L: LockName>(
 {
     let (book, mut mine) = blank.open::<L>();
     let mut cell = RunCell::<M, L>::new(alloc, bundle, workers, book)?;
-    for (call, expected) in calls {
-        let answer = answer(alloc, bundle, workers, &mut cell, &mut mine, *call)?;
-        assert_eq!(rt; answer.as_str(), *expected, "{call:?}");
-    }
-    Ok(())
+    assert_answers(rt, alloc, bundle, workers, &mut cell, &mut mine, calls)
 }
 
 /// The same for the bundle of a document.

@@ -12,22 +12,32 @@ const SUCCESS_RATE: [u8; 18] = [
     0x24, 0x38,
 ];
 
+/// Code that pushes a number and doesn't return.
+fn without_return(alloc: Global) -> Result<Code, AllocError> {
+    let ops = vec![in alloc; Op::PushWhole(7)]?;
+    Ok(Code::of_parts(ops, Vec::new(alloc), Vec::new(alloc)))
+}
+
+/// Whether code is refused for want of a return, and is given back.
+fn is_given_back(alloc: Global, code: Code) -> bool {
+    let reason = Reason::NoReturn;
+    match verify(alloc, code, Shape::Whole) {
+        Ok(_) => false,
+        Err(refused) => {
+            refused.cause == Cause::Fault { place: 0, reason }
+                && matches!(refused.code.ops(), [Op::PushWhole(7)])
+        }
+    }
+}
+
 /// Code that is refused is given back.
 #[test]
 fn refused_code(rt: HostRuntime) -> Result<(), Fail> {
-    let alloc = rt.alloc();
-    let ops = vec![in alloc; Op::PushWhole(7)]?;
-    let code = Code::of_parts(ops, Vec::new(alloc), Vec::new(alloc));
-    assert_eq!(rt;
-        encode(alloc, &code)?.as_slice(),
-        b"ARCV\x01\x00\x00\x01\x02\x0e".as_slice()
+    let code = without_return(rt.alloc())?;
+    assert!(rt;
+        encode(rt.alloc(), &code)?.as_slice() == b"ARCV\x01\x00\x00\x01\x02\x0e".as_slice()
     );
-    let Err(refused) = verify(alloc, code, Shape::Whole) else {
-        return Err(Fail::from("expected a refusal"));
-    };
-    let reason = Reason::NoReturn;
-    assert!(rt; refused.cause == Cause::Fault { place: 0, reason });
-    assert!(rt; matches!(refused.code.ops(), [Op::PushWhole(7)]));
+    assert!(rt; is_given_back(rt.alloc(), code));
     Ok(())
 }
 

@@ -1,6 +1,6 @@
-//! Tests of public calls that need Rust: that calls succeed with ample memory on inputs as large as
-//! may be, what is lent and given back, readers and writers in memory, and laws. What takes data and
-//! gives data stands as cases in files.
+//! Tests of the libraries that need Rust: that calls succeed with ample memory on inputs as large as may
+//! be, what is lent and given back, cells and boards. What takes data and gives data stands as cases in
+//! files.
 //!
 //! - `values`: shapes and values of as many items and levels as may be, and refused growths
 //! - `phases`: runs of as many events as may be
@@ -9,9 +9,6 @@
 //! - `bundles`: plain runs of as many events as may be, and lists that are given back
 //! - `boards`: posts and looks by the seats of a board, and what closing it gives
 //! - `cells`: what a board keeps under a lock: posts, and looks with receipts
-//! - `commands`: commands on inputs that come a byte at a time, that can't be read, and that are kept
-//! - `workers`: runs with workers, two of which judge at once
-//! - `laws`: laws
 #![tactic(auto)]
 
 #[cfg(test)]
@@ -23,14 +20,8 @@ mod cells;
 #[cfg(test)]
 mod code;
 #[cfg(test)]
-mod commands;
-#[cfg(test)]
-mod laws;
-#[cfg(test)]
 mod phases;
 #[cfg(test)]
 mod templates;
 #[cfg(test)]
 mod values;
-#[cfg(test)]
-mod workers;

@@ -6,12 +6,18 @@ use serde_json::Value as Json;
 use std::alloc::{AllocError, Global};
 use std::test::Fail;
 
+/// Gives an argument this value.
+fn set(alloc: Global, args: &mut Args, name: &str, value: &str) -> Result<(), AllocError> {
+    args.insert(alloc, name, Text::of(alloc, value)?)?;
+    Ok(())
+}
+
 /// The arguments `b`, whose first value is replaced, and `a`.
 fn two_arguments(alloc: Global) -> Result<Args, AllocError> {
     let mut args = Args::new(alloc);
-    for (name, value) in [("b", "1"), ("a", "2"), ("b", "3")] {
-        args.insert(alloc, name, Text::of(alloc, value)?)?;
-    }
+    set(alloc, &mut args, "b", "1")?;
+    set(alloc, &mut args, "a", "2")?;
+    set(alloc, &mut args, "b", "3")?;
     Ok(args)
 }
 
@@ -22,16 +28,16 @@ fn shown<'args>(args: &'args Args, name: &str) -> &'args str {
     }
 }
 
+/// Whether the two arguments are there, and no other.
+fn has_both(args: &Args) -> bool {
+    args.len() == 2 && shown(args, "b") == "3" && shown(args, "a") == "2" && shown(args, "") == "-"
+}
+
 /// Arguments keep one value for each name.
 #[test]
 fn arguments(rt: HostRuntime) -> Result<(), Fail> {
-    let none: Args = Args::new(rt.alloc());
-    assert!(rt; none.is_empty());
-    let args = two_arguments(rt.alloc())?;
-    assert_eq!(rt; args.len(), 2);
-    for (name, expected) in [("b", "3"), ("a", "2"), ("", "-")] {
-        assert_eq!(rt; shown(&args, name), expected, "{name}");
-    }
+    assert!(rt; Args::new(rt.alloc()).is_empty());
+    assert!(rt; has_both(&two_arguments(rt.alloc())?));
     Ok(())
 }
 
@@ -44,25 +50,33 @@ fn template(alloc: Global) -> Result<Template, Fail> {
     Ok(Template::read(alloc, &json)?)
 }
 
+/// Whether a template's name and its two metrics are given back.
+fn gives_parts(template: Template) -> bool {
+    let name = template.name.into_string();
+    let metrics = Metrics::from(template.metrics.into_vec());
+    name.as_str() == "t" && metrics.as_slice().len() == 2
+}
+
 /// A template's name and metrics are given back.
 #[test]
 fn parts_of_a_template(rt: HostRuntime) -> Result<(), Fail> {
-    let template = template(rt.alloc())?;
-    assert_eq!(rt; template.name.into_string().as_str(), "t");
-    let metrics = Metrics::from(template.metrics.into_vec());
-    assert_eq!(rt; metrics.as_slice().len(), 2);
+    assert!(rt; gives_parts(template(rt.alloc())?));
     Ok(())
+}
+
+/// The template's metrics, bound to the two arguments.
+fn bound(alloc: Global) -> Result<Bound, Fail> {
+    let args = two_arguments(alloc)?;
+    Ok(Bound::from(template(alloc)?.bind(alloc, &args)?.into_metrics()))
 }
 
 /// So are bound metrics.
 #[test]
 fn bound_metrics(rt: HostRuntime) -> Result<(), Fail> {
-    let alloc = rt.alloc();
-    let args = two_arguments(alloc)?;
-    let bound = Bound::from(template(alloc)?.bind(alloc, &args)?.into_metrics());
-    assert_eq!(rt; bound.metrics().len(), 2);
-    for (metric, name) in bound.metrics().iter().zip(["m", "n"]) {
-        assert_eq!(rt; metric.name.as_str(), name);
-    }
+    let bound = bound(rt.alloc())?;
+    let [first, second] = bound.metrics() else {
+        return Err(Fail::from("expected two metrics"));
+    };
+    assert!(rt; first.name.as_str() == "m" && second.name.as_str() == "n");
     Ok(())
 }

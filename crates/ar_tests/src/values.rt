@@ -36,18 +36,27 @@ fn items(alloc: Global, count: u32, item: i64) -> Result<Value, AllocError> {
     Ok(Value::List(Values { items }))
 }
 
+/// The JSON text of a list of so many numbers -17 and another number.
+fn list_text(alloc: Global, count: usize, last: i64) -> Result<String, AllocError> {
+    let others = "-17,".repeat(alloc, count)?;
+    format!(in alloc; "[{others}{last}]")
+}
+
+/// Whether 10,000 items are all kept.
+fn keeps_most(alloc: Global, shape: &Shape) -> Result<bool, Fail> {
+    let json = list_text(alloc, 9_999, -17)?;
+    let value = items(alloc, 10_000, -17)?;
+    is_read(alloc, shape, json.as_str(), &value)
+}
+
 /// A list of 10,000 items keeps them all, and a longer one is refused.
 #[test]
 fn long_list(rt: HostRuntime) -> Result<(), Fail> {
-    let alloc = rt.alloc();
-    let others = "-17,".repeat(alloc, 9_999)?;
-    let json = format!(in alloc; "[{others}-17]")?;
-    let longer = format!(in alloc; "[{others}-17,0]")?;
-    let shape = shape_of(alloc, r#"{"list":"whole","max":10000}"#)?;
-    let fault = fault_of(alloc, &shape, longer.as_str())?;
-    assert_eq!(rt; fault, Some(ShapeFault::ListTooLong));
-    let value = items(alloc, 10_000, -17)?;
-    assert!(rt; is_read(alloc, &shape, json.as_str(), &value)?);
+    let shape = shape_of(rt.alloc(), r#"{"list":"whole","max":10000}"#)?;
+    assert!(rt; keeps_most(rt.alloc(), &shape)?);
+    let longer = list_text(rt.alloc(), 10_000, 0)?;
+    let fault = fault_of(rt.alloc(), &shape, longer.as_str())?;
+    assert!(rt; fault == Some(ShapeFault::ListTooLong));
     Ok(())
 }
 
@@ -75,19 +84,27 @@ fn nested(alloc: Global, levels: u32, innermost: Value) -> Result<Value, AllocEr
     Ok(value)
 }
 
+/// The JSON text of such a value.
+fn nested_text(alloc: Global, levels: usize, innermost: &str) -> Result<String, AllocError> {
+    let opening = "[".repeat(alloc, levels)?;
+    let closing = "]".repeat(alloc, levels)?;
+    format!(in alloc; "{opening}{innermost}{closing}")
+}
+
+/// Whether a value of as many levels as may be is read.
+fn keeps_deepest(alloc: Global) -> Result<bool, Fail> {
+    let shape = shape_of(alloc, declaration(alloc, 15)?.as_str())?;
+    let json = nested_text(alloc, 15, "\"0.5\"")?;
+    let half = Value::Decimal(Decimal::from_millionths(500_000));
+    is_read(alloc, &shape, json.as_str(), &nested(alloc, 15, half)?)
+}
+
 /// A shape has 16 levels at most, and a value of all of them is read.
 #[test]
 fn nested_lists(rt: HostRuntime) -> Result<(), Fail> {
-    let alloc = rt.alloc();
-    let refusal = refusal_of(alloc, declaration(alloc, 16)?.as_str())?;
-    assert_eq!(rt; refusal, Some(ShapeError::TooDeep));
-    let opening = "[".repeat(alloc, 15)?;
-    let closing = "]".repeat(alloc, 15)?;
-    let json = format!(in alloc; "{opening}\"0.5\"{closing}")?;
-    let shape = shape_of(alloc, declaration(alloc, 15)?.as_str())?;
-    let half = Value::Decimal(Decimal::from_millionths(500_000));
-    let value = nested(alloc, 15, half)?;
-    assert!(rt; is_read(alloc, &shape, json.as_str(), &value)?);
+    let refusal = refusal_of(rt.alloc(), declaration(rt.alloc(), 16)?.as_str())?;
+    assert!(rt; refusal == Some(ShapeError::TooDeep));
+    assert!(rt; keeps_deepest(rt.alloc())?);
     Ok(())
 }
 

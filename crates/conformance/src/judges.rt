@@ -179,16 +179,14 @@ fn put_both_bounds(out: &mut String, judge: &Judge) -> Written {
 }
 
 fn put_bounds(out: &mut String, name: &str, verified: Option<&Verified>) -> Written {
+    out.push_str(name)?;
     match verified {
-        Some(verified) => {
-            write!(
-                out,
-                "{name} depth={} budget={}",
-                verified.depth(),
-                verified.budget()
-            )?
-        }
-        None => write!(out, "{name} none")?,
+        Some(verified) => put_bounds_of(out, verified),
+        None => put_str(out, " none"),
     }
+}
+
+fn put_bounds_of(out: &mut String, verified: &Verified) -> Written {
+    write!(out, " depth={} budget={}", verified.depth(), verified.budget())?;
     Ok(())
 }

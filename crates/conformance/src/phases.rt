@@ -27,21 +27,25 @@ const PHASES: [Phase; 6] = [
     Phase::Inconclusive,
 ];
 
-/// Whether a phase is complete, and whether it is so without success.
-fn put_phase(case: &Json, out: &mut String) -> Written {
-    let name = members::text(case, "phase")?;
+fn phase_of(name: &str) -> Option<Phase> {
     for phase in PHASES {
         if phase_name(phase) == name {
-            write!(
-                out,
-                "complete={} unsuccessful={}",
-                phase.is_complete(),
-                phase.is_unsuccessful()
-            )?;
-            return Ok(());
+            return Some(phase);
         }
     }
-    Err(CaseFault::Member)
+    None
+}
+
+/// Whether a phase is complete, and whether it is so without success.
+fn put_phase(case: &Json, out: &mut String) -> Written {
+    let phase = phase_of(members::text(case, "phase")?).ok_or(CaseFault::Member)?;
+    write!(
+        out,
+        "complete={} unsuccessful={}",
+        phase.is_complete(),
+        phase.is_unsuccessful()
+    )?;
+    Ok(())
 }
 
 /// A limit of a list of four.

@@ -95,37 +95,42 @@ fn served(
     serve_plain(alloc, command, &mut reader, &mut writer)
 }
 
-/// Asserts what a command writes of an input that comes a byte at a time.
-fn assert_slow(rt: &impl Abort, alloc: Global, command: Command, expected: &str)
+/// Whether a command writes just this of an input that comes a byte at a time.
+fn writes(alloc: Global, command: Command, expected: &str) -> bool
     requires { RunsAlone command }
 {
     let mut output = Vec::new(alloc);
     let outcome = served(alloc, command, DOCUMENT.len() + 1, &mut output);
-    assert!(rt; matches!(outcome, Ok(Closing::Good)), "{command:?}");
-    assert_eq!(rt; output.as_slice(), expected.as_bytes(), "{command:?}");
+    matches!(outcome, Ok(Closing::Good)) && output.as_slice() == expected.as_bytes()
 }
 
 /// An input that comes a byte at a time is answered as any other.
 #[test]
 fn a_byte_a_read(rt: HostRuntime) {
-    assert_slow(&rt, rt.alloc(), Command::Plain, PLAIN);
-    assert_slow(&rt, rt.alloc(), Command::Check, CHECK);
-    assert_slow(&rt, rt.alloc(), Command::List, LIST);
+    assert!(rt; writes(rt.alloc(), Command::Plain, PLAIN));
+    assert!(rt; writes(rt.alloc(), Command::Check, CHECK));
+    assert!(rt; writes(rt.alloc(), Command::List, LIST));
 }
 
-/// Asserts that a command tells so and writes nothing, where its reader fails: at once, inside the
-/// document, and where the end would be found.
+/// Whether a command tells that its reader failed behind so many reads, and writes nothing.
+fn tells_failing(alloc: Global, command: Command, reads: usize) -> bool
+    requires { RunsAlone command }
+{
+    let mut output = Vec::new(alloc);
+    let outcome = served(alloc, command, reads, &mut output);
+    matches!(outcome, Err(ServeError::Read)) && output.is_empty()
+}
+
+/// Asserts that a command does so where its reader fails at once, inside the document, and where the end
+/// would be found.
 fn assert_failing(rt: &impl Abort, alloc: Global, command: Command)
     requires { RunsAlone command }
 {
     for reads in [0, 1, 100, DOCUMENT.len() - 1, DOCUMENT.len()] {
-        let mut output = Vec::new(alloc);
-        let outcome = served(alloc, command, reads, &mut output);
         assert!(rt;
-            matches!(outcome, Err(ServeError::Read)),
+            tells_failing(alloc, command, reads),
             "{command:?}, {reads}"
         );
-        assert!(rt; output.is_empty(), "{command:?}, {reads}");
     }
 }
 
@@ -138,26 +143,33 @@ fn failing_reads(rt: HostRuntime) {
     assert_failing(&rt, rt.alloc(), Command::List);
 }
 
-/// Asserts what a command writes of an input that is kept, which has all been read then.
-fn assert_kept(rt: &impl Abort, alloc: Global, command: Command, expected: &str)
+/// Whether a command succeeds on an input that is kept, all of which has been read then.
+fn reads_all(alloc: Global, command: Command, output: &mut Vec<u8>) -> bool
+    requires { RunsAlone command }
+{
+    let mut reader = Kept::new(alloc, Device::new(DOCUMENT.as_bytes()));
+    let mut writer = Device::new(output);
+    let outcome = serve_plain(alloc, command, &mut reader, &mut writer);
+    matches!(outcome, Ok(Closing::Good))
+        && reader.bytes() == DOCUMENT.as_bytes()
+        && !reader.failed()
+        && !reader.wants_memory()
+}
+
+/// Whether a command does so and writes just this.
+fn writes_of_kept(alloc: Global, command: Command, expected: &str) -> bool
     requires { RunsAlone command }
 {
     let mut output = Vec::new(alloc);
-    let mut reader = Kept::new(alloc, Device::new(DOCUMENT.as_bytes()));
-    let mut writer = Device::new(&mut output);
-    let outcome = serve_plain(alloc, command, &mut reader, &mut writer);
-    assert!(rt; matches!(outcome, Ok(Closing::Good)), "{command:?}");
-    assert_eq!(rt; output.as_slice(), expected.as_bytes(), "{command:?}");
-    assert!(rt; reader.bytes() == DOCUMENT.as_bytes(), "{command:?}");
-    assert!(rt; !reader.failed() && !reader.wants_memory());
+    reads_all(alloc, command, &mut output) && output.as_slice() == expected.as_bytes()
 }
 
 /// A source that keeps what was read has read it all once a document is answered.
 #[test]
 fn kept_input(rt: HostRuntime) {
-    assert_kept(&rt, rt.alloc(), Command::Plain, PLAIN);
-    assert_kept(&rt, rt.alloc(), Command::Check, CHECK);
-    assert_kept(&rt, rt.alloc(), Command::List, LIST);
+    assert!(rt; writes_of_kept(rt.alloc(), Command::Plain, PLAIN));
+    assert!(rt; writes_of_kept(rt.alloc(), Command::Check, CHECK));
+    assert!(rt; writes_of_kept(rt.alloc(), Command::List, LIST));
 }
 
 /// A reader that fails once, and then is at its end.

@@ -1,16 +1,24 @@
 //! Runs with workers: that two of them judge at once, and what they report.
 
-use crate::boards::numbers;
-use crate::cells::TWO_RUNS;
+ghost use Rattle.std.specs.Prelude.{◌≤◌};
+
+use ar_bundle::{Histories, History};
 use ar_command::{Closing, Command, Device, Kept, serve};
 use ar_document::read_bundle;
 use ar_workers::{Gate, run_all};
+use std::alloc::Global;
 use std::hint::spin_loop;
+use std::sync::Wait;
 use std::sync::atomic::{AtomicBool, AtomicUsize, Ordering};
 use std::test::Fail;
+use std::thread::Threads;
 
 /// How often a number looks whether the other has come.
 const TURNS: u32 = 10_000_000;
+
+/// Two runs, each with one measurement, which holds.
+const TWO_RUNS: &str =
+    r#"{"manifest":{"apiVersion":"argoproj.io/v1alpha1","kind":"AnalysisTemplate","metadata":{"name":"t"},"spec":{"metrics":[{"name":"m","successCondition":"result > 1"}]}},"shapes":{"m":"whole"},"runs":[{"name":"r0"},{"name":"r1"}],"measurements":[{"run":"r0","metric":"m","value":2},{"run":"r1","metric":"m","value":3}]}"#;
 
 /// What is reported of `TWO_RUNS`.
 const REPORT: &str = "\
@@ -25,6 +33,33 @@ event 1 m Successful closed Successful
 /// A run that is measured three times, and stays open.
 const THREE_ENTRIES: &str =
     r#"{"manifest":{"apiVersion":"argoproj.io/v1alpha1","kind":"AnalysisTemplate","metadata":{"name":"t"},"spec":{"metrics":[{"name":"m","interval":"1m","successCondition":"result > 1"}]}},"shapes":{"m":"whole"},"runs":[{"name":"r0"}],"measurements":[{"run":"r0","metric":"m","value":2},{"run":"r0","metric":"m","value":3},{"run":"r0","metric":"m","value":4}]}"#;
+
+/// The histories of a document's run with so many workers.
+fn histories<G: Gate, R: Threads + Wait + Sync>(
+    rt: &R,
+    alloc: Global,
+    document: &str,
+    workers: usize,
+    gate: &G,
+) -> Result<Histories, Fail>
+    requires { (1 ≤ workers) × (workers ≤ 16) }
+{
+    let bundle = read_bundle(alloc, document.as_bytes())?;
+    match run_all(rt, alloc, &bundle, workers, gate) {
+        Ok(histories) => Ok(histories),
+        Err(_) => Err(Fail::from("expected histories")),
+    }
+}
+
+/// Whether a history has just these numbers, in this order.
+fn has_numbers(history: &History, numbers: &[u64]) -> bool {
+    let entries = history.entries();
+    entries.len() == numbers.len()
+        && entries
+            .iter()
+            .zip(numbers)
+            .all(|(entry, number)| entry.number == *number)
+}
 
 /// A gate at which numbers 0 and 1 wait for each other.
 #[derive(Drop)]
@@ -64,15 +99,27 @@ impl Gate for Meeting {
 /// Two workers judge at the same time: each waits for the other's number before it judges its own.
 #[test]
 fn two_workers_meet(rt: HostRuntime) -> Result<(), Fail> {
-    let alloc = rt.alloc();
-    let bundle = read_bundle(alloc, TWO_RUNS.as_bytes())?;
     let meeting = Meeting::new();
-    let Ok(histories) = run_all(&rt, alloc, &bundle, 2, &meeting) else {
-        return Err(Fail::from("expected histories"));
+    let histories = histories(&rt, rt.alloc(), TWO_RUNS, 2, &meeting)?;
+    let [first, second] = histories.runs() else {
+        return Err(Fail::from("expected two runs"));
     };
-    assert_eq!(rt; numbers(alloc, &histories)?.as_str(), "0 / 1 / ");
+    assert!(rt; has_numbers(first, &[0]) && has_numbers(second, &[1]));
     assert!(rt; meeting.is_held());
     Ok(())
+}
+
+/// Whether two workers' run of the document is served.
+fn is_served<G: Gate, R: Threads + Wait + Sync>(
+    rt: &R,
+    alloc: Global,
+    output: &mut Vec<u8>,
+    gate: &G,
+) -> bool {
+    let mut reader = Kept::new(alloc, Device::new(TWO_RUNS.as_bytes()));
+    let mut writer = Device::new(output);
+    let outcome = serve(rt, alloc, Command::Run(2), &mut reader, &mut writer, gate);
+    matches!(outcome, Ok(Closing::Good))
 }
 
 /// So they do where a document is served.
@@ -81,11 +128,7 @@ fn two_workers_meet_in_a_command(rt: HostRuntime) {
     let alloc = rt.alloc();
     let meeting = Meeting::new();
     let mut output = Vec::new(alloc);
-    let mut reader = Kept::new(alloc, Device::new(TWO_RUNS.as_bytes()));
-    let mut writer = Device::new(&mut output);
-    let command = Command::Run(2);
-    let outcome = serve(&rt, alloc, command, &mut reader, &mut writer, &meeting);
-    assert!(rt; matches!(outcome, Ok(Closing::Good)));
+    assert!(rt; is_served(&rt, alloc, &mut output, &meeting));
     assert_eq!(rt; output.as_slice(), REPORT.as_bytes());
     assert!(rt; meeting.is_held());
 }
@@ -117,18 +160,16 @@ impl Gate for Holding {
 /// While one worker holds number 0 the other posts number 1, which the history then shows before it.
 #[test]
 fn posted_before_one_that_is_held(rt: HostRuntime) -> Result<(), Fail> {
-    let alloc = rt.alloc();
-    let bundle = read_bundle(alloc, THREE_ENTRIES.as_bytes())?;
     let holding = Holding {
         came: AtomicBool::new(false),
         held: AtomicBool::new(false),
     };
-    let Ok(histories) = run_all(&rt, alloc, &bundle, 2, &holding) else {
-        return Err(Fail::from("expected histories"));
-    };
+    let histories = histories(&rt, rt.alloc(), THREE_ENTRIES, 2, &holding)?;
     assert!(rt; holding.held.load(Ordering::SeqCst));
-    let numbers = numbers(alloc, &histories)?;
-    assert!(rt; numbers.as_str() == "1 0 2 / " || numbers.as_str() == "1 2 0 / ");
+    let [history] = histories.runs() else {
+        return Err(Fail::from("expected one run"));
+    };
+    assert!(rt; has_numbers(history, &[1, 0, 2]) || has_numbers(history, &[1, 2, 0]));
     Ok(())
 }
 
@@ -165,8 +206,6 @@ impl Gate for Crowd {
 /// As many workers as were asked for come to the gate, each with a number of its own, and once for it.
 #[test]
 fn each_worker_comes(rt: HostRuntime) -> Result<(), Fail> {
-    let alloc = rt.alloc();
-    let bundle = read_bundle(alloc, THREE_ENTRIES.as_bytes())?;
     let crowd = Crowd {
         came: [
             AtomicUsize::new(0),
@@ -175,7 +214,7 @@ fn each_worker_comes(rt: HostRuntime) -> Result<(), Fail> {
         ],
         met: AtomicUsize::new(0),
     };
-    assert!(rt; run_all(&rt, alloc, &bundle, 3, &crowd).is_ok());
+    histories(&rt, rt.alloc(), THREE_ENTRIES, 3, &crowd)?;
     for came in &crowd.came {
         assert_eq!(rt; came.load(Ordering::SeqCst), 1);
     }
