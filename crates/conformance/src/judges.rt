@@ -187,6 +187,11 @@ fn put_bounds(out: &mut String, name: &str, verified: Option<&Verified>) -> Writ
 }
 
 fn put_bounds_of(out: &mut String, verified: &Verified) -> Written {
-    write!(out, " depth={} budget={}", verified.depth(), verified.budget())?;
+    write!(
+        out,
+        " depth={} budget={}",
+        verified.depth(),
+        verified.budget()
+    )?;
     Ok(())
 }
