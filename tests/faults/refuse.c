@@ -1,6 +1,7 @@
 /* Preloaded, it refuses one growth of memory: the call of malloc's family whose number, counted
    from 1, stands in REFUSE_CALL. It says so by a byte to file descriptor 9. The calls that the C
-   library makes before this one is set up are not counted.
+   library makes before this one is set up are not counted. Where REFUSE_ON_WORKERS is set, the calls
+   of the first thread are not counted either.
 
    It refuses to start the thread whose number stands in REFUSE_THREAD, and says so likewise.
 
@@ -17,7 +18,7 @@
 
 static long refused, refused_thread;
 static atomic_long calls, threads;
-static int counting;
+static int counting, on_workers;
 static long left = -1;
 static ssize_t (*next_write)(int, const void *, size_t);
 static void *(*next_malloc)(size_t);
@@ -40,6 +41,7 @@ __attribute__((constructor)) static void start(void)
     next_create = dlsym(RTLD_NEXT, "pthread_create");
     refused = number ? atol(number) : 0;
     refused_thread = thread ? atol(thread) : 0;
+    on_workers = getenv("REFUSE_ON_WORKERS") != NULL;
     counting = 1;
 }
 
@@ -51,7 +53,9 @@ static void tell(void)
 
 static int is_refused(void)
 {
-    if (!counting || atomic_fetch_add(&calls, 1) + 1 != refused)
+    if (!counting || (on_workers && gettid() == getpid()))
+        return 0;
+    if (atomic_fetch_add(&calls, 1) + 1 != refused)
         return 0;
     tell();
     return 1;

@@ -1,14 +1,6 @@
-pub mod CoreSteps
-pub mod Places
-pub mod Cells
-pub mod Shows
-pub mod Under
+pub mod UnderLocks
 pub mod Seats
 pub mod Marks
-pub mod Unheld
+pub mod Stored
+pub mod Given
 pub mod Closed
-pub mod Opened
-pub mod ReceiptLemmas
-pub mod CorePost
-pub mod CoreOpening
-pub mod CoreShown

@@ -6,14 +6,14 @@ use Rattle.std.proofs.lemmas.List.{length-replicate, length-set, map_push, take_
 use Rattle.std.proofs.lemmas.Option.{slice_get_read, slice_get_within}
 use Rattle.ar_bundle.specs.Bundle.{Bundle, IsBundle, most_runs, run_of}
 use Rattle.ar_bundle.specs.declared.history.Entry.{Entry}
-use Rattle.ar_board.specs.Receipts.{IsLater, IsMet}
+use Rattle.ar_cell.specs.Receipts.{IsLater, IsMet}
 use Rattle.ar_board.specs.Private.Closing.{AreAllMarked, AreLast, AreMarked, AreMet, AreOwn, IsAt, IsBehind, IsLast, IsLaterOf, IsUnmet, LastOf, MarkedAmong, MarkedAs}
-use Rattle.ar_board.specs.declared.receipt.Receipt.{Receipt}
+use Rattle.ar_cell.specs.declared.receipt.Receipt.{Receipt}
 use Rattle.ar_bundle.proofs.Bundles.{run_of_number}
 use Rattle.ar_bundle.proofs.HistoryLemmas.{all_push}
 use Rattle.ar_bundle.proofs.Room.{number_inside}
-use Rattle.ar_board.proofs.Cells.{cases_at}
-use Rattle.ar_board.proofs.Opened.{pushed_at}
+use Rattle.ar_cell.proofs.Cells.{cases_at}
+use Rattle.ar_cell.proofs.Opened.{pushed_at}
 use Rattle.ar_board.proofs.Seats.{at_before, at_last}
 
 -- ---- lists
@@ -28,11 +28,11 @@ take_before xs last zero inside = refl
 take_before [] last (suc at) inside = absurd (omega arith)
 take_before (first ∷ xs) last (suc at) inside = ap (λ (rest : List _). first ∷ rest) (take_before xs last at (omega arith))
 
-take_whole : {A : Type 0} (xs : List A) → take (length xs) xs ≡ xs
+pub take_whole : {A : Type 0} (xs : List A) → take (length xs) xs ≡ xs
 take_whole [] = refl
 take_whole (first ∷ xs) = ap (λ (rest : List _). first ∷ rest) (take_whole xs)
 
-take_next : {A : Type 0} (xs : List A) (at : ℕ) (x : A) → at < length xs → x ≡ slice_index_or xs at x → take (at + 1) xs ≡ take at xs ++ x ∷ []
+pub take_next : {A : Type 0} (xs : List A) (at : ℕ) (x : A) → at < length xs → x ≡ slice_index_or xs at x → take (at + 1) xs ≡ take at xs ++ x ∷ []
 take_next xs at x inside read = take_more xs at x inside ∙ ap (λ (last : _). take at xs ++ last ∷ []) (sym read)
 
 replicated : {A : Type 0} (many at : ℕ) (x y : A) → slice_get (replicate many x) at ≡ Some y → x ≡ y

@@ -1,19 +1,21 @@
 -- What workers have of a board.
-use Rattle.std.proofs.Common.{◌≡◌, ◌<◌, ◌↔◌, ℕ, zero, suc, ◌+◌, ◌==◌, Bool, true, false, List, [], ◌∷◌, ◌++◌, length, get_or, set, Some, Result, Ok, Err, refl, sym, ◌∙◌, ap, subst, arith}
-use Rattle.std.specs.Prelude.{IfErr, slice_get}
+use Rattle.std.proofs.Common.{◌≡◌, ◌<◌, ◌≤◌, ◌↔◌, ℕ, zero, suc, ◌+◌, ◌==◌, Bool, true, false, List, [], ◌∷◌, ◌++◌, length, get_or, set, Some, Result, Ok, Err, refl, sym, ◌∙◌, ap, subst, arith}
+use Rattle.std.specs.Prelude.{IfErr, cond, slice_get}
 use Rattle.std.proofs.lemmas.Bool.Decides.{nat_tests}
 use Rattle.std.proofs.lemmas.List.{length_push, map_push}
-use Rattle.std.specs.List.{sum_by}
 use Rattle.std.proofs.lemmas.List.Sums.{sum_by_push}
-use Rattle.ar_bundle.specs.Bundle.{Bundle}
-use Rattle.ar_board.specs.Board.{AreSeated, IsUnseen, Seat, receipts_of, seat_of}
-use Rattle.ar_board.specs.Cell.{CanBe, Cell, IsCell, IsFresh, authors_at, lock_of, posts_of}
+use Rattle.ar_bundle.specs.Bundle.{Bundle, run_of}
+use Rattle.ar_bundle.specs.declared.bundle.EventPart.{EventPart}
+use Rattle.ar_board.specs.Board.{AreSeated, IsUnseen, Seat, received_under, receipts_of, seat_of}
+use Rattle.ar_cell.specs.Cell.{CanBe, Cell, IsCell, IsFresh, authors_at, entries_under, lock_of, posts_of}
 use Rattle.ar_board.specs.Private.Closing.{AreGiven, AreOwn}
-use Rattle.ar_board.specs.declared.receipt.Receipt.{Receipt}
+use Rattle.ar_board.specs.Private.Seats.{Amounts, AreParts, IsOneMore, IsSeat, amount_of, one_under, receipts_under}
+use Rattle.ar_board.proofs.UnderLocks.{by_four, none_of_each, one_in_all, under_four}
+use Rattle.ar_cell.specs.declared.receipt.Receipt.{Receipt}
 use Rattle.ar_bundle.proofs.HistoryLemmas.{all_push}
-use Rattle.ar_board.specs.declared.snapshot.LookFault.{LookFault}
-use Rattle.ar_board.specs.declared.snapshot.LookFault.TheVariants.{OutOfMemory, Stale}
-use Rattle.ar_board.specs.declared.snapshot.Snapshot.{Snapshot}
+use Rattle.ar_cell.specs.declared.snapshot.LookFault.{LookFault}
+use Rattle.ar_cell.specs.declared.snapshot.LookFault.TheVariants.{OutOfMemory, Stale}
+use Rattle.ar_cell.specs.declared.snapshot.Snapshot.{Snapshot}
 
 -- ---- opening
 
@@ -53,31 +55,97 @@ set_back [] at x inside read = absurd (omega arith)
 set_back (first ∷ xs) zero x inside read = ap (λ (first : _). first ∷ xs) read
 set_back (first ∷ xs) (suc at) x inside read = ap (λ (rest : List _). first ∷ rest) (set_back xs at x (omega arith) read)
 
+-- how many receipts there are under a lock, with those of one seat more
+received_push : (lock : ℕ) (receipts : List (List Receipt)) (own : List Receipt) → received_under lock (receipts ++ own ∷ []) ≡ received_under lock receipts + receipts_under lock own
+received_push lock receipts own = sum_by_push (receipts_under lock) receipts own
+
 -- a seat more was emptied
-pub given_next : (bundle : Bundle) (seats : List Seat) (receipts : List (List Receipt)) (parts amount part one worker : ℕ) (seat : Seat) (own : List Receipt) → AreGiven bundle seats receipts parts amount → seat ≡ seat_of worker own → AreOwn bundle own → part ≡ 1 → one ≡ length own
-    → AreGiven bundle (seats ++ seat ∷ []) (receipts ++ own ∷ []) (parts + part) (amount + one)
-given_next bundle seats receipts parts amount part one worker seat own before is are single many =
+pub given_next : (bundle : Bundle) (seats : List Seat) (receipts : List (List Receipt)) (parts amounts part one after after_amounts : Amounts) (seat : Seat) (own : List Receipt) → AreGiven bundle seats receipts parts amounts → seat.receipts ≡ own → AreOwn bundle own → AreParts 1 part
+    → ((lock : ℕ) → amount_of one lock ≡ receipts_under lock own) → ((many more : ℕ) → AreParts many parts → AreParts more part → AreParts (many + more) after) → ((lock : ℕ) → amount_of after_amounts lock ≡ amount_of amounts lock + amount_of one lock)
+    → AreGiven bundle (seats ++ seat ∷ []) (receipts ++ own ∷ []) after after_amounts
+given_next bundle seats receipts parts amounts part one after after_amounts seat own before its_own are single many more_parts more =
     let lists = map_push (λ (seat : Seat). seat.receipts) seats seat in
-    let its_own : seat.receipts ≡ own = ap (λ (seat : Seat). seat.receipts) is in
     let all : receipts ++ own ∷ [] ≡ receipts_of (seats ++ seat ∷ []) = ap (λ (receipts : List (List Receipt)). receipts ++ own ∷ []) before.lists ∙ (ap (λ (own : List Receipt). receipts_of seats ++ own ∷ []) (sym its_own) ∙ sym lists) in
-    let sum = sum_by_push length (receipts_of seats) own in
-    let counted = before.counted in
-    let as_many = before.as_many in
-    let longer = length_push seats seat in
-    let last = ap (λ (own : List Receipt). sum_by length (receipts_of seats ++ own ∷ [])) its_own in
+    let longer : length (seats ++ seat ∷ []) ≡ length seats + 1 = (let pushed = length_push seats seat in omega arith) in
     record {
       lists = all;
       own = all_push (AreOwn bundle) receipts own before.own are;
-      as_many = omega arith;
-      counted = (let added : amount + one ≡ sum_by length (receipts_of seats ++ own ∷ []) = omega arith in added ∙ (sym last ∙ ap (sum_by length) (sym lists)));
+      as_many = subst (λ (many : ℕ). AreParts many after) (sym longer) (more_parts (length seats) 1 before.as_many single);
+      counted = λ lock.
+          let counted = before.counted lock in
+          let own_counted = many lock in
+          let added = more lock in
+          let pushed = received_push lock (receipts_of seats) own in
+          let sum : amount_of after_amounts lock ≡ received_under lock (receipts_of seats ++ own ∷ []) = omega arith in
+          sum ∙ (ap (λ (own : List Receipt). received_under lock (receipts_of seats ++ own ∷ [])) (sym its_own) ∙ ap (received_under lock) (sym lists));
     }
 
-pub none_given : (bundle : Bundle) (parts amount : ℕ) → parts ≡ 0 → amount ≡ 0 → AreGiven bundle [] [] parts amount
-none_given bundle parts amount no_part nothing = record { lists = refl; own = tt; as_many = no_part; counted = nothing }
+pub none_given : (bundle : Bundle) (parts amounts : Amounts) → AreParts 0 parts → AreParts 0 amounts → AreGiven bundle [] [] parts amounts
+none_given bundle parts amounts no_part nothing = record { lists = refl; own = tt; as_many = no_part; counted = none_of_each amounts nothing }
 
 pub nothing_left : {A : Type 0} (xs : List A) → length xs ≡ 0 → xs ≡ []
 nothing_left [] none = refl
 nothing_left (x ∷ xs) none = absurd (omega arith)
+
+-- ---- posting
+
+count_push : (lock : ℕ) (receipts : List Receipt) (receipt : Receipt) → receipts_under lock (receipts ++ receipt ∷ []) ≡ receipts_under lock receipts + one_under (lock_of receipt.run) lock
+count_push lock receipts receipt = by_test (lock_of receipt.run == lock) refl where
+  pushed : receipts_under lock (receipts ++ receipt ∷ []) ≡ receipts_under lock receipts + cond (lock_of receipt.run == lock) 1 0
+  pushed = sum_by_push (λ (receipt : Receipt). cond (lock_of receipt.run == lock) 1 0) receipts receipt
+
+  by_test : (test : Bool) → (lock_of receipt.run == lock) ≡ test → receipts_under lock (receipts ++ receipt ∷ []) ≡ receipts_under lock receipts + one_under (lock_of receipt.run) lock
+  by_test true is = pushed ∙ ap (λ (one : ℕ). receipts_under lock receipts + one) (rw is refl)
+  by_test false is = pushed ∙ ap (λ (one : ℕ). receipts_under lock receipts + one) (rw is refl)
+
+few_now : (bundle : Bundle) (own : ℕ) (before after : Amounts) → IsOneMore bundle own before after → ((lock : ℕ) → amount_of before lock ≤ entries_under bundle lock) → (lock : ℕ) → amount_of after lock ≤ entries_under bundle lock
+few_now bundle own before after one few lock = by_test (own == lock) refl where
+  by_test : (test : Bool) → (own == lock) ≡ test → amount_of after lock ≤ entries_under bundle lock
+  by_test true is = let same : own ≡ lock = grind (arith, nat_tests) in subst (λ (lock : ℕ). amount_of after lock ≤ entries_under bundle lock) same one.few
+  by_test false is =
+      let more = one.more lock in
+      let none : one_under own lock ≡ 0 = rw is refl in
+      let was = few lock in
+      omega arith
+
+-- the seat has room for a receipt more
+pub has_room : (bundle : Bundle) (workers worker own capacity : ℕ) (receipts : List Receipt) (parts before after : Amounts) → IsSeat bundle workers worker receipts capacity parts before → own < 4 → IsOneMore bundle own before after → length receipts < capacity
+has_room bundle workers worker own capacity receipts parts before after seat below one =
+    let few = few_now bundle own before after one seat.few in
+    let received = by_four (λ (receipt : Receipt). lock_of receipt.run) receipts (λ receipt. under_four receipt.run) in
+    let entries = by_four (λ (entry : EventPart). lock_of entry.run) bundle.entries (λ entry. under_four entry.run) in
+    let first = few 0 in
+    let second = few 1 in
+    let third = few 2 in
+    let fourth = few 3 in
+    let one_first = one.more 0 in
+    let one_second = one.more 1 in
+    let one_third = one.more 2 in
+    let one_fourth = one.more 3 in
+    let counted_first = seat.counted 0 in
+    let counted_second = seat.counted 1 in
+    let counted_third = seat.counted 2 in
+    let counted_fourth = seat.counted 3 in
+    let room = seat.room in
+    let single = one_in_all own below in
+    omega arith
+
+pub seat_next : (bundle : Bundle) (workers worker run number place capacity : ℕ) (receipts : List Receipt) (parts after_parts before after : Amounts) → IsSeat bundle workers worker receipts capacity parts before → run_of bundle number ≡ Some run → IsOneMore bundle (lock_of run) before after → AreParts 1 after_parts
+    → IsSeat bundle workers worker (receipts ++ record { run = run; number = number; place = place } ∷ []) capacity after_parts after
+seat_next bundle workers worker run number place capacity receipts parts after_parts before after seat own one single =
+    let receipt : Receipt = record { run = run; number = number; place = place } in
+    record {
+      is_worker = seat.is_worker;
+      own = all_push (λ (receipt : Receipt). run_of bundle receipt.number ≡ Some receipt.run) receipts receipt seat.own own;
+      room = seat.room;
+      part = single;
+      counted = λ lock.
+          let counted = seat.counted lock in
+          let more = one.more lock in
+          let pushed = count_push lock receipts receipt in
+          omega arith;
+      few = few_now bundle (lock_of run) before after one seat.few;
+    }
 
 -- ---- looking
 

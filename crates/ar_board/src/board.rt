@@ -1,21 +1,21 @@
 //! Boards, to which several workers post at the same time.
 
-ghost use Rattle.std.specs.Prelude.{◌≡◌, ◌<◌, ◌≤◌, [], false, IfErr, IfOk, OnErr, Some, length, replicate};
-ghost use Rattle.ar_bundle.specs.Bundle.{found};
+ghost use Rattle.std.specs.Prelude.{◌≡◌, ◌<◌, ◌≤◌, [], false, IfErr, IfOk, OnErr, OnOk, Some, length, replicate};
+ghost use Rattle.ar_bundle.specs.Bundle.{found, run_of};
 ghost use Rattle.std.specs.Vec.{vec_capacity};
 ghost use Rattle.ar_board.specs.Board.{AreSeated, IsClosed, IsLost, IsReceived, IsSeen, IsUnseen, receipts_of};
+ghost use Rattle.ar_board.specs.Private.Seats.{AreParts, IsOneMore, amounts};
+ghost use Rattle.ar_cell.specs.Cell.{lock_of};
 
-use crate::cell::RunCell;
-use crate::closing::note_all_unmet;
+use crate::closing::{Room, first_unheld, note_all_stored, note_all_unmet};
+use crate::locks::{Blanks, First, Fourth, LockNames, Second, Third};
 use crate::lost::Lost;
-use crate::names::{BundleName, LockName};
-use crate::posted::{Double, Posted};
-use crate::receipt::Receipt;
-use crate::seat::{Seat, gather};
-use crate::snapshot::{LookFault, Snapshot};
-use ar_bundle::{Bundle, Finding, Histories, History};
+use crate::seat::{Seat, gather, seats_of};
+use crate::shares::Shares;
+use crate::under;
+use ar_bundle::{Bundle, Finding, Histories};
+use ar_cell::{BundleName, Double, LookFault, Posted, Receipt, RunCell, Snapshot, lock_of_run};
 use std::alloc::{AllocError, Global};
-use std::sync::ledger::{Blank, Share};
 use std::sync::{Mutex, Wait};
 
 #[cfg(test)]
@@ -24,27 +24,26 @@ mod tests;
 /// The most workers that a board has seats for.
 pub const MOST_WORKERS: usize = 16;
 
-/// The runs of a bundle, to which workers post from threads of their own. They are kept under a lock.
+/// The runs of a bundle, to which workers post from threads of their own. They are kept in four cells,
+/// each under a lock.
 #[derive(Drop)]
-pub struct Board<'b, M: BundleName, L: LockName> {
+pub struct Board<'b, M: BundleName, L: LockNames> {
     bundle: &'b Bundle,
-    cell: Mutex<RunCell<'b, M, L>>,
-    // What `close` wants: room for the histories and for the lists of receipts, and whether each number
-    // is unmet.
-    histories: Vec<History>,
-    receipts: Vec<Vec<Receipt>>,
-    unmet: Vec<bool>,
+    first: Mutex<RunCell<'b, M, First<L>>>,
+    second: Mutex<RunCell<'b, M, Second<L>>>,
+    third: Mutex<RunCell<'b, M, Third<L>>>,
+    fourth: Mutex<RunCell<'b, M, Fourth<L>>>,
+    room: Room,
     ghost named: { bundle.now ≡ M.bundle },
-    ghost lock: { L.lock ≡ 0 },
-    ghost no_histories: { histories.items ≡ [] },
-    ghost history_room: { length M.bundle.runs ≤ vec_capacity histories },
-    ghost no_receipts: { receipts.items ≡ [] },
-    ghost receipt_room: { M.workers ≤ vec_capacity receipts },
-    ghost none_unmet: { unmet.items ≡ replicate (length M.bundle.entries) false },
+    ghost histories: { length room.histories.items ≡ length M.bundle.runs },
+    ghost no_receipts: { room.receipts.items ≡ [] },
+    ghost receipt_room: { M.workers ≤ vec_capacity room.receipts },
+    ghost none_unmet: { room.unmet.items ≡ replicate (length M.bundle.entries) false },
+    ghost none_stored: { room.stored.items ≡ replicate (length M.bundle.entries) false },
     ghost some: { 1 ≤ M.workers },
 }
 
-impl<'b, M: BundleName, L: LockName> Board<'b, M, L> {
+impl<'b, M: BundleName, L: LockNames> Board<'b, M, L> {
     /// A board for a bundle and so many workers, with a seat for each of them. All that posts want is
     /// reserved here.
     ///
@@ -53,27 +52,45 @@ impl<'b, M: BundleName, L: LockName> Board<'b, M, L> {
     /// Want of memory alone.
     pub fn new(
         alloc: Global,
-        blank: Blank,
+        blanks: Blanks,
         bundle: &'b Bundle,
         workers: usize,
     ) -> Result<(Board<'b, M, L>, Vec<Seat<M, L>>), AllocError>
         requires bundle { bundle.now ≡ M.bundle }
         requires workers { workers ≡ M.workers }
         requires most { (1 ≤ workers) × (workers ≤ MOST_WORKERS) }
-        requires lock { L.lock ≡ 0 }
-        requires name { blank.name ≡ L.name }
-        requires parts { (blank.parts ≡ L.parts) × (L.parts ≡ M.workers) }
+        requires names { (blanks.first.name ≡ L.first) × (blanks.second.name ≡ L.second)
+            × (blanks.third.name ≡ L.third) × (blanks.fourth.name ≡ L.fourth) }
+        requires blanks { (blanks.first.parts ≡ L.parts) × (blanks.second.parts ≡ L.parts)
+            × (blanks.third.parts ≡ L.parts) × (blanks.fourth.parts ≡ L.parts) }
+        requires parts { L.parts ≡ M.workers }
         ensures seats { IfOk result (λ made. AreSeated M.workers made.1.items) }
     {
-        let (book, all) = blank.open::<L>();
-        let cell = RunCell::new(alloc, bundle, workers, book)?;
+        let Blanks {
+            first,
+            second,
+            third,
+            fourth,
+        } = blanks;
+        let (first, all_first) = under::open::<M, First<L>>(alloc, first, bundle, workers, 0)?;
+        let (second, all_second) = under::open::<M, Second<L>>(alloc, second, bundle, workers, 1)?;
+        let (third, all_third) = under::open::<M, Third<L>>(alloc, third, bundle, workers, 2)?;
+        let (fourth, all_fourth) = under::open::<M, Fourth<L>>(alloc, fourth, bundle, workers, 3)?;
+        let all = Shares {
+            first: all_first,
+            second: all_second,
+            third: all_third,
+            fourth: all_fourth,
+        };
         let seats = seats_of(alloc, workers, bundle.events(), all)?;
+        let room = Room::new(alloc, bundle.runs().len(), workers, bundle.events())?;
         let board = Board {
             bundle,
-            cell: Mutex::new(cell),
-            histories: Vec::with_capacity(alloc, bundle.runs().len())?,
-            receipts: Vec::with_capacity(alloc, workers)?,
-            unmet: vec![in alloc; false; bundle.events() as usize]?,
+            first,
+            second,
+            third,
+            fourth,
+            room,
         };
         Ok((board, seats))
     }
@@ -97,16 +114,61 @@ impl<'b, M: BundleName, L: LockName> Board<'b, M, L> {
         ensures refused { OnErr result (seat.new ≡ seat.old) }
     {
         let run = self.bundle.run_of(number);
-        let mut cell = self.cell.lock(rt);
-        let posted = cell.add(&mut seat.share, seat.worker, number, finding)?;
+        let posted = self.post_under(rt, run, &mut seat.shares, seat.worker, number, finding)?;
         // The seat has room for one receipt of each number: no more were posted than there are.
-        cell.audit(&mut seat.share);
         seat.receipts.push_reserved(Receipt {
             run,
             number,
             place: posted.place,
         });
         Ok(posted)
+    }
+
+    /// The same under the lock of the number's run, by the worker's shares.
+    fn post_under<R: Wait>(
+        &self,
+        rt: &R,
+        run: usize,
+        shares: &mut Shares<L>,
+        worker: usize,
+        number: u64,
+        finding: Finding,
+    ) -> Result<Posted, Double>
+        requires there { number < length M.bundle.entries }
+        requires run { run_of M.bundle number ≡ Some run }
+        requires worker { worker < M.workers }
+        requires finding { found M.bundle number ≡ Some finding }
+        requires part { AreParts 1
+            (amounts shares.old.first.parts shares.old.second.parts shares.old.third.parts shares.old.fourth.parts) }
+        ensures more { OnOk result (IsOneMore M.bundle (lock_of run)
+            (amounts shares.old.first.amount shares.old.second.amount shares.old.third.amount shares.old.fourth.amount)
+            (amounts shares.new.first.amount shares.new.second.amount shares.new.third.amount shares.new.fourth.amount)) }
+        ensures refused { OnErr result (
+            amounts shares.new.first.amount shares.new.second.amount shares.new.third.amount shares.new.fourth.amount
+            ≡ amounts shares.old.first.amount shares.old.second.amount shares.old.third.amount shares.old.fourth.amount) }
+        ensures parts { AreParts 1
+            (amounts shares.new.first.parts shares.new.second.parts shares.new.third.parts shares.new.fourth.parts) }
+    {
+        match lock_of_run(run) {
+            0 => under::post(rt, &self.first, &mut shares.first, worker, number, finding),
+            1 => under::post(
+                rt,
+                &self.second,
+                &mut shares.second,
+                worker,
+                number,
+                finding,
+            ),
+            2 => under::post(rt, &self.third, &mut shares.third, worker, number, finding),
+            _ => under::post(
+                rt,
+                &self.fourth,
+                &mut shares.fourth,
+                worker,
+                number,
+                finding,
+            ),
+        }
     }
 
     /// A run as it stands at one moment, where the worker's entries in it are just those of the seat's
@@ -126,8 +188,13 @@ impl<'b, M: BundleName, L: LockName> Board<'b, M, L> {
         ensures shown { IfOk result (IsSeen M.bundle M.workers run seat.now) }
         ensures fault { IfErr result (IsUnseen M.bundle M.workers run seat.now) }
     {
-        let cell = self.cell.lock(rt);
-        cell.show(alloc, run, seat.worker, seat.receipts.as_slice())
+        let (worker, receipts) = (seat.worker, seat.receipts.as_slice());
+        match lock_of_run(run) {
+            0 => under::look(rt, &self.first, alloc, run, worker, receipts),
+            1 => under::look(rt, &self.second, alloc, run, worker, receipts),
+            2 => under::look(rt, &self.third, alloc, run, worker, receipts),
+            _ => under::look(rt, &self.fourth, alloc, run, worker, receipts),
+        }
     }
 
     /// The histories of the runs, by all seats of the board. Want of memory is never answered. It takes
@@ -145,18 +212,28 @@ impl<'b, M: BundleName, L: LockName> Board<'b, M, L> {
     {
         let Board {
             bundle: _,
-            cell,
-            histories,
+            first,
+            second,
+            third,
+            fourth,
+            room,
+        } = self;
+        let Room {
+            mut histories,
             mut receipts,
             mut unmet,
-        } = self;
-        let mut cell = cell.into_inner();
-        let mut merged = seats[0].empty_share();
-        gather(seats, &mut receipts, &mut merged);
-        cell.audit(&mut merged);
-        note_all_unmet(&cell, receipts.as_slice(), &mut unmet);
-        let unheld = cell.first_unheld(unmet.as_slice());
-        let histories = cell.into_histories(histories);
+            mut stored,
+        } = room;
+        let mut all = seats[0].empty_shares();
+        gather(seats, &mut receipts, &mut all);
+        under::give_up(first, 0, &mut all.first, &mut histories);
+        under::give_up(second, 1, &mut all.second, &mut histories);
+        under::give_up(third, 2, &mut all.third, &mut histories);
+        under::give_up(fourth, 3, &mut all.fourth, &mut histories);
+        note_all_stored(histories.as_slice(), &mut stored);
+        note_all_unmet::<M>(histories.as_slice(), receipts.as_slice(), &mut unmet);
+        let unheld = first_unheld(unmet.as_slice(), stored.as_slice());
+        let histories = Histories::from(histories);
         match unheld {
             None => Ok(histories),
             Some(number) => Err(Lost {
@@ -166,26 +243,4 @@ impl<'b, M: BundleName, L: LockName> Board<'b, M, L> {
             }),
         }
     }
-}
-
-/// A seat for each of so many workers, with one part of the lock's ledger each.
-#[tactic(auto, using(crate::proofs::Seats::none_seated, crate::proofs::Seats::seated_next))]
-fn seats_of<M: BundleName, L: LockName>(
-    alloc: Global,
-    workers: usize,
-    events: u64,
-    mut all: Share<L>,
-) -> Result<Vec<Seat<M, L>>, AllocError>
-    requires workers { workers ≡ M.workers }
-    requires events { events ≡ length M.bundle.entries }
-    requires parts { all.parts ≡ workers }
-    requires amount { all.amount ≡ 0 }
-    ensures { IfOk result (λ seats. AreSeated workers seats.items) }
-{
-    let mut seats = Vec::with_capacity(alloc, workers)?;
-    for worker in 0..workers {
-        let share = all.split_off(1, 0);
-        seats.push(Seat::new(alloc, worker, events, share)?)?;
-    }
-    Ok(seats)
 }

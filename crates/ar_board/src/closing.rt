@@ -1,34 +1,101 @@
 //! How a board is closed: which numbers its histories don't hold.
 
-ghost use Rattle.std.specs.Prelude.{◌≡◌, ◌<◌, ◌↔◌, false, IsTrue, length, map, replicate};
+ghost use Rattle.std.specs.Prelude.{◌≡◌, ◌<◌, ◌≤◌, ◌↔◌, [], false, IfOk, IsTrue, length, map, replicate};
 ghost use Rattle.std.specs.List.{AllByRecursion};
+ghost use Rattle.std.specs.Vec.{vec_capacity};
 ghost use Rattle.ar_bundle.specs.Bundle.{IsBundle};
-ghost use Rattle.ar_board.specs.Cell.{histories_of};
-ghost use Rattle.ar_board.specs.Private.Closing.{AreAllMarked, AreMarked, AreOwn, IsAt, IsBehind, IsLaterOf};
+ghost use Rattle.ar_bundle.specs.Lawful.{numbers_of, times, times_in};
+ghost use Rattle.ar_board.specs.Private.Closing.{AreAllMarked, AreInside, AreMarked, AreOwn, AreStored, FirstUnheld, IsAt, IsBehind, IsLaterOf};
 
-use crate::cell::RunCell;
-use crate::names::{BundleName, LockName};
-use crate::receipt::Receipt;
+use ar_bundle::{Entry, History};
+use ar_cell::{BundleName, Receipt};
+use std::alloc::{AllocError, Global};
 
 /// The most runs that a bundle has.
 const MOST_RUNS: usize = 64;
 
+/// What closing a board wants, reserved when the board is made.
+#[derive(Drop)]
+pub(crate) struct Room {
+    /// For each run one, to which nothing has happened.
+    pub(crate) histories: Vec<History>,
+    /// None, with room for those of each worker.
+    pub(crate) receipts: Vec<Vec<Receipt>>,
+    /// Of each number that it is met so far.
+    pub(crate) unmet: Vec<bool>,
+    /// Of each number that it stands nowhere so far.
+    pub(crate) stored: Vec<bool>,
+}
+
+impl Room {
+    /// For so many runs, workers and numbers.
+    pub(crate) fn new(
+        alloc: Global,
+        runs: usize,
+        workers: usize,
+        events: u64,
+    ) -> Result<Room, AllocError>
+        ensures histories { IfOk result (λ room. length room.histories.items ≡ runs) }
+        ensures no_receipts { IfOk result (λ room. room.receipts.items ≡ []) }
+        ensures receipt_room { IfOk result (λ room. workers ≤ vec_capacity room.receipts) }
+        ensures none_unmet { IfOk result (λ room. room.unmet.items ≡ replicate events false) }
+        ensures none_stored { IfOk result (λ room. room.stored.items ≡ replicate events false) }
+    {
+        Ok(Room {
+            histories: no_histories(alloc, runs)?,
+            receipts: Vec::with_capacity(alloc, workers)?,
+            unmet: vec![in alloc; false; events as usize]?,
+            stored: vec![in alloc; false; events as usize]?,
+        })
+    }
+}
+
+/// For each of so many runs a history to which nothing has happened.
+fn no_histories(alloc: Global, runs: usize) -> Result<Vec<History>, AllocError>
+    ensures { IfOk result (λ histories. length histories.items ≡ runs) }
+{
+    let mut histories = Vec::with_capacity(alloc, runs)?;
+    for _run in 0..runs {
+        histories.push(History::new(alloc))?;
+    }
+    Ok(histories)
+}
+
+/// Notes the numbers of a history as stored.
+#[tactic(auto, using(crate::proofs::Stored::stored_first, crate::proofs::Stored::stored_next, crate::proofs::Stored::number_fits))]
+fn note_stored(history: &[Entry], stored: &mut Vec<bool>)
+    requires inside { AreInside (length stored.old.items) history.now }
+    ensures { AreStored (λ number. times_in number (numbers_of history.now)) stored.old.items stored.new.items }
+{
+    for entry in history {
+        stored[entry.number as usize] = true;
+    }
+}
+
+/// Notes the numbers of all histories as stored.
+#[tactic(auto, using(crate::proofs::Stored::all_stored_first, crate::proofs::Stored::all_stored_next, crate::proofs::Stored::inside_there))]
+pub(crate) fn note_all_stored(histories: &[History], stored: &mut Vec<bool>)
+    requires inside { AllByRecursion (AreInside (length stored.old.items)) histories.now }
+    ensures { AreStored (λ number. times number histories.now) stored.old.items stored.new.items }
+{
+    for history in histories {
+        note_stored(history.entries(), stored);
+    }
+}
+
 /// Notes the numbers for which a seat has a receipt that isn't met.
 #[tactic(auto, using(crate::proofs::Marks::run_there, crate::proofs::Marks::number_there, crate::proofs::Marks::marked_first, crate::proofs::Marks::marked_met, crate::proofs::Marks::marked_unmet, crate::proofs::Marks::last_first, crate::proofs::Marks::last_next))]
-pub(crate) fn note_unmet<M: BundleName, L: LockName>(
-    cell: &RunCell<'_, M, L>,
-    own: &[Receipt],
-    unmet: &mut Vec<bool>,
-)
+fn note_unmet<M: BundleName>(histories: &[History], own: &[Receipt], unmet: &mut Vec<bool>)
     requires bundle { IsBundle M.bundle }
+    requires runs { length histories.now ≡ length M.bundle.runs }
     requires own { AreOwn M.bundle own.now }
     requires as_many { length unmet.old.items ≡ length M.bundle.entries }
-    ensures { AreMarked (histories_of cell.now) own.now unmet.old.items unmet.new.items }
+    ensures { AreMarked histories.now own.now unmet.old.items unmet.new.items }
 {
     let mut last = [None; MOST_RUNS];
     for receipt in own {
         let so_far = last[receipt.run];
-        if !is_met(cell, receipt, so_far) {
+        if !is_met(histories, receipt, so_far) {
             unmet[receipt.number as usize] = true;
         }
         last[receipt.run] = Some(later(so_far, receipt.place));
@@ -36,19 +103,26 @@ pub(crate) fn note_unmet<M: BundleName, L: LockName>(
 }
 
 /// Whether a receipt's number stands at its place, behind the last place so far.
-fn is_met<M: BundleName, L: LockName>(
-    cell: &RunCell<'_, M, L>,
-    receipt: &Receipt,
-    last: Option<usize>,
-) -> bool
-    requires there { receipt.now.run < length M.bundle.runs }
-    ensures { IsTrue result ↔ (IsAt (histories_of cell.now) receipt.now × IsBehind last receipt.now.place) }
+fn is_met(histories: &[History], receipt: &Receipt, last: Option<usize>) -> bool
+    requires there { receipt.now.run < length histories.now }
+    ensures { IsTrue result ↔ (IsAt histories.now receipt.now × IsBehind last receipt.now.place) }
 {
     let is_behind = match last {
         Some(last) => last < receipt.place,
         None => true,
     };
-    is_behind && cell.has(receipt)
+    is_behind && is_at(histories, receipt)
+}
+
+/// Whether a receipt's number stands at its place.
+fn is_at(histories: &[History], receipt: &Receipt) -> bool
+    requires there { receipt.now.run < length histories.now }
+    ensures { IsTrue result ↔ IsAt histories.now receipt.now }
+{
+    match histories[receipt.run].entries().get(receipt.place) {
+        Some(entry) => entry.number == receipt.number,
+        None => false,
+    }
 }
 
 /// The later of two places.
@@ -63,17 +137,32 @@ fn later(last: Option<usize>, place: usize) -> usize
 
 /// Notes the numbers for which one of the seats has a receipt that isn't met.
 #[tactic(auto, using(crate::proofs::Marks::all_marked_first, crate::proofs::Marks::all_marked_next, crate::proofs::Marks::own_there))]
-pub(crate) fn note_all_unmet<M: BundleName, L: LockName>(
-    cell: &RunCell<'_, M, L>,
+pub(crate) fn note_all_unmet<M: BundleName>(
+    histories: &[History],
     receipts: &[Vec<Receipt>],
     unmet: &mut Vec<bool>,
 )
     requires bundle { IsBundle M.bundle }
+    requires runs { length histories.now ≡ length M.bundle.runs }
     requires own { AllByRecursion (AreOwn M.bundle) (map (λ own. own.items) receipts.now) }
     requires none_unmet { unmet.old.items ≡ replicate (length M.bundle.entries) false }
-    ensures { AreAllMarked M.bundle (histories_of cell.now) (map (λ own. own.items) receipts.now) unmet.new.items }
+    ensures { AreAllMarked M.bundle histories.now (map (λ own. own.items) receipts.now) unmet.new.items }
 {
     for own in receipts {
-        note_unmet(cell, own.as_slice(), unmet);
+        note_unmet::<M>(histories, own.as_slice(), unmet);
     }
+}
+
+/// The first number that is unmet, or that stands nowhere.
+#[tactic(auto, using(crate::proofs::Stored::first_unmet, crate::proofs::Stored::first_nowhere, crate::proofs::Stored::there_next))]
+pub(crate) fn first_unheld(unmet: &[bool], stored: &[bool]) -> Option<u64>
+    requires { length stored.now ≡ length unmet.now }
+    ensures { FirstUnheld unmet.now stored.now result }
+{
+    for number in 0..unmet.len() {
+        if unmet[number] || !stored[number] {
+            return Some(number as u64);
+        }
+    }
+    None
 }

@@ -1,7 +1,7 @@
 //! What shows that a number was lost.
 
-use crate::receipt::Receipt;
 use ar_bundle::Histories;
+use ar_cell::Receipt;
 
 /// A board's histories don't hold each number of the bundle.
 #[derive(Debug, Drop)]

@@ -2,90 +2,126 @@
 
 ghost use Rattle.std.specs.Prelude.{◌≡◌, ◌<◌, ◌≤◌, [], IfOk, length, map};
 ghost use Rattle.std.specs.Vec.{vec_capacity};
-ghost use Rattle.ar_board.specs.Board.{seat_of};
+ghost use Rattle.ar_board.specs.Board.{AreSeated, seat_of};
 ghost use Rattle.ar_board.specs.Private.Closing.{AreGiven};
+ghost use Rattle.ar_board.specs.Private.Seats.{AreParts, amounts};
 
-use crate::names::{BundleName, LockName};
-use crate::receipt::Receipt;
+use crate::locks::LockNames;
+use crate::shares::Shares;
+use ar_cell::{BundleName, Receipt};
 use std::alloc::{AllocError, Global};
 use std::marker::{Model, PhantomData};
-use std::sync::ledger::Share;
+
+/// A seat for each of so many workers, with one part of each lock's ledger each.
+#[tactic(auto, using(crate::proofs::Seats::none_seated, crate::proofs::Seats::seated_next))]
+pub(crate) fn seats_of<M: BundleName, L: LockNames>(
+    alloc: Global,
+    workers: usize,
+    events: u64,
+    mut all: Shares<L>,
+) -> Result<Vec<Seat<M, L>>, AllocError>
+    requires workers { workers ≡ M.workers }
+    requires events { events ≡ length M.bundle.entries }
+    requires parts { AreParts workers (amounts all.first.parts all.second.parts all.third.parts all.fourth.parts) }
+    requires without { AreParts 0 (amounts all.first.amount all.second.amount all.third.amount all.fourth.amount) }
+    ensures { IfOk result (λ seats. AreSeated workers seats.items) }
+{
+    let mut seats = Vec::with_capacity(alloc, workers)?;
+    for worker in 0..workers {
+        let shares = all.split_off();
+        seats.push(Seat::new(alloc, worker, events, shares)?)?;
+    }
+    Ok(seats)
+}
 
 /// Puts the receipts of seats into a list that has room for them, and their shares together.
-#[tactic(auto, using(crate::proofs::Seats::none_given))]
-pub(crate) fn gather<M: BundleName, L: LockName>(
+#[tactic(auto, using(crate::proofs::Seats::none_given, crate::proofs::Seats::given_next))]
+pub(crate) fn gather<M: BundleName, L: LockNames>(
     seats: Vec<Seat<M, L>>,
     receipts: &mut Vec<Vec<Receipt>>,
-    all: &mut Share<L>,
+    all: &mut Shares<L>,
 )
     requires empty { receipts.old.items ≡ [] }
     requires room { length seats.items ≤ vec_capacity receipts.old }
-    requires no_part { (all.old.parts ≡ 0) × (all.old.amount ≡ 0) }
-    ensures { AreGiven M.bundle seats.items (map (λ own. own.items) receipts.new.items) all.new.parts all.new.amount }
+    requires no_part { AreParts 0
+        (amounts all.old.first.parts all.old.second.parts all.old.third.parts all.old.fourth.parts) }
+    requires nothing { AreParts 0
+        (amounts all.old.first.amount all.old.second.amount all.old.third.amount all.old.fourth.amount) }
+    ensures { AreGiven M.bundle seats.items (map (λ own. own.items) receipts.new.items)
+        (amounts all.new.first.parts all.new.second.parts all.new.third.parts all.new.fourth.parts)
+        (amounts all.new.first.amount all.new.second.amount all.new.third.amount all.new.fourth.amount) }
 {
     for seat in seats {
         let Seat {
             worker: _,
             receipts: own,
-            share,
+            shares,
             name: _,
         } = seat;
-        all.merge(share);
+        all.merge(shares);
         receipts.push_reserved(own);
     }
 }
 
 /// A worker's seat at a board: which of the workers it is for, and the receipts of its posts. Contracts
-/// see it as the `Seat` of `specs/Board`. It is its board's by its type parameters.
+/// see it as the `Seat` of `specs/Board`. It is its board's by its type parameters: the names of the bundle
+/// and of the locks.
 #[derive(Drop)]
-pub struct Seat<M: BundleName, L: LockName> {
+pub struct Seat<M: BundleName, L: LockNames> {
     pub(crate) worker: usize,
     /// With room for one of each number.
     pub(crate) receipts: Vec<Receipt>,
-    pub(crate) share: Share<L>,
+    pub(crate) shares: Shares<L>,
     name: PhantomData<M>,
 }
 
-impl<M: BundleName, L: LockName> Model for Seat<M, L> {
+impl<M: BundleName, L: LockNames> Model for Seat<M, L> {
     ghost use Rattle.std.specs.Vec.{vec_capacity};
     ghost use Rattle.ar_board.specs.Board.{Seat, seat_of};
-    ghost use Rattle.ar_board.specs.Private.Seats.{IsSeat};
+    ghost use Rattle.ar_board.specs.Private.Seats.{IsSeat, amounts};
 
     ghost Value = { Seat };
 
     ghost view = { λ s. seat_of s.worker s.receipts.items };
 
-    ghost invariant = { λ s. IsSeat M.bundle M.workers s.worker s.receipts.items (vec_capacity s.receipts) s.share.parts s.share.amount };
+    ghost invariant = { λ s. IsSeat M.bundle M.workers s.worker s.receipts.items (vec_capacity s.receipts)
+        (amounts s.shares.first.parts s.shares.second.parts s.shares.third.parts s.shares.fourth.parts)
+        (amounts s.shares.first.amount s.shares.second.amount s.shares.third.amount s.shares.fourth.amount) };
 }
 
-impl<M: BundleName, L: LockName> Seat<M, L> {
-    /// That of a worker that has posted nothing, with a part of the lock's ledger.
+impl<M: BundleName, L: LockNames> Seat<M, L> {
+    /// That of a worker that has posted nothing, with a part of each lock's ledger.
     pub(crate) fn new(
         alloc: Global,
         worker: usize,
         events: u64,
-        share: Share<L>,
+        shares: Shares<L>,
     ) -> Result<Seat<M, L>, AllocError>
         requires worker { worker < M.workers }
         requires events { events ≡ length M.bundle.entries }
-        requires part { share.parts ≡ 1 }
-        requires amount { share.amount ≡ 0 }
+        requires parts { AreParts 1
+            (amounts shares.first.parts shares.second.parts shares.third.parts shares.fourth.parts) }
+        requires nothing { AreParts 0
+            (amounts shares.first.amount shares.second.amount shares.third.amount shares.fourth.amount) }
         ensures { IfOk result (λ seat. seat ≡ seat_of worker []) }
     {
         Ok(Seat {
             worker,
             receipts: Vec::with_capacity(alloc, events as usize)?,
-            share,
+            shares,
             name: PhantomData,
         })
     }
 
-    /// A share of the ledger that has no part of it.
-    pub(crate) fn empty_share(&mut self) -> Share<L>
+    /// Shares of the ledgers that have no part of them.
+    pub(crate) fn empty_shares(&mut self) -> Shares<L>
         ensures same { self.new ≡ self.old }
-        ensures no_part { (result.parts ≡ 0) × (result.amount ≡ 0) }
+        ensures no_part { AreParts 0
+            (amounts result.first.parts result.second.parts result.third.parts result.fourth.parts) }
+        ensures nothing { AreParts 0
+            (amounts result.first.amount result.second.amount result.third.amount result.fourth.amount) }
     {
-        self.share.empty()
+        self.shares.empty()
     }
 
     /// Which of the workers it is for, counted from 0.

@@ -6,11 +6,13 @@
 //! Where all passes are joined and one of them has met an end mark, each number of the bundle was taken
 //! by one of them, just once ([`learn`]).
 //!
-//! - [`queue`]: the queue, its rule, and the kinds of step; [`passes`]: what passes do
+//! - [`queue`]: the queue, its rule, and the kinds of step; [`passes`]: what passes do; `waiting`: how the
+//!   feeder waits for a place
 #![tactic(auto)]
 
 pub mod passes;
 pub mod queue;
+mod waiting;
 
-pub use passes::{join, learn, open, put, split, take};
+pub use passes::{PLACES, join, learn, open, put, split, take};
 pub use queue::{Item, Queue, View};

@@ -5,27 +5,27 @@ ghost use Rattle.crossbeam_queue.specs.Passes.{IsPassOf, ruled_capacity, view};
 ghost use Rattle.ar_queue.specs.Rule.{CanPut, CanTake, HasTakenAll, IsDone, IsTaken, after_put, after_take, feeder, joined, split_off, worker};
 
 use crate::queue::{Item, Joins, Puts, Queue, SplitsOff, TakenAll, Takes, View};
-use ar_board::BundleName;
+use crate::waiting::Waiting;
+use ar_cell::BundleName;
 use crossbeam_queue::Pass;
 use std::alloc::{AllocError, Global};
 use std::sync::Wait;
 use std::thread;
 
-/// A queue of so many places, with the pass that feeds it.
+/// How many items a queue has places for.
+pub const PLACES: usize = 64;
+
+/// A queue of [`PLACES`] places, with the pass that feeds it.
 ///
 /// # Errors
 ///
 /// Want of memory alone.
-pub fn open<M: BundleName>(
-    alloc: Global,
-    places: usize,
-) -> Result<(Queue<M>, Pass<Item, View>), AllocError>
-    requires { 0 < places }
-    ensures places { IfOk result (λ made. ruled_capacity made.0 ≡ places) }
+pub fn open<M: BundleName>(alloc: Global) -> Result<(Queue<M>, Pass<Item, View>), AllocError>
+    ensures places { IfOk result (λ made. ruled_capacity made.0 ≡ PLACES) }
     ensures pass { IfOk result (λ made. IsPassOf made.0 made.1) }
     ensures feeder { IfOk result (λ made. view made.1 ≡ feeder) }
 {
-    Queue::<M>::ruled(alloc, places)
+    Queue::<M>::ruled(alloc, PLACES)
 }
 
 /// Puts an item at the queue's end, once there is a place for it.
@@ -40,10 +40,11 @@ pub fn put<M: BundleName, R: Wait>(
     ensures pass { IsPassOf queue.now pass.new }
     ensures put { view pass.new ≡ after_put (view pass.old) item }
 {
+    let waiting = Waiting::new();
     for _ in rt.forever() {
         match queue.try_push_as::<Puts>(pass, item) {
             Ok(()) => return,
-            Err(_) => thread::yield_now(),
+            Err(_) => waiting.turn(rt),
         }
     }
     unreachable!()

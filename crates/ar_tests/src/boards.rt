@@ -1,17 +1,17 @@
-//! Boards, by the names that contracts give their bundle and their lock: posts and looks by seats, and
+//! Boards, by the names that contracts give their bundle and their locks: posts and looks by seats, and
 //! what closing gives.
 
 ghost use Rattle.std.specs.Prelude.{◌≡◌, ◌≤◌, length};
 
 use crate::cells::TWO_RUNS;
-use ar_board::{Board, BundleName, LockName, Lost, Seat};
+use ar_board::{Blanks, Board, LockNames, Lost, Seat};
 use ar_bundle::{Bundle, Histories, History};
+use ar_cell::BundleName;
 use ar_document::read_bundle;
 use std::alloc::Global;
 use std::fmt::{Debug, Write};
 use std::marker::Brand;
 use std::sync::Wait;
-use std::sync::ledger::Blank;
 use std::test::Fail;
 
 /// What a worker does at a board.
@@ -30,7 +30,7 @@ fn put_line<T: Debug>(text: &mut String, answer: &T) -> Result<(), Fail> {
 }
 
 /// Writes what comes of a call by the seat of a worker that is there.
-fn put_answer<M: BundleName, L: LockName>(
+fn put_answer<M: BundleName, L: LockNames>(
     rt: &impl Wait,
     alloc: Global,
     bundle: &Bundle,
@@ -55,7 +55,7 @@ fn put_answer<M: BundleName, L: LockName>(
 }
 
 /// Writes what calls come to, a line each.
-fn put_answers<M: BundleName, L: LockName>(
+fn put_answers<M: BundleName, L: LockNames>(
     rt: &impl Wait,
     alloc: Global,
     bundle: &Bundle,
@@ -107,24 +107,25 @@ fn put_closed(text: &mut String, outcome: &Result<Histories, Lost>) -> Result<()
 }
 
 /// Writes what calls at a new board come to, and what closing gives behind them.
-fn put_board<M: BundleName, L: LockName, R: Wait>(
+fn put_board<M: BundleName, L: LockNames, R: Wait>(
     rt: &R,
     alloc: Global,
     bundle: &Bundle,
     workers: usize,
-    blank: Blank,
+    blanks: Blanks,
     calls: &[Call],
     text: &mut String,
 ) -> Result<(), Fail>
     requires bundle { bundle.now ≡ M.bundle }
     requires workers { workers ≡ M.workers }
     requires most { (1 ≤ workers) × (workers ≤ 16) }
-    requires lock { L.lock ≡ 0 }
-    requires name { blank.name ≡ L.name }
-    requires blank { blank.parts ≡ L.parts }
+    requires names { (blanks.first.name ≡ L.first) × (blanks.second.name ≡ L.second)
+        × (blanks.third.name ≡ L.third) × (blanks.fourth.name ≡ L.fourth) }
+    requires blanks { (blanks.first.parts ≡ L.parts) × (blanks.second.parts ≡ L.parts)
+        × (blanks.third.parts ≡ L.parts) × (blanks.fourth.parts ≡ L.parts) }
     requires parts { L.parts ≡ M.workers }
 {
-    let (board, mut seats) = Board::<M, L>::new(alloc, blank, bundle, workers)?;
+    let (board, mut seats) = Board::<M, L>::new(alloc, blanks, bundle, workers)?;
     put_answers(rt, alloc, bundle, &board, &mut seats, calls, text)?;
     put_closed(text, &board.close(seats))
 }
@@ -139,9 +140,9 @@ fn on_two_runs<R: Wait>(
     requires most { (1 ≤ workers) × (workers ≤ 16) }
 {
     let bundle = read_bundle(alloc, TWO_RUNS.as_bytes())?;
-    let blank = Blank::new(workers as u64);
+    let blanks = Blanks::new(workers as u64);
     let mut text = String::new(alloc);
-    put_board::<Brand, Brand, R>(rt, alloc, &bundle, workers, blank, calls, &mut text)?;
+    put_board::<Brand, Brand, R>(rt, alloc, &bundle, workers, blanks, calls, &mut text)?;
     Ok(text)
 }
 

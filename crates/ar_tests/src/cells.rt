@@ -2,8 +2,8 @@
 
 ghost use Rattle.std.specs.Prelude.{◌≡◌, ◌<◌};
 
-use ar_board::{BundleName, LockName, Receipt, RunCell};
 use ar_bundle::Bundle;
+use ar_cell::{BundleName, LockName, Receipt, RunCell, lock_of_run};
 use ar_document::read_bundle;
 use std::alloc::Global;
 use std::marker::Brand;
@@ -24,6 +24,7 @@ enum Call {
 fn added<M: BundleName, L: LockName>(
     alloc: Global,
     bundle: &Bundle,
+    lock: usize,
     cell: &mut RunCell<'_, M, L>,
     mine: &mut Share<L>,
     worker: usize,
@@ -31,12 +32,12 @@ fn added<M: BundleName, L: LockName>(
 ) -> Result<String, Fail>
     requires bundle { bundle.now ≡ M.bundle }
     requires worker { worker < M.workers }
-    requires lock { L.lock ≡ 0 }
+    requires lock { lock ≡ L.lock }
     requires part { 0 < mine.old.parts }
     ensures part { 0 < mine.new.parts }
 {
-    if number >= bundle.events() {
-        return Err(Fail::from("expected a number of the bundle"));
+    if number >= bundle.events() || lock_of_run(bundle.run_of(number)) != lock {
+        return Err(Fail::from("expected a number of the bundle that is under the lock"));
     }
     let finding = bundle.finding(alloc, number)?;
     let outcome = cell.add(mine, worker, number, finding);
@@ -47,6 +48,7 @@ fn added<M: BundleName, L: LockName>(
 fn shown<M: BundleName, L: LockName>(
     alloc: Global,
     bundle: &Bundle,
+    lock: usize,
     cell: &RunCell<'_, M, L>,
     worker: usize,
     run: usize,
@@ -54,10 +56,10 @@ fn shown<M: BundleName, L: LockName>(
 ) -> Result<String, Fail>
     requires bundle { bundle.now ≡ M.bundle }
     requires worker { worker < M.workers }
-    requires lock { L.lock ≡ 0 }
+    requires lock { lock ≡ L.lock }
 {
-    if run >= bundle.runs().len() {
-        return Err(Fail::from("expected a run of the bundle"));
+    if run >= bundle.runs().len() || lock_of_run(run) != lock {
+        return Err(Fail::from("expected a run of the bundle that is under the lock"));
     }
     let outcome = cell.show(alloc, run, worker, receipts);
     Ok(format!(in alloc; "{outcome:?}")?)
@@ -68,22 +70,23 @@ fn answer<M: BundleName, L: LockName>(
     alloc: Global,
     bundle: &Bundle,
     workers: usize,
+    lock: usize,
     cell: &mut RunCell<'_, M, L>,
     mine: &mut Share<L>,
     call: Call,
 ) -> Result<String, Fail>
     requires bundle { bundle.now ≡ M.bundle }
     requires workers { workers ≡ M.workers }
-    requires lock { L.lock ≡ 0 }
+    requires lock { lock ≡ L.lock }
     requires part { 0 < mine.old.parts }
     ensures part { 0 < mine.new.parts }
 {
     match call {
         Call::Add(worker, number) if worker < workers => {
-            added(alloc, bundle, cell, mine, worker, number)
+            added(alloc, bundle, lock, cell, mine, worker, number)
         }
         Call::Show(worker, run, receipts) if worker < workers => {
-            shown(alloc, bundle, cell, worker, run, receipts)
+            shown(alloc, bundle, lock, cell, worker, run, receipts)
         }
         Call::Add(..) | Call::Show(..) => Err(Fail::from("expected a worker that is there")),
     }
@@ -94,6 +97,7 @@ fn is_answered<M: BundleName, L: LockName>(
     alloc: Global,
     bundle: &Bundle,
     workers: usize,
+    lock: usize,
     cell: &mut RunCell<'_, M, L>,
     mine: &mut Share<L>,
     call: Call,
@@ -101,11 +105,11 @@ fn is_answered<M: BundleName, L: LockName>(
 ) -> Result<bool, Fail>
     requires bundle { bundle.now ≡ M.bundle }
     requires workers { workers ≡ M.workers }
-    requires lock { L.lock ≡ 0 }
+    requires lock { lock ≡ L.lock }
     requires part { 0 < mine.old.parts }
     ensures part { 0 < mine.new.parts }
 {
-    Ok(answer(alloc, bundle, workers, cell, mine, call)?.as_str() == expected)
+    Ok(answer(alloc, bundle, workers, lock, cell, mine, call)?.as_str() == expected)
 }
 
 /// Asserts what each call comes to.
@@ -114,41 +118,45 @@ fn assert_answers<M: BundleName, L: LockName>(
     alloc: Global,
     bundle: &Bundle,
     workers: usize,
+    lock: usize,
     cell: &mut RunCell<'_, M, L>,
     mine: &mut Share<L>,
     calls: &[(Call, &str)],
 ) -> Result<(), Fail>
     requires bundle { bundle.now ≡ M.bundle }
     requires workers { workers ≡ M.workers }
-    requires lock { L.lock ≡ 0 }
+    requires lock { lock ≡ L.lock }
     requires part { 0 < mine.old.parts }
 {
     for (call, expected) in calls {
-        let is_right = is_answered(alloc, bundle, workers, cell, mine, *call, expected)?;
+        let is_right = is_answered(alloc, bundle, workers, lock, cell, mine, *call, expected)?;
         assert!(rt; is_right, "{call:?}");
     }
     Ok(())
 }
 
-/// Asserts what each call on an empty cell comes to, of so many workers.
+/// Asserts what each call on an empty cell of a lock comes to, of so many workers.
 fn assert_calls<M: BundleName, L: LockName>(
     rt: &impl Abort,
     alloc: Global,
     bundle: &Bundle,
     workers: usize,
+    lock: usize,
     blank: Blank,
     calls: &[(Call, &str)],
 ) -> Result<(), Fail>
     requires bundle { bundle.now ≡ M.bundle }
     requires workers { workers ≡ M.workers }
-    requires lock { L.lock ≡ 0 }
+    requires lock { lock ≡ L.lock }
     requires name { blank.name ≡ L.name }
     requires parts { blank.parts ≡ L.parts }
     requires part { 0 < blank.parts }
 {
     let (book, mut mine) = blank.open::<L>();
-    let mut cell = RunCell::<M, L>::new(alloc, bundle, workers, book)?;
-    assert_answers(rt, alloc, bundle, workers, &mut cell, &mut mine, calls)
+    let mut cell = RunCell::<M, L>::new(alloc, bundle, workers, lock, book)?;
+    assert_answers(
+        rt, alloc, bundle, workers, lock, &mut cell, &mut mine, calls,
+    )
 }
 
 /// The same for the bundle of a document.
@@ -157,10 +165,11 @@ fn assert_document(
     alloc: Global,
     document: &str,
     workers: usize,
+    lock: usize,
     calls: &[(Call, &str)],
 ) -> Result<(), Fail> {
     let bundle = read_bundle(alloc, document.as_bytes())?;
-    assert_calls::<Brand, Brand>(rt, alloc, &bundle, workers, Blank::new(1), calls)
+    assert_calls::<Brand, Brand>(rt, alloc, &bundle, workers, lock, Blank::new(1), calls)
 }
 
 /// Two runs, each with one measurement, which holds.
@@ -193,7 +202,7 @@ fn one_worker(rt: HostRuntime) -> Result<(), Fail> {
         (Call::Add(0, 0), "Err(Double)"),
         (Call::Show(0, 0, FIRST), only),
     ];
-    assert_document(&rt, rt.alloc(), TWO_RUNS, 1, &calls)
+    assert_document(&rt, rt.alloc(), TWO_RUNS, 1, 0, &calls)
 }
 
 /// A look shows the posts of all workers, and wants the receipts of its own.
@@ -204,9 +213,11 @@ fn two_workers(rt: HostRuntime) -> Result<(), Fail> {
         (Call::Add(0, 0), CLOSING),
         (Call::Show(1, 0, &[]), others),
         (Call::Add(1, 0), "Err(Double)"),
-        (Call::Add(1, 1), CLOSING),
     ];
-    assert_document(&rt, rt.alloc(), TWO_RUNS, 2, &calls)
+    assert_document(&rt, rt.alloc(), TWO_RUNS, 2, 0, &calls)?;
+    // The second run is under the second lock.
+    let second = [(Call::Add(1, 1), CLOSING)];
+    assert_document(&rt, rt.alloc(), TWO_RUNS, 2, 1, &second)
 }
 
 /// A run with a measurement, a stop, and another measurement.
@@ -251,5 +262,5 @@ fn stopped(rt: HostRuntime) -> Result<(), Fail> {
         ),
         (Call::Show(0, 0, OUT_OF_ORDER), "Err(Stale(2))"),
     ];
-    assert_document(&rt, rt.alloc(), STOPPED, 1, &calls)
+    assert_document(&rt, rt.alloc(), STOPPED, 1, 0, &calls)
 }

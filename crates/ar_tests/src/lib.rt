@@ -22,6 +22,8 @@ mod code;
 #[cfg(test)]
 mod phases;
 #[cfg(test)]
+mod queues;
+#[cfg(test)]
 mod templates;
 #[cfg(test)]
 mod values;

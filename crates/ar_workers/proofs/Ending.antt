@@ -9,7 +9,7 @@ use Rattle.ar_bundle.specs.Bundle.{Bundle}
 use Rattle.ar_bundle.specs.Lawful.{times_in}
 use Rattle.ar_board.specs.Board.{AreSeated, IsLost, Seat, seat_of}
 use Rattle.ar_board.specs.declared.lost.Lost.{Lost as Losing}
-use Rattle.ar_board.specs.declared.receipt.Receipt.{Receipt}
+use Rattle.ar_cell.specs.declared.receipt.Receipt.{Receipt}
 use Rattle.ar_queue.specs.Rule.{HasTakenAll, IsDone, once_below}
 use Rattle.ar_queue.specs.declared.queue.View.{View}
 use Rattle.ar_workers.specs.Joined.{IsCause, IsDoubleOrReceived, IsShown, NameEachOnce, named_by}

@@ -3,7 +3,7 @@ use Rattle.std.proofs.Common.{◌≡◌, ◌<◌, ℕ, suc, ◌+◌, List, [], �
 use Rattle.std.proofs.lemmas.List.{map_push}
 use Rattle.ar_bundle.specs.Lawful.{times_in}
 use Rattle.ar_board.specs.Board.{Seat, receipts_of}
-use Rattle.ar_board.specs.declared.receipt.Receipt.{Receipt}
+use Rattle.ar_cell.specs.declared.receipt.Receipt.{Receipt}
 use Rattle.ar_queue.specs.Rule.{CanPut, after_put, joined, split_off}
 use Rattle.ar_queue.specs.declared.queue.Item.TheVariants.{Number, End}
 use Rattle.ar_queue.specs.declared.queue.View.{View}
@@ -13,32 +13,33 @@ use Rattle.ar_queue.proofs.Steps.{times_both}
 
 -- ---- items are put
 
-pub can_number : (events number : ℕ) (view : View) → view ≡ feeding number 0 → number < events → CanPut events view (Number number)
-can_number events number view is less = subst (λ (view : View). CanPut events view (Number number)) (sym is) (refl, refl, refl, less)
+pub can_number : (events number out : ℕ) (view : View) → view ≡ feeding number 0 out → number < events → CanPut events view (Number number)
+can_number events number out view is less = subst (λ (view : View). CanPut events view (Number number)) (sym is) (refl, refl, refl, less)
 
-pub next_number : (number : ℕ) (before after : View) → before ≡ feeding number 0 → after ≡ after_put before (Number number) → after ≡ feeding (number + 1) 0
-next_number number before after is put =
+pub next_number : (number out : ℕ) (before after : View) → before ≡ feeding number 0 out → after ≡ after_put before (Number number) → after ≡ feeding (number + 1) 0 out
+next_number number out before after is put =
     let next : suc number ≡ number + 1 = omega arith in
-    put ∙ (ap (λ (view : View). after_put view (Number number)) is ∙ ap (λ (put : ℕ). feeding put 0) next)
+    put ∙ (ap (λ (view : View). after_put view (Number number)) is ∙ ap (λ (put : ℕ). feeding put 0 out) next)
 
-pub can_mark : (events marks : ℕ) (view : View) → view ≡ feeding events marks → CanPut events view End
-can_mark events marks view is = subst (λ (view : View). CanPut events view End) (sym is) (refl, refl)
+pub can_mark : (events marks out : ℕ) (view : View) → view ≡ feeding events marks out → CanPut events view End
+can_mark events marks out view is = subst (λ (view : View). CanPut events view End) (sym is) (refl, refl)
 
-pub next_mark : (events marks : ℕ) (before after : View) → before ≡ feeding events marks → after ≡ after_put before End → after ≡ feeding events (marks + 1)
-next_mark events marks before after is put =
+pub next_mark : (events marks out : ℕ) (before after : View) → before ≡ feeding events marks out → after ≡ after_put before End → after ≡ feeding events (marks + 1) out
+next_mark events marks out before after is put =
     let next : suc marks ≡ marks + 1 = omega arith in
-    put ∙ (ap (λ (view : View). after_put view End) is ∙ ap (feeding events) next)
+    put ∙ (ap (λ (view : View). after_put view End) is ∙ ap (λ (marks : ℕ). feeding events marks out) next)
 
 -- ---- passes are split off and joined
 
-pub feeder_split : (before after : View) (out : ℕ) → IsFeeder before out 0 → after ≡ split_off before → IsFeeder after (suc out) 0
-feeder_split before after out is split =
-    record {
-      feeds = ap (λ (view : View). view.feeds) split ∙ is.feeds;
-      live = ap (λ (view : View). view.live) split ∙ is.live;
-      has_out = ap (λ (view : View). view.out) split ∙ ap suc is.has_out;
-      has_joined = ap (λ (view : View). view.ended) split ∙ is.has_joined;
-    }
+pub next_split : (before after : View) (out : ℕ) → before ≡ feeding 0 0 out → after ≡ split_off before → after ≡ feeding 0 0 (suc out)
+next_split before after out is split = split ∙ ap split_off is
+
+-- where nothing was put the feeder still has what it split off
+pub still_feeding : (view : View) (put marks out : ℕ) → view ≡ feeding put marks out → view ≡ feeding put marks view.out
+still_feeding view put marks out is = is ∙ ap (feeding put marks) (sym (ap (λ (view : View). view.out) is))
+
+pub is_feeder : (view : View) (put marks out : ℕ) → view ≡ feeding put marks out → IsFeeder view out 0 × (view.taken ≡ [])
+is_feeder view put marks out is = subst (λ (view : View). IsFeeder view out 0 × (view.taken ≡ [])) (sym is) (record { feeds = refl; live = refl; has_out = refl; has_joined = refl }, refl)
 
 pub feeder_join : (before other after : View) (out joined_before : ℕ) → IsFeeder before (suc out) joined_before → other ≡ at_end other.taken → after ≡ joined before other → IsFeeder after out (suc joined_before)
 feeder_join before other after out joined_before is ended join =

@@ -4,8 +4,8 @@ use Rattle.std.proofs.lemmas.List.{map_push}
 use Rattle.ar_bundle.specs.Bundle.{Bundle}
 use Rattle.ar_bundle.specs.Lawful.{times_in}
 use Rattle.ar_board.specs.Board.{IsReceived, Seat}
-use Rattle.ar_board.specs.declared.posted.Posted.{Posted}
-use Rattle.ar_board.specs.declared.receipt.Receipt.{Receipt}
+use Rattle.ar_cell.specs.declared.posted.Posted.{Posted}
+use Rattle.ar_cell.specs.declared.receipt.Receipt.{Receipt}
 use Rattle.ar_queue.specs.Rule.{after_take}
 use Rattle.ar_queue.specs.declared.queue.Item.TheVariants.{Number}
 use Rattle.ar_queue.specs.declared.queue.View.{View}

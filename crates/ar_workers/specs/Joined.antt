@@ -4,7 +4,7 @@ use Rattle.ar_bundle.specs.Bundle.{Bundle}
 use Rattle.ar_bundle.specs.Lawful.{times_in}
 use Rattle.ar_board.specs.Board.{IsLost}
 use Rattle.ar_board.specs.declared.lost.Lost.{Lost as Losing}
-use Rattle.ar_board.specs.declared.receipt.Receipt.{Receipt}
+use Rattle.ar_cell.specs.declared.receipt.Receipt.{Receipt}
 use Rattle.atomic_table.specs.Seated.{TableId}
 use Rattle.ar_queue.specs.Rule.{once_below}
 use Rattle.ar_workers.specs.declared.error.WorkError.{WorkError}
@@ -33,9 +33,9 @@ AreNamed taken receipts doubles = (number : ℕ) → times_in number taken ≡ t
 
 -- ---- the feeder
 
--- the feeder's pass that has put so many numbers and end marks, and split nothing
-abbrev pub feeding : (put marks : ℕ) → View
-feeding put marks = record { feeds = 1; live = 1; put = put; marks = marks; out = 0; ended = 0; taken = [] }
+-- the feeder's pass that has put so many numbers and end marks, has split off so many passes, and has joined none
+abbrev pub feeding : (put marks out : ℕ) → View
+feeding put marks out = record { feeds = 1; live = 1; put = put; marks = marks; out = out; ended = 0; taken = [] }
 
 -- ---- all workers
 

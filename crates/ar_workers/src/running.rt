@@ -6,22 +6,21 @@ ghost use Rattle.crossbeam_queue.specs.Passes.{IsPassOf, view};
 ghost use Rattle.ar_board.specs.Board.{receipts_of};
 ghost use Rattle.ar_bundle.specs.Bundle.{IsBundle};
 ghost use Rattle.ar_bundle.specs.Lawful.{AreLawful};
-ghost use Rattle.ar_workers.specs.Joined.{IsCause};
+ghost use Rattle.ar_workers.specs.Joined.{IsCause, feeding};
 ghost use Rattle.ar_workers.specs.Private.Gathered.{AreAllNamed, IsFeeder};
 
 use crate::error::{Unfinished, WorkError};
-use crate::feed::{put_marks, put_numbers};
 use crate::gate::Gate;
 use crate::side_by_side::{Gathered, in_scope};
 use crate::worker::QueueName;
-use ar_board::{Board, BundleName, LockName, MOST_WORKERS, Seat};
+use ar_board::{Blanks, Board, LockNames, MOST_WORKERS, Seat};
 use ar_bundle::{Bundle, Histories};
+use ar_cell::BundleName;
 use ar_queue::{Item, Queue, View, learn, open};
 use crossbeam_queue::Pass;
 use std::alloc::Global;
 use std::marker::Brand;
 use std::sync::Wait;
-use std::sync::ledger::Blank;
 use std::thread;
 use std::thread::Threads;
 
@@ -43,11 +42,11 @@ pub fn run_all<G: Gate, R: Threads + Wait + Sync>(
     ensures lawful { IfOk result (AreLawful bundle.now) }
     ensures cause { IfErr result (IsCause bundle.now) }
 {
-    let blank = Blank::new(workers as u64);
-    run_named::<Brand, Brand, G, R>(rt, alloc, bundle, workers, blank, gate)
+    let blanks = Blanks::new(workers as u64);
+    run_named::<Brand, Brand, G, R>(rt, alloc, bundle, workers, blanks, gate)
 }
 
-/// The same, by names of the bundle and of the board's lock: contracts of a board speak of it by names,
+/// The same, by names of the bundle and of the board's locks: contracts of a board speak of it by names,
 /// which a call of a function over them picks.
 #[tactic(auto, using(crate::proofs::Ending::all_fresh))]
 fn run_named<M, L, G, R>(
@@ -55,33 +54,31 @@ fn run_named<M, L, G, R>(
     alloc: Global,
     bundle: &Bundle,
     workers: usize,
-    blank: Blank,
+    blanks: Blanks,
     gate: &G,
 ) -> Result<Histories, WorkError>
 where
     M: BundleName + Send + Sync,
-    L: LockName + Send + Sync,
+    L: LockNames + Send + Sync,
     G: Gate,
     R: Threads + Wait + Sync,
     requires bundle { bundle.now ≡ M.bundle }
     requires workers { workers ≡ M.workers }
     requires most { (1 ≤ workers) × (workers ≤ MOST_WORKERS) }
-    requires lock { L.lock ≡ 0 }
-    requires name { blank.name ≡ L.name }
-    requires blank { blank.parts ≡ L.parts }
+    requires names { (blanks.first.name ≡ L.first) × (blanks.second.name ≡ L.second)
+        × (blanks.third.name ≡ L.third) × (blanks.fourth.name ≡ L.fourth) }
+    requires blanks { (blanks.first.parts ≡ L.parts) × (blanks.second.parts ≡ L.parts)
+        × (blanks.third.parts ≡ L.parts) × (blanks.fourth.parts ≡ L.parts) }
     requires parts { L.parts ≡ M.workers }
     ensures lawful { IfOk result (AreLawful M.bundle) }
     ensures cause { IfErr result (IsCause M.bundle) }
 {
-    let (board, seats) = Board::<M, L>::new(alloc, blank, bundle, workers)?;
-    let events = bundle.events();
-    let (queue, mut pass) = open::<M>(alloc, events as usize + workers)?;
-    put_numbers(rt, &queue, &mut pass, events);
-    put_marks(rt, &queue, &mut pass, workers);
+    let (board, seats) = Board::<M, L>::new(alloc, blanks, bundle, workers)?;
+    let (queue, pass) = open::<M>(alloc)?;
     run_with::<M, L, Brand, G, R>(rt, alloc, bundle, board, seats, queue, pass, gate)
 }
 
-/// The same, by a name of the queue, too, which has been fed: it can be named only once it is there.
+/// The same, by a name of the queue, too: it can be named only once it is there.
 #[tactic(auto, using(crate::proofs::Ending::is_cause, crate::proofs::Ending::is_done, crate::proofs::Ending::each_once, crate::proofs::Ending::handed_out))]
 fn run_with<M, L, T, G, R>(
     rt: &R,
@@ -95,7 +92,7 @@ fn run_with<M, L, T, G, R>(
 ) -> Result<Histories, WorkError>
 where
     M: BundleName + Send + Sync,
-    L: LockName + Send + Sync,
+    L: LockNames + Send + Sync,
     T: QueueName + Send,
     G: Gate,
     R: Threads + Wait + Sync,
@@ -103,7 +100,7 @@ where
     requires parts { L.parts ≡ M.workers }
     requires queue { queue.table.shared.table_id ≡ T.table }
     requires pass { IsPassOf queue pass }
-    requires fed { IsFeeder (view pass) 0 0 × ((view pass).taken ≡ []) }
+    requires fresh_pass { view pass ≡ feeding 0 0 0 }
     requires seats { (length seats.items ≡ M.workers) × (1 ≤ M.workers) }
     requires fresh { AllByRecursion (λ seat. seat.receipts ≡ []) seats.items }
     ensures lawful { IfOk result (AreLawful M.bundle) }
@@ -134,14 +131,14 @@ fn in_threads<'x, 'b, M, L, T, G, R>(
 ) -> Result<Gathered<M, L>, Unfinished>
 where
     M: BundleName + Send + Sync,
-    L: LockName + Send + Sync,
+    L: LockNames + Send + Sync,
     T: QueueName + Send,
     G: Gate,
     R: Threads + Wait + Sync,
     requires bundle { bundle.now ≡ M.bundle }
     requires queue { queue.now.table.shared.table_id ≡ T.table }
     requires pass { IsPassOf queue.now pass }
-    requires fed { IsFeeder (view pass) 0 0 × ((view pass).taken ≡ []) }
+    requires fresh_pass { view pass ≡ feeding 0 0 0 }
     requires fresh { AllByRecursion (λ seat. seat.receipts ≡ []) seats.items }
     ensures pass { IfOk result (λ all. IsPassOf queue.entry.now all.pass) }
     ensures joined { IfOk result (λ all. IsFeeder (view all.pass) 0 (length seats.items)) }
@@ -154,7 +151,7 @@ where
         rt,
         move |scope| -> Result<Gathered<M, L>, Unfinished>
             requires { (bundle.now ≡ M.bundle) × (queue.now.table.shared.table_id ≡ T.table) × IsPassOf queue.now pass
-                × IsFeeder (view pass) 0 0 × ((view pass).taken ≡ []) × AllByRecursion (λ seat. seat.receipts ≡ []) seats.items }
+                × (view pass ≡ feeding 0 0 0) × AllByRecursion (λ seat. seat.receipts ≡ []) seats.items }
             ensures { IfOk result (λ all. IsPassOf queue.entry.now all.pass
                 × IsFeeder (view all.pass) 0 (length seats.items)
                 × AreAllNamed (view all.pass).taken (receipts_of all.seats.items) all.doubles.items

@@ -5,8 +5,9 @@ ghost use Rattle.crossbeam_queue.specs.Passes.{IsPassOf, view};
 ghost use Rattle.ar_workers.specs.Joined.{AreNamed, IsNamed, at_end, working};
 
 use crate::gate::Gate;
-use ar_board::{Board, BundleName, Double, LockName, Seat};
+use ar_board::{Board, LockNames, Seat};
 use ar_bundle::Bundle;
+use ar_cell::{BundleName, Double};
 use ar_queue::{Item, Queue, View, take};
 use crossbeam_queue::Pass;
 use std::alloc::{AllocError, Global};
@@ -37,7 +38,7 @@ pub(crate) struct Ended<T: QueueName> {
 
 /// What a worker brings back: its pass, its seat, and the numbers whose post was answered `Double`.
 #[derive(Drop)]
-pub(crate) struct Completed<M: BundleName, L: LockName, T: QueueName> {
+pub(crate) struct Completed<M: BundleName, L: LockNames, T: QueueName> {
     pub(crate) ended: Ended<T>,
     pub(crate) seat: Seat<M, L>,
     pub(crate) doubles: Vec<u64>,
@@ -46,7 +47,7 @@ pub(crate) struct Completed<M: BundleName, L: LockName, T: QueueName> {
 
 /// How a worker ends.
 #[derive(Drop)]
-pub(crate) enum Outcome<M: BundleName, L: LockName, T: QueueName> {
+pub(crate) enum Outcome<M: BundleName, L: LockNames, T: QueueName> {
     /// It posted all numbers that it took.
     All(Completed<M, L, T>),
     /// Memory was refused to it: behind that it took numbers without judging them.
@@ -55,7 +56,7 @@ pub(crate) enum Outcome<M: BundleName, L: LockName, T: QueueName> {
 
 /// Judges a number and posts it; one that is a double is kept.
 #[tactic(auto, using(crate::proofs::Named::named_by_receipt, crate::proofs::Named::named_by_double))]
-fn settle<M: BundleName, L: LockName, R: Wait>(
+fn settle<M: BundleName, L: LockNames, R: Wait>(
     rt: &R,
     alloc: Global,
     bundle: &Bundle,
@@ -95,7 +96,7 @@ fn drain<M: BundleName, R: Wait>(rt: &R, queue: &Queue<M>, pass: &mut Pass<Item,
 }
 
 /// Takes numbers, judges each and posts it, up to the end mark.
-pub(crate) fn work<M: BundleName, L: LockName, T: QueueName, G: Gate, R: Wait>(
+pub(crate) fn work<M: BundleName, L: LockNames, T: QueueName, G: Gate, R: Wait>(
     rt: &R,
     alloc: Global,
     bundle: &Bundle,

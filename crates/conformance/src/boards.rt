@@ -4,11 +4,11 @@ ghost use Rattle.std.specs.Prelude.{◌≡◌};
 
 use crate::documents::input_of;
 use crate::phases::put_effect;
-use ar_board::{CoreState, CoreStep, Moved, core_run, core_step};
 use ar_bundle::{Bundle, Entry};
 use ar_cases::fault::{CaseFault, Written};
 use ar_cases::members;
 use ar_cases::printing::{put_between, put_refusal, put_str};
+use ar_core::{CoreState, CoreStep, Moved, core_run, core_step};
 use ar_document::read_bundle;
 use ar_report::phase_name;
 use serde_json::Value as Json;

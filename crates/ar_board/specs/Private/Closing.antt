@@ -1,23 +1,40 @@
 -- How a board is closed.
 use Rattle.std.specs.Prelude.{◌≡◌, ◌⊎◌, ◌<◌, ◌≤◌, ℕ, Bool, true, false, List, length, Option, Some, None, IfSome, slice_get, take}
-use Rattle.std.specs.List.{AllByRecursion, sum_by}
+use Rattle.std.specs.List.{AllByRecursion}
 use Rattle.ar_bundle.specs.Bundle.{Bundle, most_runs, run_of}
+use Rattle.ar_bundle.specs.Lawful.{times}
 use Rattle.ar_bundle.specs.declared.history.Entry.{Entry}
-use Rattle.ar_board.specs.Board.{Seat, receipts_of}
-use Rattle.ar_board.specs.Cell.{Cell, Stands}
-use Rattle.ar_board.specs.Receipts.{IsMet, numbers_at}
-use Rattle.ar_board.specs.declared.receipt.Receipt.{Receipt}
+use Rattle.ar_cell.specs.Cell.{ArePut, Cell, IsCell, histories_of, history_at, lock_of}
+use Rattle.ar_cell.specs.Receipts.{IsMet, numbers_at}
+use Rattle.ar_cell.specs.declared.receipt.Receipt.{Receipt}
+use Rattle.ar_board.specs.Board.{Seat, receipts_of, received_under}
+use Rattle.ar_board.specs.Private.Seats.{AreParts, Amounts, amount_of}
 
 -- receipts of the runs of their numbers
 abbrev pub AreOwn : Bundle → List Receipt → Type 0
 AreOwn bundle receipts = AllByRecursion (λ receipt. run_of bundle receipt.number ≡ Some receipt.run) receipts
 
--- what seats had: a list of receipts each, one part of the ledger each, and an amount for each receipt
-pub record AreGiven (bundle : Bundle) (seats : List Seat) (receipts : List (List Receipt)) (parts amount : ℕ) : Type 0 where
+-- what seats had: a list of receipts each, one part of each lock's ledger each, and for each lock the number of the receipts for
+-- runs under it
+pub record AreGiven (bundle : Bundle) (seats : List Seat) (receipts : List (List Receipt)) (parts amounts : Amounts) : Type 0 where
   pub lists : receipts ≡ receipts_of seats
   pub own : AllByRecursion (AreOwn bundle) receipts
-  pub as_many : parts ≡ length seats
-  pub counted : amount ≡ sum_by length (receipts_of seats)
+  pub as_many : AreParts (length seats) parts
+  pub counted : (lock : ℕ) → amount_of amounts lock ≡ received_under lock (receipts_of seats)
+
+-- what the cell of a lock gave up: its entries are as many as the amount, and its histories came to their places among others
+pub record IsGivenUp (bundle : Bundle) (workers lock amount : ℕ) (before after : List (List Entry)) : Type 0 where
+  pub cell : Cell
+  pub is : IsCell bundle workers lock cell
+  pub whole : amount ≡ cell.total
+  pub put : ArePut lock (histories_of cell) before after
+
+-- the histories of the runs under a lock are those of a cell, whose entries are as many as the amount
+pub record AreOfCell (bundle : Bundle) (workers lock amount : ℕ) (histories : List (List Entry)) : Type 0 where
+  pub cell : Cell
+  pub is : IsCell bundle workers lock cell
+  pub whole : amount ≡ cell.total
+  pub each : (run : ℕ) → run < length histories → lock_of run ≡ lock → slice_get histories run ≡ Some (history_at cell run)
 
 -- a receipt's number stands at its place
 abbrev pub IsAt : List (List Entry) → Receipt → Type 0
@@ -88,20 +105,34 @@ pub record AreAllMarked (bundle : Bundle) (histories : List (List Entry)) (recei
   pub as_many : length marks ≡ length bundle.entries
   pub each : (number : ℕ) (mark : Bool) → slice_get marks number ≡ Some mark → MarkedAmong histories receipts number mark
 
--- a number that is marked, or stands nowhere
-abbrev pub IsUnheld : Cell → List Bool → (number : ℕ) → Type 0
-IsUnheld cell marks number = (slice_get marks number ≡ Some true) ⊎ (Stands number cell → ⊥)
+-- numbers below one
+abbrev pub AreInside : (upto : ℕ) → List Entry → Type 0
+AreInside upto history = AllByRecursion (λ entry. entry.number < upto) history
 
-pub record IsThere (cell : Cell) (marks : List Bool) (number : ℕ) : Type 0 where
-  pub unmarked : slice_get marks number ≡ Some false
-  pub stands : Stands number cell
+-- a number is stored where it was, or stands in one history more
+abbrev pub StoredAs : (times : ℕ) → (before after : Bool) → Type 0
+StoredAs times true after = after ≡ true
+StoredAs times false true = 0 < times
+StoredAs times false false = times ≡ 0
 
-pub record IsFirstUnheld (bundle : Bundle) (cell : Cell) (marks : List Bool) (number : ℕ) : Type 0 where
-  pub there : number < length bundle.entries
-  pub unheld : IsUnheld cell marks number
-  pub earlier : (other : ℕ) → other < number → IsThere cell marks other
+pub record AreStored (times : (number : ℕ) → ℕ) (before after : List Bool) : Type 0 where
+  pub as_many : length after ≡ length before
+  pub each : (number : ℕ) (was is : Bool) → slice_get before number ≡ Some was → slice_get after number ≡ Some is → StoredAs (times number) was is
+
+-- a number that is unmet, or stands nowhere, by the marks of both
+abbrev pub IsUnheld : (unmet stored : List Bool) → (number : ℕ) → Type 0
+IsUnheld unmet stored number = (slice_get unmet number ≡ Some true) ⊎ (slice_get stored number ≡ Some false)
+
+pub record IsThere (unmet stored : List Bool) (number : ℕ) : Type 0 where
+  pub is_met : slice_get unmet number ≡ Some false
+  pub stands : slice_get stored number ≡ Some true
+
+pub record IsFirstUnheld (unmet stored : List Bool) (number : ℕ) : Type 0 where
+  pub there : number < length unmet
+  pub unheld : IsUnheld unmet stored number
+  pub earlier : (other : ℕ) → other < number → IsThere unmet stored other
 
 -- the first such number, where there is one
-abbrev pub FirstUnheld : Bundle → Cell → List Bool → Option ℕ → Type 0
-FirstUnheld bundle cell marks None = (number : ℕ) → number < length bundle.entries → IsThere cell marks number
-FirstUnheld bundle cell marks (Some number) = IsFirstUnheld bundle cell marks number
+abbrev pub FirstUnheld : (unmet stored : List Bool) → Option ℕ → Type 0
+FirstUnheld unmet stored None = (number : ℕ) → number < length unmet → IsThere unmet stored number
+FirstUnheld unmet stored (Some number) = IsFirstUnheld unmet stored number

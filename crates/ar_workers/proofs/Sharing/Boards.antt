@@ -10,13 +10,18 @@ use Rattle.ar_limits.specs.contracts.run.RunState as RunState
 use Rattle.ar_bundle.specs.contracts.history.Entry as Entry
 use Rattle.ar_bundle.specs.contracts.history.History as History
 use Rattle.ar_board.specs.contracts.board.Board as Board
-use Rattle.ar_board.specs.contracts.cell.RunCell as RunCell
-use Rattle.ar_board.specs.contracts.kept_run.KeptRun as KeptRun
-use Rattle.ar_board.specs.contracts.run_history.RunHistory as RunHistory
-use Rattle.ar_board.specs.contracts.receipt.Receipt as Receipt
+use Rattle.ar_cell.specs.contracts.cell.RunCell as RunCell
+use Rattle.ar_cell.specs.contracts.kept_run.KeptRun as KeptRun
+use Rattle.ar_cell.specs.contracts.run_history.RunHistory as RunHistory
+use Rattle.ar_cell.specs.contracts.receipt.Receipt as Receipt
+use Rattle.ar_board.specs.contracts.locks.First as First
+use Rattle.ar_board.specs.contracts.locks.Fourth as Fourth
+use Rattle.ar_board.specs.contracts.locks.Second as Second
+use Rattle.ar_board.specs.contracts.locks.Third as Third
 use Rattle.ar_board.specs.contracts.seat.Seat as Seat
-use Rattle.ar_board.specs.declared.names.BundleName as BundleName
-use Rattle.ar_board.specs.declared.names.LockName as LockName
+use Rattle.ar_board.specs.declared.locks.LockNames as LockNames
+use Rattle.ar_cell.specs.declared.names.BundleName as BundleName
+use Rattle.ar_cell.specs.declared.names.LockName as LockName
 use Rattle.ar_workers.proofs.Sharing.Bundles.{bundle_sync}
 
 entry_send : IsSend Entry.the_row
@@ -46,13 +51,30 @@ kept_send =
     let run : IsSend RunHistory.the_row = declared_send RunHistory.the_type (search (crosses, sendable) depth 20, (state_send, tt)) in
     declared_send KeptRun.the_type (run, (search (crosses, sendable) depth 20, (search (crosses, sendable) depth 20, tt)))
 
-module _ (M L : RattleType) (g : BundleName.Ghosts M.Denot) (g' : LockName.Ghosts L.Denot) (g'' : Ledger.Ghosts L.Denot) (m : IsSend M) (l : IsSend L) where
-  pub seat_send : IsSend (Seat.the_row M L g g' g'')
-  seat_send = let receipt = receipt_send in search (crosses, sendable, share_send) depth 20
+module _ (M : RattleType) (g : BundleName.Ghosts M.Denot) (m : IsSend M) where
+  cell_send : (L : RattleType) (l : LockName.Ghosts L.Denot) (l' : Ledger.Ghosts L.Denot) (ℓ : NamedLft) → IsSend L → IsSend (RunCell.the_row ℓ M L g l l')
+  cell_send L l l' ℓ s = let bundle = bundle_sync in let kept = kept_send in search (crosses, sendable, book_send) depth 20
 
-  module _ (ℓ : NamedLft) where
-    cell_send : IsSend (RunCell.the_row ℓ M L g g' g'')
-    cell_send = let bundle = bundle_sync in let kept = kept_send in search (crosses, sendable, book_send) depth 20
+  module _ (L : RattleType) (l : LockNames.Ghosts L.Denot) (s : IsSend L) where
+    pub seat_send : IsSend (Seat.the_row M L g l)
+    seat_send = let receipt = receipt_send in search (crosses, sendable, share_send) depth 30
 
-    pub board_sync : IsSync (Board.the_row ℓ M L g g' g'')
-    board_sync = let bundle = bundle_sync in let cell = cell_send in let history = history_sync in let receipt = receipt_sync in search (crosses, sendable) depth 20
+    module _ (ℓ : NamedLft) where
+      first_send : IsSend (First.the_row L)
+      first_send = search (crosses, sendable) depth 20
+
+      second_send : IsSend (Second.the_row L)
+      second_send = search (crosses, sendable) depth 20
+
+      third_send : IsSend (Third.the_row L)
+      third_send = search (crosses, sendable) depth 20
+
+      fourth_send : IsSend (Fourth.the_row L)
+      fourth_send = search (crosses, sendable) depth 20
+
+      pub board_sync : IsSync (Board.the_row ℓ M L g l)
+      board_sync =
+          let bundle = bundle_sync in
+          let history = history_sync in
+          let receipt = receipt_sync in
+          search (crosses, sendable, cell_send, first_send, second_send, third_send, fourth_send) depth 20

@@ -1,7 +1,7 @@
 -- What the calling thread has while workers run and are joined.
 use Rattle.std.specs.Prelude.{◌≡◌, ◌+◌, ℕ, List}
 use Rattle.ar_bundle.specs.Lawful.{times_in}
-use Rattle.ar_board.specs.declared.receipt.Receipt.{Receipt}
+use Rattle.ar_cell.specs.declared.receipt.Receipt.{Receipt}
 use Rattle.ar_queue.specs.declared.queue.View.{View}
 use Rattle.ar_workers.specs.Joined.{named_by}
 use Rattle.ar_workers.specs.declared.error.Unfinished.{Unfinished}

@@ -1,7 +1,6 @@
 use Rattle.std.proofs.Common.{sym, subst, List, Vec, Global}
-use Rattle.ar_board.specs.Cell.{histories_of}
 use Rattle.ar_board.specs.Private.Closing.{AreMarked, AreOwn}
-use Rattle.ar_board.specs.declared.receipt.Receipt.{Receipt}
+use Rattle.ar_cell.specs.declared.receipt.Receipt.{Receipt}
 use Rattle.ar_board.proofs.Marks.{all_marked_next, own_there}
 use Rattle.ar_board.proofs.closing.note_all_unmet.Goals as goal
 
@@ -11,5 +10,5 @@ note_unmet-requires-clause-own g c =
 
 pub loop-own-preserved : goal.loop-own-preserved
 loop-own-preserved g c =
-    all_marked_next (λ (own : Vec Receipt Global). own.items) g.M.BundleName.bundle (histories_of c.args.cell.now) c.args.receipts.now c.loop-own.own-index c.own-item.result c.loop-own.unmet.items c.note_unmet.new.unmet.items c.loop-own-test.true c.own-item.is c.loop-own.invariant
-    (subst (λ (own : List Receipt). AreMarked (histories_of c.args.cell.now) own c.loop-own.unmet.items c.note_unmet.new.unmet.items) c.as_slice.ensures.value c.note_unmet.ensures)
+    all_marked_next (λ (own : Vec Receipt Global). own.items) g.M.BundleName.bundle c.args.histories.now c.args.receipts.now c.loop-own.own-index c.own-item.result c.loop-own.unmet.items c.note_unmet.new.unmet.items c.loop-own-test.true c.own-item.is c.loop-own.invariant
+    (subst (λ (own : List Receipt). AreMarked c.args.histories.now own c.loop-own.unmet.items c.note_unmet.new.unmet.items) c.as_slice.ensures.value c.note_unmet.ensures)

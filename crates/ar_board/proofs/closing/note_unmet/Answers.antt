@@ -1,8 +1,7 @@
 use Rattle.std.proofs.Common.{◌≡◌, ◌<◌, ◌≤◌, ◌*◌, ◌+◌, ℕ, Bool, List, Option, None, Vec, Global, length, take, refl, sym, subst, arith, rules, slice_index_or, Fits, w64}
 use Rattle.ar_bundle.specs.Bundle.{Bundle, IsBundle}
-use Rattle.ar_board.specs.Cell.{histories_of}
 use Rattle.ar_board.specs.Private.Closing.{AreMarked, AreOwn, IsAt, IsBehind}
-use Rattle.ar_board.specs.declared.receipt.Receipt.{Receipt}
+use Rattle.ar_cell.specs.declared.receipt.Receipt.{Receipt}
 use Rattle.ar_board.proofs.Marks.{last_first, last_next, marked_first, marked_met, marked_unmet, number_there, run_there, same_read}
 use Rattle.ar_board.proofs.closing.note_unmet.Goals as goal
 use Rattle.ar_board.proofs.closing.note_unmet.Goals.{then-not-is_met, else-not-is_met}
@@ -27,7 +26,7 @@ small : (run : ℕ) → run < 64 → Fits w64 (run * 16)
 small run less = omega arith
 
 pub loop-receipt-init : goal.loop-receipt-init
-loop-receipt-init g c = (last_first c.args.own.now _ refl, marked_first (histories_of c.args.cell.now) c.args.own.now c.args.unmet.now.items)
+loop-receipt-init g c = (last_first c.args.own.now _ refl, marked_first c.args.histories.now c.args.own.now c.args.unmet.now.items)
 
 pub bounds-last-receipt : goal.bounds-last-receipt
 bounds-last-receipt g c = few g.M.BundleName.bundle c.args.own.now c.loop-receipt.receipt-index _ c.requires.bundle c.requires.own c.loop-receipt-test.true
@@ -36,7 +35,7 @@ pub offset_bounds-last-receipt : goal.offset_bounds-last-receipt
 offset_bounds-last-receipt g c = small _ (few g.M.BundleName.bundle c.args.own.now c.loop-receipt.receipt-index _ c.requires.bundle c.requires.own c.loop-receipt-test.true)
 
 pub is_met-requires : goal.is_met-requires
-is_met-requires g c = record { there = run_is g.M.BundleName.bundle c.args.own.now c.loop-receipt.receipt-index _ c.requires.bundle c.requires.own c.loop-receipt-test.true }
+is_met-requires g c = record { there = subst (λ (many : ℕ). (slice_index_or c.args.own.now c.loop-receipt.receipt-index none).run < many) (sym c.requires.runs) (run_is g.M.BundleName.bundle c.args.own.now c.loop-receipt.receipt-index _ c.requires.bundle c.requires.own c.loop-receipt-test.true) }
 
 pub index_mut-requires : goal.index_mut-requires
 index_mut-requires g c =
@@ -66,18 +65,18 @@ loop-receipt-preserved g c =
     let number_there : receipt.number < length g.M.BundleName.bundle.entries = number_is g.M.BundleName.bundle c.args.own.now c.loop-receipt.receipt-index none c.requires.own inside in
     let as_many : length c.loop-receipt.unmet.items ≡ length c.args.unmet.now.items = c.loop-receipt.invariant.1.as_many in
     let all : length c.args.unmet.now.items ≡ length g.M.BundleName.bundle.entries = c.requires.as_many in
-    let marked : AreMarked (histories_of c.args.cell.now) (take c.loop-receipt.receipt-index c.args.own.now) c.args.unmet.now.items c.loop-receipt.unmet.items = c.loop-receipt.invariant.1 in
+    let marked : AreMarked c.args.histories.now (take c.loop-receipt.receipt-index c.args.own.now) c.args.unmet.now.items c.loop-receipt.unmet.items = c.loop-receipt.invariant.1 in
     elim c.if-not-is_met.branch [
       | then-not-is_met w ↦
-          let unmet : IsAt (histories_of c.args.cell.now) receipt × IsBehind so_far receipt.place → ⊥ = λ both. absurd (let no = w.if-not-is_met.ensures.1 both in cc) in (
+          let unmet : IsAt c.args.histories.now receipt × IsBehind so_far receipt.place → ⊥ = λ both. absurd (let no = w.if-not-is_met.ensures.1 both in cc) in (
             next,
-            subst (λ (marks : Vec Bool Global). AreMarked (histories_of c.args.cell.now) (take (c.loop-receipt.receipt-index + 1) c.args.own.now) c.args.unmet.now.items marks.items) (sym w.unmet-is)
-                (marked_unmet (histories_of c.args.cell.now) c.args.own.now c.loop-receipt.receipt-index receipt c.loop-receipt.last so_far c.args.unmet.now.items c.loop-receipt.unmet.items inside read run_inside so_far_read c.loop-receipt.invariant.0 unmet (omega arith) marked),
+            subst (λ (marks : Vec Bool Global). AreMarked c.args.histories.now (take (c.loop-receipt.receipt-index + 1) c.args.own.now) c.args.unmet.now.items marks.items) (sym w.unmet-is)
+                (marked_unmet c.args.histories.now c.args.own.now c.loop-receipt.receipt-index receipt c.loop-receipt.last so_far c.args.unmet.now.items c.loop-receipt.unmet.items inside read run_inside so_far_read c.loop-receipt.invariant.0 unmet (omega arith) marked),
           )
       | else-not-is_met w ↦
-          let met : IsAt (histories_of c.args.cell.now) receipt × IsBehind so_far receipt.place = w.if-not-is_met.ensures.0 refl in (
+          let met : IsAt c.args.histories.now receipt × IsBehind so_far receipt.place = w.if-not-is_met.ensures.0 refl in (
             next,
-            subst (λ (marks : Vec Bool Global). AreMarked (histories_of c.args.cell.now) (take (c.loop-receipt.receipt-index + 1) c.args.own.now) c.args.unmet.now.items marks.items) (sym w.unmet-is)
-                (marked_met (histories_of c.args.cell.now) c.args.own.now c.loop-receipt.receipt-index receipt c.loop-receipt.last so_far c.args.unmet.now.items c.loop-receipt.unmet.items inside read run_inside so_far_read c.loop-receipt.invariant.0 met marked),
+            subst (λ (marks : Vec Bool Global). AreMarked c.args.histories.now (take (c.loop-receipt.receipt-index + 1) c.args.own.now) c.args.unmet.now.items marks.items) (sym w.unmet-is)
+                (marked_met c.args.histories.now c.args.own.now c.loop-receipt.receipt-index receipt c.loop-receipt.last so_far c.args.unmet.now.items c.loop-receipt.unmet.items inside read run_inside so_far_read c.loop-receipt.invariant.0 met marked),
           )
     ]

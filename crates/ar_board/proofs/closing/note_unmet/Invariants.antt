@@ -1,5 +1,4 @@
 use Rattle.std.proofs.Common.{take}
-use Rattle.ar_board.specs.Cell.{histories_of}
 use Rattle.ar_board.specs.Private.Closing.{AreLast, AreMarked}
 use Rattle.ar_board.proofs.closing.note_unmet.Given as goal
 
@@ -7,4 +6,4 @@ use Rattle.ar_board.proofs.closing.note_unmet.Given as goal
 abbrev pub invariant-loop-receipt : goal.invariant-loop-receipt
 invariant-loop-receipt g l =
     AreLast (take l.receipt-index l.own) l.last
-    × AreMarked (histories_of l.cell) (take l.receipt-index l.own) l.fn.unmet.items l.unmet.items
+    × AreMarked l.histories (take l.receipt-index l.own) l.fn.unmet.items l.unmet.items

@@ -4,7 +4,7 @@ abbrev pub ghosts-assert_calls-M-BundleName : goal.ghosts-assert_calls-M-BundleN
 ghosts-assert_calls-M-BundleName g a = record { bundle = a.bundle.now; workers = a.workers }
 
 abbrev pub ghosts-assert_calls-L-LockName : goal.ghosts-assert_calls-L-LockName
-ghosts-assert_calls-L-LockName g a = record { lock = 0 }
+ghosts-assert_calls-L-LockName g a = record { lock = a.lock }
 
 abbrev pub ghosts-assert_calls-L-Ledger : goal.ghosts-assert_calls-L-Ledger
 ghosts-assert_calls-L-Ledger g a = record { name = a.blank.name; parts = a.blank.parts }

@@ -5,4 +5,4 @@ use Rattle.ar_workers.proofs.feed.put_marks.Given as goal
 
 -- so many marks were put
 abbrev pub invariant-loop-mark : goal.invariant-loop-mark
-invariant-loop-mark g l = IsPassOf l.queue l.pass × (view l.pass ≡ feeding (length g.M.BundleName.bundle.entries) l._mark)
+invariant-loop-mark g l = IsPassOf l.queue l.pass × (view l.pass ≡ feeding (length g.M.BundleName.bundle.entries) l._mark (view l.fn.pass).out)

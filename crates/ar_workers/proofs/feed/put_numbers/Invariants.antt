@@ -5,4 +5,4 @@ use Rattle.ar_workers.proofs.feed.put_numbers.Given as goal
 
 -- the numbers so far were put
 abbrev pub invariant-loop-number : goal.invariant-loop-number
-invariant-loop-number g l = IsPassOf l.queue l.pass × (view l.pass ≡ feeding l.number 0)
+invariant-loop-number g l = IsPassOf l.queue l.pass × (view l.pass ≡ feeding l.number 0 (view l.fn.pass).out)

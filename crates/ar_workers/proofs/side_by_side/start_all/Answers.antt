@@ -41,8 +41,8 @@ spawn-requires-send-F g c κs within =
     param_send 1 _ (arg_send _ exit.no _ (job_send (codes "ar_workers::side_by_side::fn::start_all::job+Self")
     record { mir = named 5; lft = κs.1.1.1.1.1.0 } record { mir = named 6; lft = κs.1.1.1.1.1.1.0 } record { mir = named 7; lft = κs.1.1.1.1.1.1.1.0 }
     record { mir = named 9; lft = κs.1.1.1.1.1.1.1.1.1.0 } record { mir = named 10; lft = κs.1.1.1.1.1.1.1.1.1.1.0 }
-    (param 5 g.row.R) Bundle.the_row (Board.the_row board_life M L g.M.BundleName g.L.LockName g.L.Ledger)
+    (param 5 g.row.R) Bundle.the_row (Board.the_row board_life M L g.M.BundleName g.L.LockNames)
     (Slotted.the_row item doing rules Global.the_row ghosts heap.ghosts)
-    (Seat.the_row M L g.M.BundleName g.L.LockName g.L.Ledger) (Pass.the_row item doing) (param 4 g.row.G) (TupleAt (codes "(_,)") (param 3 g.row.T ∷ [])) tt tt tt tt tt
-    bounds.sync-R bundle_sync (board_sync M L g.M.BundleName g.L.LockName g.L.Ledger bounds.send-M bounds.send-L board_life) (queue_sync doing rules ghosts)
-    (seat_send M L g.M.BundleName g.L.LockName g.L.Ledger bounds.send-M bounds.send-L) (pass_send doing) bounds.sync-G))
+    (Seat.the_row M L g.M.BundleName g.L.LockNames) (Pass.the_row item doing) (param 4 g.row.G) (TupleAt (codes "(_,)") (param 3 g.row.T ∷ [])) tt tt tt tt tt
+    bounds.sync-R bundle_sync (board_sync M g.M.BundleName bounds.send-M L g.L.LockNames bounds.send-L board_life) (queue_sync doing rules ghosts)
+    (seat_send M g.M.BundleName bounds.send-M L g.L.LockNames bounds.send-L) (pass_send doing) bounds.sync-G))

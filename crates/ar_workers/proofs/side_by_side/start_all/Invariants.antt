@@ -3,7 +3,7 @@ use Rattle.std.specs.List.{AllByRecursion}
 use Rattle.std.specs.Vec.{vec_capacity}
 use Rattle.std.specs.Vec.Iter.{into_iter_items, into_iter_len}
 use Rattle.crossbeam_queue.specs.Passes.{IsPassOf, view}
-use Rattle.ar_workers.specs.Private.Gathered.{IsFeeder}
+use Rattle.ar_workers.specs.Joined.{feeding}
 use Rattle.ar_workers.proofs.side_by_side.start_all.Given as goal
 
 -- a worker was started for each seat so far
@@ -15,5 +15,4 @@ invariant-loop-seat g l =
     × (length l.handles.items ≡ length l.yielded)
     × (length (into_iter_items l.initial.seat-iterator) ≤ vec_capacity l.handles)
     × IsPassOf l.queue l.pass
-    × IsFeeder (view l.pass) (length l.yielded) 0
-    × ((view l.pass).taken ≡ [])
+    × (view l.pass ≡ feeding 0 0 (length l.yielded))

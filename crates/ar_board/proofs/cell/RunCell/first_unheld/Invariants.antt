@@ -1,7 +1,0 @@
-use Rattle.std.proofs.Common.{ℕ, ◌<◌}
-use Rattle.ar_board.specs.Private.Closing.{IsThere}
-use Rattle.ar_board.proofs.cell.RunCell.first_unheld.Given as goal
-
--- the numbers so far are there
-abbrev pub invariant-loop-number : goal.invariant-loop-number
-invariant-loop-number g l = (other : ℕ) → other < l.number → IsThere l.self l.unmet other

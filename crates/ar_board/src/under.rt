@@ -1,0 +1,98 @@
+//! What is done under one of a board's locks, over any of them.
+
+ghost use Rattle.std.specs.Prelude.{◌≡◌, ◌+◌, ◌<◌, ◌≤◌, IfErr, IfOk, OnErr, OnOk, Some, length};
+ghost use Rattle.ar_bundle.specs.Bundle.{IsBundle, found};
+ghost use Rattle.ar_board.specs.Board.{IsSeen, IsUnseen, seat_of};
+ghost use Rattle.ar_board.specs.Private.Closing.{IsGivenUp};
+ghost use Rattle.ar_cell.specs.Cell.{IsUnder, entries_under, lock_of};
+
+use ar_bundle::{Bundle, Finding, History};
+use ar_cell::{BundleName, Double, LockName, LookFault, Posted, Receipt, RunCell, Snapshot};
+use std::alloc::{AllocError, Global};
+use std::sync::ledger::{Blank, Share};
+use std::sync::{Mutex, Wait};
+
+/// A lock with its cell, to which nothing was posted, and all parts of its ledger.
+pub(crate) fn open<'b, M: BundleName, L: LockName>(
+    alloc: Global,
+    blank: Blank,
+    bundle: &'b Bundle,
+    workers: usize,
+    lock: usize,
+) -> Result<(Mutex<RunCell<'b, M, L>>, Share<L>), AllocError>
+    requires bundle { bundle.now ≡ M.bundle }
+    requires workers { workers ≡ M.workers }
+    requires lock { lock ≡ L.lock }
+    requires name { blank.name ≡ L.name }
+    requires parts { blank.parts ≡ L.parts }
+    ensures parts { IfOk result (λ made. made.1.parts ≡ L.parts) }
+    ensures nothing { IfOk result (λ made. made.1.amount ≡ 0) }
+{
+    let (book, share) = blank.open::<L>();
+    let cell = RunCell::new(alloc, bundle, workers, lock, book)?;
+    Ok((Mutex::new(cell), share))
+}
+
+/// A worker's finding of a number goes to the end of its run's history, and its share is one more: no
+/// more than the bundle has entries under the lock.
+pub(crate) fn post<M: BundleName, L: LockName, R: Wait>(
+    rt: &R,
+    lock: &Mutex<RunCell<'_, M, L>>,
+    share: &mut Share<L>,
+    worker: usize,
+    number: u64,
+    finding: Finding,
+) -> Result<Posted, Double>
+    requires there { number < length M.bundle.entries }
+    requires under { IsUnder M.bundle L.lock number }
+    requires worker { worker < M.workers }
+    requires finding { found M.bundle number ≡ Some finding }
+    requires part { 0 < share.old.parts }
+    ensures more { OnOk result (share.new.amount ≡ share.old.amount + 1) }
+    ensures few { share.new.amount ≤ entries_under M.bundle L.lock }
+    ensures refused { OnErr result (share.new.amount ≡ share.old.amount) }
+    ensures parts { share.new.parts ≡ share.old.parts }
+{
+    let mut cell = lock.lock(rt);
+    let answer = cell.add(share, worker, number, finding);
+    cell.audit(share);
+    answer
+}
+
+/// A run as it stands at one moment.
+pub(crate) fn look<M: BundleName, L: LockName, R: Wait>(
+    rt: &R,
+    lock: &Mutex<RunCell<'_, M, L>>,
+    alloc: Global,
+    run: usize,
+    worker: usize,
+    receipts: &[Receipt],
+) -> Result<Snapshot, LookFault>
+    requires there { run < length M.bundle.runs }
+    requires under { lock_of run ≡ L.lock }
+    requires worker { worker < M.workers }
+    ensures shown { IfOk result (IsSeen M.bundle M.workers run (seat_of worker receipts.now)) }
+    ensures fault { IfErr result (IsUnseen M.bundle M.workers run (seat_of worker receipts.now)) }
+{
+    let cell = lock.lock(rt);
+    cell.show(alloc, run, worker, receipts)
+}
+
+/// A lock's cell is compared with the share that has all parts of its ledger, and its histories come to
+/// their places among others.
+pub(crate) fn give_up<M: BundleName, L: LockName>(
+    lock: Mutex<RunCell<'_, M, L>>,
+    own: usize,
+    share: &mut Share<L>,
+    histories: &mut Vec<History>,
+)
+    requires own { own ≡ L.lock }
+    requires all { share.old.parts ≡ L.parts }
+    requires as_many { length histories.old.items ≡ length M.bundle.runs }
+    ensures given { IsGivenUp M.bundle M.workers L.lock share.old.amount histories.old.items histories.new.items }
+    ensures bundle { IsBundle M.bundle }
+{
+    let mut cell = lock.into_inner();
+    cell.audit(share);
+    cell.put_histories(own, histories);
+}

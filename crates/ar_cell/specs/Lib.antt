@@ -1,0 +1,4 @@
+pub mod Posting
+pub mod Receipts
+pub mod Cell
+pub mod Private

@@ -1,0 +1,33 @@
+-- What a post does to histories: a number goes to the end of its run's history, with its finding and the effect that it
+-- has there.
+use Rattle.std.specs.Prelude.{◌++◌, ℕ, List, [], ◌∷◌, set, get_or, Option, option_and_then, option_map, slice_get}
+use Rattle.ar_limits.specs.Run.{effect_of}
+use Rattle.ar_limits.specs.declared.event.Event.{Event}
+use Rattle.ar_limits.specs.declared.limits.Limits.{Limits}
+use Rattle.ar_bundle.specs.Bundle.{Bundle, events_of, found, happened, run_of}
+use Rattle.ar_bundle.specs.Lawful.{numbers_of}
+use Rattle.ar_bundle.specs.declared.finding.Finding.{Finding}
+use Rattle.ar_bundle.specs.declared.history.Entry.{Entry}
+
+-- a number with its finding, and with its effect behind events under its run's limits
+abbrev pub entry_with : (number : ℕ) → Finding → List Limits → List Event → Event → Entry
+entry_with number finding limits events event = record { number = number; finding = finding; effect = effect_of limits events event }
+
+-- behind the whole of a history of its run
+abbrev pub entry_of : Bundle → (run : ℕ) → List Entry → (number : ℕ) → Finding → Event → Option Entry
+entry_of bundle run history number finding event =
+    option_map (λ part. entry_with number finding part.limits (events_of bundle (numbers_of history)) event) (slice_get bundle.runs run)
+
+abbrev pub entry_behind : Bundle → (run : ℕ) → List Entry → (number : ℕ) → Option Entry
+entry_behind bundle run history number =
+    option_and_then (λ finding. option_and_then (entry_of bundle run history number finding) (happened bundle number)) (found bundle number)
+
+-- the histories with a number at the end of that of its run
+abbrev pub added : List (List Entry) → (run : ℕ) → Entry → List (List Entry)
+added histories run entry = set histories run (get_or histories run [] ++ entry ∷ [])
+
+abbrev pub with_number : Bundle → List (List Entry) → (number run : ℕ) → Option (List (List Entry))
+with_number bundle histories number run = option_map (added histories run) (entry_behind bundle run (get_or histories run []) number)
+
+abbrev pub posted : Bundle → List (List Entry) → (number : ℕ) → Option (List (List Entry))
+posted bundle histories number = option_and_then (with_number bundle histories number) (run_of bundle number)

@@ -1,0 +1,56 @@
+//! A run's history, and where the run stands behind it.
+
+ghost use Rattle.std.specs.Prelude.{◌≡◌, ◌<◌, ◌≤◌, [], ◌∷◌, ◌++◌, IfOk, length};
+ghost use Rattle.std.specs.Vec.{vec_capacity};
+ghost use Rattle.ar_limits.specs.Metric.{HasPositiveCounts};
+ghost use Rattle.ar_limits.specs.Replay.{ForEachReplay, IsOfMetricBelow, Replays};
+ghost use Rattle.ar_limits.specs.Run.{effect_of};
+
+use ar_bundle::{Entry, Finding};
+use ar_limits::{Effect, Event, Limits, MOST_EVENTS, RunState};
+use std::alloc::{AllocError, Global};
+
+/// The entries of a run, with room for all that the run can have, and where it stands behind them.
+#[derive(Drop)]
+pub struct RunHistory {
+    pub entries: Vec<Entry>,
+    pub state: RunState,
+}
+
+impl RunHistory {
+    /// That of a run to which nothing has happened, with room for so many entries.
+    pub fn open(alloc: Global, limits: &[Limits], size: usize) -> Result<RunHistory, AllocError>
+        requires { HasPositiveCounts limits.now }
+        ensures empty { IfOk result (λ run. run.entries.items ≡ []) }
+        ensures room { IfOk result (λ run. vec_capacity run.entries ≡ size) }
+        ensures replays { IfOk result (λ run. Replays limits.now [] run.state) }
+    {
+        Ok(RunHistory {
+            entries: Vec::with_capacity(alloc, size)?,
+            state: RunState::new(alloc, limits)?,
+        })
+    }
+
+    /// A number goes to the end, with its finding and the effect that it has there, which is answered.
+    /// There is room for it.
+    pub fn append(&mut self, number: u64, finding: Finding, event: Event) -> Effect
+        requires room { length self.old.entries.items < vec_capacity self.old.entries }
+        requires few { self.old.state.handed < MOST_EVENTS }
+        requires metric { IsOfMetricBelow (length self.old.state.limits) event }
+        ensures entry { self.new.entries.items ≡ self.old.entries.items
+            ++ record { number = number; finding = finding; effect = result } ∷ [] }
+        ensures effect { ForEachReplay self.old.state (λ limits events.
+            result ≡ effect_of limits events event) }
+        ensures replays { ForEachReplay self.old.state (λ limits events.
+            Replays limits (events ++ event ∷ []) self.new.state) }
+        ensures capacity { vec_capacity self.new.entries ≡ vec_capacity self.old.entries }
+    {
+        let effect = self.state.apply(event);
+        self.entries.push_reserved(Entry {
+            number,
+            finding,
+            effect,
+        });
+        effect
+    }
+}

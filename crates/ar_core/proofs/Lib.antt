@@ -1,0 +1,4 @@
+pub mod CoreSteps
+pub mod CorePost
+pub mod CoreOpening
+pub mod CoreShown

@@ -1,0 +1,111 @@
+-- The core of a board: what it does to plain lists, one step after another. A number is put into the queue, a worker
+-- takes it, and posts it to its run's history.
+use Rattle.std.specs.Prelude.{◌≡◌, ◌<◌, ◌+◌, ◌++◌, ◌==◌, ◌&&◌, ℕ, suc, nat_lt, Bool, if◌then◌else◌, List, [], ◌∷◌, length, map, replicate, set, get_or, Option, Some, None, is_none, IfSome, slice_get}
+use Rattle.std.specs.List.{AllByRecursion, sum_by}
+use Rattle.ar_limits.specs.Replay.{Replays, Standing}
+use Rattle.ar_bundle.specs.Bundle.{Bundle, events_of}
+use Rattle.ar_bundle.specs.Lawful.{numbers_of, times, times_in}
+use Rattle.ar_cell.specs.Posting.{posted}
+use Rattle.ar_core.specs.declared.core_steps.CoreStep.{CoreStep}
+use Rattle.ar_core.specs.declared.core_steps.CoreStep.TheVariants.{Put, Take, Post}
+use Rattle.ar_bundle.specs.declared.history.Entry.{Entry}
+
+-- the next number to put, the queue, a hand for each worker, and a history for each run
+pub record State : Type 0 where
+  pub next : ℕ
+  pub queue : List ℕ
+  pub hands : List (Option ℕ)
+  pub histories : List (List Entry)
+
+-- nothing was done yet
+abbrev pub opening : Bundle → (workers : ℕ) → State
+opening bundle workers = record { next = 0; queue = []; hands = replicate workers None; histories = map (λ run. []) bundle.runs }
+
+-- ---- Put: the next number goes to the queue's end, where there is a place for it
+
+abbrev pub can_put : Bundle → (places : ℕ) → State → Bool
+can_put bundle places state = nat_lt state.next (length bundle.entries) && nat_lt (length state.queue) places
+
+abbrev pub put : State → State
+put state = record { next = suc state.next; queue = state.queue ++ state.next ∷ []; hands = state.hands; histories = state.histories }
+
+-- ---- Take: the queue's first number goes into a worker's empty hand
+
+-- what a worker holds; one that isn't there holds nothing
+abbrev pub held : State → (worker : ℕ) → Option ℕ
+held state worker = get_or state.hands worker None
+
+abbrev pub has_empty_hand : State → (worker : ℕ) → Bool
+has_empty_hand state worker = nat_lt worker (length state.hands) && is_none (held state worker)
+
+abbrev pub taken : State → (worker : ℕ) → (queue : List ℕ) → State
+taken state worker [] = state
+taken state worker (number ∷ queue) = record { next = state.next; queue = queue; hands = set state.hands worker (Some number); histories = state.histories }
+
+-- ---- Post: the number in a worker's hand goes to the end of its run's history
+
+abbrev pub emptied : State → (worker : ℕ) → Option (List (List Entry)) → State
+emptied state worker None = state
+emptied state worker (Some histories) = record { next = state.next; queue = state.queue; hands = set state.hands worker None; histories = histories }
+
+abbrev pub post_of : Bundle → State → (worker : ℕ) → Option ℕ → State
+post_of bundle state worker None = state
+post_of bundle state worker (Some number) = emptied state worker (posted bundle state.histories number)
+
+-- ---- steps
+
+-- a step that can't be made, by a worker that isn't there among others, leaves the state
+abbrev pub after_step : Bundle → (places : ℕ) → State → CoreStep → State
+after_step bundle places state Put = if can_put bundle places state then put state else state
+after_step bundle places state (Take worker) = if has_empty_hand state worker then taken state worker state.queue else state
+after_step bundle places state (Post worker) = post_of bundle state worker (held state worker)
+
+-- the state behind some steps
+abbrev pub after : Bundle → (places : ℕ) → State → List CoreStep → State
+after bundle places state [] = state
+after bundle places state (step ∷ steps) = after bundle places (after_step bundle places state step) steps
+
+-- ---- each number once
+
+-- whether a number is still to be put, as a count
+abbrev pub times_to_put : (number : ℕ) → State → ℕ
+times_to_put number state = if nat_lt number state.next then 0 else 1
+
+abbrev pub times_held : (number : ℕ) → Option ℕ → ℕ
+times_held number None = 0
+times_held number (Some own) = if own == number then 1 else 0
+
+-- how often a number stands in what is still to put, in the queue, in the hands and in the histories
+abbrev pub occurrences : (number : ℕ) → State → ℕ
+occurrences number state =
+    times_to_put number state + (times_in number state.queue + (sum_by (times_held number) state.hands + times number state.histories))
+
+abbrev pub HasEachOnce : Bundle → State → Type 0
+HasEachOnce bundle state = (number : ℕ) → number < length bundle.entries → occurrences number state ≡ 1
+
+-- nothing is left to put, to take or to post
+pub record IsAtRest (bundle : Bundle) (state : State) : Type 0 where
+  pub put : state.next ≡ length bundle.entries
+  pub queue : state.queue ≡ []
+  pub hands : AllByRecursion (λ hand. hand ≡ None) state.hands
+
+-- ---- a core in memory
+
+-- the bundle, how many places its queue has, and the state
+pub record Core : Type 0 where
+  pub bundle : Bundle
+  pub places : ℕ
+  pub state : State
+
+-- the core behind a step
+abbrev pub stepped : Core → CoreStep → Core
+stepped core step = record { bundle = core.bundle; places = core.places; state = after_step core.bundle core.places core.state step }
+
+-- the core behind some steps of the opening state
+abbrev pub core_after : Bundle → (workers places : ℕ) → List CoreStep → Core
+core_after bundle workers places steps = record { bundle = bundle; places = places; state = after bundle places (opening bundle workers) steps }
+
+-- where a run stands behind its history
+abbrev pub IsStateOf : Core → (run : ℕ) → Standing → Type 0
+IsStateOf core run standing =
+    IfSome (slice_get core.bundle.runs run) (λ part. Replays part.limits (events_of core.bundle (numbers_of (get_or core.state.histories run []))) standing)

@@ -1,0 +1,8 @@
+use Rattle.std.proofs.Common.{◌≡◌}
+use Rattle.crossbeam_queue.specs.Passes.{IsPassOf, view}
+use Rattle.ar_workers.specs.Joined.{feeding}
+use Rattle.ar_tests.proofs.queues.taken.Given as goal
+
+-- the numbers so far were put
+abbrev pub invariant-loop-number : goal.invariant-loop-number
+invariant-loop-number g l = IsPassOf l.queue l.pass × (view l.pass ≡ feeding l.number 0 0)
