@@ -1,8 +1,9 @@
 """The core of a board, read a second time from crates/ar_core/specs/Core.antt: steps on plain lists.
 
 A bundle is a dict: `limits`, of each run a list of its metrics' limits as ../phases/rules.py takes them; `entries`, of
-each number its run and its event. A state is a dict: `next`, `queue`, `hands` with None for an empty one, and
-`histories`, of each run the numbers with their effects. A step is 'put', or a list of 'take' or 'post' and a worker.
+each number its run and its event. A state is a dict: `next`, `queue`, `hands` with None for an empty one, `histories`, of
+each run the numbers with their effects, and of an ordered core `parked`, a set of numbers. A step is 'put', or a list of
+'take' or 'post' and a worker.
 """
 
 import os
@@ -13,8 +14,9 @@ sys.path.append(os.path.join(os.path.dirname(os.path.abspath(__file__)), '..'))
 from phases.rules import outcome
 
 
-def opening(bundle, workers):
-    return {'next': 0, 'queue': [], 'hands': [None] * workers, 'histories': [[] for _ in bundle['limits']]}
+def opening(bundle, workers, ordered):
+    state = {'next': 0, 'queue': [], 'hands': [None] * workers, 'histories': [[] for _ in bundle['limits']]}
+    return {**state, 'parked': set()} if ordered else state
 
 
 def outcome_behind(bundle, run, numbers):
@@ -39,16 +41,35 @@ def take(state, worker):
     return True
 
 
-def post(bundle, state, worker):
-    """The number in the worker's hand goes to the end of its run's history, with the effect that it has there."""
-    if worker >= len(state['hands']) or state['hands'][worker] is None:
-        return False
-    number = state['hands'][worker]
-    run = bundle['entries'][number][0]
+def append(bundle, state, run, number):
+    """The number goes to the end of its run's history, with the effect that it has there."""
     history = state['histories'][run]
     effects = outcome_behind(bundle, run, [*(earlier for earlier, _ in history), number])[0]
     history.append((number, effects[-1]))
+
+
+def least_lacking(bundle, state, run):
+    """The least number of a run that its history lacks, or None."""
+    there = {number for number, _ in state['histories'][run]}
+    lacking = [number for number, (own, _) in enumerate(bundle['entries']) if own == run and number not in there]
+    return min(lacking, default=None)
+
+
+def post(bundle, state, worker):
+    """The number in the worker's hand goes to its run's history. In an ordered core it is parked; then, as long as the
+    least number of its run that the history lacks is parked, that number goes to the history's end."""
+    if worker >= len(state['hands']) or state['hands'][worker] is None:
+        return False
+    number = state['hands'][worker]
     state['hands'][worker] = None
+    run = bundle['entries'][number][0]
+    if 'parked' not in state:
+        append(bundle, state, run, number)
+        return True
+    state['parked'].add(number)
+    while (least := least_lacking(bundle, state, run)) in state['parked']:
+        state['parked'].remove(least)
+        append(bundle, state, run, least)
     return True
 
 
@@ -61,9 +82,10 @@ def make(bundle, places, state, step):
 
 
 def occurrences(state, number):
-    """How often a number stands in what is still to put, the queue, the hands and the histories."""
+    """How often a number stands in what is still to put, the queue, the hands, the parked numbers and the histories."""
     posted = sum(number == other for history in state['histories'] for other, _ in history)
-    return (number >= state['next']) + state['queue'].count(number) + state['hands'].count(number) + posted
+    parked = number in state.get('parked', ())
+    return (number >= state['next']) + state['queue'].count(number) + state['hands'].count(number) + parked + posted
 
 
 def has_each_once(bundle, state):
@@ -80,14 +102,16 @@ def run_line(bundle, run, history):
     return f'run {run} {phase}:{entries}'
 
 
-def answer(bundle, workers, places, steps):
+def answer(bundle, workers, places, ordered, steps):
     """What the call `core` answers. After each step each number has to stand just once."""
-    state = opening(bundle, workers)
+    state = opening(bundle, workers, ordered)
     moves = []
     for step in steps:
         moves.append('done' if make(bundle, places, state, step) else 'idle')
         if not has_each_once(bundle, state):
             sys.exit(f'after {len(moves)} steps a number stands otherwise than once: {state}')
     lines = [listed(moves), f"next={state['next']} queue={listed(state['queue'])} hands={listed(state['hands'])}"]
+    if ordered:
+        lines[-1] += f" parked={listed(sorted(state['parked']))}"
     lines += [run_line(bundle, run, history) for run, history in enumerate(state['histories'])]
     return ' / '.join(lines)

@@ -1,20 +1,21 @@
 -- A post of the core in memory.
-use Rattle.std.proofs.Common.{◌≡◌, ◌<◌, ◌≤◌, ℕ, zero, suc, ◌+◌, ◌==◌, Bool, true, false, List, [], ◌∷◌, ◌++◌, length, get_or, set, Option, Some, None, refl, sym, ◌∙◌, ap, subst, arith}
-use Rattle.std.specs.Prelude.{nat_lt, slice_get}
+use Rattle.std.proofs.Common.{◌≡◌, ◌<◌, ◌≤◌, ℕ, zero, suc, ◌+◌, Bool, false, List, [], ◌∷◌, ◌++◌, length, get_or, set, Option, Some, None, refl, sym, ◌∙◌, ap, subst, arith}
+use Rattle.std.specs.Prelude.{slice_get}
 use Rattle.std.specs.List.{cons_option}
 use Rattle.std.specs.Vec.{vec_capacity}
-use Rattle.std.proofs.lemmas.Bool.Decides.{nat_tests}
 use Rattle.std.proofs.lemmas.List.{get_or-map, length-map, map-set}
-use Rattle.std.proofs.lemmas.List.Sums.{get_or-le-sum_by}
-use Rattle.std.proofs.lemmas.Option.{get_or_from_slice_get, slice_get_read, slice_get_within}
+use Rattle.std.proofs.lemmas.Option.{get_or_from_slice_get, slice_get-get_or, slice_get_read, slice_get_within}
 use Rattle.ar_limits.specs.Replay.{ForEachReplay, Replays}
+use Rattle.ar_limits.specs.Run.{effect_of}
+use Rattle.ar_limits.specs.declared.event.Effect.{Effect}
 use Rattle.ar_limits.specs.declared.event.Event.{Event}
 use Rattle.ar_bundle.specs.Bundle.{Bundle, IsBundle, IsRun, events_of, found, happened, run_of}
-use Rattle.ar_cell.specs.Posting.{entry_with}
-use Rattle.ar_core.specs.Core.{Core, State, after_step, held, post_of, times_held, times_to_put}
+use Rattle.ar_cell.specs.Posting.{entry_with, posted}
+use Rattle.ar_core.specs.Core.{Core, State, after_step, emptied, held, post_of, stepped}
 use Rattle.ar_bundle.specs.Lawful.{IsHistory, numbers_of, times, times_in}
 use Rattle.ar_core.specs.Private.Inside.{AreJudged, AreKept, IsCore, IsKept, core_of, histories_of, state_of}
 use Rattle.ar_core.specs.Private.Kept.{IsSound}
+use Rattle.ar_core.specs.Private.Posts.{HasRoom, IsAppended}
 use Rattle.ar_bundle.specs.declared.bundle.RunPart.{RunPart}
 use Rattle.ar_core.specs.declared.core_state.CoreState.TheInside.{Inside}
 use Rattle.ar_cell.specs.declared.run_history.RunHistory.{RunHistory}
@@ -22,37 +23,32 @@ use Rattle.ar_core.specs.declared.core_steps.CoreStep.TheVariants.{Post}
 use Rattle.ar_bundle.specs.declared.finding.Finding.{Finding}
 use Rattle.ar_bundle.specs.declared.history.Entry.{Entry}
 use Rattle.ar_bundle.proofs.Bundles.{entry_at, of_each}
-use Rattle.ar_core.proofs.CoreSteps.{holder_inside, step_sound}
+use Rattle.ar_core.proofs.CoreSteps.{IsHeld, held_number}
+use Rattle.ar_core.proofs.CoreLaws.{step_sound}
 use Rattle.ar_bundle.proofs.HistoryLemmas.{events_push, history_at, numbers_push}
 use Rattle.ar_bundle.proofs.Room.{has_room}
 use Rattle.ar_bundle.proofs.Sizes.{few_counted}
 
--- ---- a number in a hand
-
--- it is one of the bundle's, and stands in no history
-pub record IsHeld (bundle : Bundle) (state : State) (number : ℕ) : Type 0 where
-  pub inside : number < length bundle.entries
-  pub nowhere : times number state.histories ≡ 0
-
-put_by_test : (number : ℕ) (state : State) (test : Bool) → nat_lt number state.next ≡ test → times_to_put number state ≡ 0 → number < state.next
-put_by_test number state true is put = grind (arith, nat_tests, is)
-put_by_test number state false is put = absurd (let one : times_to_put number state ≡ 1 = rw is refl in omega arith)
-
-pub held_number : (bundle : Bundle) (state : State) (worker number : ℕ) → IsSound bundle state → get_or state.hands worker None ≡ Some number → IsHeld bundle state number
-held_number bundle state worker number sound full =
-    let once = sound.once number in
-    let most = get_or-le-sum_by (times_held number) state.hands worker None (holder_inside worker number state.hands full) in
-    let same : (number == number) ≡ true = grind (arith, nat_tests) in
-    let one : times_held number (Some number) ≡ 1 = rw same refl in
-    let own : times_held number (get_or state.hands worker None) ≡ 1 = ap (times_held number) full ∙ one in
-    let put : number < state.next = put_by_test number state (nat_lt number state.next) refl (omega arith) in
-    let next = sound.next in
-    record { inside = omega arith; nowhere = omega arith }
+-- ---- a number's entry
 
 -- its finding, as it was judged
-pub judged_as : (bundle : Bundle) (findings : List Finding) (number : ℕ) (finding : Finding) → AreJudged bundle findings → number < length bundle.entries → finding ≡ get_or findings number finding → found bundle number ≡ Some finding
-judged_as bundle findings number finding judged inside read =
-    judged.found number finding (slice_get_read findings (length findings) number finding refl (let all = judged.all in omega arith) read)
+pub found_at : (bundle : Bundle) (findings : List Finding) (number : ℕ) (d : Finding) → AreJudged bundle findings → number < length bundle.entries → found bundle number ≡ Some (get_or findings number d)
+found_at bundle findings number d judged inside = judged.found number (get_or findings number d) (slice_get-get_or findings number d (let all = judged.all in omega arith))
+
+-- the entry, as it was appended
+pub is_appended : (bundle : Bundle) (findings : List Finding) (number : ℕ) (d : Finding) (event : Event) (effect : Effect) (old new : RunHistory) → AreJudged bundle findings → number < length bundle.entries → happened bundle number ≡ Some event
+    → new.entries.items ≡ old.entries.items ++ record { number = number; finding = get_or findings number d; effect = effect } ∷ [] → ForEachReplay old.state (λ limits events. effect ≡ effect_of limits events event) → ForEachReplay old.state (λ limits events. Replays limits (events ++ event ∷ []) new.state)
+    → vec_capacity new.entries ≡ vec_capacity old.entries → IsAppended bundle number old new
+is_appended bundle findings number d event effect old new judged inside happens entry effects replays capacity =
+    record {
+      finding = get_or findings number d;
+      event = event;
+      finds = found_at bundle findings number d judged inside;
+      happens = happens;
+      entries = λ limits events is. entry ∙ ap (λ (effect : Effect). old.entries.items ++ record { number = number; finding = get_or findings number d; effect = effect } ∷ []) (effects limits events is);
+      replays = replays;
+      capacity = capacity;
+    }
 
 -- ---- runs
 
@@ -99,7 +95,7 @@ few_happen : (bundle : Bundle) (numbers : List ℕ) → length (events_of bundle
 few_happen bundle [] = omega arith
 few_happen bundle (number ∷ numbers) = one_happens (happened bundle number) (events_of bundle numbers) (length numbers) (few_happen bundle numbers)
 
--- ---- the run of a number in a hand
+-- ---- the run of a number that isn't in a history
 
 pub record IsNext (bundle : Bundle) (runs : List RunHistory) (run : ℕ) : Type 0 where
   pub part : RunPart
@@ -108,16 +104,14 @@ pub record IsNext (bundle : Bundle) (runs : List RunHistory) (run : ℕ) : Type 
   pub core_there : slice_get runs run ≡ Some core
   pub inside : run < length runs
   pub kept : IsKept bundle run part core
-  pub room : length core.entries.items < vec_capacity core.entries
-  pub few : core.state.handed < 100000
-  pub metrics : length core.state.limits ≡ length bundle.metrics
+  pub room : HasRoom bundle core
 
 pub history_is : (runs : List RunHistory) (run : ℕ) (core : RunHistory) → slice_get runs run ≡ Some core → get_or (histories_of runs) run [] ≡ core.entries.items
 history_is runs run core there =
     get_or-map (λ (core : RunHistory). core.entries.items) runs run core [] (slice_get_within runs run core there) ∙ ap (λ (core : RunHistory). core.entries.items) (get_or_from_slice_get runs run core core there)
 
-pub next_of : (bundle : Bundle) (state : State) (runs : List RunHistory) (run number : ℕ) → IsBundle bundle → IsSound bundle state → AreKept bundle 0 bundle.runs runs → state.histories ≡ histories_of runs → IsHeld bundle state number → run_of bundle number ≡ Some run → run < length bundle.runs → IsNext bundle runs run
-next_of bundle state runs run number is sound kept histories holds own below =
+pub next_of : (bundle : Bundle) (state : State) (runs : List RunHistory) (run number : ℕ) → IsBundle bundle → IsSound bundle state → AreKept bundle 0 bundle.runs runs → state.histories ≡ histories_of runs → times number state.histories ≡ 0 → run_of bundle number ≡ Some run → run < length bundle.runs → IsNext bundle runs run
+next_of bundle state runs run number is sound kept histories nowhere own below =
     let part = entry_at bundle.runs run below in
     let here : 0 + run ≡ run = omega arith in
     let at = subst (λ (at : ℕ). KeptAt bundle at part.0 runs run) here (kept_at bundle 0 run bundle.runs runs part.0 kept part.1) in
@@ -125,7 +119,7 @@ next_of bundle state runs run number is sound kept histories holds own below =
     let same : history ≡ at.core.entries.items = ap (λ (histories : List (List Entry)). get_or histories run []) histories ∙ history_is runs run at.core at.there in
     let is_history = history_at bundle 0 run bundle.runs state.histories part.0 sound.histories part.1 in
     let found = subst (λ (at : ℕ). IsHistory bundle at part.0.limits history) here is_history in
-    let lacks : times_in number (numbers_of history) ≡ 0 = (let most = times_at number run state.histories in let nowhere = holds.nowhere in omega arith) in
+    let lacks : times_in number (numbers_of history) ≡ 0 = (let most = times_at number run state.histories in omega arith) in
     let shorter = has_room bundle run number history found.found (λ other. let most = times_at other run state.histories in let once = sound.once other in omega arith) lacks own in
     let long : length history ≡ length at.core.entries.items = ap length same in
     let few = few_counted bundle.entries run in
@@ -139,13 +133,15 @@ next_of bundle state runs run number is sound kept histories holds own below =
       core_there = at.there;
       inside = slice_get_within runs run at.core at.there;
       kept = at.kept;
-      room = omega arith;
-      few =
-          let handed = at.kept.replays.handed_is in
-          let happen = few_happen bundle (numbers_of at.core.entries.items) in
-          let numbers : length (numbers_of at.core.entries.items) ≡ length at.core.entries.items = length-map at.core.entries.items (λ (entry : Entry). entry.number) in
-          omega arith;
-      metrics = ap length at.kept.replays.limits_are ∙ of_run.limits;
+      room = record {
+        room = omega arith;
+        few =
+            let handed = at.kept.replays.handed_is in
+            let happen = few_happen bundle (numbers_of at.core.entries.items) in
+            let numbers : length (numbers_of at.core.entries.items) ≡ length at.core.entries.items = length-map at.core.entries.items (λ (entry : Entry). entry.number) in
+            omega arith;
+        metrics = ap length at.kept.replays.limits_are ∙ of_run.limits;
+      };
     }
 
 -- the run that was read
@@ -155,59 +151,74 @@ read_next bundle runs run core next read =
     let same : Some next.core ≡ Some core = sym next.core_there ∙ there in
     cc
 
--- ---- the state behind it
+pub room_read : (bundle : Bundle) (runs : List RunHistory) (run : ℕ) (core : RunHistory) (next : IsNext bundle runs run) → core ≡ get_or runs run core → HasRoom bundle core
+room_read bundle runs run core next read = subst (HasRoom bundle) (read_next bundle runs run core next read) next.room
 
-posted_is : (bundle : Bundle) (state : State) (worker run number : ℕ) (part : RunPart) (finding : Finding) (event : Event) → held state worker ≡ Some number → run_of bundle number ≡ Some run → found bundle number ≡ Some finding → happened bundle number ≡ Some event → slice_get bundle.runs run ≡ Some part
-    → post_of bundle state worker (held state worker) ≡ record { next = state.next; queue = state.queue; hands = set state.hands worker None; histories = set state.histories run (get_or state.histories run [] ++ entry_with number finding part.limits (events_of bundle (numbers_of (get_or state.histories run []))) event ∷ []) }
-posted_is bundle state worker run number part finding event holds own finds happens there = rw (holds, own, finds, happens, there) refl
+-- ---- the number at the end of its run's history
 
-abbrev pub emptied_with : State → (worker : ℕ) → List RunHistory → State
-emptied_with state worker runs = record { next = state.next; queue = state.queue; hands = set state.hands worker None; histories = histories_of runs }
+-- the runs with the number there
+pub record Appends (bundle : Bundle) (runs later : List RunHistory) (number : ℕ) : Type 0 where
+  pub posts : posted bundle (histories_of runs) number ≡ Some (histories_of later)
+  pub kept : AreKept bundle 0 bundle.runs later
 
--- the state with the number in its run's history
-pub record Posts (bundle : Bundle) (places : ℕ) (state : State) (worker : ℕ) (runs : List RunHistory) : Type 0 where
-  pub after : after_step bundle places state (Post worker) ≡ emptied_with state worker runs
-  pub sound : IsSound bundle (emptied_with state worker runs)
-  pub kept : AreKept bundle 0 bundle.runs runs
-
-later_kept : (bundle : Bundle) (run number : ℕ) (part : RunPart) (finding : Finding) (event : Event) (core later : RunHistory) → happened bundle number ≡ Some event → IsKept bundle run part core
-    → later.entries.items ≡ core.entries.items ++ entry_with number finding part.limits (events_of bundle (numbers_of core.entries.items)) event ∷ [] → Replays part.limits (events_of bundle (numbers_of core.entries.items) ++ event ∷ []) later.state → vec_capacity later.entries ≡ vec_capacity core.entries
-    → IsKept bundle run part later
-later_kept bundle run number part finding event core later happens kept appended replays capacity =
+later_kept : (bundle : Bundle) (run number : ℕ) (part : RunPart) (core later : RunHistory) (appended : IsAppended bundle number core later) → IsKept bundle run part core
+    → later.entries.items ≡ core.entries.items ++ entry_with number appended.finding part.limits (events_of bundle (numbers_of core.entries.items)) appended.event ∷ [] → IsKept bundle run part later
+later_kept bundle run number part core later appended kept longer =
     let before : List Event = events_of bundle (numbers_of core.entries.items) in
-    let entry : Entry = entry_with number finding part.limits before event in
-    let numbers : numbers_of later.entries.items ≡ numbers_of core.entries.items ++ number ∷ [] = ap numbers_of appended ∙ numbers_push core.entries.items entry in
-    let events : events_of bundle (numbers_of later.entries.items) ≡ before ++ event ∷ [] = ap (events_of bundle) numbers ∙ events_push bundle (numbers_of core.entries.items) number event happens in
+    let entry : Entry = entry_with number appended.finding part.limits before appended.event in
+    let numbers : numbers_of later.entries.items ≡ numbers_of core.entries.items ++ number ∷ [] = ap numbers_of longer ∙ numbers_push core.entries.items entry in
+    let events : events_of bundle (numbers_of later.entries.items) ≡ before ++ appended.event ∷ [] = ap (events_of bundle) numbers ∙ events_push bundle (numbers_of core.entries.items) number appended.event appended.happens in
     let room = kept.room in
-    record { replays = subst (λ (events : List Event). Replays part.limits events later.state) (sym events) replays; room = omega arith }
+    let capacity = appended.capacity in
+    record { replays = subst (λ (events : List Event). Replays part.limits events later.state) (sym events) (appended.replays part.limits before kept.replays); room = omega arith }
 
-pub posts : (bundle : Bundle) (places : ℕ) (state : State) (runs : List RunHistory) (worker run number : ℕ) (finding : Finding) (event : Event) (core later : RunHistory) → IsBundle bundle → IsSound bundle state → AreKept bundle 0 bundle.runs runs → state.histories ≡ histories_of runs → IsNext bundle runs run
-    → held state worker ≡ Some number → run_of bundle number ≡ Some run → found bundle number ≡ Some finding → happened bundle number ≡ Some event → core ≡ get_or runs run core
-    → ForEachReplay core.state (λ limits events. later.entries.items ≡ core.entries.items ++ entry_with number finding limits events event ∷ []) → ForEachReplay core.state (λ limits events. Replays limits (events ++ event ∷ []) later.state) → vec_capacity later.entries ≡ vec_capacity core.entries
-    → Posts bundle places state worker (set runs run later)
-posts bundle places state runs worker run number finding event core later is sound kept histories next holds own finds happens read appended replays capacity =
+posted_is : (bundle : Bundle) (histories : List (List Entry)) (run number : ℕ) (part : RunPart) (finding : Finding) (event : Event) → run_of bundle number ≡ Some run → found bundle number ≡ Some finding → happened bundle number ≡ Some event → slice_get bundle.runs run ≡ Some part
+    → posted bundle histories number ≡ Some (set histories run (get_or histories run [] ++ entry_with number finding part.limits (events_of bundle (numbers_of (get_or histories run []))) event ∷ []))
+posted_is bundle histories run number part finding event own finds happens there = rw (own, finds, happens, there) refl
+
+pub appends : (bundle : Bundle) (runs : List RunHistory) (run number : ℕ) (core later : RunHistory) → AreKept bundle 0 bundle.runs runs → IsNext bundle runs run → run_of bundle number ≡ Some run → core ≡ get_or runs run core → IsAppended bundle number core later → Appends bundle runs (set runs run later) number
+appends bundle runs run number core later kept next own read appended =
     let part = next.part in
     let same = read_next bundle runs run core next read in
     let core_kept : IsKept bundle run part core = subst (λ (core : RunHistory). IsKept bundle run part core) same next.kept in
     let before : List Event = events_of bundle (numbers_of core.entries.items) in
-    let entry : Entry = entry_with number finding part.limits before event in
-    let longer : later.entries.items ≡ core.entries.items ++ entry ∷ [] = appended part.limits before core_kept.replays in
-    let later_is = later_kept bundle run number part finding event core later happens core_kept longer (replays part.limits before core_kept.replays) capacity in
+    let longer : later.entries.items ≡ core.entries.items ++ entry_with number appended.finding part.limits before appended.event ∷ [] = appended.entries part.limits before core_kept.replays in
     let here : run ≡ 0 + run = omega arith in
     let there : slice_get runs run ≡ Some core = next.core_there ∙ ap Some same in
-    let history : get_or state.histories run [] ≡ core.entries.items = ap (λ (histories : List (List Entry)). get_or histories run []) histories ∙ history_is runs run core there in
-    let added : set state.histories run (get_or state.histories run [] ++ entry_with number finding part.limits (events_of bundle (numbers_of (get_or state.histories run []))) event ∷ []) ≡ histories_of (set runs run later) =
-    ap (λ (history : List Entry). set state.histories run (history ++ entry_with number finding part.limits (events_of bundle (numbers_of history)) event ∷ [])) history
-    ∙ (ap (λ (history : List Entry). set state.histories run history) (sym longer)
-    ∙ (ap (λ (histories : List (List Entry)). set histories run later.entries.items) histories ∙ sym (map-set (λ (core : RunHistory). core.entries.items) runs run later))) in
-    let after : after_step bundle places state (Post worker) ≡ emptied_with state worker (set runs run later) =
-    posted_is bundle state worker run number part finding event holds own finds happens next.part_there
-    ∙ ap (λ (histories : List (List Entry)). record { next = state.next; queue = state.queue; hands = set state.hands worker None; histories = histories }) added in
+    let history : get_or (histories_of runs) run [] ≡ core.entries.items = history_is runs run core there in
     record {
-      after = after;
-      sound = subst (IsSound bundle) after (step_sound bundle places state (Post worker) is sound);
-      kept = kept_set bundle 0 run bundle.runs runs part later kept next.part_there (subst (λ (at : ℕ). IsKept bundle at part later) here later_is);
+      posts =
+          posted_is bundle (histories_of runs) run number part appended.finding appended.event own appended.finds appended.happens next.part_there
+          ∙ (ap (λ (history : List Entry). Some (set (histories_of runs) run (history ++ entry_with number appended.finding part.limits (events_of bundle (numbers_of history)) appended.event ∷ []))) history
+          ∙ (ap (λ (history : List Entry). Some (set (histories_of runs) run history)) (sym longer)
+          ∙ ap Some (sym (map-set (λ (core : RunHistory). core.entries.items) runs run later))));
+      kept = kept_set bundle 0 run bundle.runs runs part later kept next.part_there (subst (λ (at : ℕ). IsKept bundle at part later) here (later_kept bundle run number part core later appended core_kept longer));
     }
+
+-- ---- a post at once
+
+abbrev pub emptied_with : State → (worker : ℕ) → List RunHistory → State
+emptied_with state worker runs = record { next = state.next; queue = state.queue; hands = set state.hands worker None; parked = state.parked; histories = histories_of runs }
+
+-- the state with the number in its run's history
+pub record Posts (bundle : Bundle) (places : ℕ) (state : State) (worker : ℕ) (later : List RunHistory) : Type 0 where
+  pub after : after_step bundle places false state (Post worker) ≡ emptied_with state worker later
+  pub sound : IsSound bundle (emptied_with state worker later)
+
+posted_after : (bundle : Bundle) (places : ℕ) (state : State) (worker number : ℕ) (later : List (List Entry)) → held state worker ≡ Some number → posted bundle state.histories number ≡ Some later
+    → after_step bundle places false state (Post worker) ≡ record { next = state.next; queue = state.queue; hands = set state.hands worker None; parked = state.parked; histories = later }
+posted_after bundle places state worker number later holds posts = ap (post_of bundle state worker) holds ∙ ap (emptied state worker) posts
+
+pub posts : (bundle : Bundle) (places : ℕ) (state : State) (runs later : List RunHistory) (worker number : ℕ) → IsBundle bundle → IsSound bundle state → state.histories ≡ histories_of runs → held state worker ≡ Some number → Appends bundle runs later number → Posts bundle places state worker later
+posts bundle places state runs later worker number is sound histories holds appended =
+    let after = posted_after bundle places state worker number (histories_of later) holds (ap (λ (histories : List (List Entry)). posted bundle histories number) histories ∙ appended.posts) in
+    record { after = after; sound = subst (IsSound bundle) after (step_sound bundle places false state (Post worker) is sound) }
+
+-- the core behind it
+pub stepped_at_once : (core : Core) (worker : ℕ) (later : State) → core.ordered ≡ false → after_step core.bundle core.places false core.state (Post worker) ≡ later → record { bundle = core.bundle; places = core.places; ordered = core.ordered; state = later } ≡ stepped core (Post worker)
+stepped_at_once core worker later off after =
+    ap (λ (state : State). record { bundle = core.bundle; places = core.places; ordered = core.ordered; state = state }) (sym after)
+    ∙ ap (λ (ordered : Bool). record { bundle = core.bundle; places = core.places; ordered = core.ordered; state = after_step core.bundle core.places ordered core.state (Post worker) }) (sym off)
 
 -- ---- the same of the core as it lies in memory
 
@@ -220,5 +231,5 @@ holding core seen worker number hand is view hand_is read =
     let full : held (state_of core) worker ≡ Some number = ap (λ (seen : Core). held seen.state worker) view ∙ (sym read ∙ hand_is) in
     record { full = full; is = held_number core.bundle.now (state_of core) worker number is.sound full }
 
-pub next_in : (core : Inside) (worker run number : ℕ) → IsCore core → Holding core worker number → run_of core.bundle.now number ≡ Some run → run < length core.bundle.now.runs → IsNext core.bundle.now core.runs.items run
-next_in core worker run number is holds own below = next_of core.bundle.now (state_of core) core.runs.items run number is.bundle is.sound is.runs refl holds.is own below
+pub next_in : (core : Inside) (run number : ℕ) → IsCore core → times number (histories_of core.runs.items) ≡ 0 → run_of core.bundle.now number ≡ Some run → run < length core.bundle.now.runs → IsNext core.bundle.now core.runs.items run
+next_in core run number is nowhere own below = next_of core.bundle.now (state_of core) core.runs.items run number is.bundle is.sound is.runs refl nowhere own below

@@ -1,4 +1,12 @@
 pub mod CoreSteps
+pub mod OwnNumbers
+pub mod NumberLists
+pub mod Postable
+pub mod OrderedSteps
+pub mod OrderedPost
+pub mod OrderedWaits
+pub mod CoreLaws
 pub mod CorePost
 pub mod CoreOpening
 pub mod CoreShown
+pub mod OrderedMemory

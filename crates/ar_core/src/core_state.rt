@@ -1,20 +1,24 @@
 //! The core of a board in memory.
 
-ghost use Rattle.std.specs.Prelude.{◌≡◌, ◌<◌, ◌↔◌, [], IfOk, None, Some, length, replicate, slice_get};
+ghost use Rattle.std.specs.Prelude.{◌≡◌, ◌<◌, ◌↔◌, true, false, [], IfOk, None, Some, length, replicate, slice_get};
 ghost use Rattle.ar_bundle.specs.Bundle.{IsBundle};
 ghost use Rattle.ar_core.specs.Core.{HasEachOnce, IsStateOf, core_after, held, stepped};
-ghost use Rattle.ar_bundle.specs.Lawful.{AreHistories};
+ghost use Rattle.ar_bundle.specs.Lawful.{AllRise, AreHistories};
 ghost use Rattle.ar_core.specs.Private.Inside.{AreJudged, AreOpened};
+ghost use Rattle.ar_core.specs.Private.Posts.{HasRoom, IsAppended, stepped_by};
 ghost use Rattle.ar_core.specs.declared.core_steps.CoreStep.TheVariants.{Put, Take, Post};
 ghost use Rattle.ar_core.specs.declared.core_steps.Moved.TheVariants.{Idle};
 
 use crate::core_steps::{CoreStep, Moved};
+use crate::own_numbers::own_numbers_if;
 use ar_bundle::{Bundle, Entry, Finding};
 use ar_cell::RunHistory;
 use ar_limits::RunState;
 use std::alloc::{AllocError, Global};
 use std::collections::VecDeque;
 use std::marker::Model;
+
+mod ordered;
 
 /// The core of a board of a bundle. Contracts see it as the `Core` of `specs/Core`.
 #[derive(Drop)]
@@ -27,6 +31,11 @@ pub struct CoreState<'b> {
     /// With room for `places` numbers, or for all of the bundle's where these are fewer.
     queue: VecDeque<u64>,
     hands: Vec<Option<u64>>,
+    ordered: bool,
+    /// Of each number, whether it is parked.
+    parked: Vec<bool>,
+    /// The numbers of each run, in rising order; no lists where the core isn't ordered.
+    own: Vec<Vec<u64>>,
     runs: Vec<RunHistory>,
 }
 
@@ -96,8 +105,41 @@ impl<'b> CoreState<'b> {
         workers: usize,
         places: usize,
     ) -> Result<CoreState<'b>, AllocError>
-        ensures exact { IfOk result (λ core. core ≡ core_after bundle.now workers places []) }
+        ensures exact { IfOk result (λ core. core ≡ core_after bundle.now workers places false []) }
         // What is true of each bundle, told to callers.
+        ensures bundle { IfOk result (λ _. IsBundle bundle.now) }
+    {
+        CoreState::open(alloc, bundle, workers, places, false)
+    }
+
+    /// The same of an ordered core, in which the numbers rise in each history: a posted number is parked
+    /// until its run's history has all lower numbers of the run.
+    ///
+    /// # Errors
+    ///
+    /// Want of memory alone.
+    pub fn new_ordered(
+        alloc: Global,
+        bundle: &'b Bundle,
+        workers: usize,
+        places: usize,
+    ) -> Result<CoreState<'b>, AllocError>
+        ensures exact { IfOk result (λ core. core ≡ core_after bundle.now workers places true []) }
+        // What is true of each bundle, told to callers.
+        ensures bundle { IfOk result (λ _. IsBundle bundle.now) }
+    {
+        CoreState::open(alloc, bundle, workers, places, true)
+    }
+
+    /// The core to which nothing has happened, ordered or not.
+    fn open(
+        alloc: Global,
+        bundle: &'b Bundle,
+        workers: usize,
+        places: usize,
+        ordered: bool,
+    ) -> Result<CoreState<'b>, AllocError>
+        ensures exact { IfOk result (λ core. core ≡ core_after bundle.now workers places ordered []) }
         ensures bundle { IfOk result (λ _. IsBundle bundle.now) }
     {
         Ok(CoreState {
@@ -107,6 +149,9 @@ impl<'b> CoreState<'b> {
             next: 0,
             queue: VecDeque::with_capacity(alloc, places.min(bundle.entries().len()))?,
             hands: empty_hands(alloc, workers)?,
+            ordered,
+            parked: vec![in alloc; false; bundle.entries().len()]?,
+            own: own_numbers_if(alloc, bundle, ordered)?,
             runs: opened(alloc, bundle)?,
         })
     }
@@ -130,6 +175,13 @@ impl<'b> CoreState<'b> {
         ensures { result.now ≡ self.now.state.hands }
     {
         &self.hands
+    }
+
+    /// Of each number, whether it is parked. In a core that isn't ordered none is.
+    pub fn parked(&self) -> &[bool]
+        ensures { result.now ≡ self.now.state.parked }
+    {
+        &self.parked
     }
 
     /// The history of a run.
@@ -188,23 +240,47 @@ impl<'b> CoreState<'b> {
     }
 
     /// The number in the worker's hand goes to the end of its run's history.
-    fn post(&mut self, worker: usize) -> Moved
+    fn post_at_once(&mut self, worker: usize) -> Moved
+        requires { self.old.ordered ≡ false }
         ensures after { self.new ≡ stepped self.old (Post worker) }
         ensures idle { (result ≡ Idle) ↔ (self.new.state ≡ self.old.state) }
     {
         let Some(number) = self.held(worker) else {
             return Moved::Idle;
         };
-        let finding = self.findings[number as usize];
         let run = self.bundle.run_of(number);
-        let event = self.bundle.event(number, finding);
-        self.runs[run].append(number, finding, event);
+        append(self.bundle, &self.findings, &mut self.runs[run], number);
         self.hands[worker] = None;
         Moved::Done
     }
+
+    /// The number in the worker's hand is posted, as the core is ordered or not.
+    fn post(&mut self, worker: usize) -> Moved
+        ensures after { self.new ≡ stepped self.old (Post worker) }
+        ensures idle { (result ≡ Idle) ↔ (self.new.state ≡ self.old.state) }
+    {
+        if self.ordered {
+            self.post_in_order(worker)
+        } else {
+            self.post_at_once(worker)
+        }
+    }
 }
 
-/// Makes a step, in constant time but for the event that closes a run. No memory is taken.
+/// A number goes to the end of its run's history, with its finding and the effect that it has there.
+fn append(bundle: &Bundle, findings: &[Finding], run: &mut RunHistory, number: u64)
+    requires findings { AreJudged bundle.now findings.now }
+    requires inside { number < length bundle.now.entries }
+    requires room { HasRoom bundle.now run.old }
+    ensures { IsAppended bundle.now number run.old run.new }
+{
+    let finding = findings[number as usize];
+    let event = bundle.event(number, finding);
+    run.append(number, finding, event);
+}
+
+/// Makes a step, in constant time but for what it moves to histories and for the events that close a
+/// run. No memory is taken.
 pub fn core_step(core: &mut CoreState<'_>, step: CoreStep) -> Moved
     ensures after { core.new ≡ stepped core.old step }
     // Nothing was done exactly where the state stays.
@@ -217,12 +293,21 @@ pub fn core_step(core: &mut CoreState<'_>, step: CoreStep) -> Moved
     }
 }
 
+/// Makes these steps, each where it can be made.
+fn make_steps(core: &mut CoreState<'_>, steps: &[CoreStep])
+    ensures { core.new ≡ stepped_by core.old steps.now }
+{
+    for step in steps {
+        core_step(core, *step);
+    }
+}
+
 /// The core of a bundle behind these steps, each made where it can be.
 ///
 /// # Errors
 ///
 /// Want of memory alone.
-#[tactic(auto, using(crate::proofs::CoreSteps::each_once, crate::proofs::CoreSteps::histories_of_runs))]
+#[tactic(auto, using(crate::proofs::CoreLaws::each_once, crate::proofs::CoreLaws::histories_of_runs))]
 pub fn core_run<'b>(
     alloc: Global,
     bundle: &'b Bundle,
@@ -230,15 +315,41 @@ pub fn core_run<'b>(
     places: usize,
     steps: &[CoreStep],
 ) -> Result<CoreState<'b>, AllocError>
-    ensures exact { IfOk result (λ core. core ≡ core_after bundle.now workers places steps.now) }
+    ensures exact { IfOk result (λ core. core ≡ core_after bundle.now workers places false steps.now) }
     // Each number stands just once in what is still to put, the queue, the hands and the histories.
     ensures once { IfOk result (λ core. HasEachOnce bundle.now core.state) }
     // Each run's history has its own numbers, each with its finding and its effect there.
     ensures histories { IfOk result (λ core. AreHistories bundle.now 0 bundle.now.runs core.state.histories) }
 {
     let mut core = CoreState::new(alloc, bundle, workers, places)?;
-    for step in steps {
-        core_step(&mut core, *step);
-    }
+    make_steps(&mut core, steps);
+    Ok(core)
+}
+
+/// The ordered core of a bundle behind these steps, each made where it can be. A number that is posted
+/// before a lower one of its run is parked meanwhile.
+///
+/// # Errors
+///
+/// Want of memory alone.
+#[tactic(auto, using(crate::proofs::CoreLaws::each_once, crate::proofs::CoreLaws::histories_of_runs, crate::proofs::CoreLaws::histories_rise))]
+pub fn core_run_ordered<'b>(
+    alloc: Global,
+    bundle: &'b Bundle,
+    workers: usize,
+    places: usize,
+    steps: &[CoreStep],
+) -> Result<CoreState<'b>, AllocError>
+    ensures exact { IfOk result (λ core. core ≡ core_after bundle.now workers places true steps.now) }
+    // Each number stands just once in what is still to put, the queue, the hands, the parked numbers
+    // and the histories.
+    ensures once { IfOk result (λ core. HasEachOnce bundle.now core.state) }
+    // Each run's history has its own numbers, each with its finding and its effect there.
+    ensures histories { IfOk result (λ core. AreHistories bundle.now 0 bundle.now.runs core.state.histories) }
+    // In each history the numbers rise.
+    ensures in_order { IfOk result (λ core. AllRise core.state.histories) }
+{
+    let mut core = CoreState::new_ordered(alloc, bundle, workers, places)?;
+    make_steps(&mut core, steps);
     Ok(core)
 }

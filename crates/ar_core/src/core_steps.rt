@@ -7,7 +7,8 @@ pub enum CoreStep {
     Put,
     /// The queue's first number goes into the empty hand of the worker with this number.
     Take(usize),
-    /// The number in the worker's hand goes to the end of its run's history.
+    /// The number in the worker's hand goes to the end of its run's history. In an ordered core it is
+    /// parked first, and goes there once all lower numbers of the run have.
     Post(usize),
 }
 

@@ -1,32 +1,48 @@
 //! Laws: what holds in each state that a list of steps leads to, whoever makes them and in whatever order.
 //! A law is the contract of a function that does nothing.
 
-ghost use Rattle.std.specs.Prelude.{ℕ, List};
+ghost use Rattle.std.specs.Prelude.{◌≡◌, ℕ, Bool, List, ◌∷◌, true, false};
 ghost use Rattle.ar_bundle.specs.Bundle.{Bundle, IsBundle};
-ghost use Rattle.ar_core.specs.Core.{HasEachOnce, IsAtRest, after, opening};
-ghost use Rattle.ar_bundle.specs.Lawful.{AreHistories, AreLawful};
+ghost use Rattle.ar_core.specs.Core.{HasEachOnce, IsAtRest, after, is_parked, lacking, opening};
+ghost use Rattle.ar_bundle.specs.Lawful.{AllRise, AreHistories, AreLawful};
 ghost use Rattle.ar_core.specs.declared.core_steps.CoreStep.{CoreStep};
 
-/// Each number of the bundle stands just once in what is still to put, the queue, the hands and the
-/// histories.
-#[tactic(auto, using(crate::proofs::CoreSteps::each_once))]
+/// Each number of the bundle stands just once in what is still to put, the queue, the hands, the
+/// parked numbers and the histories.
+#[tactic(auto, using(crate::proofs::CoreLaws::each_once))]
 pub fn each_number_once()
-    ensures { (bundle : Bundle) (workers places : ℕ) (steps : List CoreStep) → IsBundle bundle
-        → HasEachOnce bundle (after bundle places (opening bundle workers) steps) }
+    ensures { (bundle : Bundle) (workers places : ℕ) (ordered : Bool) (steps : List CoreStep) → IsBundle bundle
+        → HasEachOnce bundle (after bundle places ordered (opening bundle workers) steps) }
 {}
 
 /// Each run's history has its own numbers alone, each with its finding and the effect that it has
 /// there.
-#[tactic(auto, using(crate::proofs::CoreSteps::histories_of_runs))]
+#[tactic(auto, using(crate::proofs::CoreLaws::histories_of_runs))]
 pub fn histories_are_of_runs()
-    ensures { (bundle : Bundle) (workers places : ℕ) (steps : List CoreStep) → IsBundle bundle
-        → AreHistories bundle 0 bundle.runs (after bundle places (opening bundle workers) steps).histories }
+    ensures { (bundle : Bundle) (workers places : ℕ) (ordered : Bool) (steps : List CoreStep) → IsBundle bundle
+        → AreHistories bundle 0 bundle.runs (after bundle places ordered (opening bundle workers) steps).histories }
 {}
 
-/// Where nothing is left to put, to take or to post, the histories are lawful.
-#[tactic(auto, using(crate::proofs::CoreSteps::at_rest))]
-pub fn lawful_at_rest()
+/// In an ordered core the numbers rise in each history.
+#[tactic(auto, using(crate::proofs::CoreLaws::histories_rise))]
+pub fn ordered_histories_rise()
     ensures { (bundle : Bundle) (workers places : ℕ) (steps : List CoreStep) → IsBundle bundle
-        → IsAtRest bundle (after bundle places (opening bundle workers) steps)
-        → AreLawful bundle (after bundle places (opening bundle workers) steps).histories }
+        → AllRise (after bundle places true (opening bundle workers) steps).histories }
+{}
+
+/// There the least number that a run's history lacks isn't parked: a parked number waits for a lower
+/// one of its run.
+pub fn parked_numbers_wait()
+    ensures { (bundle : Bundle) (workers places run number : ℕ) (others : List ℕ) (steps : List CoreStep)
+        → IsBundle bundle
+        → lacking bundle (after bundle places true (opening bundle workers) steps) run ≡ number ∷ others
+        → is_parked (after bundle places true (opening bundle workers) steps) number ≡ false }
+{}
+
+/// Where nothing is left to put, to take or to post, and nothing is parked, the histories are lawful.
+#[tactic(auto, using(crate::proofs::CoreLaws::at_rest))]
+pub fn lawful_at_rest()
+    ensures { (bundle : Bundle) (workers places : ℕ) (ordered : Bool) (steps : List CoreStep) → IsBundle bundle
+        → IsAtRest bundle (after bundle places ordered (opening bundle workers) steps)
+        → AreLawful bundle (after bundle places ordered (opening bundle workers) steps).histories }
 {}

@@ -1,6 +1,6 @@
 //! Calls on the core of a board.
 
-ghost use Rattle.std.specs.Prelude.{◌≡◌};
+ghost use Rattle.std.specs.Prelude.{◌≡◌, IfOk};
 
 use crate::documents::input_of;
 use crate::phases::put_effect;
@@ -8,11 +8,11 @@ use ar_bundle::{Bundle, Entry};
 use ar_cases::fault::{CaseFault, Written};
 use ar_cases::members;
 use ar_cases::printing::{put_between, put_refusal, put_str};
-use ar_core::{CoreState, CoreStep, Moved, core_run, core_step};
+use ar_core::{CoreState, CoreStep, Moved, core_run, core_run_ordered, core_step};
 use ar_document::read_bundle;
 use ar_report::phase_name;
 use serde_json::Value as Json;
-use std::alloc::Global;
+use std::alloc::{AllocError, Global};
 use std::fmt::Write;
 
 pub(crate) fn put(alloc: Global, call: &str, case: &Json, out: &mut String) -> Written {
@@ -24,9 +24,51 @@ pub(crate) fn put(alloc: Global, call: &str, case: &Json, out: &mut String) -> W
 
 /// How a core is made.
 #[derive(Clone, Copy)]
-struct Sizes {
+struct Making {
     workers: usize,
     places: usize,
+    ordered: bool,
+}
+
+/// The core to which nothing has happened.
+fn opened<'b>(
+    alloc: Global,
+    bundle: &'b Bundle,
+    making: Making,
+) -> Result<CoreState<'b>, AllocError>
+    ensures { IfOk result (λ core. core.bundle ≡ bundle.now) }
+{
+    let Making {
+        workers,
+        places,
+        ordered,
+    } = making;
+    if ordered {
+        CoreState::new_ordered(alloc, bundle, workers, places)
+    } else {
+        CoreState::new(alloc, bundle, workers, places)
+    }
+}
+
+/// The core behind some steps.
+fn run<'b>(
+    alloc: Global,
+    bundle: &'b Bundle,
+    making: Making,
+    steps: &[CoreStep],
+) -> Result<CoreState<'b>, AllocError>
+    ensures { IfOk result (λ core. core.bundle ≡ bundle.now) }
+{
+    let Making {
+        workers,
+        places,
+        ordered,
+    } = making;
+    if ordered {
+        core_run_ordered(alloc, bundle, workers, places, steps)
+    } else {
+        core_run(alloc, bundle, workers, places, steps)
+    }
 }
 
 fn put_core(alloc: Global, case: &Json, out: &mut String) -> Written {
@@ -36,15 +78,16 @@ fn put_core(alloc: Global, case: &Json, out: &mut String) -> Written {
     }
 }
 
-/// What each step did, and the state behind them; behind it that of `core_run`, where it is another.
+/// What each step did, and the state behind them; behind it that of `core_run` or `core_run_ordered`, where
+/// it is another.
 fn put_steps(alloc: Global, case: &Json, bundle: &Bundle, out: &mut String) -> Written {
-    let sizes = sizes_of(case).ok_or(CaseFault::Member)?;
+    let making = making_of(case).ok_or(CaseFault::Member)?;
     let steps = steps_of(alloc, case)?;
     let mut stepped = String::new(alloc);
-    put_stepped(alloc, bundle, sizes, &steps, out, &mut stepped)?;
+    put_stepped(alloc, bundle, making, &steps, out, &mut stepped)?;
     out.push_str(stepped.as_str())?;
     let mut run = String::new(alloc);
-    put_run(alloc, bundle, sizes, &steps, &mut run)?;
+    put_run(alloc, bundle, making, &steps, &mut run)?;
     if run.as_str() != stepped.as_str() {
         write!(out, " / core_run{}", run.as_str())?;
     }
@@ -55,10 +98,14 @@ fn size_of(case: &Json, name: &str) -> Option<usize> {
     usize::try_from(case.get(name)?.as_u64()?).ok()
 }
 
-fn sizes_of(case: &Json) -> Option<Sizes> {
-    Some(Sizes {
+fn making_of(case: &Json) -> Option<Making> {
+    Some(Making {
         workers: size_of(case, "workers")?,
         places: size_of(case, "places")?,
+        ordered: match case.get("ordered") {
+            Some(ordered) => ordered.as_bool()?,
+            None => false,
+        },
     })
 }
 
@@ -91,26 +138,26 @@ fn steps_of(alloc: Global, case: &Json) -> Result<Vec<CoreStep>, CaseFault> {
 fn put_stepped(
     alloc: Global,
     bundle: &Bundle,
-    sizes: Sizes,
+    making: Making,
     steps: &[CoreStep],
     moves: &mut String,
     state: &mut String,
 ) -> Written {
-    let mut core = CoreState::new(alloc, bundle, sizes.workers, sizes.places)?;
+    let mut core = opened(alloc, bundle, making)?;
     put_moves(&mut core, steps, moves)?;
-    put_state(bundle, &core, state)
+    put_state(bundle, &core, making.ordered, state)
 }
 
-/// The state to which `core_run` comes.
+/// The state to which all steps in one call come.
 fn put_run(
     alloc: Global,
     bundle: &Bundle,
-    sizes: Sizes,
+    making: Making,
     steps: &[CoreStep],
     state: &mut String,
 ) -> Written {
-    let core = core_run(alloc, bundle, sizes.workers, sizes.places, steps)?;
-    put_state(bundle, &core, state)
+    let core = run(alloc, bundle, making, steps)?;
+    put_state(bundle, &core, making.ordered, state)
 }
 
 fn put_moves(core: &mut CoreState<'_>, steps: &[CoreStep], out: &mut String) -> Written
@@ -133,8 +180,9 @@ fn moved_name(moved: Moved) -> &'static str {
     }
 }
 
-/// The next number, the queue, the hands, and each run with its history.
-fn put_state(bundle: &Bundle, core: &CoreState<'_>, out: &mut String) -> Written
+/// The next number, the queue, the hands, the parked numbers of an ordered core, and each run with its
+/// history.
+fn put_state(bundle: &Bundle, core: &CoreState<'_>, ordered: bool, out: &mut String) -> Written
     requires { core.now.bundle ≡ bundle.now }
 {
     write!(out, " / next={} queue=[", core.next())?;
@@ -142,6 +190,9 @@ fn put_state(bundle: &Bundle, core: &CoreState<'_>, out: &mut String) -> Written
     out.push_str("] hands=[")?;
     put_hands(core.hands(), out)?;
     out.push_str("]")?;
+    if ordered {
+        put_parked(core.parked(), out)?;
+    }
     for run in 0..bundle.runs().len() {
         write!(
             out,
@@ -171,6 +222,20 @@ fn put_hands(hands: &[Option<u64>], out: &mut String) -> Written {
         put_hand(*hand, out)?;
     }
     Ok(())
+}
+
+/// The numbers that are parked.
+fn put_parked(parked: &[bool], out: &mut String) -> Written {
+    out.push_str(" parked=[")?;
+    let mut first = true;
+    for (number, is_parked) in parked.iter().enumerate() {
+        if *is_parked {
+            put_between(out, first, ", ")?;
+            first = false;
+            write!(out, "{number}")?;
+        }
+    }
+    put_str(out, "]")
 }
 
 fn put_hand(hand: Option<u64>, out: &mut String) -> Written {

@@ -1,12 +1,13 @@
 -- How the core lies in memory.
-use Rattle.std.specs.Prelude.{◌≡◌, ◌≤◌, ℕ, suc, min, List, [], ◌∷◌, length, map, slice_get, Some}
+use Rattle.std.specs.Prelude.{◌≡◌, ◌≤◌, ℕ, suc, min, true, List, [], ◌∷◌, length, map, slice_get, Some}
 use Rattle.std.specs.Vec.{vec_capacity}
 use Rattle.std.specs.VecDeque.{deque_capacity}
 use Rattle.ar_limits.specs.Replay.{Replays}
 use Rattle.ar_bundle.specs.Bundle.{Bundle, IsBundle, entries_of, events_of, found}
 use Rattle.ar_core.specs.Core.{Core, State}
 use Rattle.ar_bundle.specs.Lawful.{numbers_of}
-use Rattle.ar_core.specs.Private.Kept.{IsSound}
+use Rattle.ar_core.specs.Private.Kept.{AreInOrder, IsSound}
+use Rattle.ar_core.specs.Private.Own.{AreOwn, items_of}
 use Rattle.ar_bundle.specs.declared.bundle.RunPart.{RunPart}
 use Rattle.ar_bundle.specs.declared.finding.Finding.{Finding}
 use Rattle.ar_bundle.specs.declared.history.Entry.{Entry}
@@ -17,10 +18,10 @@ abbrev pub histories_of : List RunHistory → List (List Entry)
 histories_of runs = map (λ run. run.entries.items) runs
 
 abbrev pub state_of : Inside → State
-state_of core = record { next = core.next; queue = core.queue.items; hands = core.hands.items; histories = histories_of core.runs.items }
+state_of core = record { next = core.next; queue = core.queue.items; hands = core.hands.items; parked = core.parked.items; histories = histories_of core.runs.items }
 
 abbrev pub core_of : Inside → Core
-core_of core = record { bundle = core.bundle.now; places = core.places; state = state_of core }
+core_of core = record { bundle = core.bundle.now; places = core.places; ordered = core.ordered; state = state_of core }
 
 -- a run's state is that of its history, which has room for all entries of the run
 pub record IsKept (bundle : Bundle) (run : ℕ) (part : RunPart) (core : RunHistory) : Type 0 where
@@ -55,3 +56,5 @@ pub record IsCore (core : Inside) : Type 0 where
   pub queued : length core.queue.items ≤ core.places
   pub put : length core.queue.items ≤ core.next
   pub room : min core.places (length core.bundle.now.entries) ≤ deque_capacity core.queue
+  pub own : core.ordered ≡ true → AreOwn core.bundle.now core.bundle.now.entries (items_of core.own.items)
+  pub in_order : core.ordered ≡ true → AreInOrder core.bundle.now (histories_of core.runs.items)
