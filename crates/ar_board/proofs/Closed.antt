@@ -1,5 +1,5 @@
 -- What a board's histories come to when it is closed.
-use Rattle.std.proofs.Common.{◌≡◌, ◌<◌, ℕ, zero, suc, Bool, true, false, List, [], length, replicate, Some, refl, sym, subst, arith, ⊎_elim}
+use Rattle.std.proofs.Common.{◌≡◌, ◌<◌, ℕ, zero, suc, Bool, true, false, List, [], length, replicate, Some, refl, sym, subst, arith, ⊎_elim, ◌⊎◌, inl, inr}
 use Rattle.std.specs.Prelude.{slice_get}
 use Rattle.std.proofs.lemmas.Option.{get_or_from_slice_get}
 use Rattle.ar_bundle.specs.Bundle.{Bundle, IsBundle}
@@ -9,9 +9,9 @@ use Rattle.ar_bundle.proofs.Bundles.{entry_at, run_of_number}
 use Rattle.ar_cell.specs.Receipts.{Hold}
 use Rattle.ar_cell.specs.declared.receipt.Receipt.{Receipt}
 use Rattle.ar_cell.proofs.Places.{times_own}
-use Rattle.ar_board.specs.Board.{IsClosed}
-use Rattle.ar_board.specs.Private.Closing.{AreAllMarked, AreMet, AreStored, IsThere, IsUnheld, IsUnmetAmong, StoredAs}
-use Rattle.ar_board.specs.Private.Seats.{Amounts}
+use Rattle.ar_board.specs.Board.{AreAsMany, IsClosed, IsUnmetAmong}
+use Rattle.ar_board.specs.Private.Closing.{AreAllMarked, AreMet, AreStored, IsThere, IsUnheld, StoredAs}
+use Rattle.ar_board.specs.Private.Seats.{PerLock}
 use Rattle.ar_board.proofs.Given.{AreOfCells, are_histories, so_far}
 use Rattle.ar_board.proofs.Marks.{of_all}
 
@@ -33,22 +33,24 @@ holds bundle histories receipts unmet stored number marked are inside there =
       met = λ seat at own receipt own_there at_there for_it. of_all (λ (own : List Receipt). AreMet histories own number) receipts seat own (marked.each number false there.is_met) own_there at receipt at_there for_it;
     }
 
-pub not_held : (bundle : Bundle) (histories : List (List Entry)) (receipts : List (List Receipt)) (unmet stored : List Bool) (number : ℕ) → AreAllMarked bundle histories receipts unmet → AreStored (λ number. times number histories) (replicate (length bundle.entries) false) stored → number < length bundle.entries → IsUnheld unmet stored number → Hold histories receipts number → ⊥
-not_held bundle histories receipts unmet stored number marked are inside unheld hold = ⊎_elim by_mark nowhere unheld where
-  by_mark : slice_get unmet number ≡ Some true → ⊥
-  by_mark there =
-      let among : IsUnmetAmong histories receipts number = marked.each number true there in
-      among.unmet.unmet (hold.met among.seat among.unmet.at among.own among.unmet.receipt among.there among.unmet.there among.unmet.for_it)
+-- a number that isn't held stands in no history, or a receipt for it isn't met
+pub why : (bundle : Bundle) (histories : List (List Entry)) (receipts : List (List Receipt)) (unmet stored : List Bool) (number : ℕ) → AreAllMarked bundle histories receipts unmet → AreStored (λ number. times number histories) (replicate (length bundle.entries) false) stored → number < length bundle.entries → IsUnheld unmet stored number → (times number histories ≡ 0) ⊎ IsUnmetAmong histories receipts number
+why bundle histories receipts unmet stored number marked are inside unheld = ⊎_elim (λ there. inr (marked.each number true there)) (λ there. inl (stored_where bundle histories stored number false are inside there)) unheld
 
-  nowhere : slice_get stored number ≡ Some false → ⊥
-  nowhere there = let none : times number histories ≡ 0 = stored_where bundle histories stored number false are inside there in let some = hold.stands in absurd (omega arith)
+pub not_held : (bundle : Bundle) (histories : List (List Entry)) (receipts : List (List Receipt)) (unmet stored : List Bool) (number : ℕ) → AreAllMarked bundle histories receipts unmet → AreStored (λ number. times number histories) (replicate (length bundle.entries) false) stored → number < length bundle.entries → IsUnheld unmet stored number → Hold histories receipts number → ⊥
+not_held bundle histories receipts unmet stored number marked are inside unheld hold = ⊎_elim nowhere unmet_among (why bundle histories receipts unmet stored number marked are inside unheld) where
+  unmet_among : IsUnmetAmong histories receipts number → ⊥
+  unmet_among among = among.unmet.unmet (hold.met among.seat among.unmet.at among.own among.unmet.receipt among.there among.unmet.there among.unmet.for_it)
+
+  nowhere : times number histories ≡ 0 → ⊥
+  nowhere none = let some = hold.stands in absurd (omega arith)
 
 -- ---- histories that hold each number
 
-once_at : (bundle : Bundle) (workers : ℕ) (whole : Amounts) (histories : List (List Entry)) (run : ℕ) (history : List Entry) → AreOfCells bundle workers whole histories → slice_get histories run ≡ Some history → AtMostOnce (numbers_of history)
+once_at : (bundle : Bundle) (workers : ℕ) (whole : PerLock) (histories : List (List Entry)) (run : ℕ) (history : List Entry) → AreOfCells bundle workers whole histories → slice_get histories run ≡ Some history → AtMostOnce (numbers_of history)
 once_at bundle workers whole histories run history are there = of_all (λ (history : List Entry). AtMostOnce (numbers_of history)) histories run history (so_far bundle workers whole histories are).once there
 
-is_lawful : (bundle : Bundle) (workers : ℕ) (whole : Amounts) (histories : List (List Entry)) → IsBundle bundle → AreOfCells bundle workers whole histories → ((number : ℕ) → number < length bundle.entries → 0 < times number histories) → AreLawful bundle histories
+is_lawful : (bundle : Bundle) (workers : ℕ) (whole : PerLock) (histories : List (List Entry)) → IsBundle bundle → AreOfCells bundle workers whole histories → ((number : ℕ) → number < length bundle.entries → 0 < times number histories) → AreLawful bundle histories
 is_lawful bundle workers whole histories is_bundle are stand =
     record {
       of_runs = are_histories bundle workers whole histories are;
@@ -64,11 +66,12 @@ is_lawful bundle workers whole histories is_bundle are stand =
           omega arith;
     }
 
-pub is_closed : (bundle : Bundle) (workers : ℕ) (whole : Amounts) (histories : List (List Entry)) (receipts : List (List Receipt)) (unmet stored : List Bool) → IsBundle bundle → AreOfCells bundle workers whole histories → AreAllMarked bundle histories receipts unmet
-    → AreStored (λ number. times number histories) (replicate (length bundle.entries) false) stored → ((number : ℕ) → number < length bundle.entries → IsThere unmet stored number) → IsClosed bundle receipts histories
-is_closed bundle workers whole histories receipts unmet stored is_bundle are marked stored_are there =
+pub is_closed : (bundle : Bundle) (workers : ℕ) (whole : PerLock) (histories : List (List Entry)) (receipts : List (List Receipt)) (unmet stored : List Bool) → IsBundle bundle → AreOfCells bundle workers whole histories → AreAllMarked bundle histories receipts unmet
+    → AreStored (λ number. times number histories) (replicate (length bundle.entries) false) stored → ((number : ℕ) → number < length bundle.entries → IsThere unmet stored number) → AreAsMany receipts histories → IsClosed bundle receipts histories
+is_closed bundle workers whole histories receipts unmet stored is_bundle are marked stored_are there as_many =
     let held : (number : ℕ) → number < length bundle.entries → Hold histories receipts number = λ number inside. holds bundle histories receipts unmet stored number marked stored_are inside (there number inside) in
     record {
       lawful = is_lawful bundle workers whole histories is_bundle are (λ number inside. (held number inside).stands);
       held = held;
+      as_many = as_many;
     }

@@ -14,8 +14,8 @@ use Rattle.ar_bundle.proofs.Room.{number_inside}
 use Rattle.ar_cell.specs.Cell.{ArePut, IsKept, KeptRun, histories_of, history_at, lock_of}
 use Rattle.ar_cell.proofs.Cells.{histories_each}
 use Rattle.ar_board.specs.Board.{stored_from, stored_under}
-use Rattle.ar_board.specs.Private.Closing.{AreInside, AreOfCell, IsGivenUp}
-use Rattle.ar_board.specs.Private.Seats.{Amounts, amount_of, amounts}
+use Rattle.ar_board.specs.Private.Closing.{AreInside, AreOfCell, IsCellClosed}
+use Rattle.ar_board.specs.Private.Seats.{PerLock, at_lock, per_lock}
 use Rattle.ar_board.proofs.UnderLocks.{under_four}
 
 pub all_each : {A : Type 0} (P : A → Type 0) (xs : List A) → ((at : ℕ) (x : A) → slice_get xs at ≡ Some x → P x) → AllByRecursion P xs
@@ -24,7 +24,7 @@ all_each P (x ∷ xs) each = (each 0 x refl, all_each P xs (λ at x there. each 
 
 -- ---- one lock after another
 
-own_put : (bundle : Bundle) (workers lock amount : ℕ) (before after : List (List Entry)) → IsGivenUp bundle workers lock amount before after → AreOfCell bundle workers lock amount after
+own_put : (bundle : Bundle) (workers lock amount : ℕ) (before after : List (List Entry)) → IsCellClosed bundle workers lock amount before after → AreOfCell bundle workers lock amount after
 own_put bundle workers lock amount before after given =
     let many = given.put.as_many in
     record { cell = given.cell; is = given.is; whole = given.whole; each = λ run inside under. given.put.put run (omega arith) under }
@@ -35,14 +35,14 @@ still_put bundle workers lock other amount own before after apart put are =
     record { cell = are.cell; is = are.is; whole = are.whole; each = λ run inside under. put.others run (λ same. absurd (apart (sym under ∙ same))) ∙ are.each run (omega arith) under }
 
 -- the histories of all runs, by their locks
-pub record AreOfCells (bundle : Bundle) (workers : ℕ) (whole : Amounts) (histories : List (List Entry)) : Type 0 where
+pub record AreOfCells (bundle : Bundle) (workers : ℕ) (whole : PerLock) (histories : List (List Entry)) : Type 0 where
   pub as_many : length histories ≡ length bundle.runs
-  pub each : (lock : ℕ) → lock < 4 → AreOfCell bundle workers lock (amount_of whole lock) histories
+  pub each : (lock : ℕ) → lock < 4 → AreOfCell bundle workers lock (at_lock whole lock) histories
 
-pub of_cells : (bundle : Bundle) (workers a b c d : ℕ) (none first second third fourth : List (List Entry)) → length none ≡ length bundle.runs → IsGivenUp bundle workers 0 a none first → IsGivenUp bundle workers 1 b first second → IsGivenUp bundle workers 2 c second third → IsGivenUp bundle workers 3 d third fourth
-    → AreOfCells bundle workers (amounts a b c d) fourth
+pub of_cells : (bundle : Bundle) (workers a b c d : ℕ) (none first second third fourth : List (List Entry)) → length none ≡ length bundle.runs → IsCellClosed bundle workers 0 a none first → IsCellClosed bundle workers 1 b first second → IsCellClosed bundle workers 2 c second third → IsCellClosed bundle workers 3 d third fourth
+    → AreOfCells bundle workers (per_lock a b c d) fourth
 of_cells bundle workers a b c d none first second third fourth many one two three four = record { as_many = four.put.as_many ∙ (three.put.as_many ∙ (two.put.as_many ∙ (one.put.as_many ∙ many))); each = each } where
-  each : (lock : ℕ) → lock < 4 → AreOfCell bundle workers lock (amount_of (amounts a b c d) lock) fourth
+  each : (lock : ℕ) → lock < 4 → AreOfCell bundle workers lock (at_lock (per_lock a b c d) lock) fourth
   each zero below =
       still_put bundle workers 0 3 a (histories_of four.cell) third fourth (λ same. absurd (omega arith)) four.put
       (still_put bundle workers 0 2 a (histories_of three.cell) second third (λ same. absurd (omega arith)) three.put
@@ -61,7 +61,7 @@ record IsOfRun (bundle : Bundle) (run : ℕ) (part : RunPart) (history : List En
   is : IsHistory bundle run part.limits history
   once : AtMostOnce (numbers_of history)
 
-of_run : (bundle : Bundle) (workers : ℕ) (whole : Amounts) (histories : List (List Entry)) (run : ℕ) (part : RunPart) (history : List Entry) → AreOfCells bundle workers whole histories → slice_get bundle.runs run ≡ Some part → slice_get histories run ≡ Some history → IsOfRun bundle run part history
+of_run : (bundle : Bundle) (workers : ℕ) (whole : PerLock) (histories : List (List Entry)) (run : ℕ) (part : RunPart) (history : List Entry) → AreOfCells bundle workers whole histories → slice_get bundle.runs run ≡ Some part → slice_get histories run ≡ Some history → IsOfRun bundle run part history
 of_run bundle workers whole histories run part history are part_there there =
     let of_cell = are.each (lock_of run) (under_four run) in
     let inside = slice_get_within histories run history there in
@@ -76,17 +76,17 @@ of_run bundle workers whole histories run part history are part_there there =
       once = subst (λ (history : List Entry). AtMostOnce (numbers_of history)) same is.once;
     }
 
-pub are_histories : (bundle : Bundle) (workers : ℕ) (whole : Amounts) (histories : List (List Entry)) → AreOfCells bundle workers whole histories → AreHistories bundle 0 bundle.runs histories
+pub are_histories : (bundle : Bundle) (workers : ℕ) (whole : PerLock) (histories : List (List Entry)) → AreOfCells bundle workers whole histories → AreHistories bundle 0 bundle.runs histories
 are_histories bundle workers whole histories are =
     histories_each bundle 0 bundle.runs histories are.as_many (λ run part history part_there there.
     let here : run ≡ 0 + run = omega arith in
     subst (λ (at : ℕ). IsHistory bundle at part.limits history) here (of_run bundle workers whole histories run part history are part_there there).is)
 
 -- a history's run
-part_at : (bundle : Bundle) (workers : ℕ) (whole : Amounts) (histories : List (List Entry)) (run : ℕ) (history : List Entry) → AreOfCells bundle workers whole histories → slice_get histories run ≡ Some history → (part : RunPart) × (slice_get bundle.runs run ≡ Some part)
+part_at : (bundle : Bundle) (workers : ℕ) (whole : PerLock) (histories : List (List Entry)) (run : ℕ) (history : List Entry) → AreOfCells bundle workers whole histories → slice_get histories run ≡ Some history → (part : RunPart) × (slice_get bundle.runs run ≡ Some part)
 part_at bundle workers whole histories run history are there = let inside = slice_get_within histories run history there in let many = are.as_many in entry_at bundle.runs run (omega arith)
 
-pub so_far : (bundle : Bundle) (workers : ℕ) (whole : Amounts) (histories : List (List Entry)) → AreOfCells bundle workers whole histories → AreHistoriesSoFar bundle histories
+pub so_far : (bundle : Bundle) (workers : ℕ) (whole : PerLock) (histories : List (List Entry)) → AreOfCells bundle workers whole histories → AreHistoriesSoFar bundle histories
 so_far bundle workers whole histories are =
     record {
       of_runs = are_histories bundle workers whole histories are;
@@ -94,7 +94,7 @@ so_far bundle workers whole histories are =
     }
 
 -- their numbers are the bundle's
-pub are_inside : (bundle : Bundle) (workers : ℕ) (whole : Amounts) (histories : List (List Entry)) → AreOfCells bundle workers whole histories → AllByRecursion (AreInside (length bundle.entries)) histories
+pub are_inside : (bundle : Bundle) (workers : ℕ) (whole : PerLock) (histories : List (List Entry)) → AreOfCells bundle workers whole histories → AllByRecursion (AreInside (length bundle.entries)) histories
 are_inside bundle workers whole histories are =
     all_each (AreInside (length bundle.entries)) histories (λ run history there.
     let part = part_at bundle workers whole histories run history are there in
@@ -164,9 +164,9 @@ none_under lock from (history ∷ histories) =
     let none : (if lock_of from == suc (suc (suc (suc lock))) then length history else 0) ≡ 0 = rw is refl in
     omega arith
 
-pub as_many_under : (bundle : Bundle) (workers : ℕ) (whole : Amounts) (histories : List (List Entry)) → AreOfCells bundle workers whole histories → (lock : ℕ) → stored_under lock histories ≡ amount_of whole lock
-as_many_under bundle workers whole histories are zero = of_lock bundle workers 0 (amount_of whole 0) histories are.as_many (are.each 0 (omega arith))
-as_many_under bundle workers whole histories are (suc zero) = of_lock bundle workers 1 (amount_of whole 1) histories are.as_many (are.each 1 (omega arith))
-as_many_under bundle workers whole histories are (suc (suc zero)) = of_lock bundle workers 2 (amount_of whole 2) histories are.as_many (are.each 2 (omega arith))
-as_many_under bundle workers whole histories are (suc (suc (suc zero))) = of_lock bundle workers 3 (amount_of whole 3) histories are.as_many (are.each 3 (omega arith))
+pub as_many_under : (bundle : Bundle) (workers : ℕ) (whole : PerLock) (histories : List (List Entry)) → AreOfCells bundle workers whole histories → (lock : ℕ) → stored_under lock histories ≡ at_lock whole lock
+as_many_under bundle workers whole histories are zero = of_lock bundle workers 0 (at_lock whole 0) histories are.as_many (are.each 0 (omega arith))
+as_many_under bundle workers whole histories are (suc zero) = of_lock bundle workers 1 (at_lock whole 1) histories are.as_many (are.each 1 (omega arith))
+as_many_under bundle workers whole histories are (suc (suc zero)) = of_lock bundle workers 2 (at_lock whole 2) histories are.as_many (are.each 2 (omega arith))
+as_many_under bundle workers whole histories are (suc (suc (suc zero))) = of_lock bundle workers 3 (at_lock whole 3) histories are.as_many (are.each 3 (omega arith))
 as_many_under bundle workers whole histories are (suc (suc (suc (suc lock)))) = none_under lock 0 histories

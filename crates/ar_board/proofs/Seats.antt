@@ -9,7 +9,7 @@ use Rattle.ar_bundle.specs.declared.bundle.EventPart.{EventPart}
 use Rattle.ar_board.specs.Board.{AreSeated, IsUnseen, Seat, received_under, receipts_of, seat_of}
 use Rattle.ar_cell.specs.Cell.{CanBe, Cell, IsCell, IsFresh, authors_at, entries_under, lock_of, posts_of}
 use Rattle.ar_board.specs.Private.Closing.{AreGiven, AreOwn}
-use Rattle.ar_board.specs.Private.Seats.{Amounts, AreParts, IsOneMore, IsSeat, amount_of, one_under, receipts_under}
+use Rattle.ar_board.specs.Private.Seats.{PerLock, AllAre, IsOneMore, IsSeat, at_lock, one_under, receipts_under}
 use Rattle.ar_board.proofs.UnderLocks.{by_four, none_of_each, one_in_all, under_four}
 use Rattle.ar_cell.specs.declared.receipt.Receipt.{Receipt}
 use Rattle.ar_bundle.proofs.HistoryLemmas.{all_push}
@@ -60,8 +60,8 @@ received_push : (lock : ℕ) (receipts : List (List Receipt)) (own : List Receip
 received_push lock receipts own = sum_by_push (receipts_under lock) receipts own
 
 -- a seat more was emptied
-pub given_next : (bundle : Bundle) (seats : List Seat) (receipts : List (List Receipt)) (parts amounts part one after after_amounts : Amounts) (seat : Seat) (own : List Receipt) → AreGiven bundle seats receipts parts amounts → seat.receipts ≡ own → AreOwn bundle own → AreParts 1 part
-    → ((lock : ℕ) → amount_of one lock ≡ receipts_under lock own) → ((many more : ℕ) → AreParts many parts → AreParts more part → AreParts (many + more) after) → ((lock : ℕ) → amount_of after_amounts lock ≡ amount_of amounts lock + amount_of one lock)
+pub given_next : (bundle : Bundle) (seats : List Seat) (receipts : List (List Receipt)) (parts amounts part one after after_amounts : PerLock) (seat : Seat) (own : List Receipt) → AreGiven bundle seats receipts parts amounts → seat.receipts ≡ own → AreOwn bundle own → AllAre 1 part
+    → ((lock : ℕ) → at_lock one lock ≡ receipts_under lock own) → ((many more : ℕ) → AllAre many parts → AllAre more part → AllAre (many + more) after) → ((lock : ℕ) → at_lock after_amounts lock ≡ at_lock amounts lock + at_lock one lock)
     → AreGiven bundle (seats ++ seat ∷ []) (receipts ++ own ∷ []) after after_amounts
 given_next bundle seats receipts parts amounts part one after after_amounts seat own before its_own are single many more_parts more =
     let lists = map_push (λ (seat : Seat). seat.receipts) seats seat in
@@ -70,17 +70,17 @@ given_next bundle seats receipts parts amounts part one after after_amounts seat
     record {
       lists = all;
       own = all_push (AreOwn bundle) receipts own before.own are;
-      as_many = subst (λ (many : ℕ). AreParts many after) (sym longer) (more_parts (length seats) 1 before.as_many single);
+      as_many = subst (λ (many : ℕ). AllAre many after) (sym longer) (more_parts (length seats) 1 before.as_many single);
       counted = λ lock.
           let counted = before.counted lock in
           let own_counted = many lock in
           let added = more lock in
           let pushed = received_push lock (receipts_of seats) own in
-          let sum : amount_of after_amounts lock ≡ received_under lock (receipts_of seats ++ own ∷ []) = omega arith in
+          let sum : at_lock after_amounts lock ≡ received_under lock (receipts_of seats ++ own ∷ []) = omega arith in
           sum ∙ (ap (λ (own : List Receipt). received_under lock (receipts_of seats ++ own ∷ [])) (sym its_own) ∙ ap (received_under lock) (sym lists));
     }
 
-pub none_given : (bundle : Bundle) (parts amounts : Amounts) → AreParts 0 parts → AreParts 0 amounts → AreGiven bundle [] [] parts amounts
+pub none_given : (bundle : Bundle) (parts amounts : PerLock) → AllAre 0 parts → AllAre 0 amounts → AreGiven bundle [] [] parts amounts
 none_given bundle parts amounts no_part nothing = record { lists = refl; own = tt; as_many = no_part; counted = none_of_each amounts nothing }
 
 pub nothing_left : {A : Type 0} (xs : List A) → length xs ≡ 0 → xs ≡ []
@@ -98,10 +98,10 @@ count_push lock receipts receipt = by_test (lock_of receipt.run == lock) refl wh
   by_test true is = pushed ∙ ap (λ (one : ℕ). receipts_under lock receipts + one) (rw is refl)
   by_test false is = pushed ∙ ap (λ (one : ℕ). receipts_under lock receipts + one) (rw is refl)
 
-few_now : (bundle : Bundle) (own : ℕ) (before after : Amounts) → IsOneMore bundle own before after → ((lock : ℕ) → amount_of before lock ≤ entries_under bundle lock) → (lock : ℕ) → amount_of after lock ≤ entries_under bundle lock
+few_now : (bundle : Bundle) (own : ℕ) (before after : PerLock) → IsOneMore bundle own before after → ((lock : ℕ) → at_lock before lock ≤ entries_under bundle lock) → (lock : ℕ) → at_lock after lock ≤ entries_under bundle lock
 few_now bundle own before after one few lock = by_test (own == lock) refl where
-  by_test : (test : Bool) → (own == lock) ≡ test → amount_of after lock ≤ entries_under bundle lock
-  by_test true is = let same : own ≡ lock = grind (arith, nat_tests) in subst (λ (lock : ℕ). amount_of after lock ≤ entries_under bundle lock) same one.few
+  by_test : (test : Bool) → (own == lock) ≡ test → at_lock after lock ≤ entries_under bundle lock
+  by_test true is = let same : own ≡ lock = grind (arith, nat_tests) in subst (λ (lock : ℕ). at_lock after lock ≤ entries_under bundle lock) same one.few
   by_test false is =
       let more = one.more lock in
       let none : one_under own lock ≡ 0 = rw is refl in
@@ -109,7 +109,7 @@ few_now bundle own before after one few lock = by_test (own == lock) refl where
       omega arith
 
 -- the seat has room for a receipt more
-pub has_room : (bundle : Bundle) (workers worker own capacity : ℕ) (receipts : List Receipt) (parts before after : Amounts) → IsSeat bundle workers worker receipts capacity parts before → own < 4 → IsOneMore bundle own before after → length receipts < capacity
+pub has_room : (bundle : Bundle) (workers worker own capacity : ℕ) (receipts : List Receipt) (parts before after : PerLock) → IsSeat bundle workers worker receipts capacity parts before → own < 4 → IsOneMore bundle own before after → length receipts < capacity
 has_room bundle workers worker own capacity receipts parts before after seat below one =
     let few = few_now bundle own before after one seat.few in
     let received = by_four (λ (receipt : Receipt). lock_of receipt.run) receipts (λ receipt. under_four receipt.run) in
@@ -130,7 +130,7 @@ has_room bundle workers worker own capacity receipts parts before after seat bel
     let single = one_in_all own below in
     omega arith
 
-pub seat_next : (bundle : Bundle) (workers worker run number place capacity : ℕ) (receipts : List Receipt) (parts after_parts before after : Amounts) → IsSeat bundle workers worker receipts capacity parts before → run_of bundle number ≡ Some run → IsOneMore bundle (lock_of run) before after → AreParts 1 after_parts
+pub seat_next : (bundle : Bundle) (workers worker run number place capacity : ℕ) (receipts : List Receipt) (parts after_parts before after : PerLock) → IsSeat bundle workers worker receipts capacity parts before → run_of bundle number ≡ Some run → IsOneMore bundle (lock_of run) before after → AllAre 1 after_parts
     → IsSeat bundle workers worker (receipts ++ record { run = run; number = number; place = place } ∷ []) capacity after_parts after
 seat_next bundle workers worker run number place capacity receipts parts after_parts before after seat own one single =
     let receipt : Receipt = record { run = run; number = number; place = place } in

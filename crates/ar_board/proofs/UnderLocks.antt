@@ -1,4 +1,4 @@
--- Amounts under the four locks.
+-- PerLock under the four locks.
 use Rattle.std.proofs.Common.{◌≡◌, ◌≢◌, ◌<◌, ◌≤◌, ℕ, zero, suc, ◌+◌, ◌==◌, false, List, [], ◌∷◌, length, refl, sym, subst, arith}
 use Rattle.std.specs.Prelude.{cond}
 use Rattle.std.specs.List.{count_by}
@@ -6,20 +6,20 @@ use Rattle.std.proofs.lemmas.Bool.Decides.{nat_tests}
 use Rattle.std.proofs.lemmas.List.Sums.{sum_by-cons}
 use Rattle.ar_bundle.specs.Bundle.{Bundle}
 use Rattle.ar_cell.specs.Cell.{entries_under, lock_of}
-use Rattle.ar_board.specs.Private.Seats.{Amounts, AreParts, IsOneMore, amount_of, amounts, one_under}
+use Rattle.ar_board.specs.Private.Seats.{PerLock, AllAre, IsOneMore, at_lock, per_lock, one_under}
 
 -- a run is under one of four locks
 pub under_four : (run : ℕ) → lock_of run < 4
 under_four run = omega arith
 
-pub amounts_added : (a b c d e f g h i j k l : ℕ) → i ≡ a + e → j ≡ b + f → k ≡ c + g → l ≡ d + h → (lock : ℕ) → amount_of (amounts i j k l) lock ≡ amount_of (amounts a b c d) lock + amount_of (amounts e f g h) lock
+pub amounts_added : (a b c d e f g h i j k l : ℕ) → i ≡ a + e → j ≡ b + f → k ≡ c + g → l ≡ d + h → (lock : ℕ) → at_lock (per_lock i j k l) lock ≡ at_lock (per_lock a b c d) lock + at_lock (per_lock e f g h) lock
 amounts_added a b c d e f g h i j k l first second third fourth zero = first
 amounts_added a b c d e f g h i j k l first second third fourth (suc zero) = second
 amounts_added a b c d e f g h i j k l first second third fourth (suc (suc zero)) = third
 amounts_added a b c d e f g h i j k l first second third fourth (suc (suc (suc zero))) = fourth
 amounts_added a b c d e f g h i j k l first second third fourth (suc (suc (suc (suc lock)))) = refl
 
-pub none_of_each : (parts : Amounts) → AreParts 0 parts → (lock : ℕ) → amount_of parts lock ≡ 0
+pub none_of_each : (parts : PerLock) → AllAre 0 parts → (lock : ℕ) → at_lock parts lock ≡ 0
 none_of_each parts none zero = none.first
 none_of_each parts none (suc zero) = none.second
 none_of_each parts none (suc (suc zero)) = none.third
@@ -31,36 +31,36 @@ none_of_each parts none (suc (suc (suc (suc lock)))) = refl
 not_under : (own lock : ℕ) → own ≢ lock → one_under own lock ≡ 0
 not_under own lock away = let is : (own == lock) ≡ false = grind (arith, nat_tests) in rw is refl
 
-pub one_first : (bundle : Bundle) (own a b c d more : ℕ) → own ≡ 0 → more ≡ a + 1 → more ≤ entries_under bundle 0 → IsOneMore bundle own (amounts a b c d) (amounts more b c d)
-one_first bundle own a b c d more is one few = subst (λ (own : ℕ). IsOneMore bundle own (amounts a b c d) (amounts more b c d)) (sym is) (record { more = each; few = few }) where
-  each : (lock : ℕ) → amount_of (amounts more b c d) lock ≡ amount_of (amounts a b c d) lock + one_under 0 lock
+pub one_first : (bundle : Bundle) (own a b c d more : ℕ) → own ≡ 0 → more ≡ a + 1 → more ≤ entries_under bundle 0 → IsOneMore bundle own (per_lock a b c d) (per_lock more b c d)
+one_first bundle own a b c d more is one few = subst (λ (own : ℕ). IsOneMore bundle own (per_lock a b c d) (per_lock more b c d)) (sym is) (record { more = each; few = few }) where
+  each : (lock : ℕ) → at_lock (per_lock more b c d) lock ≡ at_lock (per_lock a b c d) lock + one_under 0 lock
   each zero = one
   each (suc zero) = omega arith
   each (suc (suc zero)) = omega arith
   each (suc (suc (suc zero))) = omega arith
   each (suc (suc (suc (suc lock)))) = let none = not_under 0 (suc (suc (suc (suc lock)))) (λ same. absurd (omega arith)) in omega arith
 
-pub one_second : (bundle : Bundle) (own a b c d more : ℕ) → own ≡ 1 → more ≡ b + 1 → more ≤ entries_under bundle 1 → IsOneMore bundle own (amounts a b c d) (amounts a more c d)
-one_second bundle own a b c d more is one few = subst (λ (own : ℕ). IsOneMore bundle own (amounts a b c d) (amounts a more c d)) (sym is) (record { more = each; few = few }) where
-  each : (lock : ℕ) → amount_of (amounts a more c d) lock ≡ amount_of (amounts a b c d) lock + one_under 1 lock
+pub one_second : (bundle : Bundle) (own a b c d more : ℕ) → own ≡ 1 → more ≡ b + 1 → more ≤ entries_under bundle 1 → IsOneMore bundle own (per_lock a b c d) (per_lock a more c d)
+one_second bundle own a b c d more is one few = subst (λ (own : ℕ). IsOneMore bundle own (per_lock a b c d) (per_lock a more c d)) (sym is) (record { more = each; few = few }) where
+  each : (lock : ℕ) → at_lock (per_lock a more c d) lock ≡ at_lock (per_lock a b c d) lock + one_under 1 lock
   each zero = omega arith
   each (suc zero) = one
   each (suc (suc zero)) = omega arith
   each (suc (suc (suc zero))) = omega arith
   each (suc (suc (suc (suc lock)))) = let none = not_under 1 (suc (suc (suc (suc lock)))) (λ same. absurd (omega arith)) in omega arith
 
-pub one_third : (bundle : Bundle) (own a b c d more : ℕ) → own ≡ 2 → more ≡ c + 1 → more ≤ entries_under bundle 2 → IsOneMore bundle own (amounts a b c d) (amounts a b more d)
-one_third bundle own a b c d more is one few = subst (λ (own : ℕ). IsOneMore bundle own (amounts a b c d) (amounts a b more d)) (sym is) (record { more = each; few = few }) where
-  each : (lock : ℕ) → amount_of (amounts a b more d) lock ≡ amount_of (amounts a b c d) lock + one_under 2 lock
+pub one_third : (bundle : Bundle) (own a b c d more : ℕ) → own ≡ 2 → more ≡ c + 1 → more ≤ entries_under bundle 2 → IsOneMore bundle own (per_lock a b c d) (per_lock a b more d)
+one_third bundle own a b c d more is one few = subst (λ (own : ℕ). IsOneMore bundle own (per_lock a b c d) (per_lock a b more d)) (sym is) (record { more = each; few = few }) where
+  each : (lock : ℕ) → at_lock (per_lock a b more d) lock ≡ at_lock (per_lock a b c d) lock + one_under 2 lock
   each zero = omega arith
   each (suc zero) = omega arith
   each (suc (suc zero)) = one
   each (suc (suc (suc zero))) = omega arith
   each (suc (suc (suc (suc lock)))) = let none = not_under 2 (suc (suc (suc (suc lock)))) (λ same. absurd (omega arith)) in omega arith
 
-pub one_fourth : (bundle : Bundle) (own a b c d more : ℕ) → own ≡ 3 → more ≡ d + 1 → more ≤ entries_under bundle 3 → IsOneMore bundle own (amounts a b c d) (amounts a b c more)
-one_fourth bundle own a b c d more is one few = subst (λ (own : ℕ). IsOneMore bundle own (amounts a b c d) (amounts a b c more)) (sym is) (record { more = each; few = few }) where
-  each : (lock : ℕ) → amount_of (amounts a b c more) lock ≡ amount_of (amounts a b c d) lock + one_under 3 lock
+pub one_fourth : (bundle : Bundle) (own a b c d more : ℕ) → own ≡ 3 → more ≡ d + 1 → more ≤ entries_under bundle 3 → IsOneMore bundle own (per_lock a b c d) (per_lock a b c more)
+one_fourth bundle own a b c d more is one few = subst (λ (own : ℕ). IsOneMore bundle own (per_lock a b c d) (per_lock a b c more)) (sym is) (record { more = each; few = few }) where
+  each : (lock : ℕ) → at_lock (per_lock a b c more) lock ≡ at_lock (per_lock a b c d) lock + one_under 3 lock
   each zero = omega arith
   each (suc zero) = omega arith
   each (suc (suc zero)) = omega arith

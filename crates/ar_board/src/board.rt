@@ -4,7 +4,7 @@ ghost use Rattle.std.specs.Prelude.{◌≡◌, ◌<◌, ◌≤◌, [], false, If
 ghost use Rattle.ar_bundle.specs.Bundle.{found, run_of};
 ghost use Rattle.std.specs.Vec.{vec_capacity};
 ghost use Rattle.ar_board.specs.Board.{AreSeated, IsClosed, IsLost, IsReceived, IsSeen, IsUnseen, receipts_of};
-ghost use Rattle.ar_board.specs.Private.Seats.{AreParts, IsOneMore, amounts};
+ghost use Rattle.ar_board.specs.Private.Seats.{AllAre, IsOneMore, per_lock};
 ghost use Rattle.ar_cell.specs.Cell.{lock_of};
 
 use crate::closing::{Room, first_unheld, note_all_stored, note_all_unmet};
@@ -138,16 +138,16 @@ impl<'b, M: BundleName, L: LockNames> Board<'b, M, L> {
         requires run { run_of M.bundle number ≡ Some run }
         requires worker { worker < M.workers }
         requires finding { found M.bundle number ≡ Some finding }
-        requires part { AreParts 1
-            (amounts shares.old.first.parts shares.old.second.parts shares.old.third.parts shares.old.fourth.parts) }
+        requires part { AllAre 1
+            (per_lock shares.old.first.parts shares.old.second.parts shares.old.third.parts shares.old.fourth.parts) }
         ensures more { OnOk result (IsOneMore M.bundle (lock_of run)
-            (amounts shares.old.first.amount shares.old.second.amount shares.old.third.amount shares.old.fourth.amount)
-            (amounts shares.new.first.amount shares.new.second.amount shares.new.third.amount shares.new.fourth.amount)) }
+            (per_lock shares.old.first.amount shares.old.second.amount shares.old.third.amount shares.old.fourth.amount)
+            (per_lock shares.new.first.amount shares.new.second.amount shares.new.third.amount shares.new.fourth.amount)) }
         ensures refused { OnErr result (
-            amounts shares.new.first.amount shares.new.second.amount shares.new.third.amount shares.new.fourth.amount
-            ≡ amounts shares.old.first.amount shares.old.second.amount shares.old.third.amount shares.old.fourth.amount) }
-        ensures parts { AreParts 1
-            (amounts shares.new.first.parts shares.new.second.parts shares.new.third.parts shares.new.fourth.parts) }
+            per_lock shares.new.first.amount shares.new.second.amount shares.new.third.amount shares.new.fourth.amount
+            ≡ per_lock shares.old.first.amount shares.old.second.amount shares.old.third.amount shares.old.fourth.amount) }
+        ensures parts { AllAre 1
+            (per_lock shares.new.first.parts shares.new.second.parts shares.new.third.parts shares.new.fourth.parts) }
     {
         match lock_of_run(run) {
             0 => under::post(rt, &self.first, &mut shares.first, worker, number, finding),
@@ -226,10 +226,10 @@ impl<'b, M: BundleName, L: LockNames> Board<'b, M, L> {
         } = room;
         let mut all = seats[0].empty_shares();
         gather(seats, &mut receipts, &mut all);
-        under::give_up(first, 0, &mut all.first, &mut histories);
-        under::give_up(second, 1, &mut all.second, &mut histories);
-        under::give_up(third, 2, &mut all.third, &mut histories);
-        under::give_up(fourth, 3, &mut all.fourth, &mut histories);
+        under::close_cell(first, 0, &mut all.first, &mut histories);
+        under::close_cell(second, 1, &mut all.second, &mut histories);
+        under::close_cell(third, 2, &mut all.third, &mut histories);
+        under::close_cell(fourth, 3, &mut all.fourth, &mut histories);
         note_all_stored(histories.as_slice(), &mut stored);
         note_all_unmet::<M>(histories.as_slice(), receipts.as_slice(), &mut unmet);
         let unheld = first_unheld(unmet.as_slice(), stored.as_slice());

@@ -17,13 +17,13 @@ const MOST_RUNS: usize = 64;
 /// What closing a board wants, reserved when the board is made.
 #[derive(Drop)]
 pub(crate) struct Room {
-    /// For each run one, to which nothing has happened.
+    /// Of each run; empty until the board is closed.
     pub(crate) histories: Vec<History>,
-    /// None, with room for those of each worker.
+    /// Of each seat; none until the board is closed, with room for them.
     pub(crate) receipts: Vec<Vec<Receipt>>,
-    /// Of each number that it is met so far.
+    /// By number, whether a receipt for it isn't met; all false until the board is closed.
     pub(crate) unmet: Vec<bool>,
-    /// Of each number that it stands nowhere so far.
+    /// By number, whether it stands in a history; all false until the board is closed.
     pub(crate) stored: Vec<bool>,
 }
 

@@ -4,7 +4,7 @@ ghost use Rattle.std.specs.Prelude.{◌≡◌, ◌<◌, ◌≤◌, [], IfOk, len
 ghost use Rattle.std.specs.Vec.{vec_capacity};
 ghost use Rattle.ar_board.specs.Board.{AreSeated, seat_of};
 ghost use Rattle.ar_board.specs.Private.Closing.{AreGiven};
-ghost use Rattle.ar_board.specs.Private.Seats.{AreParts, amounts};
+ghost use Rattle.ar_board.specs.Private.Seats.{AllAre, per_lock};
 
 use crate::locks::LockNames;
 use crate::shares::Shares;
@@ -22,8 +22,8 @@ pub(crate) fn seats_of<M: BundleName, L: LockNames>(
 ) -> Result<Vec<Seat<M, L>>, AllocError>
     requires workers { workers ≡ M.workers }
     requires events { events ≡ length M.bundle.entries }
-    requires parts { AreParts workers (amounts all.first.parts all.second.parts all.third.parts all.fourth.parts) }
-    requires without { AreParts 0 (amounts all.first.amount all.second.amount all.third.amount all.fourth.amount) }
+    requires parts { AllAre workers (per_lock all.first.parts all.second.parts all.third.parts all.fourth.parts) }
+    requires without { AllAre 0 (per_lock all.first.amount all.second.amount all.third.amount all.fourth.amount) }
     ensures { IfOk result (λ seats. AreSeated workers seats.items) }
 {
     let mut seats = Vec::with_capacity(alloc, workers)?;
@@ -43,13 +43,13 @@ pub(crate) fn gather<M: BundleName, L: LockNames>(
 )
     requires empty { receipts.old.items ≡ [] }
     requires room { length seats.items ≤ vec_capacity receipts.old }
-    requires no_part { AreParts 0
-        (amounts all.old.first.parts all.old.second.parts all.old.third.parts all.old.fourth.parts) }
-    requires nothing { AreParts 0
-        (amounts all.old.first.amount all.old.second.amount all.old.third.amount all.old.fourth.amount) }
+    requires no_part { AllAre 0
+        (per_lock all.old.first.parts all.old.second.parts all.old.third.parts all.old.fourth.parts) }
+    requires nothing { AllAre 0
+        (per_lock all.old.first.amount all.old.second.amount all.old.third.amount all.old.fourth.amount) }
     ensures { AreGiven M.bundle seats.items (map (λ own. own.items) receipts.new.items)
-        (amounts all.new.first.parts all.new.second.parts all.new.third.parts all.new.fourth.parts)
-        (amounts all.new.first.amount all.new.second.amount all.new.third.amount all.new.fourth.amount) }
+        (per_lock all.new.first.parts all.new.second.parts all.new.third.parts all.new.fourth.parts)
+        (per_lock all.new.first.amount all.new.second.amount all.new.third.amount all.new.fourth.amount) }
 {
     for seat in seats {
         let Seat {
@@ -78,15 +78,15 @@ pub struct Seat<M: BundleName, L: LockNames> {
 impl<M: BundleName, L: LockNames> Model for Seat<M, L> {
     ghost use Rattle.std.specs.Vec.{vec_capacity};
     ghost use Rattle.ar_board.specs.Board.{Seat, seat_of};
-    ghost use Rattle.ar_board.specs.Private.Seats.{IsSeat, amounts};
+    ghost use Rattle.ar_board.specs.Private.Seats.{IsSeat, per_lock};
 
     ghost Value = { Seat };
 
     ghost view = { λ s. seat_of s.worker s.receipts.items };
 
     ghost invariant = { λ s. IsSeat M.bundle M.workers s.worker s.receipts.items (vec_capacity s.receipts)
-        (amounts s.shares.first.parts s.shares.second.parts s.shares.third.parts s.shares.fourth.parts)
-        (amounts s.shares.first.amount s.shares.second.amount s.shares.third.amount s.shares.fourth.amount) };
+        (per_lock s.shares.first.parts s.shares.second.parts s.shares.third.parts s.shares.fourth.parts)
+        (per_lock s.shares.first.amount s.shares.second.amount s.shares.third.amount s.shares.fourth.amount) };
 }
 
 impl<M: BundleName, L: LockNames> Seat<M, L> {
@@ -99,10 +99,10 @@ impl<M: BundleName, L: LockNames> Seat<M, L> {
     ) -> Result<Seat<M, L>, AllocError>
         requires worker { worker < M.workers }
         requires events { events ≡ length M.bundle.entries }
-        requires parts { AreParts 1
-            (amounts shares.first.parts shares.second.parts shares.third.parts shares.fourth.parts) }
-        requires nothing { AreParts 0
-            (amounts shares.first.amount shares.second.amount shares.third.amount shares.fourth.amount) }
+        requires parts { AllAre 1
+            (per_lock shares.first.parts shares.second.parts shares.third.parts shares.fourth.parts) }
+        requires nothing { AllAre 0
+            (per_lock shares.first.amount shares.second.amount shares.third.amount shares.fourth.amount) }
         ensures { IfOk result (λ seat. seat ≡ seat_of worker []) }
     {
         Ok(Seat {
@@ -116,10 +116,10 @@ impl<M: BundleName, L: LockNames> Seat<M, L> {
     /// Shares of the ledgers that have no part of them.
     pub(crate) fn empty_shares(&mut self) -> Shares<L>
         ensures same { self.new ≡ self.old }
-        ensures no_part { AreParts 0
-            (amounts result.first.parts result.second.parts result.third.parts result.fourth.parts) }
-        ensures nothing { AreParts 0
-            (amounts result.first.amount result.second.amount result.third.amount result.fourth.amount) }
+        ensures no_part { AllAre 0
+            (per_lock result.first.parts result.second.parts result.third.parts result.fourth.parts) }
+        ensures nothing { AllAre 0
+            (per_lock result.first.amount result.second.amount result.third.amount result.fourth.amount) }
     {
         self.shares.empty()
     }

@@ -15,7 +15,7 @@ pub(crate) struct Shares<L: LockNames> {
 }
 
 impl<L: LockNames> Shares<L> {
-    ghost use Rattle.ar_board.specs.Private.Seats.{AreParts, amount_of, amounts};
+    ghost use Rattle.ar_board.specs.Private.Seats.{AllAre, at_lock, per_lock};
 
     /// One part of each ledger is split off; there is no amount.
     pub(crate) fn split_off(&mut self) -> Shares<L>
@@ -23,17 +23,17 @@ impl<L: LockNames> Shares<L> {
         requires second { 1 ≤ self.old.second.parts }
         requires third { 1 ≤ self.old.third.parts }
         requires fourth { 1 ≤ self.old.fourth.parts }
-        requires without { AreParts 0
-            (amounts self.old.first.amount self.old.second.amount self.old.third.amount self.old.fourth.amount) }
-        ensures one { AreParts 1
-            (amounts result.first.parts result.second.parts result.third.parts result.fourth.parts) }
-        ensures nothing { AreParts 0
-            (amounts result.first.amount result.second.amount result.third.amount result.fourth.amount) }
+        requires without { AllAre 0
+            (per_lock self.old.first.amount self.old.second.amount self.old.third.amount self.old.fourth.amount) }
+        ensures one { AllAre 1
+            (per_lock result.first.parts result.second.parts result.third.parts result.fourth.parts) }
+        ensures nothing { AllAre 0
+            (per_lock result.first.amount result.second.amount result.third.amount result.fourth.amount) }
         ensures left { (many : ℕ)
-            → AreParts (many + 1) (amounts self.old.first.parts self.old.second.parts self.old.third.parts self.old.fourth.parts)
-            → AreParts many (amounts self.new.first.parts self.new.second.parts self.new.third.parts self.new.fourth.parts) }
-        ensures still_without { AreParts 0
-            (amounts self.new.first.amount self.new.second.amount self.new.third.amount self.new.fourth.amount) }
+            → AllAre (many + 1) (per_lock self.old.first.parts self.old.second.parts self.old.third.parts self.old.fourth.parts)
+            → AllAre many (per_lock self.new.first.parts self.new.second.parts self.new.third.parts self.new.fourth.parts) }
+        ensures still_without { AllAre 0
+            (per_lock self.new.first.amount self.new.second.amount self.new.third.amount self.new.fourth.amount) }
     {
         Shares {
             first: self.first.split_off(1, 0),
@@ -45,14 +45,14 @@ impl<L: LockNames> Shares<L> {
 
     /// Shares of the ledgers that have no part of them.
     pub(crate) fn empty(&mut self) -> Shares<L>
-        ensures no_part { AreParts 0
-            (amounts result.first.parts result.second.parts result.third.parts result.fourth.parts) }
-        ensures nothing { AreParts 0
-            (amounts result.first.amount result.second.amount result.third.amount result.fourth.amount) }
-        ensures parts { amounts self.new.first.parts self.new.second.parts self.new.third.parts self.new.fourth.parts
-            ≡ amounts self.old.first.parts self.old.second.parts self.old.third.parts self.old.fourth.parts }
-        ensures sums { amounts self.new.first.amount self.new.second.amount self.new.third.amount self.new.fourth.amount
-            ≡ amounts self.old.first.amount self.old.second.amount self.old.third.amount self.old.fourth.amount }
+        ensures no_part { AllAre 0
+            (per_lock result.first.parts result.second.parts result.third.parts result.fourth.parts) }
+        ensures nothing { AllAre 0
+            (per_lock result.first.amount result.second.amount result.third.amount result.fourth.amount) }
+        ensures parts { per_lock self.new.first.parts self.new.second.parts self.new.third.parts self.new.fourth.parts
+            ≡ per_lock self.old.first.parts self.old.second.parts self.old.third.parts self.old.fourth.parts }
+        ensures sum { per_lock self.new.first.amount self.new.second.amount self.new.third.amount self.new.fourth.amount
+            ≡ per_lock self.old.first.amount self.old.second.amount self.old.third.amount self.old.fourth.amount }
     {
         Shares {
             first: self.first.empty(),
@@ -66,14 +66,14 @@ impl<L: LockNames> Shares<L> {
     #[tactic(auto, using(crate::proofs::UnderLocks::amounts_added))]
     pub(crate) fn merge(&mut self, other: Shares<L>)
         ensures parts { (many more : ℕ)
-            → AreParts many (amounts self.old.first.parts self.old.second.parts self.old.third.parts self.old.fourth.parts)
-            → AreParts more (amounts other.first.parts other.second.parts other.third.parts other.fourth.parts)
-            → AreParts (many + more)
-            (amounts self.new.first.parts self.new.second.parts self.new.third.parts self.new.fourth.parts) }
-        ensures amounts { (lock : ℕ) → amount_of
-            (amounts self.new.first.amount self.new.second.amount self.new.third.amount self.new.fourth.amount) lock
-            ≡ amount_of (amounts self.old.first.amount self.old.second.amount self.old.third.amount self.old.fourth.amount) lock
-            + amount_of (amounts other.first.amount other.second.amount other.third.amount other.fourth.amount) lock }
+            → AllAre many (per_lock self.old.first.parts self.old.second.parts self.old.third.parts self.old.fourth.parts)
+            → AllAre more (per_lock other.first.parts other.second.parts other.third.parts other.fourth.parts)
+            → AllAre (many + more)
+            (per_lock self.new.first.parts self.new.second.parts self.new.third.parts self.new.fourth.parts) }
+        ensures amounts { (lock : ℕ) → at_lock
+            (per_lock self.new.first.amount self.new.second.amount self.new.third.amount self.new.fourth.amount) lock
+            ≡ at_lock (per_lock self.old.first.amount self.old.second.amount self.old.third.amount self.old.fourth.amount) lock
+            + at_lock (per_lock other.first.amount other.second.amount other.third.amount other.fourth.amount) lock }
     {
         let Shares {
             first,

@@ -3,7 +3,7 @@
 ghost use Rattle.std.specs.Prelude.{◌≡◌, ◌+◌, ◌<◌, ◌≤◌, IfErr, IfOk, OnErr, OnOk, Some, length};
 ghost use Rattle.ar_bundle.specs.Bundle.{IsBundle, found};
 ghost use Rattle.ar_board.specs.Board.{IsSeen, IsUnseen, seat_of};
-ghost use Rattle.ar_board.specs.Private.Closing.{IsGivenUp};
+ghost use Rattle.ar_board.specs.Private.Closing.{IsCellClosed};
 ghost use Rattle.ar_cell.specs.Cell.{IsUnder, entries_under, lock_of};
 
 use ar_bundle::{Bundle, Finding, History};
@@ -80,7 +80,7 @@ pub(crate) fn look<M: BundleName, L: LockName, R: Wait>(
 
 /// A lock's cell is compared with the share that has all parts of its ledger, and its histories come to
 /// their places among others.
-pub(crate) fn give_up<M: BundleName, L: LockName>(
+pub(crate) fn close_cell<M: BundleName, L: LockName>(
     lock: Mutex<RunCell<'_, M, L>>,
     own: usize,
     share: &mut Share<L>,
@@ -89,7 +89,7 @@ pub(crate) fn give_up<M: BundleName, L: LockName>(
     requires own { own ≡ L.lock }
     requires all { share.old.parts ≡ L.parts }
     requires as_many { length histories.old.items ≡ length M.bundle.runs }
-    ensures given { IsGivenUp M.bundle M.workers L.lock share.old.amount histories.old.items histories.new.items }
+    ensures given { IsCellClosed M.bundle M.workers L.lock share.old.amount histories.old.items histories.new.items }
     ensures bundle { IsBundle M.bundle }
 {
     let mut cell = lock.into_inner();

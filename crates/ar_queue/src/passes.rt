@@ -40,7 +40,7 @@ pub fn put<M: BundleName, R: Wait>(
     ensures pass { IsPassOf queue.now pass.new }
     ensures put { view pass.new ≡ after_put (view pass.old) item }
 {
-    let waiting = Waiting::new();
+    let mut waiting = Waiting::new();
     for _ in rt.forever() {
         match queue.try_push_as::<Puts>(pass, item) {
             Ok(()) => return,

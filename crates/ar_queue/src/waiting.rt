@@ -5,17 +5,20 @@ use std::sync::Wait;
 use std::sync::atomic::AtomicU64;
 use std::time::Duration;
 
-/// How long the feeder sleeps at once, in nanoseconds.
-const NAP: u32 = 50_000;
+/// How often it spins or yields before it sleeps: for a time in which workers take many cheap measurements.
+const PATIENCE: u32 = 100;
 
-/// The feeder's waiting for workers: busy at first, then leaving the processor to them, then asleep for a
-/// moment at a time, so that it doesn't hold a processor that a worker wants. It comes to sleep only where
-/// no worker has taken anything meanwhile, so that what stands in the queue lasts longer than a nap.
-/// Workers that find the queue empty don't sleep: the feeder is quicker than they would wake.
+/// How long it sleeps at once, in nanoseconds.
+const SLEEP_NANOS: u32 = 50_000;
+
+/// The feeder's waiting for workers: it spins at first, then yields, then sleeps, so that it doesn't hold
+/// a processor that a worker wants. Workers that find the queue empty don't sleep: the next number comes
+/// sooner than they would wake.
 #[derive(Drop)]
 pub(crate) struct Waiting {
     backoff: Backoff,
-    /// No thread changes it: a sleep on it ends by itself.
+    turns: u32,
+    /// No thread changes it, so that waiting for a change of it is a sleep. `thread::sleep` wants a clock.
     unchanged: AtomicU64,
 }
 
@@ -23,16 +26,19 @@ impl Waiting {
     pub(crate) fn new() -> Waiting {
         Waiting {
             backoff: Backoff::new(),
+            turns: 0,
             unchanged: AtomicU64::new(0),
         }
     }
 
     /// One turn of it.
-    pub(crate) fn turn<R: Wait>(&self, rt: &R) {
-        if self.backoff.is_completed() {
-            self.unchanged.park_timeout(rt, 0, Duration::new(0, NAP));
-        } else {
+    pub(crate) fn turn<R: Wait>(&mut self, rt: &R) {
+        if self.turns < PATIENCE {
+            self.turns += 1;
             self.backoff.snooze();
+        } else {
+            self.unchanged
+                .park_timeout(rt, 0, Duration::new(0, SLEEP_NANOS));
         }
     }
 }

@@ -7,8 +7,8 @@ use Rattle.ar_bundle.specs.declared.history.Entry.{Entry}
 use Rattle.ar_cell.specs.Cell.{ArePut, Cell, IsCell, histories_of, history_at, lock_of}
 use Rattle.ar_cell.specs.Receipts.{IsMet, numbers_at}
 use Rattle.ar_cell.specs.declared.receipt.Receipt.{Receipt}
-use Rattle.ar_board.specs.Board.{Seat, receipts_of, received_under}
-use Rattle.ar_board.specs.Private.Seats.{AreParts, Amounts, amount_of}
+use Rattle.ar_board.specs.Board.{IsUnmet, IsUnmetAmong, Seat, receipts_of, received_under}
+use Rattle.ar_board.specs.Private.Seats.{AllAre, PerLock, at_lock}
 
 -- receipts of the runs of their numbers
 abbrev pub AreOwn : Bundle → List Receipt → Type 0
@@ -16,14 +16,14 @@ AreOwn bundle receipts = AllByRecursion (λ receipt. run_of bundle receipt.numbe
 
 -- what seats had: a list of receipts each, one part of each lock's ledger each, and for each lock the number of the receipts for
 -- runs under it
-pub record AreGiven (bundle : Bundle) (seats : List Seat) (receipts : List (List Receipt)) (parts amounts : Amounts) : Type 0 where
+pub record AreGiven (bundle : Bundle) (seats : List Seat) (receipts : List (List Receipt)) (parts amounts : PerLock) : Type 0 where
   pub lists : receipts ≡ receipts_of seats
   pub own : AllByRecursion (AreOwn bundle) receipts
-  pub as_many : AreParts (length seats) parts
-  pub counted : (lock : ℕ) → amount_of amounts lock ≡ received_under lock (receipts_of seats)
+  pub as_many : AllAre (length seats) parts
+  pub counted : (lock : ℕ) → at_lock amounts lock ≡ received_under lock (receipts_of seats)
 
--- what the cell of a lock gave up: its entries are as many as the amount, and its histories came to their places among others
-pub record IsGivenUp (bundle : Bundle) (workers lock amount : ℕ) (before after : List (List Entry)) : Type 0 where
+-- the cell of a lock was closed: its entries are as many as the amount, and its histories came to their places among others
+pub record IsCellClosed (bundle : Bundle) (workers lock amount : ℕ) (before after : List (List Entry)) : Type 0 where
   pub cell : Cell
   pub is : IsCell bundle workers lock cell
   pub whole : amount ≡ cell.total
@@ -69,14 +69,7 @@ pub record IsLaterOf (last : Option ℕ) (place later : ℕ) : Type 0 where
   pub from_last : IfSome last (λ last. last ≤ later)
   pub one_of_them : (later ≡ place) ⊎ (last ≡ Some later)
 
--- one of a seat's receipts for a number isn't met, or all are
-pub record IsUnmet (histories : List (List Entry)) (own : List Receipt) (number : ℕ) : Type 0 where
-  pub at : ℕ
-  pub receipt : Receipt
-  pub there : slice_get own at ≡ Some receipt
-  pub for_it : receipt.number ≡ number
-  pub unmet : IsMet histories (take at own) receipt → ⊥
-
+-- all of a seat's receipts for a number are met
 abbrev pub AreMet : List (List Entry) → List Receipt → (number : ℕ) → Type 0
 AreMet histories own number = (at : ℕ) (receipt : Receipt) → slice_get own at ≡ Some receipt → receipt.number ≡ number → IsMet histories (take at own) receipt
 
@@ -91,12 +84,6 @@ pub record AreMarked (histories : List (List Entry)) (own : List Receipt) (befor
   pub each : (number : ℕ) (was is : Bool) → slice_get before number ≡ Some was → slice_get after number ≡ Some is → MarkedAs histories own number was is
 
 -- so it is of all seats, when none was marked before
-pub record IsUnmetAmong (histories : List (List Entry)) (receipts : List (List Receipt)) (number : ℕ) : Type 0 where
-  pub seat : ℕ
-  pub own : List Receipt
-  pub there : slice_get receipts seat ≡ Some own
-  pub unmet : IsUnmet histories own number
-
 abbrev pub MarkedAmong : List (List Entry) → List (List Receipt) → (number : ℕ) → Bool → Type 0
 MarkedAmong histories receipts number true = IsUnmetAmong histories receipts number
 MarkedAmong histories receipts number false = AllByRecursion (λ own. AreMet histories own number) receipts

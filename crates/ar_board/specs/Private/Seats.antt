@@ -6,29 +6,29 @@ use Rattle.ar_cell.specs.Cell.{entries_under, lock_of}
 use Rattle.ar_cell.specs.declared.receipt.Receipt.{Receipt}
 
 -- a number for each lock, as shares of the four ledgers have parts and amounts
-pub record Amounts : Type 0 where
+pub record PerLock : Type 0 where
   pub first : ℕ
   pub second : ℕ
   pub third : ℕ
   pub fourth : ℕ
 
-abbrev pub amounts : (first second third fourth : ℕ) → Amounts
-amounts first second third fourth = record { first = first; second = second; third = third; fourth = fourth }
+abbrev pub per_lock : (first second third fourth : ℕ) → PerLock
+per_lock first second third fourth = record { first = first; second = second; third = third; fourth = fourth }
 
--- that of a lock; there is none under other locks
-abbrev pub amount_of : Amounts → (lock : ℕ) → ℕ
-amount_of amounts zero = amounts.first
-amount_of amounts (suc zero) = amounts.second
-amount_of amounts (suc (suc zero)) = amounts.third
-amount_of amounts (suc (suc (suc zero))) = amounts.fourth
-amount_of amounts lock = 0
+-- that of a lock; it is 0 of others
+abbrev pub at_lock : PerLock → (lock : ℕ) → ℕ
+at_lock numbers zero = numbers.first
+at_lock numbers (suc zero) = numbers.second
+at_lock numbers (suc (suc zero)) = numbers.third
+at_lock numbers (suc (suc (suc zero))) = numbers.fourth
+at_lock numbers lock = 0
 
--- so many parts of each ledger
-pub record AreParts (many : ℕ) (parts : Amounts) : Type 0 where
-  pub first : parts.first ≡ many
-  pub second : parts.second ≡ many
-  pub third : parts.third ≡ many
-  pub fourth : parts.fourth ≡ many
+-- so many for each lock
+pub record AllAre (many : ℕ) (numbers : PerLock) : Type 0 where
+  pub first : numbers.first ≡ many
+  pub second : numbers.second ≡ many
+  pub third : numbers.third ≡ many
+  pub fourth : numbers.fourth ≡ many
 
 -- how many receipts there are for runs under a lock
 abbrev pub receipts_under : (lock : ℕ) → List Receipt → ℕ
@@ -39,16 +39,16 @@ abbrev pub one_under : (own lock : ℕ) → ℕ
 one_under own lock = if own == lock then 1 else 0
 
 -- one more under a lock, which are no more than the bundle's entries there
-pub record IsOneMore (bundle : Bundle) (own : ℕ) (before after : Amounts) : Type 0 where
-  pub more : (lock : ℕ) → amount_of after lock ≡ amount_of before lock + one_under own lock
-  pub few : amount_of after own ≤ entries_under bundle own
+pub record IsOneMore (bundle : Bundle) (own : ℕ) (before after : PerLock) : Type 0 where
+  pub more : (lock : ℕ) → at_lock after lock ≡ at_lock before lock + one_under own lock
+  pub few : at_lock after own ≤ entries_under bundle own
 
 -- what always holds of a seat: it is a worker's, it has one part of each lock's ledger, an amount of each for its receipts for runs
 -- under the lock, which are of the runs of their numbers, and it has room for one of each number
-pub record IsSeat (bundle : Bundle) (workers worker : ℕ) (receipts : List Receipt) (capacity : ℕ) (parts amounts : Amounts) : Type 0 where
+pub record IsSeat (bundle : Bundle) (workers worker : ℕ) (receipts : List Receipt) (capacity : ℕ) (parts amounts : PerLock) : Type 0 where
   pub is_worker : worker < workers
   pub own : AllByRecursion (λ receipt. run_of bundle receipt.number ≡ Some receipt.run) receipts
   pub room : length bundle.entries ≤ capacity
-  pub part : AreParts 1 parts
-  pub counted : (lock : ℕ) → amount_of amounts lock ≡ receipts_under lock receipts
-  pub few : (lock : ℕ) → amount_of amounts lock ≤ entries_under bundle lock
+  pub part : AllAre 1 parts
+  pub counted : (lock : ℕ) → at_lock amounts lock ≡ receipts_under lock receipts
+  pub few : (lock : ℕ) → at_lock amounts lock ≤ entries_under bundle lock
