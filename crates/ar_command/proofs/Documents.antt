@@ -60,6 +60,7 @@ module _ (input bytes : List ℕ) (same : json_in input ≡ json_in bytes) where
   says_too commands.List text closing says = (record { bundle = says.0.bundle; reads = reads_too (Ok says.0.bundle) says.0.reads; is = says.0.is }, says.1)
   says_too (commands.Run workers) text closing says = reports_too text closing says
   says_too commands.Plain text closing says = record { reports = reports_too text closing says.reports; rise = says.rise }
+  says_too (commands.Ordered workers) text closing says = record { reports = reports_too text closing says.reports; rise = says.rise }
 
   refuses_too : (command : Command) (refusal : Refusal) → Refuses command bytes refusal → Refuses command input refusal
   refuses_too commands.Eval (refusals.Eval fault) refuses = evaluates_too (Err fault) refuses
@@ -72,6 +73,8 @@ module _ (input bytes : List ℕ) (same : json_in input ≡ json_in bytes) where
   refuses_too (commands.Run workers) (refusals.Eval fault) refuses = absurd refuses
   refuses_too commands.Plain (refusals.Bundle error) refuses = reads_too (Err error) refuses
   refuses_too commands.Plain (refusals.Eval fault) refuses = absurd refuses
+  refuses_too (commands.Ordered workers) (refusals.Bundle error) refuses = reads_too (Err error) refuses
+  refuses_too (commands.Ordered workers) (refusals.Eval fault) refuses = absurd refuses
 
 of_known : (P : List ℕ → Type 0) (bytes : List ℕ) (known : Option (List ℕ)) → IfSome known (λ input. json_in input ≡ json_in bytes) → ((input : List ℕ) → json_in input ≡ json_in bytes → P input) → IfSome known P
 of_known P bytes None same says = tt

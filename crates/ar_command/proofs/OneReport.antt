@@ -1,6 +1,6 @@
 -- That a command for one thread says one text of an input. Reports of bundles that are the same but for where they lie in
 -- memory, by the same numbers, are one text.
-use Rattle.std.proofs.Common.{◌≡◌, ℕ, zero, suc, List, [], ◌∷◌, ◌++◌, length, map, Option, Some, None, refl, sym, ◌∙◌, ap}
+use Rattle.std.proofs.Common.{◌≡◌, ◌≢◌, ℕ, zero, suc, List, [], ◌∷◌, ◌++◌, length, map, Option, Some, None, refl, sym, ◌∙◌, ap}
 use Rattle.std.specs.Prelude.{option_and_then, option_map, slice_get, unwrap_or}
 use Rattle.std.specs.List.{filter_map}
 use Rattle.std.proofs.lemmas.List.{length-map}
@@ -27,7 +27,7 @@ use Rattle.ar_report.specs.Report.{event_lines, finding_text, found_text, metric
 use Rattle.ar_command.proofs.OneNumbering.{same_numbers}
 use Rattle.ar_command.proofs.OneText.{one_bundle, one_check, one_line, one_listing}
 use Rattle.ar_command.specs.Alike.{AreSameConditions, AreSameJudges, AreSameRuns, IsSameBundle, IsSameRun}
-use Rattle.ar_command.specs.Serving.{ReportsInOrder, RunsAlone, Says, closing_of}
+use Rattle.ar_command.specs.Serving.{ReportsInOrder, Says, closing_of}
 use Rattle.ar_command.specs.declared.serving.Closing.{Closing}
 use Rattle.ar_command_line.specs.declared.command_line.Command.{Command}
 use Rattle.ar_command_line.specs.declared.command_line.Command.TheVariants as commands
@@ -237,10 +237,15 @@ one_report input text other closing closing_of_other says also =
       one.reported.closes ∙ (same_closing one.bundle its.bundle same (map numbers_of one.histories) ∙ (ap (λ n. closing_of (run_phases its.bundle n)) numbers ∙ sym its.reported.closes)),
     )
 
-pub one_text : (command : Command) (input text other : List ℕ) (closing closing_of_other : Closing) → RunsAlone command → Says command input text closing → Says command input other closing_of_other
+pub one_text : (command : Command) (input text other : List ℕ) (closing closing_of_other : Closing) → ((workers : ℕ) → command ≢ commands.Run workers) → Says command input text closing → Says command input other closing_of_other
     → (text ≡ other) × (closing ≡ closing_of_other)
-one_text commands.Eval input text other closing closing_of_other alone says also = (one_line input text other closing closing_of_other says also, says.1 ∙ sym also.1)
-one_text commands.Check input text other closing closing_of_other alone says also = (one_check input text other closing closing_of_other says also, says.1 ∙ sym also.1)
-one_text commands.List input text other closing closing_of_other alone says also = (one_listing input text other closing closing_of_other says also, says.1 ∙ sym also.1)
-one_text (commands.Run workers) input text other closing closing_of_other alone says also = absurd alone
-one_text commands.Plain input text other closing closing_of_other alone says also = one_report input text other closing closing_of_other says also
+one_text commands.Eval input text other closing closing_of_other not_run says also = (one_line input text other closing closing_of_other says also, says.1 ∙ sym also.1)
+one_text commands.Check input text other closing closing_of_other not_run says also = (one_check input text other closing closing_of_other says also, says.1 ∙ sym also.1)
+one_text commands.List input text other closing closing_of_other not_run says also = (one_listing input text other closing closing_of_other says also, says.1 ∙ sym also.1)
+one_text (commands.Run workers) input text other closing closing_of_other not_run says also = absurd (not_run workers refl)
+one_text commands.Plain input text other closing closing_of_other not_run says also = one_report input text other closing closing_of_other says also
+one_text (commands.Ordered workers) input text other closing closing_of_other not_run says also = one_report input text other closing closing_of_other says also
+
+pub ordered_is_plain : (workers : ℕ) (input text other : List ℕ) (closing closing_of_other : Closing) → Says (commands.Ordered workers) input text closing → Says commands.Plain input other closing_of_other
+    → (text ≡ other) × (closing ≡ closing_of_other)
+ordered_is_plain workers input text other closing closing_of_other says also = one_report input text other closing closing_of_other says also

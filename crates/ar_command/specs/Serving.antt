@@ -27,7 +27,7 @@ use Rattle.ar_command.specs.declared.serving.Refusal.{Refusal}
 use Rattle.ar_command.specs.declared.serving.Refusal.TheVariants as refusals
 use Rattle.ar_command.specs.declared.serving.ServeError.{ServeError}
 use Rattle.ar_command.specs.declared.serving.ServeError.TheVariants.{Read, Refused, Work, Write, OutOfMemory}
-use Rattle.ar_workers.specs.Joined.{IsCause}
+use Rattle.ar_workers.specs.Joined.{IsCause, IsNotLost}
 use Rattle.ar_workers.specs.declared.error.WorkError.{WorkError}
 use Rattle.ar_workers.specs.declared.error.WorkError.TheVariants as work
 
@@ -80,6 +80,7 @@ Says commands.Check input text closing = Shows check_text input text × (closing
 Says commands.List input text closing = Shows list_text input text × (closing ≡ Good)
 Says (commands.Run workers) input text closing = Reports input text closing
 Says commands.Plain input text closing = ReportsInOrder input text closing
+Says (commands.Ordered workers) input text closing = ReportsInOrder input text closing
 
 -- a command was carried out: what it says of the bytes that were taken was written
 pub record IsCarriedOut (command : Command) (taken_before taken_after contents_before contents_after : Option (List ℕ)) (closing : Closing) : Type 0 where
@@ -109,25 +110,32 @@ pub record IsRefused (command : Command) (taken_before taken_after : Option (Lis
 -- a command for workers, and how many
 abbrev pub RunsWith : Command → (most_workers : ℕ) → Type 0
 RunsWith (commands.Run workers) most_workers = (1 ≤ workers) × (workers ≤ most_workers)
+RunsWith (commands.Ordered workers) most_workers = (1 ≤ workers) × (workers ≤ most_workers)
 RunsWith command most_workers = ⊥
 
 -- a command for one thread
 abbrev pub RunsAlone : Command → Type 0
 RunsAlone (commands.Run workers) = ⊥
+RunsAlone (commands.Ordered workers) = ⊥
 RunsAlone command = Unit {0}
 
--- why workers give no report of the bundle of an input; want of memory is answered as such
-pub record Breaks (input : List ℕ) (error : WorkError) : Type 0 where
+-- why the workers of a command give no histories: where a number was lost this is shown, and an ordered run loses none
+abbrev pub IsCauseOf : Command → Bundle → WorkError → Type 0
+IsCauseOf (commands.Ordered workers) bundle error = IsNotLost error
+IsCauseOf command bundle error = IsCause bundle error
+
+-- and so no report of the bundle of an input; want of memory is answered as such
+pub record Breaks (command : Command) (input : List ℕ) (error : WorkError) : Type 0 where
   pub bundle : Bundle
   pub reads : document.ReadsInput input (Ok bundle)
-  pub cause : IsCause bundle error
+  pub cause : IsCauseOf command bundle error
   pub not_memory : error ≢ work.OutOfMemory
 
 -- and of the bytes that were taken
-pub record IsBroken (taken_before taken_after : Option (List ℕ)) (error : WorkError) : Type 0 where
+pub record IsBroken (command : Command) (taken_before taken_after : Option (List ℕ)) (error : WorkError) : Type 0 where
   pub input : List ℕ
   pub took : Appends taken_before taken_after input
-  pub breaks : Breaks input error
+  pub breaks : Breaks command input error
 
 -- ---- faults of a command's parts, as the command answers them
 

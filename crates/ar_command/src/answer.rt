@@ -7,8 +7,8 @@ ghost use Rattle.ar_bundle.specs.declared.history.Entry.{Entry};
 ghost use Rattle.ar_limits.specs.Metric.{is_unsuccessful};
 ghost use Rattle.ar_report.specs.Check.{check_text, list_text};
 ghost use Rattle.ar_command.specs.Private.Refusing.{IfRefused, IfUnanswered};
-ghost use Rattle.ar_command.specs.Serving.{Breaks, IsReported, Refuses, Reports, ReportsInOrder, RunsAlone, Says};
-ghost use Rattle.ar_command.specs.Serving.{Shows, Writes, closing_of, line_of};
+ghost use Rattle.ar_command.specs.Serving.{Breaks, IsReported, Refuses, Reports, ReportsInOrder, RunsAlone};
+ghost use Rattle.ar_command.specs.Serving.{RunsWith, Says, Shows, Writes, closing_of, line_of};
 ghost use Rattle.ar_command.specs.declared.serving.Closing.TheVariants.{Good};
 ghost use Rattle.ar_command_line.specs.declared.command_line.Command.TheVariants as commands;
 
@@ -21,7 +21,7 @@ use ar_eval::evaluate;
 use ar_limits::Phase;
 use ar_machine::Answer;
 use ar_report::{check_text, fault_name, list_text, report, run_phases};
-use ar_workers::{Gate, run_all, run_plain};
+use ar_workers::{Gate, run_all, run_ordered, run_plain};
 use std::alloc::{AllocError, Global};
 use std::sync::Wait;
 use std::thread::Threads;
@@ -44,12 +44,31 @@ pub(crate) fn answer(alloc: Global, command: Command, input: &[u8]) -> Result<Sa
         Command::Check => checked(alloc, input),
         Command::List => listed(alloc, input),
         Command::Plain => reported_in_order(alloc, input),
-        Command::Run(_) => unreachable!(),
+        Command::Run(_) | Command::Ordered(_) => unreachable!(),
     }
 }
 
 /// What a run with workers says of an input.
 pub(crate) fn judged<G: Gate, R: Threads + Wait + Sync>(
+    rt: &R,
+    alloc: Global,
+    command: Command,
+    input: &[u8],
+    gate: &G,
+) -> Result<Said, ServeError>
+    requires { RunsWith command MOST_WORKERS }
+    ensures said { IfOk result (λ said. Says command input.now (string_bytes said.text) said.closing) }
+    ensures ends { IfUnanswered result (Refuses command input.now) (Breaks command input.now) }
+{
+    match command {
+        Command::Run(workers) => posted(rt, alloc, workers, input, gate),
+        Command::Ordered(workers) => put_in_order(rt, alloc, workers, input, gate),
+        Command::Eval | Command::Check | Command::List | Command::Plain => unreachable!(),
+    }
+}
+
+/// What a run says whose workers post to a board.
+fn posted<G: Gate, R: Threads + Wait + Sync>(
     rt: &R,
     alloc: Global,
     workers: usize,
@@ -58,10 +77,29 @@ pub(crate) fn judged<G: Gate, R: Threads + Wait + Sync>(
 ) -> Result<Said, ServeError>
     requires { (1 ≤ workers) × (workers ≤ MOST_WORKERS) }
     ensures said { IfOk result (λ said. Reports input.now (string_bytes said.text) said.closing) }
-    ensures ends { IfUnanswered result (Refuses (commands.Run workers) input.now) (Breaks input.now) }
+    ensures ends { IfUnanswered result
+        (Refuses (commands.Run workers) input.now) (Breaks (commands.Run workers) input.now) }
 {
     let bundle = read_bundle(alloc, input)?;
     let histories = run_all(rt, alloc, &bundle, workers, gate)?;
+    Ok(report_of(alloc, &bundle, &histories)?)
+}
+
+/// What a run says whose workers judge and whose numbers are applied in their order.
+fn put_in_order<G: Gate, R: Threads + Wait + Sync>(
+    rt: &R,
+    alloc: Global,
+    workers: usize,
+    input: &[u8],
+    gate: &G,
+) -> Result<Said, ServeError>
+    requires { (1 ≤ workers) × (workers ≤ MOST_WORKERS) }
+    ensures said { IfOk result (λ said. ReportsInOrder input.now (string_bytes said.text) said.closing) }
+    ensures ends { IfUnanswered result
+        (Refuses (commands.Ordered workers) input.now) (Breaks (commands.Ordered workers) input.now) }
+{
+    let bundle = read_bundle(alloc, input)?;
+    let histories = run_ordered(rt, alloc, &bundle, workers, gate)?;
     Ok(report_of(alloc, &bundle, &histories)?)
 }
 

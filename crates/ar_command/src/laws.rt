@@ -1,12 +1,13 @@
 //! Laws of what commands say. A law is the contract of a function that does nothing.
 
-ghost use Rattle.std.specs.Prelude.{◌≡◌, ℕ, List, Ok};
+ghost use Rattle.std.specs.Prelude.{◌≡◌, ◌≢◌, ℕ, List, Ok};
 ghost use Rattle.ar_bundle.specs.Bundle.{Bundle};
 ghost use Rattle.ar_document.specs.Document.{ReadsInput};
 ghost use Rattle.ar_command.specs.Alike.{IsSameBundle};
-ghost use Rattle.ar_command.specs.Serving.{RunsAlone, Says};
+ghost use Rattle.ar_command.specs.Serving.{Says};
 ghost use Rattle.ar_command.specs.declared.serving.Closing.{Closing};
 ghost use Rattle.ar_command_line.specs.declared.command_line.Command.{Command};
+ghost use Rattle.ar_command_line.specs.declared.command_line.Command.TheVariants as commands;
 
 /// An input is one bundle, up to where its parts lie in memory.
 #[tactic(auto, using(crate::proofs::OneText::one_bundle))]
@@ -15,10 +16,18 @@ pub fn one_bundle()
         → IsSameBundle one other }
 {}
 
-/// A command for one thread says one text of an input, and closes in one way. With workers there may be
-/// several reports, as many as there are orders of the events.
+/// A command says one text of an input, and closes in one way. Only where workers post to a board there may
+/// be several reports, as many as there are orders of the events.
 pub fn one_text()
-    ensures { (command : Command) (input text other : List ℕ) (closing closing_of_other : Closing) → RunsAlone command
-        → Says command input text closing → Says command input other closing_of_other
+    ensures { (command : Command) (input text other : List ℕ) (closing closing_of_other : Closing)
+        → ((workers : ℕ) → command ≢ commands.Run workers) → Says command input text closing → Says command input other closing_of_other
+        → (text ≡ other) × (closing ≡ closing_of_other) }
+{}
+
+/// An ordered run says of an input what the plain run says of it, whatever the number of its workers and
+/// whatever their threads do, and closes as that does.
+pub fn ordered_is_plain()
+    ensures { (workers : ℕ) (input text other : List ℕ) (closing closing_of_other : Closing)
+        → Says (commands.Ordered workers) input text closing → Says commands.Plain input other closing_of_other
         → (text ≡ other) × (closing ≡ closing_of_other) }
 {}

@@ -150,9 +150,9 @@ pub fn serve<S: Source, W: Sink, G: Gate, R: Threads + Wait + Sync>(
     ensures refused_of_known { (refusal : Refusal) → result ≡ Err (ServeError.Refused refusal)
         → IfSome (S.remaining reader.old) (λ input. Refuses command input refusal) }
 
-    // A lost number is shown.
+    // A lost number is shown, and an ordered run loses none.
     ensures work { (error : WorkError) → result ≡ Err (ServeError.Work error)
-        → IsBroken (S.taken reader.old) (S.taken reader.new) error }
+        → IsBroken command (S.taken reader.old) (S.taken reader.new) error }
 
     // A failed read or write is told, and only where one failed.
     ensures read { result ≡ Err ServeError.Read → S.has_failed reader.new ≡ true }
@@ -164,10 +164,7 @@ pub fn serve<S: Source, W: Sink, G: Gate, R: Threads + Wait + Sync>(
     ensures silent { IfErr result (λ e. e ≢ ServeError.Write → writer.new ≡ writer.old) }
 {
     let input = read_input(alloc, reader)?;
-    let Command::Run(workers) = command else {
-        unreachable!()
-    };
-    let said = judged(rt, alloc, workers, &input, gate)?;
+    let said = judged(rt, alloc, command, &input, gate)?;
     write(writer, &said)
 }
 

@@ -1,5 +1,5 @@
 -- The number of workers of a command that is named lies in its bounds.
-use Rattle.std.proofs.Common.{ap, List, ◌≡◌, ◌≤◌, ℕ, Bool, true, false, Option, Some, None, Result, Ok, Err, arith, cond, refl, ◌∙◌, codes}
+use Rattle.std.proofs.Common.{ap, List, ◌≡◌, ◌≤◌, ℕ, Bool, true, false, Option, Some, None, Result, Ok, Err, arith, cond, refl, sym, subst, ◌∙◌, codes}
 use Rattle.std.specs.Prelude.{IfOk}
 use Rattle.std.specs.Option.{option_map_or}
 use Rattle.std.specs.Str.{bytes_eq}
@@ -8,9 +8,9 @@ use Rattle.clap.specs.Words.{Row, Text, first_of}
 use Rattle.clap.specs.ValueTests.{is_unsigned_in}
 use Rattle.clap.specs.declared.builder.value_parser.ValueParser.TheVariants as vp
 use Rattle.clap.proofs.ValueTestLemmas.{accepts-Accepts}
-use Rattle.ar_command_line.specs.CommandLine.{command_named, is_plain, named, number_of_workers, run_command, workers_of}
+use Rattle.ar_command_line.specs.CommandLine.{command_named, has_flag, named, number_of_workers, run_command, run_of, workers_of}
 use Rattle.ar_command_line.specs.declared.command_line.Command.{Command}
-use Rattle.ar_command_line.specs.declared.command_line.Command.TheVariants.{Eval, Check, List as ListCodes, Run, Plain}
+use Rattle.ar_command_line.specs.declared.command_line.Command.TheVariants.{Eval, Check, List as ListCodes, Run, Plain, Ordered}
 use Rattle.ar_command_line.specs.declared.command_line.UsageError.{UsageError}
 use Rattle.ar_command_line.specs.declared.command_line.UsageError.TheVariants.{Words, Workers}
 
@@ -33,32 +33,64 @@ given_bounds : (given : Option Text) (n : ℕ) → option_map_or number_of_worke
 given_bounds None n is = let same : 4 ≡ n = cc in (omega (arith, same), omega (arith, same))
 given_bounds (Some text) n is = number_bounds text n is
 
-run_bounds : (rows : List Row) (n : ℕ) → run_command rows ≡ Ok (Run n) → Bounds n
-run_bounds rows n = go (workers_of rows) refl (is_plain rows)
-  where
-    go : (o : Option ℕ) → workers_of rows ≡ o → (plain : Bool) → ◌≡◌ {A = Result Command UsageError} (option_map_or (λ k. Ok (cond plain Plain (Run k))) o (Err Workers)) (Ok (Run n)) → Bounds n
-    go None are plain is = cc
-    go (Some k) are true is = cc
-    go (Some k) are false is = let same : k ≡ n = cc in given_bounds (first_of (codes "workers") rows) n (are ∙ ap Some same)
+-- a command that is one with so many workers
+abbrev HasWorkers : Command → ℕ → Type 0
+HasWorkers Eval n = ⊥
+HasWorkers Check n = ⊥
+HasWorkers ListCodes n = ⊥
+HasWorkers Plain n = ⊥
+HasWorkers (Run workers) n = workers ≡ n
+HasWorkers (Ordered workers) n = workers ≡ n
 
-named_bounds : (name : Text) (rows : List Row) (n : ℕ) → named name rows ≡ Ok (Run n) → Bounds n
+abbrev Names : Result Command UsageError → ℕ → Type 0
+Names (Ok command) n = HasWorkers command n
+Names (Err error) n = ⊥
+
+run_of_bounds : (plain ordered : Bool) (workers n : ℕ) → Names (run_of plain ordered workers) n → workers ≡ n
+run_of_bounds false false workers n is = is
+run_of_bounds true false workers n is = absurd is
+run_of_bounds false true workers n is = is
+run_of_bounds true true workers n is = absurd is
+
+run_bounds : (rows : List Row) (n : ℕ) → Names (run_command rows) n → Bounds n
+run_bounds rows n = go (workers_of rows) refl
+  where
+    plain : Bool
+    plain = has_flag (codes "plain") rows
+
+    ordered : Bool
+    ordered = has_flag (codes "ordered") rows
+
+    go : (o : Option ℕ) → workers_of rows ≡ o → Names (option_map_or (run_of plain ordered) o (Err Workers)) n → Bounds n
+    go None are is = absurd is
+    go (Some k) are is = given_bounds (first_of (codes "workers") rows) n (are ∙ ap Some (run_of_bounds plain ordered k n is))
+
+named_bounds : (name : Text) (rows : List Row) (n : ℕ) → Names (named name rows) n → Bounds n
 named_bounds name rows n =
     go (bytes_eq name (codes "eval")) (bytes_eq name (codes "check")) (bytes_eq name (codes "list")) (bytes_eq name (codes "run")) (run_bounds rows n)
   where
-    go : (a b c d : Bool) → (run_command rows ≡ Ok (Run n) → Bounds n)
-        → ◌≡◌ {A = Result Command UsageError} (cond a (Ok Eval) (cond b (Ok Check) (cond c (Ok ListCodes) (cond d (run_command rows) (Err Words))))) (Ok (Run n)) → Bounds n
-    go true b c d known is = cc
-    go false true c d known is = cc
-    go false false true d known is = cc
+    go : (a b c d : Bool) → (Names (run_command rows) n → Bounds n)
+        → Names (cond a (Ok Eval) (cond b (Ok Check) (cond c (Ok ListCodes) (cond d (run_command rows) (Err Words))))) n → Bounds n
+    go true b c d known is = absurd is
+    go false true c d known is = absurd is
+    go false false true d known is = absurd is
     go false false false true known is = known is
-    go false false false false known is = cc
+    go false false false false known is = absurd is
 
-command_bounds : (subcommand : Option (Text × List Row)) (n : ℕ) → command_named subcommand ≡ Ok (Run n) → Bounds n
-command_bounds None n is = cc
+command_bounds : (subcommand : Option (Text × List Row)) (n : ℕ) → Names (command_named subcommand) n → Bounds n
+command_bounds None n is = absurd is
 command_bounds (Some s) n is = named_bounds s.0 s.1 n is
 
 -- an answer that the words name
+in_bounds : (subcommand : Option (Text × List Row)) (r : Result Command UsageError) (command : Command) (n : ℕ)
+    → IfOk r (λ command. command_named subcommand ≡ Ok command) → r ≡ Ok command → HasWorkers command n → Bounds n
+in_bounds subcommand (Ok own) command n told is has = command_bounds subcommand n (subst (λ (named : Result Command UsageError). Names named n) (sym (told ∙ is)) has)
+in_bounds subcommand (Err error) command n told is has = cc
+
 pub run_in_bounds : (subcommand : Option (Text × List Row)) (r : Result Command UsageError) (n : ℕ)
     → IfOk r (λ command. command_named subcommand ≡ Ok command) → r ≡ Ok (Run n) → Bounds n
-run_in_bounds subcommand (Ok command) n told is = command_bounds subcommand n (told ∙ is)
-run_in_bounds subcommand (Err error) n told is = cc
+run_in_bounds subcommand r n told is = in_bounds subcommand r (Run n) n told is refl
+
+pub ordered_in_bounds : (subcommand : Option (Text × List Row)) (r : Result Command UsageError) (n : ℕ)
+    → IfOk r (λ command. command_named subcommand ≡ Ok command) → r ≡ Ok (Ordered n) → Bounds n
+ordered_in_bounds subcommand r n told is = in_bounds subcommand r (Ordered n) n told is refl

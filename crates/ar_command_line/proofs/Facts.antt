@@ -5,9 +5,9 @@ use Rattle.clap.specs.declared.error.kind.ErrorKind.TheVariants as kind
 use Rattle.clap.proofs.OnLiterals.{clap_on_literals}
 use Rattle.ar_command_line.specs.CommandLine.{application, command_named}
 use Rattle.ar_command_line.specs.declared.command_line.Command.{Command}
-use Rattle.ar_command_line.specs.declared.command_line.Command.TheVariants.{Eval, Run, Plain}
+use Rattle.ar_command_line.specs.declared.command_line.Command.TheVariants.{Eval, Run, Plain, Ordered}
 use Rattle.ar_command_line.specs.declared.command_line.UsageError.{UsageError}
-use Rattle.ar_command_line.specs.declared.command_line.UsageError.TheVariants.{Workers}
+use Rattle.ar_command_line.specs.declared.command_line.UsageError.TheVariants.{Workers, Conflict}
 
 -- what is answered for the words behind the program's name, where `clap` finds no fault in them
 abbrev asked : List Text → Result Command UsageError
@@ -38,6 +38,14 @@ sixteen = (refl, refl)
 plain : (faults (codes "run" ∷ codes "--plain" ∷ []) ≡ []) × (asked (codes "run" ∷ codes "--plain" ∷ []) ≡ Ok Plain)
 unfolding application clap_on_literals
 plain = (refl, refl)
+
+ordered : (asked (codes "run" ∷ codes "--ordered" ∷ []) ≡ Ok (Ordered 4)) × (asked (codes "run" ∷ codes "--workers" ∷ codes "2" ∷ codes "--ordered" ∷ []) ≡ Ok (Ordered 2))
+unfolding application clap_on_literals
+ordered = (refl, refl)
+
+both : (faults (codes "run" ∷ codes "--ordered" ∷ codes "--plain" ∷ []) ≡ []) × (asked (codes "run" ∷ codes "--ordered" ∷ codes "--plain" ∷ []) ≡ Err Conflict)
+unfolding application clap_on_literals
+both = (refl, refl)
 
 number_unused : asked (codes "run" ∷ codes "--plain" ∷ codes "--workers" ∷ codes "3" ∷ []) ≡ Ok Plain
 unfolding application clap_on_literals

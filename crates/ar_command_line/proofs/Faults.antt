@@ -1,5 +1,5 @@
 -- Where `clap` finds no fault in the words, they name a command, but for the number of workers.
-use Rattle.std.proofs.Common.{◌≡◌, ◌≢◌, Bool, true, false, List, [], ◌∷◌, Option, Some, None, Ok, Err, option_map, is_some, refl, ap, cond, find, ◌∙◌, sym, subst, Result, inl, inr, IfOk}
+use Rattle.std.proofs.Common.{◌≡◌, ◌≢◌, Bool, true, false, List, [], ◌∷◌, Option, Some, None, Ok, Err, option_map, is_some, refl, ap, cond, find, ◌∙◌, sym, subst, Result, inl, inr, IfOk, codes, ℕ}
 use Rattle.std.specs.Prelude.{⊤, unwrap_or}
 use Rattle.std.specs.Prelude.{IsErr}
 use Rattle.std.specs.Result.{result_err}
@@ -13,10 +13,10 @@ use Rattle.clap.specs.declared.error.Error.{Error}
 use Rattle.clap.specs.declared.error.kind.ErrorKind.{ErrorKind}
 use Rattle.clap.specs.declared.error.kind.ErrorKind.TheVariants.{OutOfMemory}
 use Rattle.clap.specs.declared.parser.matches.ArgMatches.{ArgMatches}
-use Rattle.ar_command_line.specs.CommandLine.{AsksForText, application, command_named, is_request, named, of_kind, run_command, workers_of}
+use Rattle.ar_command_line.specs.CommandLine.{AsksForText, application, command_named, has_flag, is_request, named, of_kind, run_command, run_of, workers_of}
 use Rattle.ar_command_line.specs.declared.command_line.Command.{Command}
 use Rattle.ar_command_line.specs.declared.command_line.UsageError.{UsageError}
-use Rattle.ar_command_line.specs.declared.command_line.UsageError.TheVariants.{Words, Workers}
+use Rattle.ar_command_line.specs.declared.command_line.UsageError.TheVariants.{Words, Workers, Conflict}
 
 -- ---- the command line is one of those of which `clap` tells what a parse gives
 
@@ -43,11 +43,17 @@ abbrev AllKnown : List Shape → Type 0
 AllKnown [] = ⊤
 AllKnown (s ∷ rest) = ((rows : List Row) → named s.name rows ≢ Err Words) × AllKnown rest
 
+no_words : (plain ordered : Bool) (workers : ℕ) → run_of plain ordered workers ≢ Err Words
+no_words false false workers bad = cc
+no_words true false workers bad = cc
+no_words false true workers bad = cc
+no_words true true workers bad = cc
+
 run_known : (rows : List Row) → run_command rows ≢ Err Words
 run_known rows = go (workers_of rows) refl
   where
     go : (o : Option _) → workers_of rows ≡ o → run_command rows ≢ Err Words
-    go (Some n) is bad = let bad2 = rw is at bad in cc
+    go (Some n) is bad = let bad2 = rw is at bad in no_words (has_flag (codes "plain") rows) (has_flag (codes "ordered") rows) n bad2
     go None is bad = let bad2 = rw is at bad in cc
 
 all_known : AllKnown (built application).subs
@@ -121,6 +127,7 @@ pub record Answers (given : List Text) (r : Result Command UsageError) : Type 0 
   pub named : IfOk r (λ command. (fault_of application given ≡ []) × (command_named (subcommand_of application given) ≡ Ok command))
   pub words : r ≡ Err Words → fault_of application given ≢ []
   pub workers : r ≡ Err Workers → (fault_of application given ≡ []) × (command_named (subcommand_of application given) ≡ Err Workers)
+  pub conflict : r ≡ Err Conflict → (fault_of application given ≡ []) × (command_named (subcommand_of application given) ≡ Err Conflict)
 
 if_named : {P : Type 0} (x r : Result Command UsageError) → r ≡ x → P → IfOk r (λ command. P × (x ≡ Ok command))
 if_named x (Ok command) is p = (p, sym is)
@@ -135,6 +142,7 @@ answers a words m r is parses matches answer =
       named = if_named _ r same free;
       words = λ bad _. named_or_workers words free (sym same ∙ bad);
       workers = λ bad. (free, sym same ∙ bad);
+      conflict = λ bad. (free, sym same ∙ bad);
     }
 
 pub same_error : (e f : UsageError) → ◌≡◌ {A = Result Command UsageError} (Err e) (Err f) → e ≡ f

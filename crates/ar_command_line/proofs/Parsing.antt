@@ -1,18 +1,24 @@
 -- What the matches of a parse name.
-use Rattle.std.proofs.Common.{◌≡◌, ◌≢◌, ◌∙◌, ◌<◌, ◌≤◌, ℕ, Bool, true, false, Option, Some, None, Ok, Err, ap, sym, refl, subst, arith, cond, unwrap_or, codes}
+use Rattle.std.proofs.Common.{◌≡◌, ◌≢◌, ◌∙◌, ◌<◌, ◌≤◌, ℕ, Bool, true, false, Option, Some, None, Ok, Err, ap, sym, refl, subst, arith, cond, unwrap_or, codes, List, option_map}
+use Rattle.std.specs.Box.{box_value}
+use Rattle.std.specs.declared.boxed.Box.{Box}
+use Rattle.clap.specs.declared.parser.matches.SubCommand.{SubCommand}
 use Rattle.std.specs.Option.{option_map_or}
 use Rattle.std.specs.Str.{bytes_eq}
 use Rattle.std.specs.Str.Parse.{ParsesBool, ParsesUnsigned, digits_value, true_text, without_leading_plus}
 use Rattle.std.specs.declared.str.ParseBoolError.{ParseBoolError}
 use Rattle.std.specs.declared.num.ParseIntError.{ParseIntError}
 use Rattle.std.proofs.lemmas.Slice.Eq.{bytes_eq-Decides}
-use Rattle.clap.specs.Words.{Accepts, ReadsOne, Text, first_of, first_value, one_text, rows_of}
+use Rattle.clap.specs.Words.{Accepts, ReadsOne, Row, Text, first_of, first_value, one_text, rows_of, subcommand_name_of, subcommand_rows_of}
+use Rattle.clap.specs.Simple.{subcommand_rows}
 use Rattle.clap.specs.ValueTests.{is_unsigned_in}
 use Rattle.clap.specs.declared.builder.value_parser.ValueParser.TheVariants as vp
 use Rattle.clap.specs.declared.parser.matches.Found.{Found}
+use Rattle.clap.specs.declared.parser.matches.ArgMatches.{ArgMatches}
+use Rattle.clap.specs.declared.parser.matches.ArgMatches.TheViews.{out-ArgMatches, out-SubCommand}
 use Rattle.clap.proofs.ValueTestLemmas.{Accepts-accepts, accepts-Accepts}
 use Rattle.clap.proofs.WalkLemmas.{first_value-rows, one_text-rows}
-use Rattle.ar_command_line.specs.CommandLine.{is_plain, number_of_workers}
+use Rattle.ar_command_line.specs.CommandLine.{command_named, has_flag, named, number_of_workers}
 
 -- ---- the number of workers
 
@@ -62,11 +68,28 @@ flag_read t (Some true) read = ap (λ (text : Text). bytes_eq text (codes "true"
 flag_read t (Some false) read = ap (λ (text : Text). bytes_eq text (codes "true")) (sym read)
 flag_read t None read = sym (other_text t read.1.0)
 
-pub plain_read : (f : Found) (r : Option Bool) → (one_text f (codes "plain") ≡ None → r ≡ None)
-    → ((t : Text) → one_text f (codes "plain") ≡ Some t → ReadsOne {T = Bool} {E = ParseBoolError} ParsesBool t r)
-    → unwrap_or r false ≡ is_plain (rows_of f)
-plain_read f r none some = go (one_text f (codes "plain")) refl ∙ ap flag_of (one_text-rows f (codes "plain"))
+pub flag_is_read : (f : Found) (name : Text) (r : Option Bool) → (one_text f name ≡ None → r ≡ None)
+    → ((t : Text) → one_text f name ≡ Some t → ReadsOne {T = Bool} {E = ParseBoolError} ParsesBool t r)
+    → unwrap_or r false ≡ has_flag name (rows_of f)
+flag_is_read f name r none some = go (one_text f name) refl ∙ ap flag_of (one_text-rows f name)
   where
-    go : (o : Option Text) → one_text f (codes "plain") ≡ o → unwrap_or r false ≡ flag_of (one_text f (codes "plain"))
+    go : (o : Option Text) → one_text f name ≡ o → unwrap_or r false ≡ flag_of (one_text f name)
     go None is = ap (λ (x : Option Bool). unwrap_or x false) (none is) ∙ sym (ap flag_of is)
     go (Some t) is = flag_read t r (some t is) ∙ sym (ap flag_of is)
+
+-- ---- the subcommand
+
+name_of : {Z : Type 0} (subcommand : Option (Box SubCommand Z)) → option_map (λ b. (out-SubCommand (box_value b)).name.now) subcommand ≡ option_map (λ (s : Text × List Row). s.0) (subcommand_rows subcommand)
+name_of None = refl
+name_of (Some b) = refl
+
+by_parts : (subcommand : Option (Text × List Row)) (name : Text) (rows : List Row) → Some name ≡ option_map (λ (s : Text × List Row). s.0) subcommand → Some rows ≡ option_map (λ (s : Text × List Row). s.1) subcommand → named name rows ≡ command_named subcommand
+by_parts None name rows named_so has_rows = cc
+by_parts (Some s) name rows named_so has_rows =
+    let same : name ≡ s.0 = cc in
+    let same_rows : rows ≡ s.1 = cc in
+    ap (λ n. named n rows) same ∙ ap (named s.0) same_rows
+
+-- a subcommand's name and its matches name the command
+pub named_by : (m : ArgMatches) (name : Text) (rows : List Row) → Some name ≡ subcommand_name_of m → Some rows ≡ option_map (λ (s : Text × List Row). s.1) (subcommand_rows_of m) → named name rows ≡ command_named (subcommand_rows_of m)
+named_by m name rows named_so has_rows = by_parts (subcommand_rows_of m) name rows (named_so ∙ name_of (out-ArgMatches m).subcommand) has_rows

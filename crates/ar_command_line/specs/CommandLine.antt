@@ -13,9 +13,9 @@ use Rattle.clap.specs.declared.builder.action.ArgAction.TheVariants.{SetTrue}
 use Rattle.clap.specs.declared.error.kind.ErrorKind.{ErrorKind}
 use Rattle.clap.specs.declared.error.kind.ErrorKind.TheVariants as kind
 use Rattle.ar_command_line.specs.declared.command_line.Command.{Command}
-use Rattle.ar_command_line.specs.declared.command_line.Command.TheVariants.{Eval, Check, List as ListCodes, Run, Plain}
+use Rattle.ar_command_line.specs.declared.command_line.Command.TheVariants.{Eval, Check, List as ListCodes, Run, Plain, Ordered}
 use Rattle.ar_command_line.specs.declared.command_line.UsageError.{UsageError}
-use Rattle.ar_command_line.specs.declared.command_line.UsageError.TheVariants.{Words, Workers, OutOfMemory}
+use Rattle.ar_command_line.specs.declared.command_line.UsageError.TheVariants.{Words, Workers, Conflict, OutOfMemory}
 
 -- ---- the command line, as `clap`'s specifications see it
 
@@ -27,8 +27,12 @@ workers_option = record (new_rule (codes "workers")) { long = Some (codes "worke
 abbrev pub plain_flag : Rule
 plain_flag = record (new_rule (codes "plain")) { long = Some (codes "plain"); action = Some SetTrue }
 
+-- `--ordered`
+abbrev pub ordered_flag : Rule
+ordered_flag = record (new_rule (codes "ordered")) { long = Some (codes "ordered"); action = Some SetTrue }
+
 abbrev pub run_app : App
-run_app = with_rule (with_rule (new_app (codes "run")) workers_option) plain_flag
+run_app = with_rule (with_rule (with_rule (new_app (codes "run")) workers_option) plain_flag) ordered_flag
 
 -- the program's own name and settings: a subcommand has to be named, and `help` is none
 abbrev pub program : App
@@ -62,14 +66,21 @@ number_of_workers text =
 abbrev pub workers_of : List Row → Option ℕ
 workers_of rows = option_map_or number_of_workers (first_of (codes "workers") rows) (Some default_workers)
 
--- `run` was given `--plain`
-abbrev pub is_plain : List Row → Bool
-is_plain rows = option_map_or (λ text. bytes_eq text (codes "true")) (one_of (codes "plain") rows) false
+-- `run` was given a flag
+abbrev pub has_flag : (name : Text) → List Row → Bool
+has_flag name rows = option_map_or (λ text. bytes_eq text (codes "true")) (one_of name rows) false
+
+-- the run that is asked for
+abbrev pub run_of : (plain ordered : Bool) → (workers : ℕ) → Result Command UsageError
+run_of false false workers = Ok (Run workers)
+run_of true false workers = Ok Plain
+run_of false true workers = Ok (Ordered workers)
+run_of true true workers = Err Conflict
 
 -- `run` in one thread has no use for a number of workers, but a bad one is refused all the same
 abbrev pub run_command : List Row → Result Command UsageError
 run_command rows =
-    option_map_or (λ n. Ok (if is_plain rows then Plain else Run n)) (workers_of rows) (Err Workers)
+    option_map_or (run_of (has_flag (codes "plain") rows) (has_flag (codes "ordered") rows)) (workers_of rows) (Err Workers)
 
 abbrev pub named : Text → List Row → Result Command UsageError
 named name rows =

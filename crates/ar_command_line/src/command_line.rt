@@ -1,8 +1,8 @@
 //! The command line, read with `clap`.
 
-ghost use Rattle.std.specs.Prelude.{◌≡◌, ◌≢◌, ◌≤◌, ℕ, [], is_some, Err, IfOk, IsErr, Ok};
-ghost use Rattle.clap.specs.Words.{app_of, fault_of, found_of, kind_of, new_app, rows_of, subcommand_of, subcommand_rows_of};
-ghost use Rattle.ar_command_line.specs.CommandLine.{AsksForText, application, command_named, is_plain, is_request, most_workers, named, number_of_workers, program, run_app, run_command, texts_of, workers_of};
+ghost use Rattle.std.specs.Prelude.{◌≡◌, ◌≢◌, ◌≤◌, ℕ, [], codes, is_some, Err, IfOk, IsErr, Ok};
+ghost use Rattle.clap.specs.Words.{app_of, fault_of, found_of, kind_of, new_app, rows_of, subcommand_of, subcommand_rows_of, with_rule};
+ghost use Rattle.ar_command_line.specs.CommandLine.{AsksForText, application, command_named, has_flag, is_request, most_workers, named, number_of_workers, program, run_app, run_command, texts_of, workers_of, workers_option};
 
 use crate::help::{CHECK_HELP, EVAL_HELP, HELP, LIST_HELP, RUN_HELP};
 use clap::error::ErrorKind;
@@ -29,6 +29,9 @@ pub enum Command {
     Run(usize),
     /// Run a bundle in one thread, and report its runs.
     Plain,
+    /// Judge a bundle's measurements with so many workers, from 1 to 16, apply them in their order, and
+    /// report its runs.
+    Ordered(usize),
 }
 
 /// Why a command line asks for nothing.
@@ -38,6 +41,8 @@ pub enum UsageError {
     Words,
     #[error("command line, --workers: Workers: expected a whole number from 1 to 16")]
     Workers,
+    #[error("command line, --ordered: Conflict: expected --ordered or --plain, not both")]
+    Conflict,
     #[error("out of memory")]
     OutOfMemory,
 }
@@ -73,14 +78,15 @@ impl From<clap::Error> for UsageError {
 /// # Errors
 ///
 /// `Words` where they are no command line of the program's, or ask for a text by `--help` or
-/// `--version`; then `Workers` where `--workers` names no number from 1 to 16; `OutOfMemory` for
-/// want of memory.
+/// `--version`; then `Workers` where `--workers` names no number from 1 to 16; then `Conflict` where both
+/// `--ordered` and `--plain` are given; `OutOfMemory` for want of memory.
 pub fn command_of(alloc: Global, words: Vec<String>) -> Result<Command, UsageError>
     // The command is the one that the words name, and `clap` finds no fault in them.
     ensures named { IfOk result (λ command. (fault_of application (texts_of words.items) ≡ [])
         × (command_named (subcommand_of application (texts_of words.items)) ≡ Ok command)) }
 
     ensures bounds { (n : ℕ) → result ≡ Ok (Command.Run n) → (1 ≤ n) × (n ≤ most_workers) }
+    ensures ordered_bounds { (n : ℕ) → result ≡ Ok (Command.Ordered n) → (1 ≤ n) × (n ≤ most_workers) }
 
     // Words are refused only where `clap` finds a fault.
     ensures words { result ≡ Err UsageError.Words → fault_of application (texts_of words.items) ≢ [] }
@@ -88,6 +94,10 @@ pub fn command_of(alloc: Global, words: Vec<String>) -> Result<Command, UsageErr
     // A number of workers is refused only where the words are good but for that.
     ensures workers { result ≡ Err UsageError.Workers → (fault_of application (texts_of words.items) ≡ [])
         × (command_named (subcommand_of application (texts_of words.items)) ≡ Err UsageError.Workers) }
+
+    // Two ways to run are refused only where the words are good but for that.
+    ensures conflict { result ≡ Err UsageError.Conflict → (fault_of application (texts_of words.items) ≡ [])
+        × (command_named (subcommand_of application (texts_of words.items)) ≡ Err UsageError.Conflict) }
 {
     let command_line = application(alloc)?;
     let matches = command_line.try_get_matches_from(words.as_slice())?;
@@ -152,10 +162,11 @@ fn run_command(matches: &ArgMatches<'_>) -> Result<Command, UsageError>
     ensures { result ≡ run_command (rows_of (found_of matches.now)) }
 {
     let workers = workers_of(matches).ok_or(UsageError::Workers)?;
-    if is_plain(matches) {
-        Ok(Command::Plain)
-    } else {
-        Ok(Command::Run(workers))
+    match (has_flag(matches, "plain"), has_flag(matches, "ordered")) {
+        (false, false) => Ok(Command::Run(workers)),
+        (true, false) => Ok(Command::Plain),
+        (false, true) => Ok(Command::Ordered(workers)),
+        (true, true) => Err(UsageError::Conflict),
     }
 }
 
@@ -185,13 +196,13 @@ fn number_of_workers(text: &str) -> Option<usize>
     }
 }
 
-/// Whether `run` is given `--plain`.
-#[tactic(auto, using(crate::proofs::Parsing::plain_read))]
-fn is_plain(matches: &ArgMatches<'_>) -> bool
-    ensures { result ≡ is_plain (rows_of (found_of matches.now)) }
+/// Whether `run` is given a flag.
+#[tactic(auto, using(crate::proofs::Parsing::flag_is_read))]
+fn has_flag(matches: &ArgMatches<'_>, name: &str) -> bool
+    ensures { result ≡ has_flag name.now (rows_of (found_of matches.now)) }
 {
     // As `get_flag`, whose contract leaves open what a text other than `true` and `false` gives.
-    matches.get_one("plain").unwrap_or(false)
+    matches.get_one(name).unwrap_or(false)
 }
 
 /// The command line, as `clap` reads it.
@@ -236,9 +247,9 @@ fn subcommand<'a>(alloc: Global, name: &'a str, about: &'a str, help: &'a str) -
         .after_help(help)
 }
 
-/// The subcommand `run`.
-fn run<'a>(alloc: Global) -> Result<clap::Command<'a>, AllocError>
-    ensures { IfOk result (λ command. app_of command ≡ run_app) }
+/// The subcommand `run`, as far as it has `--workers`.
+fn run_with_workers<'a>(alloc: Global) -> Result<clap::Command<'a>, AllocError>
+    ensures { IfOk result (λ command. app_of command ≡ with_rule (new_app (codes "run")) workers_option) }
 {
     let workers = Arg::new(alloc, "workers")
         .long("workers")
@@ -246,18 +257,30 @@ fn run<'a>(alloc: Global) -> Result<clap::Command<'a>, AllocError>
         .help(
             "How many workers judge, 1 to 16, 4 unless it is given; workers are threads that judge side by side",
         );
-    let plain = Arg::new(alloc, "plain")
-        .long("plain")
-        .action(ArgAction::SetTrue)
-        .help(
-            "Judge without workers, one measurement after another; --workers is then checked, but not used",
-        );
     subcommand(
         alloc,
         "run",
         "Judge a document's measurements, and report its runs",
         RUN_HELP,
     )
-    .arg(workers)?
-    .arg(plain)
+    .arg(workers)
+}
+
+/// The subcommand `run`.
+fn run<'a>(alloc: Global) -> Result<clap::Command<'a>, AllocError>
+    ensures { IfOk result (λ command. app_of command ≡ run_app) }
+{
+    let plain = Arg::new(alloc, "plain")
+        .long("plain")
+        .action(ArgAction::SetTrue)
+        .help(
+            "Judge without workers, one measurement after another; --workers is then checked, but not used",
+        );
+    let ordered = Arg::new(alloc, "ordered")
+        .long("ordered")
+        .action(ArgAction::SetTrue)
+        .help(
+            "Judge with workers, and report what --plain does: the events of a run stand in the order of their numbers",
+        );
+    run_with_workers(alloc)?.arg(plain)?.arg(ordered)
 }

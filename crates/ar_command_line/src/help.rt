@@ -18,8 +18,8 @@ Exit status:
   2  the command line or the input is refused
   3  out of memory
   4  a read or a write failed
-  5  run: a thread couldn't be started (try fewer workers, or --plain), or a measurement was lost
-     (please report that)
+  5  run: a thread couldn't be started (try fewer workers, or --plain), or a measurement was lost,
+     which --ordered and --plain can't (please report that)
 
 Examples:
   echo '{\"condition\":\"result >= 0.95\",\"shape\":\"decimal\",\"value\":\"0.9523\"}' | argo_judge eval
@@ -125,8 +125,12 @@ what happened to it, by its number in `measurements`, from 0:
 A phase is Pending, Running, Successful, Failed, Error or Inconclusive. The exit status is 1 where a
 run is Failed, Error or Inconclusive, as it is here.
 
-Workers are threads that judge measurements side by side. With several workers the events of a run
-stand in the order in which they were posted to its history, which may differ from the order of
-their numbers, and from one start to the next. With --plain they stand in the order of their
-numbers."
+There are three ways to run, whose reports hold each measurement once:
+  --plain    one thread, one measurement after another. The events of a run stand in the order of
+             their numbers. It starts no threads and is as fast as any where conditions are cheap.
+  --ordered  workers, which are threads that judge measurements side by side. The report is byte for
+             byte that of --plain: for pipelines, which compare reports and judge much.
+  neither    workers, and each posts what it judged as soon as it has, as a controller would see it.
+             The events of a run stand in the order in which they were posted, which may differ from
+             the order of their numbers, and from one start to the next."
 );

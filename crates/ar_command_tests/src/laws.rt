@@ -20,10 +20,13 @@ fn can_be_called(_: HostRuntime) {
     ar_limits::laws::effects_in_order();
     ar_core::laws::each_number_once();
     ar_core::laws::histories_are_of_runs();
+    ar_core::laws::ordered_histories_rise();
+    ar_core::laws::parked_numbers_wait();
     ar_core::laws::lawful_at_rest();
     ar_bundle::laws::lawful_are_so_far();
     ar_cell::laws::receipts_are_met_or_not();
-    ar_workers::laws::lost_is_double_or_received();
+    ar_workers::laws::lost_is_double_or_unmet();
     ar_command::laws::one_bundle();
     ar_command::laws::one_text();
+    ar_command::laws::ordered_is_plain();
 }

@@ -1,11 +1,12 @@
-//! Runs with workers: that two of them judge at once, and what they report.
+//! Runs with workers: that several of them judge at once, and what they report.
 
 ghost use Rattle.std.specs.Prelude.{◌≤◌};
+ghost use Rattle.ar_command.specs.Serving.{RunsWith};
 
 use ar_bundle::{Histories, History};
 use ar_command::{Closing, Command, Device, Kept, serve};
 use ar_document::read_bundle;
-use ar_workers::{Gate, run_all};
+use ar_workers::{Gate, run_all, run_ordered};
 use std::alloc::Global;
 use std::hint::spin_loop;
 use std::sync::Wait;
@@ -33,6 +34,19 @@ event 1 m Successful closed Successful
 /// A run that is measured three times, and stays open.
 const THREE_ENTRIES: &str =
     r#"{"manifest":{"apiVersion":"argoproj.io/v1alpha1","kind":"AnalysisTemplate","metadata":{"name":"t"},"spec":{"metrics":[{"name":"m","interval":"1m","successCondition":"result > 1"}]}},"shapes":{"m":"whole"},"runs":[{"name":"r0"}],"measurements":[{"run":"r0","metric":"m","value":2},{"run":"r0","metric":"m","value":3},{"run":"r0","metric":"m","value":4}]}"#;
+
+/// A run that is measured three times and fails at the last.
+const FAILING: &str =
+    r#"{"manifest":{"apiVersion":"argoproj.io/v1alpha1","kind":"AnalysisTemplate","metadata":{"name":"t"},"spec":{"metrics":[{"name":"m","interval":"1m","count":3,"failureLimit":1,"successCondition":"result > 0"}]}},"shapes":{"m":"whole"},"runs":[{"name":"r0"}],"measurements":[{"run":"r0","metric":"m","value":1},{"run":"r0","metric":"m","value":0},{"run":"r0","metric":"m","value":0}]}"#;
+
+/// What is reported of `FAILING` in the order of its numbers.
+const FAILING_IN_ORDER: &str = "\
+run r0 Failed
+metric m Failed successful=1 failed=2 inconclusive=0 error=0 consecutiveError=0
+event 0 m Successful applied
+event 1 m Failed applied
+event 2 m Failed closed Failed
+";
 
 /// The histories of a document's run with so many workers.
 fn histories<G: Gate, R: Threads + Wait + Sync>(
@@ -109,17 +123,22 @@ fn two_workers_meet(rt: HostRuntime) -> Result<(), Fail> {
     Ok(())
 }
 
-/// Whether two workers' run of the document is served.
+/// Whether a document is served with workers, closing so.
 fn is_served<G: Gate, R: Threads + Wait + Sync>(
     rt: &R,
     alloc: Global,
+    command: Command,
+    document: &str,
     output: &mut Vec<u8>,
     gate: &G,
-) -> bool {
-    let mut reader = Kept::new(alloc, Device::new(TWO_RUNS.as_bytes()));
+    closing: Closing,
+) -> bool
+    requires { RunsWith command 16 }
+{
+    let mut reader = Kept::new(alloc, Device::new(document.as_bytes()));
     let mut writer = Device::new(output);
-    let outcome = serve(rt, alloc, Command::Run(2), &mut reader, &mut writer, gate);
-    matches!(outcome, Ok(Closing::Good))
+    let outcome = serve(rt, alloc, command, &mut reader, &mut writer, gate);
+    matches!(outcome, Ok(own) if own == closing)
 }
 
 /// So they do where a document is served.
@@ -128,31 +147,54 @@ fn two_workers_meet_in_a_command(rt: HostRuntime) {
     let alloc = rt.alloc();
     let meeting = Meeting::new();
     let mut output = Vec::new(alloc);
-    assert!(rt; is_served(&rt, alloc, &mut output, &meeting));
+    assert!(rt;
+        is_served(
+            &rt,
+            alloc,
+            Command::Run(2),
+            TWO_RUNS,
+            &mut output,
+            &meeting,
+            Closing::Good
+        )
+    );
     assert_eq!(rt; output.as_slice(), REPORT.as_bytes());
     assert!(rt; meeting.is_held());
 }
 
-/// A gate at which number 0 is held until number 2 has come.
+/// A gate at which number 0 is held until two others have come.
 #[derive(Drop)]
 struct Holding {
-    came: AtomicBool,
+    came: AtomicUsize,
     held: AtomicBool,
+}
+
+impl Holding {
+    fn new() -> Holding {
+        Holding {
+            came: AtomicUsize::new(0),
+            held: AtomicBool::new(false),
+        }
+    }
+
+    /// Whether number 0 saw the others.
+    fn has_held(&self) -> bool {
+        self.held.load(Ordering::SeqCst)
+    }
 }
 
 impl Gate for Holding {
     fn pass(&self, _worker: usize, number: u64) {
-        if number == 2 {
-            self.came.store(true, Ordering::SeqCst);
+        if number != 0 {
+            self.came.fetch_add(1, Ordering::SeqCst);
+            return;
         }
-        if number == 0 {
-            for _ in 0..TURNS {
-                if self.came.load(Ordering::SeqCst) {
-                    self.held.store(true, Ordering::SeqCst);
-                    return;
-                }
-                spin_loop();
+        for _ in 0..TURNS {
+            if self.came.load(Ordering::SeqCst) == 2 {
+                self.held.store(true, Ordering::SeqCst);
+                return;
             }
+            spin_loop();
         }
     }
 }
@@ -160,17 +202,57 @@ impl Gate for Holding {
 /// While one worker holds number 0 the other posts number 1, which the history then shows before it.
 #[test]
 fn posted_before_one_that_is_held(rt: HostRuntime) -> Result<(), Fail> {
-    let holding = Holding {
-        came: AtomicBool::new(false),
-        held: AtomicBool::new(false),
-    };
+    let holding = Holding::new();
     let histories = histories(&rt, rt.alloc(), THREE_ENTRIES, 2, &holding)?;
-    assert!(rt; holding.held.load(Ordering::SeqCst));
+    assert!(rt; holding.has_held());
     let [history] = histories.runs() else {
         return Err(Fail::from("expected one run"));
     };
     assert!(rt; has_numbers(history, &[1, 0, 2]) || has_numbers(history, &[1, 2, 0]));
     Ok(())
+}
+
+/// Whether an ordered run of `FAILING` with three workers has the numbers in their order.
+fn is_in_order<G: Gate, R: Threads + Wait + Sync>(
+    rt: &R,
+    alloc: Global,
+    gate: &G,
+) -> Result<bool, Fail> {
+    let bundle = read_bundle(alloc, FAILING.as_bytes())?;
+    let Ok(histories) = run_ordered(rt, alloc, &bundle, 3, gate) else {
+        return Ok(false);
+    };
+    Ok(matches!(histories.runs(), [history] if has_numbers(history, &[0, 1, 2])))
+}
+
+/// Where two workers have judged while a third holds number 0, an ordered run has it first all the same.
+#[test]
+fn in_order_though_one_is_held(rt: HostRuntime) -> Result<(), Fail> {
+    let holding = Holding::new();
+    assert!(rt; is_in_order(&rt, rt.alloc(), &holding)?);
+    assert!(rt; holding.has_held());
+    Ok(())
+}
+
+/// So it is where a document is served, whose report is that of the plain run.
+#[test]
+fn in_order_in_a_command(rt: HostRuntime) {
+    let alloc = rt.alloc();
+    let holding = Holding::new();
+    let mut output = Vec::new(alloc);
+    assert!(rt;
+        is_served(
+            &rt,
+            alloc,
+            Command::Ordered(3),
+            FAILING,
+            &mut output,
+            &holding,
+            Closing::Bad
+        )
+    );
+    assert_eq!(rt; output.as_slice(), FAILING_IN_ORDER.as_bytes());
+    assert!(rt; holding.has_held());
 }
 
 /// A gate at which three workers wait for each other, each with its first number.

@@ -1,19 +1,16 @@
 -- What workers come to.
-use Rattle.std.proofs.Common.{◌≡◌, ◌<◌, ◌≤◌, ◌+◌, ℕ, zero, suc, Bool, true, false, List, [], ◌∷◌, length, map, Some, refl, sym, ◌∙◌, ap, subst, arith, inl, inr}
-use Rattle.std.specs.Prelude.{◌⊎◌, nat_lt, slice_get}
-use Rattle.std.proofs.lemmas.Bool.Decides.{nat_tests}
-use Rattle.std.specs.declared.alloc.Global.{Global}
-use Rattle.std.specs.declared.vec.Vec.{Vec}
+use Rattle.std.proofs.Common.{◌≡◌, ◌<◌, ◌≤◌, ◌+◌, ℕ, zero, suc, List, [], ◌∷◌, length, map, Some, refl, sym, ◌∙◌, ap, subst, arith}
+use Rattle.std.specs.Prelude.{slice_get}
 use Rattle.std.specs.List.{AllByRecursion}
 use Rattle.ar_bundle.specs.Bundle.{Bundle}
 use Rattle.ar_bundle.specs.Lawful.{times_in}
 use Rattle.ar_board.specs.Board.{AreSeated, IsLost, Seat, seat_of}
 use Rattle.ar_board.specs.declared.lost.Lost.{Lost as Losing}
 use Rattle.ar_cell.specs.declared.receipt.Receipt.{Receipt}
-use Rattle.ar_queue.specs.Rule.{HasTakenAll, IsDone, once_below}
+use Rattle.ar_queue.specs.Rule.{HasTakenAll, IsDone}
 use Rattle.ar_queue.specs.declared.queue.View.{View}
-use Rattle.ar_workers.specs.Joined.{IsCause, IsDoubleOrReceived, IsShown, NameEachOnce, named_by}
-use Rattle.ar_workers.specs.Private.Gathered.{AreAllNamed, IsFeeder, told}
+use Rattle.ar_workers.specs.Joined.{AreNamed, IsCause, IsNotLost, NameEachOnce, named_by}
+use Rattle.ar_workers.specs.Private.Gathered.{IsFeeder, told}
 use Rattle.ar_workers.specs.declared.error.Unfinished.{Unfinished}
 use Rattle.ar_workers.specs.declared.error.Unfinished.TheVariants as early
 use Rattle.ar_workers.specs.declared.error.WorkError.{WorkError}
@@ -22,13 +19,17 @@ pub is_cause : (bundle : Bundle) (cause : Unfinished) (error : WorkError) → er
 is_cause bundle early.NoThread error is = subst (IsCause bundle) (sym is) tt
 is_cause bundle early.OutOfMemory error is = subst (IsCause bundle) (sym is) tt
 
+pub is_not_lost : (cause : Unfinished) (error : WorkError) → error ≡ told cause → IsNotLost error
+is_not_lost early.NoThread error is = subst IsNotLost (sym is) tt
+is_not_lost early.OutOfMemory error is = subst IsNotLost (sym is) tt
+
 pub is_done : (view : View) (workers : ℕ) → 1 ≤ workers → IsFeeder view 0 workers → IsDone view
 is_done view workers some is =
     let joined = is.has_joined in
     record { feeds = is.feeds; live = is.live; out = is.has_out; ended = omega arith }
 
-pub each_once : (events : ℕ) (view : View) (receipts : List (List Receipt)) (doubles : List ℕ) → HasTakenAll events view → AreAllNamed view.taken receipts doubles → NameEachOnce events receipts doubles
-each_once events view receipts doubles all named number = sym (named number) ∙ all number
+pub each_once : (events : ℕ) (view : View) (numbers : List ℕ) (receipts : List (List Receipt)) (doubles : List ℕ) → HasTakenAll events view → AreNamed view.taken numbers → ((number : ℕ) → times_in number (named_by receipts) + times_in number doubles ≡ times_in number numbers) → NameEachOnce events receipts doubles
+each_once events view numbers receipts doubles all are named number = named number ∙ sym (are number) ∙ all number
 
 fresh_from : (seats : List Seat) → ((at : ℕ) (seat : Seat) → slice_get seats at ≡ Some seat → seat.receipts ≡ []) → AllByRecursion (λ (seat : Seat). seat.receipts ≡ []) seats
 fresh_from [] each = tt
@@ -49,14 +50,3 @@ all_fresh workers seats are = fresh_from seats (λ at seat there.
 -- what closing gave for the seats' receipts it gave for those that are handed out
 pub handed_out : (bundle : Bundle) (receipts : List (List Receipt)) (lost : Losing) → IsLost bundle receipts lost → IsLost bundle (map (λ own. own.items) lost.receipts.items) lost
 handed_out bundle receipts lost is = subst (λ own. IsLost bundle own lost) (sym is.same_receipts) is
-
-named_once : (number events : ℕ) (test : Bool) → nat_lt number events ≡ test → number < events → (some others : ℕ) → some + others ≡ once_below number events → (0 < others) ⊎ (0 < some)
-named_once number events true is below some zero all = inr (let one : once_below number events ≡ 1 = rw is refl in omega arith)
-named_once number events true is below some (suc others) all = inl (omega arith)
-named_once number events false is below some others all = absurd (grind (arith, nat_tests))
-
-pub double_or_received : (bundle : Bundle) (lost : Losing) (doubles : List ℕ) → IsShown bundle lost doubles → IsDoubleOrReceived lost.number (map (λ own. own.items) lost.receipts.items) doubles
-double_or_received bundle lost doubles shown =
-    let events = length bundle.entries in
-    let receipts = map (λ (own : Vec Receipt Global). own.items) lost.receipts.items in
-    named_once lost.number events (nat_lt lost.number events) refl shown.losing.there (times_in lost.number (named_by receipts)) (times_in lost.number doubles) (shown.each_once lost.number)

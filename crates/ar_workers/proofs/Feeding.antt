@@ -7,8 +7,8 @@ use Rattle.ar_cell.specs.declared.receipt.Receipt.{Receipt}
 use Rattle.ar_queue.specs.Rule.{CanPut, after_put, joined, split_off}
 use Rattle.ar_queue.specs.declared.queue.Item.TheVariants.{Number, End}
 use Rattle.ar_queue.specs.declared.queue.View.{View}
-use Rattle.ar_workers.specs.Joined.{AreNamed, at_end, feeding, named_by}
-use Rattle.ar_workers.specs.Private.Gathered.{AreAllNamed, IsFeeder}
+use Rattle.ar_workers.specs.Joined.{AreNamed, all_named, at_end, feeding, named, named_by}
+use Rattle.ar_workers.specs.Private.Gathered.{IsFeeder}
 use Rattle.ar_queue.proofs.Steps.{times_both}
 
 -- ---- items are put
@@ -55,29 +55,46 @@ feeder_join before other after out joined_before is ended join =
       has_joined = omega arith;
     }
 
--- ---- receipts and doubles
+-- ---- what is named at all desks
 
-abbrev number_of : Receipt → ℕ
-number_of receipt = receipt.number
-
-named_push : (number : ℕ) (receipts : List (List Receipt)) (own : List Receipt) → times_in number (named_by (receipts ++ own ∷ [])) ≡ times_in number (named_by receipts) + times_in number (map number_of own)
-named_push number [] own = let all = times_both number (map number_of own) [] in omega arith
-named_push number (first ∷ receipts) own =
-    let rest = named_push number receipts own in
-    let all = times_both number (map number_of first) (named_by (receipts ++ own ∷ [])) in
-    let before = times_both number (map number_of first) (named_by receipts) in
+all_named_push : {Desk : Type 0} (numbers : Desk → List ℕ) (number : ℕ) (desks : List Desk) (desk : Desk) → times_in number (all_named numbers (desks ++ desk ∷ [])) ≡ times_in number (all_named numbers desks) + times_in number (numbers desk)
+all_named_push numbers number [] desk = let all = times_both number (numbers desk) [] in omega arith
+all_named_push numbers number (first ∷ desks) desk =
+    let rest = all_named_push numbers number desks desk in
+    let all = times_both number (numbers first) (all_named numbers (desks ++ desk ∷ [])) in
+    let before = times_both number (numbers first) (all_named numbers desks) in
     omega arith
 
-pub named_join : (before other after : View) (seats : List Seat) (seat : Seat) (doubles own_doubles : List ℕ) → AreAllNamed before.taken (receipts_of seats) doubles → AreNamed other.taken seat.receipts own_doubles → after ≡ joined before other
-    → AreAllNamed after.taken (receipts_of (seats ++ seat ∷ [])) (doubles ++ own_doubles)
-named_join before other after seats seat doubles own_doubles all own join number =
+pub named_join : {Desk : Type 0} (numbers : Desk → List ℕ) (before other after : View) (desks : List Desk) (desk : Desk) → AreNamed before.taken (all_named numbers desks) → AreNamed other.taken (numbers desk) → after ≡ joined before other
+    → AreNamed after.taken (all_named numbers (desks ++ desk ∷ []))
+named_join numbers before other after desks desk all own join number =
     let taken = ap (λ (view : View). times_in number view.taken) join in
     let both = times_both number before.taken other.taken in
     let was = all number in
     let its = own number in
+    let pushed = all_named_push numbers number desks desk in
+    omega arith
+
+-- ---- receipts and doubles of one desk more
+
+named_push : (number : ℕ) (receipts : List (List Receipt)) (own : List Receipt) → times_in number (named_by (receipts ++ own ∷ [])) ≡ times_in number (named_by receipts) + times_in number (map (λ (receipt : Receipt). receipt.number) own)
+named_push number [] own = let all = times_both number (map (λ (receipt : Receipt). receipt.number) own) [] in omega arith
+named_push number (first ∷ receipts) own =
+    let rest = named_push number receipts own in
+    let all = times_both number (map (λ (receipt : Receipt). receipt.number) first) (named_by (receipts ++ own ∷ [])) in
+    let before = times_both number (map (λ (receipt : Receipt). receipt.number) first) (named_by receipts) in
+    omega arith
+
+pub taken_apart : {Desk : Type 0} (numbers : Desk → List ℕ) (number : ℕ) (desks : List Desk) (desk : Desk) (seats : List Seat) (seat : Seat) (doubles own : List ℕ)
+    → times_in number (named_by (receipts_of seats)) + times_in number doubles ≡ times_in number (all_named numbers desks) → numbers desk ≡ named seat.receipts own
+    → times_in number (named_by (receipts_of (seats ++ seat ∷ []))) + times_in number (doubles ++ own) ≡ times_in number (all_named numbers (desks ++ desk ∷ []))
+taken_apart numbers number desks desk seats seat doubles own are is =
+    let all = all_named_push numbers number desks desk in
+    let its = ap (times_in number) is in
+    let parts = times_both number (map (λ (receipt : Receipt). receipt.number) seat.receipts) own in
     let lists = ap (λ (receipts : List (List Receipt)). times_in number (named_by receipts)) (map_push (λ (seat : Seat). seat.receipts) seats seat) in
     let pushed = named_push number (receipts_of seats) seat.receipts in
-    let double = times_both number doubles own_doubles in
+    let double = times_both number doubles own in
     omega arith
 
 pub nothing_left : {A : Type 0} (xs : List A) → length xs ≡ 0 → xs ≡ []

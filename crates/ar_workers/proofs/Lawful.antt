@@ -55,7 +55,7 @@ once_of bundle upto from number place [] (state ∷ states) histories grown is t
 once_of bundle upto from number place (run ∷ runs) [] histories grown is there small = absurd grown
 once_of bundle upto from number place (run ∷ runs) (state ∷ states) [] grown is there small = absurd grown
 
-pub are_lawful : (bundle : Bundle) (states : List Standing) (histories : List (List Entry)) → IsBundle bundle → AreGrown bundle (length bundle.entries) 0 bundle.runs states histories → AreLawful bundle histories
+are_lawful : (bundle : Bundle) (states : List Standing) (histories : List (List Entry)) → IsBundle bundle → AreGrown bundle (length bundle.entries) 0 bundle.runs states histories → AreLawful bundle histories
 are_lawful bundle states histories is grown =
     record {
       of_runs = histories_are bundle (length bundle.entries) 0 bundle.runs states histories grown;
@@ -63,3 +63,7 @@ are_lawful bundle states histories is grown =
           let own = run_of_number bundle number is small in
           once_of bundle (length bundle.entries) 0 number own.0 bundle.runs states histories grown (own.1 ∙ ap Some (omega arith)) own.2 small;
     }
+
+-- behind the last number
+pub lawful_behind : (bundle : Bundle) (number : ℕ) (states : List Standing) (histories : List (List Entry)) → IsBundle bundle → number ≡ length bundle.entries → AreGrown bundle number 0 bundle.runs states histories → AreLawful bundle histories
+lawful_behind bundle number states histories is all grown = are_lawful bundle states histories is (subst (λ number. AreGrown bundle number 0 bundle.runs states histories) all grown)

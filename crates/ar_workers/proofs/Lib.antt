@@ -4,4 +4,6 @@ pub mod Lawful
 pub mod Named
 pub mod Feeding
 pub mod Ending
+pub mod Judged
+pub mod Lost
 pub mod Sharing

@@ -2,7 +2,8 @@
 use Rattle.std.specs.Prelude.{◌≡◌, ◌<◌, ◌⊎◌, ◌+◌, ◌++◌, ℕ, List, [], ◌∷◌, length, map}
 use Rattle.ar_bundle.specs.Bundle.{Bundle}
 use Rattle.ar_bundle.specs.Lawful.{times_in}
-use Rattle.ar_board.specs.Board.{IsLost}
+use Rattle.ar_bundle.specs.declared.history.Entry.{Entry}
+use Rattle.ar_board.specs.Board.{IsLost, IsUnmetAmong}
 use Rattle.ar_board.specs.declared.lost.Lost.{Lost as Losing}
 use Rattle.ar_cell.specs.declared.receipt.Receipt.{Receipt}
 use Rattle.atomic_table.specs.Seated.{TableId}
@@ -18,18 +19,22 @@ working taken = record { feeds = 0; live = 1; put = 0; marks = 0; out = 0; ended
 abbrev pub at_end : (taken : List ℕ) → View
 at_end taken = record { feeds = 0; live = 1; put = 0; marks = 0; out = 0; ended = 1; taken = taken }
 
--- how often receipts and doubles name a number
-abbrev pub times_named : (number : ℕ) → List Receipt → (doubles : List ℕ) → ℕ
-times_named number receipts doubles = times_in number (map (λ receipt. receipt.number) receipts) + times_in number doubles
+-- the numbers that receipts and doubles name
+abbrev pub named : List Receipt → (doubles : List ℕ) → List ℕ
+named receipts doubles = map (λ receipt. receipt.number) receipts ++ doubles
 
 -- one number more is named, once more
-abbrev pub IsNamed : (number : ℕ) → (before : List Receipt) → (doubles_before : List ℕ) → (after : List Receipt) → (doubles_after : List ℕ) → Type 0
-IsNamed number before doubles_before after doubles_after =
-    (other : ℕ) → times_named other after doubles_after ≡ times_named other before doubles_before + times_in other (number ∷ [])
+abbrev pub IsNamed : (number : ℕ) → (before after : List ℕ) → Type 0
+IsNamed number before after = (other : ℕ) → times_in other after ≡ times_in other before + times_in other (number ∷ [])
 
 -- just the numbers that were taken are named, each as often
-abbrev pub AreNamed : (taken : List ℕ) → List Receipt → (doubles : List ℕ) → Type 0
-AreNamed taken receipts doubles = (number : ℕ) → times_in number taken ≡ times_named number receipts doubles
+abbrev pub AreNamed : (taken named : List ℕ) → Type 0
+AreNamed taken named = (number : ℕ) → times_in number taken ≡ times_in number named
+
+-- what is named at each desk, of all of them
+abbrev pub all_named : {Desk : Type 0} → (Desk → List ℕ) → List Desk → List ℕ
+all_named numbers [] = []
+all_named numbers (desk ∷ desks) = numbers desk ++ all_named numbers desks
 
 -- ---- the feeder
 
@@ -54,15 +59,21 @@ pub record IsShown (bundle : Bundle) (lost : Losing) (doubles : List ℕ) : Type
   pub each_once : NameEachOnce (length bundle.entries) (map (λ own. own.items) lost.receipts.items) doubles
   pub losing : IsLost bundle (map (λ own. own.items) lost.receipts.items) lost
 
--- a number is a double, or there is a receipt for it
-abbrev pub IsDoubleOrReceived : (number : ℕ) → List (List Receipt) → (doubles : List ℕ) → Type 0
-IsDoubleOrReceived number receipts doubles = (0 < times_in number doubles) ⊎ (0 < times_in number (named_by receipts))
+-- a number is a double, or a receipt for it isn't met
+abbrev pub IsDoubleOrUnmet : (number : ℕ) → List (List Entry) → List (List Receipt) → (doubles : List ℕ) → Type 0
+IsDoubleOrUnmet number histories receipts doubles = (0 < times_in number doubles) ⊎ IsUnmetAmong histories receipts number
 
 -- why workers give no histories: no cause is claimed where a thread couldn't be started or memory was wanting
 abbrev pub IsCause : Bundle → WorkError → Type 0
 IsCause bundle NoThread = Unit {0}
 IsCause bundle OutOfMemory = Unit {0}
 IsCause bundle (Lost lost doubles) = IsShown bundle lost doubles.items
+
+-- no number was lost
+abbrev pub IsNotLost : WorkError → Type 0
+IsNotLost NoThread = Unit {0}
+IsNotLost OutOfMemory = Unit {0}
+IsNotLost (Lost lost doubles) = ⊥
 
 -- a caller that takes `Brand` says which queue it means; this stands where none does
 abbrev pub no_queue : TableId

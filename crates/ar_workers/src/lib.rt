@@ -3,25 +3,34 @@
 //! [`run_all`] does it by several workers, threads that take the numbers from one queue, judge them and
 //! post them to one board. Whatever their threads do, where it answers histories these are lawful
 //! (`ar_bundle/specs/Lawful`); where a number is lost, [`WorkError::Lost`] hands out what shows it
-//! (`specs/Joined`). A caller sees and may hold what workers do by a [`Gate`]. [`run_plain`] does it in
-//! one thread, in the order of the numbers, which then rise in each history.
+//! (`specs/Joined`). The workers of [`run_ordered`] keep what they judged, and the calling thread applies
+//! it in the order of the numbers, which then rise in each history; no number can be lost. [`run_plain`]
+//! does so in one thread. A caller sees and may hold what workers do by a [`Gate`].
 //!
-//! - `running`: the queue is fed, workers are started and joined, the board is closed
-//! - `side_by_side`: starting and joining; `worker`: what one worker does; `feed`: numbers and end marks
-//! - `gate`: gates; `error`: why there are no histories; [`laws`]: what a lost number is
-//! - `plain`: the plain run
+//! - `running`: the queue is made, workers post, the board is closed; `ordered`: workers judge, and their
+//!   findings are put in order; `plain`: the plain run; `runs`: applying numbers in their order
+//! - `side_by_side`: starting, feeding and joining workers; `worker`: what one worker does; `feed`: numbers
+//!   and end marks
+//! - `desk`: what a worker does with a number; `posting`: it posts it; `judging`: it keeps it
+//! - `gate`: gates; `error`: why there are no histories; [`laws`]: why a number is lost
 #![tactic(auto)]
 
+mod desk;
 mod error;
 mod feed;
 mod gate;
+mod judging;
 pub mod laws;
+mod ordered;
 mod plain;
+mod posting;
 mod running;
+mod runs;
 mod side_by_side;
 mod worker;
 
 pub use error::WorkError;
 pub use gate::{FreeGate, Gate};
+pub use ordered::run_ordered;
 pub use plain::run_plain;
 pub use running::run_all;

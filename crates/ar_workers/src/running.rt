@@ -3,15 +3,13 @@
 ghost use Rattle.std.specs.Prelude.{◌≡◌, ◌≤◌, [], IfErr, IfOk, length};
 ghost use Rattle.std.specs.List.{AllByRecursion};
 ghost use Rattle.crossbeam_queue.specs.Passes.{IsPassOf, view};
-ghost use Rattle.ar_board.specs.Board.{receipts_of};
-ghost use Rattle.ar_bundle.specs.Bundle.{IsBundle};
 ghost use Rattle.ar_bundle.specs.Lawful.{AreLawful};
 ghost use Rattle.ar_workers.specs.Joined.{IsCause, feeding};
-ghost use Rattle.ar_workers.specs.Private.Gathered.{AreAllNamed, IsFeeder};
 
-use crate::error::{Unfinished, WorkError};
+use crate::error::WorkError;
 use crate::gate::Gate;
-use crate::side_by_side::{Gathered, in_scope};
+use crate::posting::{Posting, desks_of, seats_and_doubles};
+use crate::side_by_side::{Gathered, in_threads};
 use crate::worker::QueueName;
 use ar_board::{Blanks, Board, LockNames, MOST_WORKERS, Seat};
 use ar_bundle::{Bundle, Histories};
@@ -21,7 +19,6 @@ use crossbeam_queue::Pass;
 use std::alloc::Global;
 use std::marker::Brand;
 use std::sync::Wait;
-use std::thread;
 use std::thread::Threads;
 
 /// The histories of a bundle's runs, by so many workers, each in a thread of its own: they take the
@@ -106,56 +103,14 @@ where
     ensures lawful { IfOk result (AreLawful M.bundle) }
     ensures cause { IfErr result (IsCause M.bundle) }
 {
-    let Gathered {
-        mut pass,
-        seats,
-        doubles,
-    } = in_threads::<M, L, T, G, R>(rt, alloc, bundle, &board, &queue, seats, pass, gate)?;
+    let desks = desks_of(alloc, &board, seats)?;
+    let Gathered { mut pass, desks } = in_threads::<M, Posting<'_, '_, M, L>, T, G, R>(
+        rt, alloc, bundle, &queue, desks, pass, gate,
+    )?;
     learn(&queue, &mut pass);
+    let (seats, doubles) = seats_and_doubles(alloc, desks)?;
     match board.close(seats) {
         Ok(histories) => Ok(histories),
         Err(lost) => Err(WorkError::Lost { lost, doubles }),
     }
-}
-
-/// Starts the workers, each in a thread of its own, and joins them all.
-fn in_threads<'x, 'b, M, L, T, G, R>(
-    rt: &'x R,
-    alloc: Global,
-    bundle: &'x Bundle,
-    board: &'x Board<'b, M, L>,
-    queue: &'x Queue<M>,
-    seats: Vec<Seat<M, L>>,
-    pass: Pass<Item, View>,
-    gate: &'x G,
-) -> Result<Gathered<M, L>, Unfinished>
-where
-    M: BundleName + Send + Sync,
-    L: LockNames + Send + Sync,
-    T: QueueName + Send,
-    G: Gate,
-    R: Threads + Wait + Sync,
-    requires bundle { bundle.now ≡ M.bundle }
-    requires queue { queue.now.table.shared.table_id ≡ T.table }
-    requires pass { IsPassOf queue.now pass }
-    requires fresh_pass { view pass ≡ feeding 0 0 0 }
-    requires fresh { AllByRecursion (λ seat. seat.receipts ≡ []) seats.items }
-    ensures pass { IfOk result (λ all. IsPassOf queue.entry.now all.pass) }
-    ensures joined { IfOk result (λ all. IsFeeder (view all.pass) 0 (length seats.items)) }
-    ensures named { IfOk result (λ all.
-        AreAllNamed (view all.pass).taken (receipts_of all.seats.items) all.doubles.items) }
-    ensures seats { IfOk result (λ all. length all.seats.items ≡ length seats.items) }
-{
-    thread::scope(
-        thread::scope_env(),
-        rt,
-        move |scope| -> Result<Gathered<M, L>, Unfinished>
-            requires { (bundle.now ≡ M.bundle) × (queue.now.table.shared.table_id ≡ T.table) × IsPassOf queue.now pass
-                × (view pass ≡ feeding 0 0 0) × AllByRecursion (λ seat. seat.receipts ≡ []) seats.items }
-            ensures { IfOk result (λ all. IsPassOf queue.entry.now all.pass
-                × IsFeeder (view all.pass) 0 (length seats.items)
-                × AreAllNamed (view all.pass).taken (receipts_of all.seats.items) all.doubles.items
-                × (length all.seats.items ≡ length seats.items)) }
-        { in_scope::<_, M, L, T, G, R>(scope, rt, alloc, bundle, board, queue, seats, pass, gate) },
-    )
 }

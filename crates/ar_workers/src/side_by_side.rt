@@ -2,53 +2,51 @@
 
 ghost use Rattle.std.specs.Prelude.{◌≡◌, ◌≤◌, [], IfOk, OnOk, length};
 ghost use Rattle.std.specs.List.{AllByRecursion};
-ghost use Rattle.crossbeam_queue.specs.Passes.{IsPassOf, view};
-ghost use Rattle.ar_board.specs.Board.{receipts_of};
 ghost use Rattle.std.specs.Vec.{vec_capacity};
-ghost use Rattle.ar_workers.specs.Joined.{feeding, working};
-ghost use Rattle.ar_workers.specs.Private.Gathered.{AreAllNamed, IsFeeder};
+ghost use Rattle.crossbeam_queue.specs.Passes.{IsPassOf, view};
+ghost use Rattle.ar_workers.specs.Joined.{AreNamed, all_named, feeding, working};
+ghost use Rattle.ar_workers.specs.Private.Gathered.{IsFeeder};
 
+use crate::desk::Desk;
 use crate::error::Unfinished;
 use crate::feed::feed;
 use crate::gate::Gate;
 use crate::worker::{Outcome, QueueName, work};
-use ar_board::{Board, LockNames, Seat};
 use ar_bundle::Bundle;
 use ar_cell::BundleName;
 use ar_queue::{Item, Queue, View, join, split};
 use crossbeam_queue::Pass;
 use std::alloc::Global;
 use std::sync::Wait;
+use std::thread;
 use std::thread::{JoinHandle, Scope, Threads};
 
 /// What all workers brought back, their passes joined into the feeder's.
 #[derive(Drop)]
-pub(crate) struct Gathered<M: BundleName, L: LockNames> {
+pub(crate) struct Gathered<D> {
     pub(crate) pass: Pass<Item, View>,
-    pub(crate) seats: Vec<Seat<M, L>>,
-    pub(crate) doubles: Vec<u64>,
+    pub(crate) desks: Vec<D>,
 }
 
-/// Starts a worker for each seat, each with a pass that is split off the feeder's.
+/// Starts a worker for each desk, each with a pass that is split off the feeder's.
 ///
 /// # Errors
 ///
 /// Where a thread couldn't be started. The handles are those of the workers that were.
-pub(crate) fn start_all<'s, 'b: 's, E: 's, M, L, T, G, R>(
+fn start_all<'s, E: 's, M, D, T, G, R>(
     scope: &Scope<'s, E>,
     rt: &'s R,
     alloc: Global,
     bundle: &'s Bundle,
-    board: &'s Board<'b, M, L>,
     queue: &'s Queue<M>,
-    seats: Vec<Seat<M, L>>,
+    desks: Vec<D>,
     pass: &mut Pass<Item, View>,
-    handles: &mut Vec<JoinHandle<Outcome<M, L, T>>>,
+    handles: &mut Vec<JoinHandle<Outcome<M, D, T>>>,
     gate: &'s G,
 ) -> Result<(), Unfinished>
 where
     M: BundleName + Send + Sync + 's,
-    L: LockNames + Send + Sync + 's,
+    D: Desk<M> + Send + 's,
     T: QueueName + Send + 's,
     G: Gate + 's,
     R: Threads + Wait + Sync + 's,
@@ -56,20 +54,20 @@ where
     requires queue { queue.now.table.shared.table_id ≡ T.table }
     requires pass { IsPassOf queue.now pass.old }
     requires fresh_pass { view pass.old ≡ feeding 0 0 0 }
-    requires fresh { AllByRecursion (λ seat. seat.receipts ≡ []) seats.items }
+    requires fresh { AllByRecursion (λ desk. D.numbers desk ≡ []) desks.items }
     requires no_handles { handles.old.items ≡ [] }
-    requires room { length seats.items ≤ vec_capacity handles.old }
+    requires room { length desks.items ≤ vec_capacity handles.old }
     ensures pass { IsPassOf queue.entry.now pass.new }
     ensures fed { view pass.new ≡ feeding 0 0 (view pass.new).out }
-    ensures out { OnOk result ((view pass.new).out ≡ length seats.items) }
-    ensures handles { OnOk result (length handles.new.items ≡ length seats.items) }
+    ensures out { OnOk result ((view pass.new).out ≡ length desks.items) }
+    ensures handles { OnOk result (length handles.new.items ≡ length desks.items) }
 {
-    for seat in seats {
+    for desk in desks {
         let own = split(queue, pass);
-        let job = move || -> Outcome<M, L, T>
+        let job = move || -> Outcome<M, D, T>
             requires { (bundle.now ≡ M.bundle) × (queue.now.table.shared.table_id ≡ T.table) × IsPassOf queue.now own
-                × (view own ≡ working []) × (seat.receipts ≡ []) }
-        { work::<M, L, T, G, R>(rt, alloc, bundle, board, queue, seat, own, gate) };
+                × (view own ≡ working []) × (D.numbers desk ≡ []) }
+        { work::<M, D, T, G, R>(rt, alloc, bundle, queue, desk, own, gate) };
         match scope.spawn(job) {
             Ok(handle) => handles.push_reserved(handle),
             Err(_) => return Err(Unfinished::NoThread),
@@ -78,58 +76,51 @@ where
     Ok(())
 }
 
-/// Joins all workers, each one's pass into the feeder's.
-pub(crate) fn join_all<M: BundleName, L: LockNames, T: QueueName, R: Threads>(
+/// Joins all workers, each one's pass into the feeder's. Behind one that ended early the scope joins the
+/// others.
+fn join_all<M: BundleName, D: Desk<M>, T: QueueName, R: Threads>(
     rt: &R,
     alloc: Global,
     queue: &Queue<M>,
-    handles: Vec<JoinHandle<Outcome<M, L, T>>>,
+    handles: Vec<JoinHandle<Outcome<M, D, T>>>,
     mut pass: Pass<Item, View>,
-) -> Result<Gathered<M, L>, Unfinished>
+) -> Result<Gathered<D>, Unfinished>
     requires queue { queue.now.table.shared.table_id ≡ T.table }
     requires pass { IsPassOf queue.now pass }
     requires out { IsFeeder (view pass) (length handles.items) 0 × ((view pass).taken ≡ []) }
     ensures pass { IfOk result (λ all. IsPassOf queue.now all.pass) }
     ensures joined { IfOk result (λ all. IsFeeder (view all.pass) 0 (length handles.items)) }
-    ensures named { IfOk result (λ all.
-        AreAllNamed (view all.pass).taken (receipts_of all.seats.items) all.doubles.items) }
-    ensures seats { IfOk result (λ all. length all.seats.items ≡ length handles.items) }
+    ensures named { IfOk result (λ all. AreNamed (view all.pass).taken (all_named D.numbers all.desks.items)) }
+    ensures desks { IfOk result (λ all. length all.desks.items ≡ length handles.items) }
 {
-    let mut seats = Vec::with_capacity(alloc, handles.len())?;
-    let mut doubles = Vec::new(alloc);
+    let mut desks = Vec::with_capacity(alloc, handles.len())?;
     for handle in handles {
         match handle.join(rt) {
             Outcome::All(done) => {
                 join(queue, &mut pass, done.ended.pass);
-                seats.push_reserved(done.seat);
-                doubles.extend_from_slice(done.doubles.as_slice())?;
+                desks.push_reserved(done.desk);
             }
             Outcome::Short(_) => return Err(Unfinished::OutOfMemory),
         }
     }
-    Ok(Gathered {
-        pass,
-        seats,
-        doubles,
-    })
+    Ok(Gathered { pass, desks })
 }
 
-/// Starts a worker for each seat, feeds the queue while they run, and joins them all. Where no worker
+/// Starts a worker for each desk, feeds the queue while they run, and joins them all. Where no worker
 /// could be started nothing is fed.
-pub(crate) fn in_scope<'s, 'b: 's, E: 's, M, L, T, G, R>(
+fn in_scope<'s, E: 's, M, D, T, G, R>(
     scope: &Scope<'s, E>,
     rt: &'s R,
     alloc: Global,
     bundle: &'s Bundle,
-    board: &'s Board<'b, M, L>,
     queue: &'s Queue<M>,
-    seats: Vec<Seat<M, L>>,
+    desks: Vec<D>,
     mut pass: Pass<Item, View>,
     gate: &'s G,
-) -> Result<Gathered<M, L>, Unfinished>
+) -> Result<Gathered<D>, Unfinished>
 where
     M: BundleName + Send + Sync + 's,
-    L: LockNames + Send + Sync + 's,
+    D: Desk<M> + Send + 's,
     T: QueueName + Send + 's,
     G: Gate + 's,
     R: Threads + Wait + Sync + 's,
@@ -137,22 +128,20 @@ where
     requires queue { queue.now.table.shared.table_id ≡ T.table }
     requires pass { IsPassOf queue.now pass }
     requires fresh_pass { view pass ≡ feeding 0 0 0 }
-    requires fresh { AllByRecursion (λ seat. seat.receipts ≡ []) seats.items }
+    requires fresh { AllByRecursion (λ desk. D.numbers desk ≡ []) desks.items }
     ensures pass { IfOk result (λ all. IsPassOf queue.entry.now all.pass) }
-    ensures joined { IfOk result (λ all. IsFeeder (view all.pass) 0 (length seats.items)) }
-    ensures named { IfOk result (λ all.
-        AreAllNamed (view all.pass).taken (receipts_of all.seats.items) all.doubles.items) }
-    ensures seats { IfOk result (λ all. length all.seats.items ≡ length seats.items) }
+    ensures joined { IfOk result (λ all. IsFeeder (view all.pass) 0 (length desks.items)) }
+    ensures named { IfOk result (λ all. AreNamed (view all.pass).taken (all_named D.numbers all.desks.items)) }
+    ensures desks { IfOk result (λ all. length all.desks.items ≡ length desks.items) }
 {
-    let mut handles = Vec::with_capacity(alloc, seats.len())?;
-    let started = start_all::<E, M, L, T, G, R>(
+    let mut handles = Vec::with_capacity(alloc, desks.len())?;
+    let started = start_all::<E, M, D, T, G, R>(
         scope,
         rt,
         alloc,
         bundle,
-        board,
         queue,
-        seats,
+        desks,
         &mut pass,
         &mut handles,
         gate,
@@ -162,4 +151,50 @@ where
     }
     started?;
     join_all(rt, alloc, queue, handles, pass)
+}
+
+/// Has a worker for each desk take the numbers of the bundle from the queue, each in a thread of its
+/// own: starts them, feeds the queue while they run, and joins them all.
+///
+/// # Errors
+///
+/// Where a thread couldn't be started or memory was wanting, once all workers that were started have
+/// ended.
+pub(crate) fn in_threads<'x, M, D, T, G, R>(
+    rt: &'x R,
+    alloc: Global,
+    bundle: &'x Bundle,
+    queue: &'x Queue<M>,
+    desks: Vec<D>,
+    pass: Pass<Item, View>,
+    gate: &'x G,
+) -> Result<Gathered<D>, Unfinished>
+where
+    M: BundleName + Send + Sync,
+    D: Desk<M> + Send,
+    T: QueueName + Send,
+    G: Gate,
+    R: Threads + Wait + Sync,
+    requires bundle { bundle.now ≡ M.bundle }
+    requires queue { queue.now.table.shared.table_id ≡ T.table }
+    requires pass { IsPassOf queue.now pass }
+    requires fresh_pass { view pass ≡ feeding 0 0 0 }
+    requires fresh { AllByRecursion (λ desk. D.numbers desk ≡ []) desks.items }
+    ensures pass { IfOk result (λ all. IsPassOf queue.entry.now all.pass) }
+    ensures joined { IfOk result (λ all. IsFeeder (view all.pass) 0 (length desks.items)) }
+    ensures named { IfOk result (λ all. AreNamed (view all.pass).taken (all_named D.numbers all.desks.items)) }
+    ensures desks { IfOk result (λ all. length all.desks.items ≡ length desks.items) }
+{
+    thread::scope(
+        thread::scope_env(),
+        rt,
+        move |scope| -> Result<Gathered<D>, Unfinished>
+            requires { (bundle.now ≡ M.bundle) × (queue.now.table.shared.table_id ≡ T.table) × IsPassOf queue.now pass
+                × (view pass ≡ feeding 0 0 0) × AllByRecursion (λ desk. D.numbers desk ≡ []) desks.items }
+            ensures { IfOk result (λ all. IsPassOf queue.entry.now all.pass
+                × IsFeeder (view all.pass) 0 (length desks.items)
+                × AreNamed (view all.pass).taken (all_named D.numbers all.desks.items)
+                × (length all.desks.items ≡ length desks.items)) }
+        { in_scope::<_, M, D, T, G, R>(scope, rt, alloc, bundle, queue, desks, pass, gate) },
+    )
 }

@@ -49,7 +49,7 @@ fn run<R: Env + AllocGlobal + Input + Print + Eprint + Threads + Wait + Sync>(rt
         Err(error) => {
             let _ = eprintln!(rt; "argo_judge: {error}");
             match error {
-                UsageError::Words | UsageError::Workers => status::REFUSED,
+                UsageError::Words | UsageError::Workers | UsageError::Conflict => status::REFUSED,
                 UsageError::OutOfMemory => status::OUT_OF_MEMORY,
             }
         }
@@ -58,7 +58,8 @@ fn run<R: Env + AllocGlobal + Input + Print + Eprint + Threads + Wait + Sync>(rt
 
 /// What the command line asks for.
 fn requested<R: Env + AllocGlobal>(rt: &R) -> Result<Request, UsageError>
-    ensures { (n : ℕ) → result ≡ Ok (Request.CarryOut (commands.Run n)) → (1 ≤ n) × (n ≤ MOST_WORKERS) }
+    ensures workers { (n : ℕ) → result ≡ Ok (Request.CarryOut (commands.Run n)) → (1 ≤ n) × (n ≤ MOST_WORKERS) }
+    ensures ordered { (n : ℕ) → result ≡ Ok (Request.CarryOut (commands.Ordered n)) → (1 ≤ n) × (n ≤ MOST_WORKERS) }
 {
     let words = arguments(rt)?;
     match shown(rt.alloc(), &words)? {
@@ -87,12 +88,15 @@ fn arguments<R: Env + AllocGlobal>(rt: &R) -> Result<Vec<String>, UsageError> {
 fn carry_out<R>(rt: &R, command: Command) -> u8
 where
     R: AllocGlobal + Input + Print + Eprint + Threads + Wait + Sync,
-    requires { (n : ℕ) → command ≡ commands.Run n → (1 ≤ n) × (n ≤ MOST_WORKERS) }
+    requires workers { (n : ℕ) → command ≡ commands.Run n → (1 ≤ n) × (n ≤ MOST_WORKERS) }
+    requires ordered { (n : ℕ) → command ≡ commands.Ordered n → (1 ≤ n) × (n ≤ MOST_WORKERS) }
 {
     let mut reader = Kept::new(rt.alloc(), Device::new(rt.reader()));
     let mut writer = Device::new(io::writer(rt));
     let outcome = match command {
-        Command::Run(_) => { serve(rt, rt.alloc(), command, &mut reader, &mut writer, &FreeGate) }
+        Command::Run(_) | Command::Ordered(_) => {
+            serve(rt, rt.alloc(), command, &mut reader, &mut writer, &FreeGate)
+        }
         _ => serve_plain(rt.alloc(), command, &mut reader, &mut writer),
     };
     match outcome {

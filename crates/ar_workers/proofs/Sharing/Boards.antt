@@ -10,6 +10,7 @@ use Rattle.ar_limits.specs.contracts.run.RunState as RunState
 use Rattle.ar_bundle.specs.contracts.history.Entry as Entry
 use Rattle.ar_bundle.specs.contracts.history.History as History
 use Rattle.ar_board.specs.contracts.board.Board as Board
+use Rattle.ar_workers.specs.contracts.posting.Posting as Posting
 use Rattle.ar_cell.specs.contracts.cell.RunCell as RunCell
 use Rattle.ar_cell.specs.contracts.kept_run.KeptRun as KeptRun
 use Rattle.ar_cell.specs.contracts.run_history.RunHistory as RunHistory
@@ -78,3 +79,7 @@ module _ (M : RattleType) (g : BundleName.Ghosts M.Denot) (m : IsSend M) where
           let history = history_sync in
           let receipt = receipt_sync in
           search (crosses, sendable, cell_send, first_send, second_send, third_send, fourth_send) depth 20
+
+      -- a desk goes to its worker
+      pub posting_send : (here : NamedLft) → IsSend (Posting.the_row here ℓ M L g l)
+      posting_send here = let board = board_sync in let seat = seat_send in search (crosses, sendable) depth 30

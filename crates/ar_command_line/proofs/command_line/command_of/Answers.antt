@@ -4,7 +4,7 @@ use Rattle.std.specs.declared.alloc.Global.{Global}
 use Rattle.std.proofs.lemmas.Result.{IfOk-weaker, err_from_is_err_and}
 use Rattle.clap.specs.Words.{app_of, fault_of, subcommand_of}
 use Rattle.ar_command_line.specs.CommandLine.{application, texts_of}
-use Rattle.ar_command_line.proofs.Bounds.{run_in_bounds}
+use Rattle.ar_command_line.proofs.Bounds.{ordered_in_bounds, run_in_bounds}
 use Rattle.ar_command_line.proofs.Faults.{Answers, answers, same_error, refused_words}
 use Rattle.ar_command_line.proofs.command_line.command_of.Goals as goal
 
@@ -28,8 +28,14 @@ returns-clause-named c = (answered c).named
 pub returns-clause-bounds : goal.returns-clause-bounds
 returns-clause-bounds c n is = run_in_bounds (subcommand_of application (texts_of c.args.words.items)) c.command_named.result n (IfOk-weaker c.command_named.result _ _ (λ command both. both.1) (answered c).named) is
 
+pub returns-clause-ordered_bounds : goal.returns-clause-ordered_bounds
+returns-clause-ordered_bounds c n is = ordered_in_bounds (subcommand_of application (texts_of c.args.words.items)) c.command_named.result n (IfOk-weaker c.command_named.result _ _ (λ command both. both.1) (answered c).named) is
+
 pub returns-clause-words : goal.returns-clause-words
 returns-clause-words c = (answered c).words
 
 pub returns-clause-workers : goal.returns-clause-workers
 returns-clause-workers c = (answered c).workers
+
+pub returns-clause-conflict : goal.returns-clause-conflict
+returns-clause-conflict c = (answered c).conflict

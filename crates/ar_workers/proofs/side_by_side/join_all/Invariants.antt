@@ -2,8 +2,8 @@ use Rattle.std.proofs.Common.{◌≡◌, ◌≤◌, ◌++◌, length}
 use Rattle.std.specs.Vec.{vec_capacity}
 use Rattle.std.specs.Vec.Iter.{into_iter_items, into_iter_len}
 use Rattle.crossbeam_queue.specs.Passes.{IsPassOf, view}
-use Rattle.ar_board.specs.Board.{receipts_of}
-use Rattle.ar_workers.specs.Private.Gathered.{AreAllNamed, IsFeeder}
+use Rattle.ar_workers.specs.Joined.{AreNamed, all_named}
+use Rattle.ar_workers.specs.Private.Gathered.{IsFeeder}
 use Rattle.ar_workers.proofs.side_by_side.join_all.Given as goal
 
 -- the workers so far are joined
@@ -11,8 +11,8 @@ abbrev pub invariant-loop-handle : goal.invariant-loop-handle
 invariant-loop-handle g l =
     (l.yielded ++ into_iter_items l.handle-iterator ≡ into_iter_items l.initial.handle-iterator)
     × (into_iter_len l.handle-iterator ≡ length (into_iter_items l.handle-iterator))
-    × (length l.seats.items ≡ length l.yielded)
-    × (length (into_iter_items l.initial.handle-iterator) ≤ vec_capacity l.seats)
+    × (length l.desks.items ≡ length l.yielded)
+    × (length (into_iter_items l.initial.handle-iterator) ≤ vec_capacity l.desks)
     × IsPassOf l.queue l.pass
     × IsFeeder (view l.pass) (length (into_iter_items l.handle-iterator)) (length l.yielded)
-    × AreAllNamed (view l.pass).taken (receipts_of l.seats.items) l.doubles.items
+    × AreNamed (view l.pass).taken (all_named g.D.Desk.numbers l.desks.items)

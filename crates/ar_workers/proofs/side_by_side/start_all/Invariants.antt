@@ -6,13 +6,13 @@ use Rattle.crossbeam_queue.specs.Passes.{IsPassOf, view}
 use Rattle.ar_workers.specs.Joined.{feeding}
 use Rattle.ar_workers.proofs.side_by_side.start_all.Given as goal
 
--- a worker was started for each seat so far
-abbrev pub invariant-loop-seat : goal.invariant-loop-seat
-invariant-loop-seat g l =
-    (l.yielded ++ into_iter_items l.seat-iterator ≡ into_iter_items l.initial.seat-iterator)
-    × (into_iter_len l.seat-iterator ≡ length (into_iter_items l.seat-iterator))
-    × AllByRecursion (λ seat. seat.receipts ≡ []) (into_iter_items l.seat-iterator)
+-- a worker was started for each desk so far
+abbrev pub invariant-loop-desk : goal.invariant-loop-desk
+invariant-loop-desk g l =
+    (l.yielded ++ into_iter_items l.desk-iterator ≡ into_iter_items l.initial.desk-iterator)
+    × (into_iter_len l.desk-iterator ≡ length (into_iter_items l.desk-iterator))
+    × AllByRecursion (λ desk. g.D.Desk.numbers desk ≡ []) (into_iter_items l.desk-iterator)
     × (length l.handles.items ≡ length l.yielded)
-    × (length (into_iter_items l.initial.seat-iterator) ≤ vec_capacity l.handles)
+    × (length (into_iter_items l.initial.desk-iterator) ≤ vec_capacity l.handles)
     × IsPassOf l.queue l.pass
     × (view l.pass ≡ feeding 0 0 (length l.yielded))

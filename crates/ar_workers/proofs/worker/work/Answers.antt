@@ -9,6 +9,6 @@ loop-preserved g c =
     let next = view_next (view c.loop.pass) (view c.take.new.pass) c.in-Number.number c.loop.invariant.1 c.in-Number.ensures.taken in (
       search rules,
       next.0,
-      subst (λ (taken : List ℕ). AreNamed taken c.settle.new.seat.receipts c.settle.new.doubles.items) (sym next.1)
-          (taken_next c.in-Number.number (view c.loop.pass).taken c.loop.doubles.items c.settle.new.doubles.items c.loop.seat.receipts c.settle.new.seat.receipts c.loop.invariant.2 c.in-Ok.ensures.named),
+      subst (λ (taken : List ℕ). AreNamed taken (g.D.Desk.numbers c.settle.new.self)) (sym next.1)
+          (taken_next c.in-Number.number (view c.loop.pass).taken (g.D.Desk.numbers c.loop.desk) (g.D.Desk.numbers c.settle.new.self) c.loop.invariant.2 c.in-Ok.ensures.named),
     )

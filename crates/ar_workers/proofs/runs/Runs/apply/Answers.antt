@@ -1,6 +1,6 @@
 use Rattle.std.proofs.Common.{rules, arith}
 use Rattle.ar_workers.proofs.Grown.{applied, next_of}
-use Rattle.ar_workers.proofs.plain.Runs.take.Goals as goal
+use Rattle.ar_workers.proofs.runs.Runs.apply.Goals as goal
 
 pub index_mut-requires : goal.index_mut-requires
 index_mut-requires c =
@@ -29,6 +29,6 @@ index_mut-requires-2 c =
 pub returns : goal.returns
 returns c =
     let next = next_of c.args.bundle.now c.args.number c.run_of-run.result c.args.self.now.states.items c.args.self.now.histories.items c.requires.bundle c.requires.grown c.run_of-run.ensures.there in
-    let grown = applied c.args.bundle.now c.args.number c.run_of-run.result c.args.self.now.states.items c.args.self.now.histories.items c.index_mut.result.now c.apply-effect.new.self c.index_mut-2.result.now c.push.new.self c.in_ok-finding.finding c.event-event.result c.apply-effect.result
-    c.requires.grown next c.run_of-run.ensures.own c.in_ok-finding.ensures.exact c.event-event.ensures.exact c.index_mut.ensures.value c.index_mut-2.ensures.value c.apply-effect.ensures.replays c.apply-effect.ensures.effect in
+    let grown = applied c.args.bundle.now c.args.number c.run_of-run.result c.args.self.now.states.items c.args.self.now.histories.items c.index_mut.result.now c.apply-effect.new.self c.index_mut-2.result.now c.push.new.self c.args.finding c.event-event.result c.apply-effect.result
+    c.requires.grown next c.run_of-run.ensures.own c.requires.finding c.event-event.ensures.exact c.index_mut.ensures.value c.index_mut-2.ensures.value c.apply-effect.ensures.replays c.apply-effect.ensures.effect in
     search (rules, grown)
