@@ -5,7 +5,10 @@ use crate::fault::Written;
 use crate::printing::{put_pair, put_quoted, put_str};
 use crate::trees::{predicate_name, put_literal};
 use ar_condition::typed::Typed;
-use ar_value::operator::{Arithmetic, Family, Numbers, Order, Scalar};
+use ar_value::operator::{
+    Arithmetic, BinaryOperator, Compared, DecimalArithmetic, Family, Numbers, Order, Scalar,
+    UnaryOperator,
+};
 
 fn numbers_name(numbers: Numbers) -> &'static str {
     match numbers {
@@ -50,6 +53,48 @@ fn scalar_name(scalar: Scalar) -> &'static str {
     }
 }
 
+fn decimal_sign(operator: DecimalArithmetic) -> &'static str {
+    match operator {
+        DecimalArithmetic::Add => "+",
+        DecimalArithmetic::Subtract => "-",
+        DecimalArithmetic::Multiply => "*",
+        DecimalArithmetic::Divide => "/",
+    }
+}
+
+fn compared_name(numbers: Compared) -> &'static str {
+    match numbers {
+        Compared::Wholes => "wholes",
+        Compared::Decimals => "decimals",
+        Compared::Mixed => "mixed",
+    }
+}
+
+fn put_unary(out: &mut String, operator: UnaryOperator) -> Written {
+    match operator {
+        UnaryOperator::Len => put_str(out, "len"),
+        UnaryOperator::Need => put_str(out, "plain"),
+        UnaryOperator::IsNil => put_str(out, "isNil"),
+        UnaryOperator::ToDecimal => put_str(out, "decimal"),
+        UnaryOperator::Not => put_str(out, "not"),
+        UnaryOperator::Negate(numbers) => put_pair(out, "negative", numbers_name(numbers)),
+    }
+}
+
+fn put_binary(out: &mut String, operator: BinaryOperator) -> Written {
+    match operator {
+        BinaryOperator::Index => put_str(out, "index"),
+        BinaryOperator::Default => put_str(out, "default"),
+        BinaryOperator::IsIn => put_str(out, "in"),
+        BinaryOperator::Wholes(operator) => put_pair(out, arithmetic_sign(operator), "wholes"),
+        BinaryOperator::Decimals(operator) => put_pair(out, decimal_sign(operator), "decimals"),
+        BinaryOperator::Compare(numbers, order) => {
+            put_pair(out, order_sign(order), compared_name(numbers))
+        }
+        BinaryOperator::Equal(family) => put_pair(out, "==", family_name(family)),
+    }
+}
+
 /// The words of a node.
 fn put_words(out: &mut String, typed: &Typed) -> Written {
     match typed {
@@ -57,34 +102,12 @@ fn put_words(out: &mut String, typed: &Typed) -> Written {
         Typed::Item => put_str(out, "#"),
         Typed::Literal(literal) => put_literal(out, literal),
         Typed::Field { .. } => put_str(out, "field"),
-        Typed::Index { .. } => put_str(out, "index"),
-        Typed::Plain(_) => put_str(out, "plain"),
-        Typed::AsDecimal(_) => put_str(out, "decimal"),
-        Typed::Negative { numbers, .. } => put_pair(out, "negative", numbers_name(*numbers)),
-        Typed::Arithmetic {
-            numbers,
-            operator,
-            ..
-        } => put_pair(out, arithmetic_sign(*operator), numbers_name(*numbers)),
-        Typed::Ordered {
-            of,
-            beside,
-            order,
-            ..
-        } => {
-            put_pair(out, order_sign(*order), numbers_name(*of))?;
-            put_pair(out, "", numbers_name(*beside))
-        }
-        Typed::Equal { family, .. } => put_pair(out, "==", family_name(*family)),
-        Typed::Within { .. } => put_str(out, "in"),
-        Typed::Not(_) => put_str(out, "not"),
+        Typed::Unary { operator, .. } => put_unary(out, *operator),
+        Typed::Binary { operator, .. } => put_binary(out, *operator),
         Typed::And { .. } => put_str(out, "and"),
         Typed::Or { .. } => put_str(out, "or"),
         Typed::Choice { .. } => put_str(out, "choice"),
         Typed::List { scalar, .. } => put_pair(out, "list", scalar_name(*scalar)),
-        Typed::Len(_) => put_str(out, "len"),
-        Typed::IsNil(_) => put_str(out, "isNil"),
-        Typed::Default { .. } => put_str(out, "default"),
         Typed::Predicate { predicate, .. } => put_str(out, predicate_name(*predicate)),
     }
 }
@@ -125,33 +148,14 @@ pub(crate) fn put_typed(out: &mut String, typed: &Typed) -> Written {
             put_quoted(out, name.as_str())?;
             close(out)
         }
-        Typed::Plain(operand)
-        | Typed::AsDecimal(operand)
-        | Typed::Negative { operand, .. }
-        | Typed::Not(operand)
-        | Typed::Len(operand)
-        | Typed::IsNil(operand) => {
+        Typed::Unary { operand, .. } => {
             open(out, typed)?;
             put_child(out, operand)?;
             close(out)
         }
-        Typed::Index {
-            list: left,
-            index: right,
-        }
-        | Typed::Arithmetic { left, right, .. }
-        | Typed::Ordered { left, right, .. }
-        | Typed::Equal { left, right, .. }
-        | Typed::Within {
-            operand: left,
-            list: right,
-        }
+        Typed::Binary { left, right, .. }
         | Typed::And { left, right }
         | Typed::Or { left, right }
-        | Typed::Default {
-            operand: left,
-            otherwise: right,
-        }
         | Typed::Predicate {
             list: left,
             body: right,

@@ -1,6 +1,8 @@
 -- Choices and defaults mean their kinds.
 use Rattle.std.proofs.Common.{◌≡◌, ℕ, ℤ, Bool, true, false, Option, Some, None, Result, Ok, Err, IfOk, refl}
 use Rattle.std.specs.Prelude.{◌&&◌, ◌||◌, if◌then◌else◌}
+use Rattle.ar_value.specs.declared.operator.BinaryOperator.TheVariants as binary
+use Rattle.ar_value.specs.declared.operator.UnaryOperator.TheVariants as unary
 use Rattle.ar_value.specs.Answer.{◌>>=◌}
 use Rattle.ar_value.specs.Arithmetic.{decimal_of_whole}
 use Rattle.ar_value.specs.Fits.{fits}
@@ -113,7 +115,7 @@ by_nil kind v w false is h k = h is
 module _ (result : Value) (here : Option Value) where
   -- a tree beside a decimal, or beside something else
   turned_shape : (turns : Bool) (shape : Shape) (tree : Typed) → MeansKind (shaped shape) (mean result here tree)
-      → MeansKind (if turns then shaped (whole_as_decimal shape) else shaped shape) (mean result here (if turns && is_whole (plain shape) then typed.as_decimal tree else tree))
+      → MeansKind (if turns then shaped (whole_as_decimal shape) else shaped shape) (mean result here (if turns && is_whole (plain shape) then typed.unary unary.ToDecimal tree else tree))
   turned_shape false shape tree h = h
   turned_shape true shapes.whole tree h = turned_means result here tree h
   turned_shape true (shapes.optional shapes.whole) tree h = means_then _ _ (mean result here tree) operators.to_decimal h optional_turns
@@ -132,7 +134,7 @@ module _ (result : Value) (here : Option Value) where
 
   -- likewise beside a decimal, or beside something else
   turned_plain : (turns : Bool) (shape : Shape) (tree : Typed) → Means (UnlessNil (shaped shape)) (mean result here tree)
-      → Means (UnlessNil (if turns then shaped (whole_as_decimal shape) else shaped shape)) (mean result here (if turns && is_whole (plain shape) then typed.as_decimal tree else tree))
+      → Means (UnlessNil (if turns then shaped (whole_as_decimal shape) else shaped shape)) (mean result here (if turns && is_whole (plain shape) then typed.unary unary.ToDecimal tree else tree))
   turned_plain false shape tree h = h
   turned_plain true shapes.whole tree h = means_then (UnlessNil (shaped shapes.whole)) (UnlessNil (shaped shapes.decimal)) (mean result here tree) operators.to_decimal h whole_turns
   turned_plain true (shapes.optional shapes.whole) tree h =
@@ -174,7 +176,7 @@ module _ (result : Value) (here : Option Value) where
   -- a default of a kind that both sides have
   pub otherwise_means : (plain right kind : Kind) (first other : Typed) → Means (UnlessNil plain) (mean result here first) → MeansKind right (mean result here other)
       → ((v : Value) → fits_kind v plain ≡ true → fits_kind v kind ≡ true) → ((v : Value) → fits_kind v right ≡ true → fits_kind v kind ≡ true)
-      → MeansKind kind (mean result here (typed.otherwise first other))
+      → MeansKind kind (mean result here (typed.binary binary.Default first other))
   otherwise_means plain right kind first other h k more less =
       means_then (UnlessNil plain) _ (mean result here first) (λ v. mean result here other >>= λ w. Ok (if operators.is_nil v then w else v)) h
       (λ v fit. means_then _ _ (mean result here other) (λ w. Ok (if operators.is_nil v then w else v)) k
@@ -182,13 +184,13 @@ module _ (result : Value) (here : Option Value) where
 
   -- a default, where both sides have a kind in common
   default_found : (at : ℕ) (found : Option Kind) (plain right : Kind) (first other : Typed) → merge plain right ≡ found → Means (UnlessNil plain) (mean result here first) → MeansKind right (mean result here other)
-      → IfOk (in_common at (typed.otherwise first other) found) (Sound result here)
+      → IfOk (in_common at (typed.binary binary.Default first other) found) (Sound result here)
   default_found at None plain right first other is h k = tt
   default_found at (Some kind) plain right first other is h k = otherwise_means plain right kind first other h k (left_fits plain right kind is) (right_fits plain right kind is)
 
   -- a default, where the first is always nil or has a shape
   default_kinds : (at : ℕ) (plain of_other : Kind) (first other : Typed) → Means (UnlessNil plain) (mean result here first) → MeansKind of_other (mean result here other)
-      → IfOk (in_common at (typed.otherwise (turned of_other plain first) (turned plain of_other other)) (default_kind plain of_other)) (Sound result here)
+      → IfOk (in_common at (typed.binary binary.Default (turned of_other plain first) (turned plain of_other other)) (default_kind plain of_other)) (Sound result here)
   default_kinds at nil nil first other h k = otherwise_means nil nil nil first other h k (λ v fit. fit) (λ v fit. fit)
   default_kinds at nil (shaped shape) first other h k =
       otherwise_means (shaped shape) (shaped shape) (shaped shape) first other (means_some (UnlessNil nil) (UnlessNil (shaped shape)) (mean result here first) (nil_kind shape) h) k (λ v fit. fit) (λ v fit. fit)

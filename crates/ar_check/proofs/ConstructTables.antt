@@ -2,6 +2,8 @@
 use Rattle.std.proofs.Common.{◌≡◌, ◌<◌, ℕ, suc, Bool, true, false, List, Option, Some, None, Ok, Err, refl, ◌∙◌, ap, sym, subst, inl, inr, arith}
 use Rattle.std.specs.Prelude.{◌⊎◌, if◌then◌else◌, nat_lt}
 use Rattle.std.proofs.lemmas.Bool.Decides.{nat_tests}
+use Rattle.ar_value.specs.declared.operator.BinaryOperator.TheVariants as binary
+use Rattle.ar_value.specs.declared.operator.UnaryOperator.TheVariants as unary
 use Rattle.ar_value.specs.Answer.{◌>>=◌}
 use Rattle.ar_value.specs.Kind.{Kind, nil, shaped, common, plain}
 use Rattle.ar_value.specs.Shape.{Shape, FieldShapes}
@@ -133,9 +135,9 @@ module _ (result : Shape) (item : Option Shape) (around : ℕ) where
   pub index_has : (at : ℕ) (items place : Expression) (list index found : Operand) → HasKind result item around items list.kind → HasKind result item around place index.kind
       → index_of at list index ≡ Ok found → HasKind result item around (trees.IndexAt at items place) found.kind
   index_has at items place list index found h k is =
-      let shape = from_bind (item_shape at (plain_of list.kind)) (λ shape. where_wanted at (is_whole_number (scalar index)) (typed.index (made_plain list) (made_plain index)) (shaped shape)) found is in
+      let shape = from_bind (item_shape at (plain_of list.kind)) (λ shape. where_wanted at (is_whole_number (scalar index)) (typed.binary binary.Index (made_plain list) (made_plain index)) (shaped shape)) found is in
       let of = list_within at list.kind shape.0 shape.1 in
-      let given = wanted_kind at (is_whole_number (scalar index)) (typed.index (made_plain list) (made_plain index)) (shaped shape.0) found shape.2 in
+      let given = wanted_kind at (is_whole_number (scalar index)) (typed.binary binary.Index (made_plain list) (made_plain index)) (shaped shape.0) found shape.2 in
       let whole = whole_within index.kind given.0 in
       by_kind (trees.IndexAt at items place) (shaped shape.0) found.kind given.1
       (typing.of_index (by_kind items list.kind (shaped of.0) of.2 h) of.3 (by_kind place index.kind (shaped whole.0) whole.1 k) whole.2)
@@ -143,9 +145,9 @@ module _ (result : Shape) (item : Option Shape) (around : ℕ) where
   -- a length
   pub len_has : (at : ℕ) (items : Expression) (list found : Operand) → HasKind result item around items list.kind → len_of at list ≡ Ok found → HasKind result item around (trees.LenAt at items) found.kind
   len_has at items list found h is =
-      let shape = from_bind (item_shape at (plain_of list.kind)) (λ shape. given (typed.len (made_plain list)) (shaped shapes.whole)) found is in
+      let shape = from_bind (item_shape at (plain_of list.kind)) (λ shape. given (typed.unary unary.Len (made_plain list)) (shaped shapes.whole)) found is in
       let of = list_within at list.kind shape.0 shape.1 in
-      by_kind (trees.LenAt at items) (shaped shapes.whole) found.kind (given_kind (typed.len (made_plain list)) (shaped shapes.whole) found shape.2)
+      by_kind (trees.LenAt at items) (shaped shapes.whole) found.kind (given_kind (typed.unary unary.Len (made_plain list)) (shaped shapes.whole) found shape.2)
       (typing.of_len (by_kind items list.kind (shaped of.0) of.2 h) of.3)
 
   -- an operator on one operand
@@ -167,11 +169,11 @@ module _ (result : Shape) (item : Option Shape) (around : ℕ) where
       → HasKind result item around (trees.BinaryAt at operator left right) found.kind
   equality_has at operator left right first second found true nil_right on_left on_right equality h k is =
       let literal = nil_literal left on_left in
-      by_kind (trees.BinaryAt at operator left right) truth_kind found.kind (given_kind (typed.is_nil second.tree) truth_kind found is)
+      by_kind (trees.BinaryAt at operator left right) truth_kind found.kind (given_kind (typed.unary unary.IsNil second.tree) truth_kind found is)
       (subst (λ left. HasKind result item around (trees.BinaryAt at operator left right) truth_kind) (sym literal.1) (typing.nil_on_the_left equality k))
   equality_has at operator left right first second found false true on_left on_right equality h k is =
       let literal = nil_literal right on_right in
-      by_kind (trees.BinaryAt at operator left right) truth_kind found.kind (given_kind (typed.is_nil first.tree) truth_kind found is)
+      by_kind (trees.BinaryAt at operator left right) truth_kind found.kind (given_kind (typed.unary unary.IsNil first.tree) truth_kind found is)
       (subst (λ right. HasKind result item around (trees.BinaryAt at operator left right) truth_kind) (sym literal.1) (typing.nil_on_the_right equality h))
   equality_has at operator left right first second found false false on_left on_right equality h k is =
       applied_has at operator left right first.kind second.kind found.kind h k (equal_applies at operator equality first second found is)
@@ -183,7 +185,7 @@ module _ (result : Shape) (item : Option Shape) (around : ℕ) where
       equality_has at (binaries.Comparison comparisons.Equal) left right first second found (is_nil_literal left) (is_nil_literal right) refl refl typing.is_equal h k is
   equal_or_not_has at operator typing.is_unequal left right first second found h k is =
       let same = from_bind (equality_of at (is_nil_literal left) (is_nil_literal right) first second) negated found is in
-      by_kind (trees.BinaryAt at (binaries.Comparison comparisons.NotEqual) left right) same.0.kind found.kind (given_kind (typed.opposite same.0.tree) same.0.kind found same.2)
+      by_kind (trees.BinaryAt at (binaries.Comparison comparisons.NotEqual) left right) same.0.kind found.kind (given_kind (typed.unary unary.Not same.0.tree) same.0.kind found same.2)
       (equality_has at (binaries.Comparison comparisons.NotEqual) left right first second same.0 (is_nil_literal left) (is_nil_literal right) refl refl typing.is_unequal h k same.1)
 
   -- either of them
@@ -248,21 +250,21 @@ pub index_typed : (at : ℕ) (list index : Answer) (of place shape : Shape) (max
 index_typed at list index of place shape max h k l whole =
     both_typed list index (index_of at) (shaped of) (shaped place) (shaped shape) h l
     (λ left right. bind_typed (item_shape at (Some (plain of)))
-    (λ shape. where_wanted at (is_whole_number (scalar (operand right (shaped place)))) (typed.index (made_plain (operand left (shaped of))) (made_plain (operand right (shaped place)))) (shaped shape)) shape (shaped shape)
+    (λ shape. where_wanted at (is_whole_number (scalar (operand right (shaped place)))) (typed.binary binary.Index (made_plain (operand left (shaped of))) (made_plain (operand right (shaped place)))) (shaped shape)) shape (shaped shape)
     (items_are at (plain of) shape max k)
-    (wanted_typed at (is_whole_number (scalar (operand right (shaped place)))) (typed.index (made_plain (operand left (shaped of))) (made_plain (operand right (shaped place)))) (shaped shape) (whole_is (plain place) whole)))
+    (wanted_typed at (is_whole_number (scalar (operand right (shaped place)))) (typed.binary binary.Index (made_plain (operand left (shaped of))) (made_plain (operand right (shaped place)))) (shaped shape) (whole_is (plain place) whole)))
 
 -- a length
 pub len_typed : (at : ℕ) (list : Answer) (of shape : Shape) (max : ℕ) → IsTyped list (shaped of) → plain of ≡ shapes.list shape max → IsTyped (list >>= len_of at) (shaped shapes.whole)
 len_typed at list of shape max h k =
     then_typed list (len_of at) (shaped of) (shaped shapes.whole) h
-    (λ tree. bind_typed (item_shape at (Some (plain of))) (λ shape. given (typed.len (made_plain (operand tree (shaped of)))) (shaped shapes.whole)) shape (shaped shapes.whole)
-    (items_are at (plain of) shape max k) (typed.len (made_plain (operand tree (shaped of))), refl))
+    (λ tree. bind_typed (item_shape at (Some (plain of))) (λ shape. given (typed.unary unary.Len (made_plain (operand tree (shaped of)))) (shaped shapes.whole)) shape (shaped shapes.whole)
+    (items_are at (plain of) shape max k) (typed.unary unary.Len (made_plain (operand tree (shaped of))), refl))
 
 -- equality with the literal `nil`
 nil_equality : (at : ℕ) (nil_left nil_right : Bool) (left right : Operand) → nil_left ≡ true ⊎ nil_right ≡ true → IsTyped (equality_of at nil_left nil_right left right) truth_kind
-nil_equality at true nil_right left right some = (typed.is_nil right.tree, refl)
-nil_equality at false true left right some = (typed.is_nil left.tree, refl)
+nil_equality at true nil_right left right some = (typed.unary unary.IsNil right.tree, refl)
+nil_equality at false true left right some = (typed.unary unary.IsNil left.tree, refl)
 nil_equality at false false left right (inl is) = absurd (cc)
 nil_equality at false false left right (inr is) = absurd (cc)
 

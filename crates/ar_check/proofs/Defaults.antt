@@ -1,6 +1,7 @@
 -- What a default is.
 use Rattle.std.proofs.Common.{◌≡◌, ◌≢◌, Option, Ok, Err, refl}
 use Rattle.std.specs.Prelude.{if◌then◌else◌}
+use Rattle.ar_value.specs.declared.operator.BinaryOperator.TheVariants as binary
 use Rattle.ar_value.specs.Answer.{◌>>=◌}
 use Rattle.ar_value.specs.Value.{Value}
 use Rattle.ar_value.specs.Value as values
@@ -21,7 +22,7 @@ kept (values.object record_fields) other there = refl
 
 pub is_the_value : (result : Value) (here : Option Value) (operand stand_in : Typed) (value other : Value)
     → mean result here operand ≡ Ok value → value ≢ values.nil → mean result here stand_in ≡ Ok other
-    → mean result here (typed.otherwise operand stand_in) ≡ Ok value
+    → mean result here (typed.binary binary.Default operand stand_in) ≡ Ok value
 is_the_value result here operand stand_in value other of there beside = rw (of, beside, kept value other there) refl
 
 same : (meaning : Meaning) → (meaning >>= λ other. Ok (if is_nil values.nil then other else values.nil)) ≡ meaning
@@ -29,5 +30,5 @@ same (Ok value) = refl
 same (Err failure) = refl
 
 pub is_the_other : (result : Value) (here : Option Value) (operand stand_in : Typed)
-    → mean result here operand ≡ Ok values.nil → mean result here (typed.otherwise operand stand_in) ≡ mean result here stand_in
+    → mean result here operand ≡ Ok values.nil → mean result here (typed.binary binary.Default operand stand_in) ≡ mean result here stand_in
 is_the_other result here operand stand_in of = rw of (same (mean result here stand_in))

@@ -1,5 +1,6 @@
 -- What is typed has a row in the table of kinds, what has a row is typed, and so a tree has at most one kind.
 use Rattle.std.proofs.Common.{◌≡◌, ℕ, suc, true, List, [], ◌∷◌, length, Option, Some, None, Result, Ok, refl, ◌∙◌, ap, sym, subst, inl, inr}
+use Rattle.ar_value.specs.declared.operator.UnaryOperator.TheVariants as unary
 use Rattle.ar_value.specs.Answer.{◌>>=◌}
 use Rattle.ar_value.specs.Kind.{Kind, nil, shaped, plain}
 use Rattle.ar_value.specs.Shape.{Shape}
@@ -116,8 +117,8 @@ module _ (result : Shape) where
         let a = from_bind (typed_of result item around list) (len_of at) found h in
         len_has result item around at list a.0 found (tree_has item around list a.0 a.1) a.2
     tree_has item around (trees.IsNilAt at operand) found h =
-        let a = from_bind (typed_of result item around operand) (λ operand. given (typed.is_nil operand.tree) truth_kind) found h in
-        by_kind result item around (trees.IsNilAt at operand) truth_kind found.kind (given_kind (typed.is_nil a.0.tree) truth_kind found a.2) (typing.of_nil_test (tree_has item around operand a.0 a.1))
+        let a = from_bind (typed_of result item around operand) (λ operand. given (typed.unary unary.IsNil operand.tree) truth_kind) found h in
+        by_kind result item around (trees.IsNilAt at operand) truth_kind found.kind (given_kind (typed.unary unary.IsNil a.0.tree) truth_kind found a.2) (typing.of_nil_test (tree_has item around operand a.0 a.1))
     tree_has item around (trees.DefaultAt at operand otherwise) found h =
         let a = from_bind (typed_of result item around operand) (λ first. typed_of result item around otherwise >>= default_of at first) found h in
         let b = from_bind (typed_of result item around otherwise) (default_of at a.0) found a.2 in
@@ -209,7 +210,7 @@ module _ (result : Shape) where
     tree_typed (typing.of_list {item = item} {around = around} {at = at} {items = items} {shape = shape} h) = items_list item around at items shape (are_typed h)
     tree_typed (typing.of_len {at = at} h k) = len_typed at _ _ _ _ (tree_typed h) k
     tree_typed (typing.of_nil_test {item = item} {around = around} {operand = operand} {kind = kind} h) =
-        then_typed (typed_of result item around operand) (λ operand. given (typed.is_nil operand.tree) truth_kind) kind truth_kind (tree_typed h) (λ tree. (typed.is_nil tree, refl))
+        then_typed (typed_of result item around operand) (λ operand. given (typed.unary unary.IsNil operand.tree) truth_kind) kind truth_kind (tree_typed h) (λ tree. (typed.unary unary.IsNil tree, refl))
     tree_typed (typing.of_default {at = at} h k row) = default_typed at _ _ _ _ _ (tree_typed h) (tree_typed k) row
     tree_typed (typing.of_predicate {item = item} {around = around} {at = at} {predicate = predicate} {items = items} {body = body} h k less l is row) =
         predicate_typed at around predicate (typed_of result item around items) (λ shape. typed_of result (Some shape) (suc around) body) _ _ _ _ _ (tree_typed h) k less (tree_typed l) is row

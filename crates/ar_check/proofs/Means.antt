@@ -75,8 +75,8 @@ wanted result here at true tree kind h = h refl
 wanted result here at false tree kind h = tt
 
 -- a truth value, where operands are what is wanted
-pub truth_wanted : (result : Value) (here : Option Value) (at : ℕ) (is_wanted : Bool) (tree : Typed) → MeansKind truth_kind (mean result here tree) → IfOk (where_wanted at is_wanted tree truth_kind) (IsTruth result here)
-truth_wanted result here at true tree h = (refl, h)
+pub truth_wanted : (result : Value) (here : Option Value) (at : ℕ) (is_wanted : Bool) (tree : Typed) → (is_wanted ≡ true → MeansKind truth_kind (mean result here tree)) → IfOk (where_wanted at is_wanted tree truth_kind) (IsTruth result here)
+truth_wanted result here at true tree h = (refl, h refl)
 truth_wanted result here at false tree h = tt
 
 -- a truth value means its kind

@@ -1,8 +1,10 @@
 -- Operators mean their kinds.
-use Rattle.std.proofs.Common.{◌≡◌, ℕ, Bool, true, false, Option, Some, None, Ok, Err, IfOk, refl}
+use Rattle.std.proofs.Common.{◌≡◌, ℕ, Bool, true, false, Option, Some, None, Ok, Err, IfOk, refl, subst}
 use Rattle.std.specs.Prelude.{◌&&◌, not, if◌then◌else◌}
+use Rattle.ar_value.specs.declared.operator.BinaryOperator.TheVariants as binary
+use Rattle.ar_value.specs.declared.operator.UnaryOperator.TheVariants as unary
 use Rattle.ar_value.specs.Answer.{◌>>=◌}
-use Rattle.ar_value.specs.Kind.{Kind}
+use Rattle.ar_value.specs.Kind.{Kind, fits_kind}
 use Rattle.ar_value.specs.Value.{Value}
 use Rattle.ar_value.specs.Value as values
 use Rattle.ar_condition.specs.declared.tree.Comparison.{Comparison}
@@ -22,9 +24,9 @@ use Rattle.ar_value.specs.declared.operator.Arithmetic.TheVariants.{Add, Subtrac
 use Rattle.ar_value.specs.declared.operator.Family.{Family}
 use Rattle.ar_value.specs.declared.operator.Order.TheVariants.{Less, LessOrEqual, Greater, GreaterOrEqual}
 use Rattle.ar_value.specs.declared.operator.Scalar.{Scalar}
-use Rattle.ar_check.proofs.Means.{MeansKind, Sound, IsTruth, both_hold, either_means, is_sound, means_then, truth_wanted, wanted}
+use Rattle.ar_check.proofs.Means.{MeansKind, Sound, IsTruth, both, both_hold, either_means, is_sound, means_then, truth_wanted, wanted}
 use Rattle.ar_check.proofs.Operands.{are_numbers, is_true, on_bool}
-use Rattle.ar_check.proofs.Parts.{in_sound}
+use Rattle.ar_check.proofs.Parts.{in_sound, kind_in_family, kinded_means, one_family}
 use Rattle.ar_check.proofs.Sums.{negative_sound, order_sound, positive_sound, sum_sound}
 
 -- what a truth value leads to
@@ -34,7 +36,7 @@ truth_then kind m f h step =
 
 module _ (result : Value) (here : Option Value) where
   -- `not` gives a truth value of one
-  pub opposite_means : (tree : Typed) → MeansKind truth_kind (mean result here tree) → MeansKind truth_kind (mean result here (typed.opposite tree))
+  pub opposite_means : (tree : Typed) → MeansKind truth_kind (mean result here tree) → MeansKind truth_kind (mean result here (typed.unary unary.Not tree))
   opposite_means tree h = truth_then truth_kind (mean result here tree) (λ b. Ok (values.bool (not b))) h (λ b. refl)
 
   -- `and` gives a truth value of two
@@ -50,32 +52,37 @@ module _ (result : Value) (here : Option Value) where
       (λ b. either_means truth_kind b (Ok (values.bool true)) (mean result here right) refl k)
 
   -- whether something is nil is a truth value
-  pub is_nil_means : (kind : Kind) (tree : Typed) → MeansKind kind (mean result here tree) → MeansKind truth_kind (mean result here (typed.is_nil tree))
+  pub is_nil_means : (kind : Kind) (tree : Typed) → MeansKind kind (mean result here tree) → MeansKind truth_kind (mean result here (typed.unary unary.IsNil tree))
   is_nil_means kind tree h = means_then _ _ (mean result here tree) (λ v. Ok (values.bool (operators.is_nil v))) h (λ v fit. refl)
 
-  -- whether two are equal is a truth value
-  pub equal_means : (l r : Kind) (family : Family) (left right : Typed) → MeansKind l (mean result here left) → MeansKind r (mean result here right)
-      → MeansKind truth_kind (mean result here (typed.equal family left right))
-  equal_means l r family left right h k =
-      means_then _ _ (mean result here left) (λ v. mean result here right >>= λ w. Ok (values.bool (operators.same v w))) h
-      (λ v fit. means_then _ _ (mean result here right) (λ w. Ok (values.bool (operators.same v w))) k (λ w also. refl))
+  -- whether two scalars of a family are equal is a truth value
+  equal_means : (l r : Kind) (family : Family) (left right : Typed) → ((v : Value) → fits_kind v l ≡ true → operators.is_in_family family v ≡ true)
+      → ((v : Value) → fits_kind v r ≡ true → operators.is_in_family family v ≡ true) → MeansKind l (mean result here left) → MeansKind r (mean result here right)
+      → MeansKind truth_kind (mean result here (typed.binary (binary.Equal family) left right))
+  equal_means l r family left right in_left in_right h k =
+      means_then _ _ (mean result here left) (λ v. mean result here right >>= λ w. operators.equal family v w) h
+      (λ v fit. means_then _ _ (mean result here right) (λ w. operators.equal family v w) k
+      (λ w also. kinded_means (operators.is_in_family family v && operators.is_in_family family w) (operators.same v w)
+      (both (operators.is_in_family family v) (operators.is_in_family family w) (in_left v fit) (in_right w also))))
 
   -- ---- equality
 
   -- equality of scalars of one family
-  equal_sound : (at : ℕ) (m n : Option Scalar) (l r : Kind) (left right : Typed) → MeansKind l (mean result here left) → MeansKind r (mean result here right)
-      → IfOk (equal_of at m n left right) (IsTruth result here)
-  equal_sound at (Some m) (Some n) l r left right h k =
-      truth_wanted result here at (same_family (family_in m) (family_in n)) (typed.equal (family_in m) left right) (equal_means l r (family_in m) left right h k)
-  equal_sound at (Some m) None l r left right h k = tt
-  equal_sound at None n l r left right h k = tt
+  equal_sound : (at : ℕ) (m n : Option Scalar) (left right : Operand) → scalar left ≡ m → scalar right ≡ n → Sound result here left → Sound result here right
+      → IfOk (equal_of at m n left.tree right.tree) (IsTruth result here)
+  equal_sound at (Some m) (Some n) left right of_m of_n h k =
+      truth_wanted result here at (same_family (family_in m) (family_in n)) (typed.binary (binary.Equal (family_in m)) left.tree right.tree)
+      (λ is. equal_means left.kind right.kind (family_in m) left.tree right.tree (kind_in_family left.kind m of_m)
+      (λ w also. subst (λ family. operators.is_in_family family w ≡ true) (one_family m n is) (kind_in_family right.kind n of_n w also)) h k)
+  equal_sound at (Some m) None left right of_m of_n h k = tt
+  equal_sound at None n left right of_m of_n h k = tt
 
   -- equality, also with the literal `nil`
   equality_sound : (at : ℕ) (nil_left nil_right : Bool) (left right : Operand) → Sound result here left → Sound result here right
       → IfOk (equality_of at nil_left nil_right left right) (IsTruth result here)
   equality_sound at true nil_right left right h k = (refl, is_nil_means right.kind right.tree k)
   equality_sound at false true left right h k = (refl, is_nil_means left.kind left.tree h)
-  equality_sound at false false left right h k = equal_sound at (scalar left) (scalar right) left.kind right.kind left.tree right.tree h k
+  equality_sound at false false left right h k = equal_sound at (scalar left) (scalar right) left right refl refl h k
 
   -- an answer that is a truth value means its kind
   truth_sound : (answer : Answer) → IfOk answer (IsTruth result here) → IfOk answer (Sound result here)
@@ -84,7 +91,7 @@ module _ (result : Value) (here : Option Value) where
 
   -- so does its opposite
   negated_sound : (answer : Answer) → IfOk answer (IsTruth result here) → IfOk (answer >>= negated) (Sound result here)
-  negated_sound (Ok operand) h = is_sound result here (record { tree = typed.opposite operand.tree; kind = operand.kind }) (h.0, opposite_means operand.tree h.1)
+  negated_sound (Ok operand) h = is_sound result here (record { tree = typed.unary unary.Not operand.tree; kind = operand.kind }) (h.0, opposite_means operand.tree h.1)
   negated_sound (Err e) h = tt
 
   -- comparisons mean their kinds
@@ -106,7 +113,7 @@ module _ (result : Value) (here : Option Value) where
   unary_sound at unaries.Minus operand h = negative_sound result here at (numbers operand) (made_plain operand) (are_numbers result here operand h)
   unary_sound at unaries.Plus operand h = positive_sound result here at (numbers operand) (made_plain operand) (are_numbers result here operand h)
   unary_sound at unaries.Not operand h =
-      wanted result here at (is_truth operand) (typed.opposite (made_plain operand)) truth_kind (λ is. opposite_means (made_plain operand) (is_true result here operand h is))
+      wanted result here at (is_truth operand) (typed.unary unary.Not (made_plain operand)) truth_kind (λ is. opposite_means (made_plain operand) (is_true result here operand h is))
 
   -- two operands that are truth values, made plain
   truths : (left right : Operand) → Sound result here left → Sound result here right → (is_truth left && is_truth right) ≡ true

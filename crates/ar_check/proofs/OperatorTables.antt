@@ -1,6 +1,9 @@
 -- Operators, as the table of kinds tells of them.
-use Rattle.std.proofs.Common.{◌≡◌, ℕ, Bool, true, false, Option, Some, None, Ok, refl, ◌∙◌, ap, sym, subst, inl, inr}
+use Rattle.std.proofs.Common.{◌≡◌, ℕ, Bool, true, false, Option, Some, None, Ok, refl, ◌∙◌, ap, sym, subst, inl, inr, is_some}
 use Rattle.std.specs.Prelude.{◌&&◌, ◌⊎◌}
+use Rattle.ar_value.specs.declared.operator.BinaryOperator.{BinaryOperator}
+use Rattle.ar_value.specs.declared.operator.BinaryOperator.TheVariants as binary
+use Rattle.ar_value.specs.declared.operator.UnaryOperator.TheVariants as unary
 use Rattle.ar_value.specs.Answer.{◌>>=◌}
 use Rattle.ar_value.specs.Kind.{Kind, shaped, plain}
 use Rattle.ar_value.specs.Shape.{Shape}
@@ -8,7 +11,7 @@ use Rattle.ar_value.specs.Shape as shapes
 use Rattle.ar_condition.specs.declared.tree.Comparison.TheVariants as comparisons
 use Rattle.ar_condition.specs.declared.tree.Binary.{Binary}
 use Rattle.ar_condition.specs.declared.tree.Binary.TheVariants as binaries
-use Rattle.ar_check.specs.Check.{Answer, arithmetic_kind, arithmetic_on, binary_of, equal_of, equality_of, in_of, item_shape, member_of, negated, ordering_of, ordered_of, same_family, scalar_shape, calculation_of, takes, truth_kind, where_wanted, widened}
+use Rattle.ar_check.specs.Check.{Answer, arithmetic_kind, arithmetic_on, binary_of, equal_of, equality_of, in_of, item_shape, member_of, negated, ordering_of, ordered_of, same_family, scalar_shape, calculation_of, arithmetic_in, compared_of, where_there, truth_kind, where_wanted, widened}
 use Rattle.ar_check.specs.Operand.{Operand, operand, family_in, is_truth, made_plain, numbers, plain_of, scalar, scalar_of}
 use Rattle.ar_condition.specs.Typed.{Typed}
 use Rattle.ar_condition.specs.Typed as typed
@@ -100,7 +103,7 @@ kind_of_arithmetic Divide numbers = refl
 kind_of_arithmetic Remainder numbers = kind_of_numbers numbers
 
 -- arithmetic operates on two numbers
-arithmetic_row : (operator : Arithmetic) (m n : Numbers) → takes operator (widened m n) ≡ true
+arithmetic_row : (operator : Arithmetic) (m n : Numbers) → is_some (arithmetic_in (widened m n) operator) ≡ true
     → Operates (arithmetic_operator operator) (number_shape m) (number_shape n) (arithmetic_shape operator (widened m n))
 arithmetic_row Add m n h = typing.add (sum_row m n)
 arithmetic_row Subtract m n h = typing.subtract (sum_row m n)
@@ -110,18 +113,27 @@ arithmetic_row Remainder Wholes Wholes h = typing.remainder
 arithmetic_row Remainder Wholes Decimals h = absurd (cc)
 arithmetic_row Remainder Decimals n h = absurd (cc)
 
+-- what is given where there is an operator
+there_kind : (at : ℕ) (operator : Option BinaryOperator) (left right : Typed) (kind : Kind) (found : Operand) → where_there at operator left right kind ≡ Ok found → (is_some operator ≡ true) × (kind ≡ found.kind)
+there_kind at (Some operator) left right kind found h = (refl, given_kind (typed.binary operator left right) kind found h)
+there_kind at None left right kind found h = absurd (cc)
+
+there_typed : (at : ℕ) (operator : Option BinaryOperator) (left right : Typed) (kind : Kind) → is_some operator ≡ true → IsTyped (where_there at operator left right kind) kind
+there_typed at (Some operator) left right kind h = (typed.binary operator left right, refl)
+there_typed at None left right kind h = absurd (cc)
+
 -- what arithmetic gives
 arithmetic_found : (at : ℕ) (operator : Arithmetic) (m n : Option Numbers) (left right : Typed) (found : Operand) → arithmetic_on at operator m n left right ≡ Ok found
-    → (a b : Numbers) × (m ≡ Some a) × (n ≡ Some b) × (takes operator (widened a b) ≡ true) × (arithmetic_kind operator (widened a b) ≡ found.kind)
+    → (a b : Numbers) × (m ≡ Some a) × (n ≡ Some b) × (is_some (arithmetic_in (widened a b) operator) ≡ true) × (arithmetic_kind operator (widened a b) ≡ found.kind)
 arithmetic_found at operator (Some a) (Some b) left right found h =
-    let given = wanted_kind at (takes operator (widened a b)) _ (arithmetic_kind operator (widened a b)) found h in (a, b, refl, refl, given.0, given.1)
+    let given = there_kind at (arithmetic_in (widened a b) operator) _ _ (arithmetic_kind operator (widened a b)) found h in (a, b, refl, refl, given.0, given.1)
 arithmetic_found at operator (Some a) None left right found h = absurd (cc)
 arithmetic_found at operator None n left right found h = absurd (cc)
 
 -- arithmetic of two numbers
-arithmetic_typed : (at : ℕ) (operator : Arithmetic) (m n : Option Numbers) (a b : Numbers) (left right : Typed) → m ≡ Some a → n ≡ Some b → takes operator (widened a b) ≡ true
+arithmetic_typed : (at : ℕ) (operator : Arithmetic) (m n : Option Numbers) (a b : Numbers) (left right : Typed) → m ≡ Some a → n ≡ Some b → is_some (arithmetic_in (widened a b) operator) ≡ true
     → IsTyped (arithmetic_on at operator m n left right) (arithmetic_kind operator (widened a b))
-arithmetic_typed at operator m n a b left right h k is = rw h (rw k (wanted_typed at (takes operator (widened a b)) _ (arithmetic_kind operator (widened a b)) is))
+arithmetic_typed at operator m n a b left right h k is = rw h (rw k (there_typed at (arithmetic_in (widened a b) operator) _ _ (arithmetic_kind operator (widened a b)) is))
 
 -- ---- operators on two operands
 
@@ -260,7 +272,7 @@ negated_applies : (operator : Binary) (left right found : Operand) (answer : Ans
     → (answer >>= negated) ≡ Ok found → Applies operator left.kind right.kind found.kind
 negated_applies operator left right found answer applies h =
     let condition = from_bind answer negated found h in
-    subst (λ kind. Applies operator left.kind right.kind kind) (given_kind (typed.opposite condition.0.tree) condition.0.kind found condition.2) (applies condition.0 condition.1)
+    subst (λ kind. Applies operator left.kind right.kind kind) (given_kind (typed.unary unary.Not condition.0.tree) condition.0.kind found condition.2) (applies condition.0 condition.1)
 
 -- `and` and `or` are of two truth values
 truths_apply : (at : ℕ) (operator : Binary) (left right found : Operand) (tree : Typed) → Operates operator shapes.bool shapes.bool shapes.bool
@@ -294,7 +306,7 @@ operator_applies at binaries.Remainder nil_left nil_right left right found h = i
 -- ---- what has a row is typed
 
 -- arithmetic of two numbers
-sum_typed : (at : ℕ) (operator : Arithmetic) (of beside : Shape) (left right : Typed) (m n : Numbers) → plain of ≡ number_shape m → plain beside ≡ number_shape n → takes operator (widened m n) ≡ true
+sum_typed : (at : ℕ) (operator : Arithmetic) (of beside : Shape) (left right : Typed) (m n : Numbers) → plain of ≡ number_shape m → plain beside ≡ number_shape n → is_some (arithmetic_in (widened m n) operator) ≡ true
     → IsTyped (calculation_of at operator (operand left (shaped of)) (operand right (shaped beside))) (shaped (arithmetic_shape operator (widened m n)))
 sum_typed at operator of beside left right m n h k is =
     same_kind (calculation_of at operator (operand left (shaped of)) (operand right (shaped beside))) (arithmetic_kind operator (widened m n)) (shaped (arithmetic_shape operator (widened m n)))
@@ -302,18 +314,23 @@ sum_typed at operator of beside left right m n h k is =
     (arithmetic_typed at operator (numbers (operand left (shaped of))) (numbers (operand right (shaped beside))) m n (made_plain (operand left (shaped of))) (made_plain (operand right (shaped beside)))
     (are_numbers (plain of) m h) (are_numbers (plain beside) n k) is)
 
+-- what there is of decimals there is of wholes, too
+there_in : (operator : Arithmetic) → is_some (arithmetic_in Decimals operator) ≡ true → (numbers : Numbers) → is_some (arithmetic_in numbers operator) ≡ true
+there_in operator h Wholes = refl
+there_in operator h Decimals = h
+
 -- sums, differences and products
-added_typed : (at : ℕ) (operator : Arithmetic) → ((numbers : Numbers) → arithmetic_shape operator numbers ≡ number_shape numbers) → ((numbers : Numbers) → takes operator numbers ≡ true)
+added_typed : (at : ℕ) (operator : Arithmetic) → ((numbers : Numbers) → arithmetic_shape operator numbers ≡ number_shape numbers) → ((numbers : Numbers) → is_some (arithmetic_in numbers operator) ≡ true)
     → {p q both : Shape} → SumOf p q both → (of beside : Shape) (left right : Typed) → plain of ≡ p → plain beside ≡ q
     → IsTyped (calculation_of at operator (operand left (shaped of)) (operand right (shaped beside))) (shaped both)
-added_typed at operator shape takes sum of beside left right h k =
+added_typed at operator shape there sum of beside left right h k =
     let row = summed_row sum in
     same_kind (calculation_of at operator (operand left (shaped of)) (operand right (shaped beside))) (shaped (arithmetic_shape operator (widened row.0 row.1))) _
-    (ap shaped (shape (widened row.0 row.1) ∙ sym row.4)) (sum_typed at operator of beside left right row.0 row.1 (h ∙ row.2) (k ∙ row.3) (takes (widened row.0 row.1)))
+    (ap shaped (shape (widened row.0 row.1) ∙ sym row.4)) (sum_typed at operator of beside left right row.0 row.1 (h ∙ row.2) (k ∙ row.3) (there (widened row.0 row.1)))
 
 -- the order of two numbers
 ordered_typed : (at : ℕ) (order : Order) (m n : Option Numbers) (a b : Numbers) (left right : Typed) → m ≡ Some a → n ≡ Some b → IsTyped (ordered_of at order m n left right) truth_kind
-ordered_typed at order m n a b left right h k = rw h (rw k (typed.ordered a b order left right, refl))
+ordered_typed at order m n a b left right h k = rw h (rw k (typed.binary (binary.Compare (compared_of a b) order) left right, refl))
 
 -- likewise of two operands
 order_typed : (at : ℕ) (order : Order) {p q : Shape} → IsNumber p → IsNumber q → (of beside : Shape) (left right : Typed) → plain of ≡ p → plain beside ≡ q
@@ -330,8 +347,8 @@ equal_typed at m n a b left right h k is = rw h (rw k (wanted_typed at (same_fam
 -- equality, also with nil
 equality_typed : (at : ℕ) (nil_left nil_right : Bool) {p q : Shape} → SameFamily p q → (of beside : Shape) (left right : Typed) → plain of ≡ p → plain beside ≡ q
     → IsTyped (equality_of at nil_left nil_right (operand left (shaped of)) (operand right (shaped beside))) truth_kind
-equality_typed at true nil_right same of beside left right h k = (typed.is_nil right, refl)
-equality_typed at false true same of beside left right h k = (typed.is_nil left, refl)
+equality_typed at true nil_right same of beside left right h k = (typed.unary unary.IsNil right, refl)
+equality_typed at false true same of beside left right h k = (typed.unary unary.IsNil left, refl)
 equality_typed at false false same of beside left right h k =
     let row = families_row same in
     equal_typed at (scalar (operand left (shaped of))) (scalar (operand right (shaped beside))) row.0 row.1 left right (is_scalar (plain of) row.0 (h ∙ row.2)) (is_scalar (plain beside) row.1 (k ∙ row.3)) row.4
@@ -352,7 +369,7 @@ in_typed at {item = item} {max = max} same of beside left right h k =
 
 -- what is negated keeps its kind
 pub negated_typed : (answer : Answer) (kind : Kind) → IsTyped answer kind → IsTyped (answer >>= negated) kind
-negated_typed answer kind h = then_typed answer negated kind kind h (λ tree. (typed.opposite tree, refl))
+negated_typed answer kind h = then_typed answer negated kind kind h (λ tree. (typed.unary unary.Not tree, refl))
 
 -- two truth values
 truths_typed : (at : ℕ) (of beside : Shape) (tree left right : Typed) → plain of ≡ shapes.bool → plain beside ≡ shapes.bool
@@ -364,11 +381,11 @@ truths_typed at of beside tree left right h k =
 -- an operator with a row for two operands is typed
 pub operator_typed : (at : ℕ) (nil_left nil_right : Bool) {operator : Binary} {p q shape : Shape} → Operates operator p q shape → (of beside : Shape) (left right : Typed) → plain of ≡ p → plain beside ≡ q
     → IsTyped (binary_of at operator nil_left nil_right (operand left (shaped of)) (operand right (shaped beside))) (shaped shape)
-operator_typed at nil_left nil_right (typing.add sum) of beside left right h k = added_typed at Add (λ n. refl) (λ n. refl) sum of beside left right h k
-operator_typed at nil_left nil_right (typing.subtract sum) of beside left right h k = added_typed at Subtract (λ n. refl) (λ n. refl) sum of beside left right h k
-operator_typed at nil_left nil_right (typing.multiply sum) of beside left right h k = added_typed at Multiply (λ n. refl) (λ n. refl) sum of beside left right h k
+operator_typed at nil_left nil_right (typing.add sum) of beside left right h k = added_typed at Add (λ n. refl) (there_in Add refl) sum of beside left right h k
+operator_typed at nil_left nil_right (typing.subtract sum) of beside left right h k = added_typed at Subtract (λ n. refl) (there_in Subtract refl) sum of beside left right h k
+operator_typed at nil_left nil_right (typing.multiply sum) of beside left right h k = added_typed at Multiply (λ n. refl) (there_in Multiply refl) sum of beside left right h k
 operator_typed at nil_left nil_right (typing.divide first second) of beside left right h k =
-    let m = numbers_row first in let n = numbers_row second in sum_typed at Divide of beside left right m.0 n.0 (h ∙ m.1) (k ∙ n.1) refl
+    let m = numbers_row first in let n = numbers_row second in sum_typed at Divide of beside left right m.0 n.0 (h ∙ m.1) (k ∙ n.1) (there_in Divide refl (widened m.0 n.0))
 operator_typed at nil_left nil_right typing.remainder of beside left right h k = sum_typed at Remainder of beside left right Wholes Wholes h k refl
 operator_typed at nil_left nil_right (typing.less first second) of beside left right h k = order_typed at Less first second of beside left right h k
 operator_typed at nil_left nil_right (typing.less_or_equal first second) of beside left right h k = order_typed at LessOrEqual first second of beside left right h k

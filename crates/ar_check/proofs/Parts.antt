@@ -1,9 +1,14 @@
 -- Fields, items and lengths mean their kinds, and so does membership.
-use Rattle.std.proofs.Common.{◌≡◌, ℕ, ℤ, pos, negsuc, Bool, true, false, List, Option, Some, None, Ok, IfOk, refl}
-use Rattle.std.specs.Prelude.{◌-◌, suc, zero, if◌then◌else◌, nat_lt}
+use Rattle.std.proofs.Common.{◌≡◌, ℕ, ℤ, pos, negsuc, Bool, true, false, List, Option, Some, None, IfOk, refl, subst}
+use Rattle.std.specs.Prelude.{◌-◌, suc, zero, if◌then◌else◌, nat_lt, option_and_then, ◌||◌}
+use Rattle.ar_value.specs.declared.operator.Scalar.TheVariants as scalars
+use Rattle.ar_value.specs.declared.operator.Family.TheVariants as families
+use Rattle.ar_value.specs.declared.operator.Family.{Family}
+use Rattle.ar_value.specs.declared.operator.BinaryOperator.TheVariants as binary
+use Rattle.ar_value.specs.declared.operator.UnaryOperator.TheVariants as unary
 use Rattle.ar_value.specs.Answer.{◌>>=◌}
 use Rattle.ar_value.specs.Fits.{all_items, fits}
-use Rattle.ar_value.specs.Kind.{Kind, nil, shaped, plain}
+use Rattle.ar_value.specs.Kind.{Kind, nil, shaped, plain, fits_kind}
 use Rattle.ar_value.specs.Shape.{Shape, FieldShapes}
 use Rattle.ar_value.specs.Shape as shapes
 use Rattle.ar_value.specs.Value.{Value, Items, Fields, count, value_named}
@@ -18,7 +23,7 @@ use Rattle.ar_check.specs.Operand.{Operand, family_in, made_plain, plain_of, sca
 use Rattle.ar_condition.specs.Typed.{Typed}
 use Rattle.ar_condition.specs.Typed as typed
 use Rattle.ar_value.specs.declared.operator.Scalar.{Scalar}
-use Rattle.ar_check.proofs.Means.{MeansKind, Sound, IsThere, IsTruth, truth_wanted, answers, means_then, both_hold, wanted}
+use Rattle.ar_check.proofs.Means.{MeansKind, Sound, IsThere, IsTruth, truth_wanted, answers, means_then, both_hold, wanted, both}
 use Rattle.ar_check.proofs.Operands.{is_index, is_plain, named_fits, on_list, on_object, on_whole, there_fits}
 
 -- ---- items
@@ -60,10 +65,67 @@ item_fits : (shape : Shape) (items : Items) (index : ℤ) → all_items (λ v. f
 item_fits shape items (pos n) h = nth_fits shape items n h
 item_fits shape items (negsuc n) h = from_end shape items n (nat_lt n (count items)) h
 
+-- ---- families
+
+-- nil, or a scalar of a family
+in_family_by : (shape : Shape) (found : Scalar) (v : Value) → scalar_of shape ≡ Some found → fits v shape ≡ true → operators.is_in_family (family_in found) v ≡ true
+in_family_by shapes.bool scalars.Bool (values.bool b) is fit = refl
+in_family_by shapes.whole scalars.Whole (values.whole w) is fit = refl
+in_family_by shapes.decimal scalars.Decimal (values.decimal d) is fit = refl
+in_family_by shapes.text scalars.Text (values.text t) is fit = refl
+in_family_by shape found values.nil is fit = refl
+in_family_by shape found v is fit = absurd cc
+
+in_family : (shape : Shape) (found : Scalar) (v : Value) → scalar_of (plain shape) ≡ Some found → fits v shape ≡ true → operators.is_in_family (family_in found) v ≡ true
+in_family (shapes.optional shape) found values.nil is fit = refl
+in_family (shapes.optional shape) found v is fit = in_family_by shape found v is fit
+in_family shape found v is fit = in_family_by shape found v is fit
+
+pub kind_in_family : (kind : Kind) (found : Scalar) → option_and_then scalar_of (plain_of kind) ≡ Some found → (v : Value) → fits_kind v kind ≡ true → operators.is_in_family (family_in found) v ≡ true
+kind_in_family nil found is v fit = absurd cc
+kind_in_family (shaped shape) found is v fit = in_family shape found v is fit
+
+all_in_family : (family : Family) (shape : Shape) (items : Items) → ((v : Value) → fits v shape ≡ true → operators.is_in_family family v ≡ true) → all_items (λ v. fits v shape) items ≡ true
+    → operators.are_in_family family items ≡ true
+all_in_family family shape values.no_items each fit = refl
+all_in_family family shape (values.item v items) each fit =
+    let parts = both_hold (fits v shape) (all_items (λ v. fits v shape) items) fit in
+    both (operators.is_in_family family v) (operators.are_in_family family items) (each v parts.0) (all_in_family family shape items each parts.1)
+
+middle : (a b c : Bool) → b ≡ true → (a || b || c) ≡ true
+middle true b c h = refl
+middle false b c h = rw h refl
+
+last : (a b c : Bool) → c ≡ true → (a || b || c) ≡ true
+last true b c h = refl
+last false true c h = refl
+last false false c h = h
+
+of_family : (family : Family) (value : Value) (items : Items) → operators.are_in_family family (values.item value items) ≡ true → operators.of_one_family value items ≡ true
+of_family families.Truth value items h = rw h refl
+of_family families.Number value items h =
+    middle (operators.are_in_family families.Truth (values.item value items)) (operators.are_in_family families.Number (values.item value items)) (operators.are_in_family families.Text (values.item value items)) h
+of_family families.Text value items h =
+    last (operators.are_in_family families.Truth (values.item value items)) (operators.are_in_family families.Number (values.item value items)) (operators.are_in_family families.Text (values.item value items)) h
+
+pub kinded_means : (is_kinded : Bool) (b : Bool) → is_kinded ≡ true → MeansKind truth_kind (operators.where_kinded is_kinded (values.bool b))
+kinded_means true b h = refl
+kinded_means false b h = absurd cc
+
+-- scalars of one family
+pub one_family : (left right : Scalar) → same_family (family_in left) (family_in right) ≡ true → family_in right ≡ family_in left
+one_family scalars.Bool scalars.Bool is = refl
+one_family scalars.Whole scalars.Whole is = refl
+one_family scalars.Whole scalars.Decimal is = refl
+one_family scalars.Decimal scalars.Whole is = refl
+one_family scalars.Decimal scalars.Decimal is = refl
+one_family scalars.Text scalars.Text is = refl
+one_family left right is = absurd cc
+
 module _ (result : Value) (here : Option Value) where
   -- an item at an index means the shape of items
   pub index_means : (shape : Shape) (max : ℕ) (list position : Typed) → MeansKind (shaped (shapes.list shape max)) (mean result here list) → MeansKind (shaped shapes.whole) (mean result here position)
-      → MeansKind (shaped shape) (mean result here (typed.index list position))
+      → MeansKind (shaped shape) (mean result here (typed.binary binary.Index list position))
   index_means shape max list position h k =
       means_then _ _ (mean result here list) (λ v. mean result here position >>= λ i. operators.index_in v i) h
       (λ v fit. means_then _ _ (mean result here position) (λ i. operators.index_in v i) k
@@ -80,14 +142,13 @@ module _ (result : Value) (here : Option Value) where
   pub index_sound : (at : ℕ) (list index : Operand) → Sound result here list → Sound result here index → IfOk (index_of at list index) (Sound result here)
   index_sound at list index h k =
       answers _ _ (item_shape at (plain_of list.kind)) _ (is_list at list.kind)
-      (λ shape of. wanted result here at (is_whole_number (scalar index)) (typed.index (made_plain list) (made_plain index)) (shaped shape)
+      (λ shape of. wanted result here at (is_whole_number (scalar index)) (typed.binary binary.Index (made_plain list) (made_plain index)) (shaped shape)
       (λ is. index_means shape of.0 (made_plain list) (made_plain index) (plain_list list shape of h) (is_index result here index k is)))
 
   -- a length is a whole
-  pub len_means : (shape : Shape) (max : ℕ) (list : Typed) → MeansKind (shaped (shapes.list shape max)) (mean result here list) → MeansKind (shaped shapes.whole) (mean result here (typed.len list))
+  pub len_means : (shape : Shape) (max : ℕ) (list : Typed) → MeansKind (shaped (shapes.list shape max)) (mean result here list) → MeansKind (shaped shapes.whole) (mean result here (typed.unary unary.Len list))
   len_means shape max list h =
-      means_then _ _ (mean result here list) (λ v. operators.items_in v >>= λ items. Ok (values.whole (pos (count items)))) h
-      (λ v fit. on_list (λ v. MeansKind (shaped shapes.whole) (operators.items_in v >>= λ items. Ok (values.whole (pos (count items))))) shape max (λ items short all. refl) v fit)
+      means_then _ _ (mean result here list) operators.length_of h (λ v fit. on_list (λ v. MeansKind (shaped shapes.whole) (operators.length_of v)) shape max (λ items short all. refl) v fit)
 
   -- a length means its kind
   pub len_sound : (at : ℕ) (list : Operand) → Sound result here list → IfOk (len_of at list) (Sound result here)
@@ -96,26 +157,32 @@ module _ (result : Value) (here : Option Value) where
 
   -- ---- membership
 
-  -- membership in a list is a truth value
-  pub member_means : (kind : Kind) (shape : Shape) (max : ℕ) (operand list : Typed) → MeansKind kind (mean result here operand) → MeansKind (shaped (shapes.list shape max)) (mean result here list)
-      → MeansKind truth_kind (mean result here (typed.within operand list))
-  member_means kind shape max operand list h k =
-      means_then _ _ (mean result here operand) (λ value. mean result here list >>= λ v. operators.items_in v >>= λ items. Ok (values.bool (operators.has_item value items))) h
-      (λ value fit. means_then _ _ (mean result here list) (λ v. operators.items_in v >>= λ items. Ok (values.bool (operators.has_item value items))) k
-      (λ v is. on_list (λ v. MeansKind truth_kind (operators.items_in v >>= λ items. Ok (values.bool (operators.has_item value items)))) shape max (λ items short all. refl) v is))
+  -- membership in a list of scalars of a family is a truth value
+  member_means : (family : Family) (kind : Kind) (shape : Shape) (max : ℕ) (operand list : Typed) → ((v : Value) → fits_kind v kind ≡ true → operators.is_in_family family v ≡ true)
+      → ((v : Value) → fits v shape ≡ true → operators.is_in_family family v ≡ true) → MeansKind kind (mean result here operand) → MeansKind (shaped (shapes.list shape max)) (mean result here list)
+      → MeansKind truth_kind (mean result here (typed.binary binary.IsIn operand list))
+  member_means family kind shape max operand list in_operand in_items h k =
+      means_then _ _ (mean result here operand) (λ value. mean result here list >>= λ v. operators.is_among value v) h
+      (λ value fit. means_then _ _ (mean result here list) (λ v. operators.is_among value v) k
+      (λ v is. on_list (λ v. MeansKind truth_kind (operators.is_among value v)) shape max
+      (λ items short all. kinded_means (operators.of_one_family value items) (operators.has_item value items)
+      (of_family family value items (both (operators.is_in_family family value) (operators.are_in_family family items) (in_operand value fit) (all_in_family family shape items in_items all)))) v is))
 
   -- membership of scalars of one family is a truth value
-  member_sound : (at : ℕ) (left right : Option Scalar) (operand list : Typed) → MeansKind truth_kind (mean result here (typed.within operand list)) → IfOk (member_of at left right operand list) (IsTruth result here)
-  member_sound at (Some m) (Some n) operand list h = truth_wanted result here at (same_family (family_in m) (family_in n)) (typed.within operand list) h
-  member_sound at (Some m) None operand list h = tt
-  member_sound at None n operand list h = tt
+  member_sound : (at : ℕ) (m n : Option Scalar) (left : Operand) (list : Typed) (shape : Shape) (max : ℕ) → scalar left ≡ m → scalar_of (plain shape) ≡ n → Sound result here left
+      → MeansKind (shaped (shapes.list shape max)) (mean result here list) → IfOk (member_of at m n left.tree list) (IsTruth result here)
+  member_sound at (Some m) (Some n) left list shape max of_m of_n h k =
+      truth_wanted result here at (same_family (family_in m) (family_in n)) (typed.binary binary.IsIn left.tree list)
+      (λ is. member_means (family_in m) left.kind shape max left.tree list (kind_in_family left.kind m of_m)
+      (λ v fit. subst (λ family. operators.is_in_family family v ≡ true) (one_family m n is) (in_family shape n v of_n fit)) h k)
+  member_sound at (Some m) None left list shape max of_m of_n h k = tt
+  member_sound at None n left list shape max of_m of_n h k = tt
 
   -- `in` means its kind
   pub in_sound : (at : ℕ) (left right : Operand) → Sound result here left → Sound result here right → IfOk (in_of at left right) (IsTruth result here)
   in_sound at left right h k =
       answers _ _ (item_shape at (plain_of right.kind)) (λ shape. member_of at (scalar left) (scalar_of (plain shape)) left.tree (made_plain right)) (is_list at right.kind)
-      (λ shape of. member_sound at (scalar left) (scalar_of (plain shape)) left.tree (made_plain right)
-      (member_means left.kind shape of.0 left.tree (made_plain right) h (plain_list right shape of k)))
+      (λ shape of. member_sound at (scalar left) (scalar_of (plain shape)) left (made_plain right) shape of.0 refl refl h (plain_list right shape of k))
 
   -- ---- fields
 

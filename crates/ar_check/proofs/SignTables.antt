@@ -1,6 +1,7 @@
 -- Operators on one operand, as the table of kinds tells of them.
 use Rattle.std.proofs.Common.{◌≡◌, ℕ, Option, Some, None, Ok, refl, ◌∙◌, ap, sym}
 use Rattle.std.specs.Prelude.{option_and_then}
+use Rattle.ar_value.specs.declared.operator.UnaryOperator.TheVariants as unary
 use Rattle.ar_value.specs.Kind.{Kind, shaped, plain}
 use Rattle.ar_value.specs.Shape.{Shape}
 use Rattle.ar_value.specs.Shape as shapes
@@ -54,7 +55,7 @@ sign_row at unaries.Not operand found h =
 
 -- the negative of a number
 negative_typed : (at : ℕ) (numbers : Option Numbers) (n : Numbers) (tree : Typed) → numbers ≡ Some n → IsTyped (negation_of at numbers tree) (number_kind n)
-negative_typed at numbers n tree h = rw h (typed.negative n tree, refl)
+negative_typed at numbers n tree h = rw h (typed.unary (unary.Negate n) tree, refl)
 
 -- a number behind `+`
 positive_typed : (at : ℕ) (numbers : Option Numbers) (n : Numbers) (tree : Typed) → numbers ≡ Some n → IsTyped (plus_of at numbers tree) (number_kind n)

@@ -1,6 +1,7 @@
 -- A checked condition, on a value of its shape, is true or false or meets a fault.
 use Rattle.std.proofs.Common.{◌≡◌, ℕ, suc, Bool, true, false, Option, Some, None, Ok, Err, IfOk, refl}
 use Rattle.std.specs.Prelude.{◌∷◌, if◌then◌else◌, nat_lt}
+use Rattle.ar_value.specs.declared.operator.UnaryOperator.TheVariants as unary
 use Rattle.ar_value.specs.Answer.{◌>>=◌}
 use Rattle.ar_value.specs.Fits.{fits}
 use Rattle.ar_value.specs.Kind.{Kind}
@@ -84,7 +85,7 @@ module _ (wanted : Shape) (result : Value) (fit : fits result wanted ≡ true) w
     tree_sound item here there around (trees.LenAt at list) =
         answers _ _ (typed_of wanted item around list) (len_of at) (tree_sound item here there around list) (len_sound result here at)
     tree_sound item here there around (trees.IsNilAt at operand) =
-        answers _ _ (typed_of wanted item around operand) (λ operand. given (typed.is_nil operand.tree) truth_kind) (tree_sound item here there around operand)
+        answers _ _ (typed_of wanted item around operand) (λ operand. given (typed.unary unary.IsNil operand.tree) truth_kind) (tree_sound item here there around operand)
         (λ operand h. is_nil_means result here operand.kind operand.tree h)
     tree_sound item here there around (trees.DefaultAt at operand otherwise) =
         answers _ _ (typed_of wanted item around operand) (λ first. typed_of wanted item around otherwise >>= default_of at first) (tree_sound item here there around operand)

@@ -1,5 +1,6 @@
 -- Arithmetic and order mean their kinds.
-use Rattle.std.proofs.Common.{◌≡◌, ℕ, ℤ, true, Option, Some, None, Result, Ok, Err, IfOk, refl}
+use Rattle.std.proofs.Common.{◌≡◌, ℕ, ℤ, true, Option, Some, None, Result, Ok, Err, IfOk, IfSome, refl}
+use Rattle.ar_value.specs.declared.operator.UnaryOperator.TheVariants as unary
 use Rattle.ar_value.specs.Answer.{◌>>=◌}
 use Rattle.ar_value.specs.Arithmetic.{decimal_of_whole, decimal_product, difference, negation, product, quotient, remainder, sum}
 use Rattle.ar_value.specs.Kind.{Kind, shaped, fits_kind}
@@ -7,7 +8,7 @@ use Rattle.ar_value.specs.Shape as shapes
 use Rattle.ar_value.specs.Value.{Value}
 use Rattle.ar_value.specs.Value as values
 use Rattle.ar_value.specs.declared.fault.Fault.{Fault}
-use Rattle.ar_check.specs.Check.{arithmetic_kind, arithmetic_on, negation_of, number_kind, ordering_of, ordered_of, plus_of, calculation_of, takes, truth_kind, widened}
+use Rattle.ar_check.specs.Check.{arithmetic_in, arithmetic_kind, arithmetic_on, calculation_of, compared_of, negation_of, number_kind, ordering_of, ordered_of, plus_of, truth_kind, where_there, widened}
 use Rattle.ar_value.specs.Operators.{Failure, Meaning}
 use Rattle.ar_condition.specs.Meaning.{mean}
 use Rattle.ar_value.specs.Operators as operators
@@ -16,10 +17,13 @@ use Rattle.ar_condition.specs.Typed.{Typed}
 use Rattle.ar_condition.specs.Typed as typed
 use Rattle.ar_value.specs.declared.operator.Arithmetic.{Arithmetic}
 use Rattle.ar_value.specs.declared.operator.Arithmetic.TheVariants.{Add, Subtract, Multiply, Divide, Remainder}
+use Rattle.ar_value.specs.declared.operator.BinaryOperator.{BinaryOperator}
+use Rattle.ar_value.specs.declared.operator.DecimalArithmetic.{DecimalArithmetic}
+use Rattle.ar_value.specs.declared.operator.DecimalArithmetic.TheVariants as on_decimals
 use Rattle.ar_value.specs.declared.operator.Numbers.{Numbers}
 use Rattle.ar_value.specs.declared.operator.Numbers.TheVariants.{Wholes, Decimals}
 use Rattle.ar_value.specs.declared.operator.Order.{Order}
-use Rattle.ar_check.proofs.Means.{MeansKind, Sound, means_then, wanted}
+use Rattle.ar_check.proofs.Means.{MeansKind, Sound, means_then}
 use Rattle.ar_check.proofs.Operands.{MeansNumbers, are_numbers, on_decimal, on_whole}
 
 abbrev Whole : Kind
@@ -38,19 +42,20 @@ decimal_or_fault : (r : Result ℤ Fault) → MeansKind Decimal (operators.decim
 decimal_or_fault (Ok z) = refl
 decimal_or_fault (Err fault) = tt
 
--- a value of a kind of numbers
-on_number : (P : Value → Type 0) (numbers : Numbers) → ((w : ℤ) → P (values.whole w)) → ((d : ℤ) → P (values.decimal d)) → (v : Value) → fits_kind v (number_kind numbers) ≡ true → P v
-on_number P Wholes of_whole of_decimal v fit = on_whole P of_whole v fit
-on_number P Decimals of_whole of_decimal v fit = on_decimal P of_decimal v fit
-
 -- a whole in millionths is a decimal, or a fault
 pub turns : (v : Value) → fits_kind v Whole ≡ true → MeansKind Decimal (operators.to_decimal v)
 turns v fit = on_whole (λ v. MeansKind Decimal (operators.to_decimal v)) (λ w. decimal_or_fault (decimal_of_whole w)) v fit
 
 -- the negative of a number is one of its kind
-pub negates : (numbers : Numbers) (v : Value) → fits_kind v (number_kind numbers) ≡ true → MeansKind (number_kind numbers) (operators.negative_of v)
-negates Wholes v fit = on_whole (λ v. MeansKind Whole (operators.negative_of v)) (λ w. whole_or_fault (negation w)) v fit
-negates Decimals v fit = on_decimal (λ v. MeansKind Decimal (operators.negative_of v)) (λ d. decimal_or_fault (negation d)) v fit
+negates : (numbers : Numbers) (v : Value) → fits_kind v (number_kind numbers) ≡ true → MeansKind (number_kind numbers) (operators.negative numbers v)
+negates Wholes v fit = on_whole (λ v. MeansKind Whole (operators.negative Wholes v)) (λ w. whole_or_fault (negation w)) v fit
+negates Decimals v fit = on_decimal (λ v. MeansKind Decimal (operators.negative Decimals v)) (λ d. decimal_or_fault (negation d)) v fit
+
+two_wholes : (P : Value → Value → Type 0) → ((x y : ℤ) → P (values.whole x) (values.whole y)) → (v w : Value) → fits_kind v Whole ≡ true → fits_kind w Whole ≡ true → P v w
+two_wholes P each v w fit also = on_whole (λ v. P v w) (λ x. on_whole (λ w. P (values.whole x) w) (λ y. each x y) w also) v fit
+
+two_decimals : (P : Value → Value → Type 0) → ((x y : ℤ) → P (values.decimal x) (values.decimal y)) → (v w : Value) → fits_kind v Decimal ≡ true → fits_kind w Decimal ≡ true → P v w
+two_decimals P each v w fit also = on_decimal (λ v. P v w) (λ x. on_decimal (λ w. P (values.decimal x) w) (λ y. each x y) w also) v fit
 
 -- arithmetic of two wholes
 of_wholes : (operator : Arithmetic) (left right : ℤ) → MeansKind (arithmetic_kind operator Wholes) (operators.whole_arithmetic operator left right)
@@ -60,34 +65,38 @@ of_wholes Multiply left right = whole_or_fault (product left right)
 of_wholes Divide left right = decimal_or_fault (quotient left right)
 of_wholes Remainder left right = whole_or_fault (remainder left right)
 
--- arithmetic of two decimals, which have no remainder
-of_decimals : (operator : Arithmetic) (left right : ℤ) → takes operator Decimals ≡ true → MeansKind (arithmetic_kind operator Decimals) (operators.decimal_arithmetic operator left right)
-of_decimals Add left right h = decimal_or_fault (sum left right)
-of_decimals Subtract left right h = decimal_or_fault (difference left right)
-of_decimals Multiply left right h = decimal_or_fault (decimal_product left right)
-of_decimals Divide left right h = decimal_or_fault (quotient left right)
-of_decimals Remainder left right h = absurd (cc)
+-- arithmetic of two decimals
+of_decimals : (operator : DecimalArithmetic) (left right : ℤ) → MeansKind Decimal (operators.decimal_arithmetic operator left right)
+of_decimals on_decimals.Add left right = decimal_or_fault (sum left right)
+of_decimals on_decimals.Subtract left right = decimal_or_fault (difference left right)
+of_decimals on_decimals.Multiply left right = decimal_or_fault (decimal_product left right)
+of_decimals on_decimals.Divide left right = decimal_or_fault (quotient left right)
 
--- arithmetic of two numbers of one kind
-calculates : (operator : Arithmetic) (numbers : Numbers) → takes operator numbers ≡ true → (v w : Value) → fits_kind v (number_kind numbers) ≡ true → fits_kind w (number_kind numbers) ≡ true
-    → MeansKind (arithmetic_kind operator numbers) (operators.arithmetic_of operator v w)
-calculates operator Wholes h v w fit also =
-    on_whole (λ v. MeansKind (arithmetic_kind operator Wholes) (operators.arithmetic_of operator v w))
-    (λ x. on_whole (λ w. MeansKind (arithmetic_kind operator Wholes) (operators.arithmetic_of operator (values.whole x) w)) (λ y. of_wholes operator x y) w also) v fit
-calculates operator Decimals h v w fit also =
-    on_decimal (λ v. MeansKind (arithmetic_kind operator Decimals) (operators.arithmetic_of operator v w))
-    (λ x. on_decimal (λ w. MeansKind (arithmetic_kind operator Decimals) (operators.arithmetic_of operator (values.decimal x) w)) (λ y. of_decimals operator x y h) w also) v fit
+decimals_mean : (operator : DecimalArithmetic) (v w : Value) → fits_kind v Decimal ≡ true → fits_kind w Decimal ≡ true → MeansKind Decimal (operators.decimals operator v w)
+decimals_mean operator v w fit also = two_decimals (λ v w. MeansKind Decimal (operators.decimals operator v w)) (of_decimals operator) v w fit also
+
+-- what arithmetic there is of two numbers of one kind gives one of its kind
+calculates : (operator : Arithmetic) (numbers : Numbers) (v w : Value) → fits_kind v (number_kind numbers) ≡ true → fits_kind w (number_kind numbers) ≡ true
+    → IfSome (arithmetic_in numbers operator) (λ found. MeansKind (arithmetic_kind operator numbers) (operators.two found v w))
+calculates operator Wholes v w fit also = two_wholes (λ v w. MeansKind (arithmetic_kind operator Wholes) (operators.wholes operator v w)) (of_wholes operator) v w fit also
+calculates Add Decimals v w fit also = decimals_mean on_decimals.Add v w fit also
+calculates Subtract Decimals v w fit also = decimals_mean on_decimals.Subtract v w fit also
+calculates Multiply Decimals v w fit also = decimals_mean on_decimals.Multiply v w fit also
+calculates Divide Decimals v w fit also = decimals_mean on_decimals.Divide v w fit also
+calculates Remainder Decimals v w fit also = tt
 
 -- the order of any two numbers is a truth value
-pub orders : (way : Order) (m n : Numbers) (v w : Value) → fits_kind v (number_kind m) ≡ true → fits_kind w (number_kind n) ≡ true → MeansKind truth_kind (operators.order_of way v w)
-orders way m n v w fit also =
-    on_number (λ v. MeansKind truth_kind (operators.order_of way v w)) m
-    (λ x. on_number (λ w. MeansKind truth_kind (operators.order_of way (values.whole x) w)) n (λ y. refl) (λ y. refl) w also)
-    (λ x. on_number (λ w. MeansKind truth_kind (operators.order_of way (values.decimal x) w)) n (λ y. refl) (λ y. refl) w also) v fit
+orders : (way : Order) (m n : Numbers) (v w : Value) → fits_kind v (number_kind m) ≡ true → fits_kind w (number_kind n) ≡ true → MeansKind truth_kind (operators.compare (compared_of m n) way v w)
+orders way Wholes Wholes v w fit also = two_wholes (λ v w. MeansKind truth_kind (operators.compare (compared_of Wholes Wholes) way v w)) (λ x y. refl) v w fit also
+orders way Decimals Decimals v w fit also = two_decimals (λ v w. MeansKind truth_kind (operators.compare (compared_of Decimals Decimals) way v w)) (λ x y. refl) v w fit also
+orders way Wholes Decimals v w fit also =
+    on_whole (λ v. MeansKind truth_kind (operators.compare (compared_of Wholes Decimals) way v w)) (λ x. on_decimal (λ w. MeansKind truth_kind (operators.compare (compared_of Wholes Decimals) way (values.whole x) w)) (λ y. refl) w also) v fit
+orders way Decimals Wholes v w fit also =
+    on_decimal (λ v. MeansKind truth_kind (operators.compare (compared_of Decimals Wholes) way v w)) (λ x. on_whole (λ w. MeansKind truth_kind (operators.compare (compared_of Decimals Wholes) way (values.decimal x) w)) (λ y. refl) w also) v fit
 
 module _ (result : Value) (here : Option Value) where
   -- a whole turned into decimal is one
-  pub turned_means : (tree : Typed) → MeansKind Whole (mean result here tree) → MeansKind Decimal (mean result here (typed.as_decimal tree))
+  pub turned_means : (tree : Typed) → MeansKind Whole (mean result here tree) → MeansKind Decimal (mean result here (typed.unary unary.ToDecimal tree))
   turned_means tree h = means_then _ _ (mean result here tree) operators.to_decimal h turns
 
   -- the left number beside the right one, in their common kind
@@ -104,19 +113,21 @@ module _ (result : Value) (here : Option Value) where
   right_among Decimals Wholes tree h = turned_means tree h
   right_among Decimals Decimals tree h = h
 
-  -- arithmetic of two trees of one kind
-  pub arithmetic_means : (operator : Arithmetic) (numbers : Numbers) (left right : Typed) → takes operator numbers ≡ true → MeansKind (number_kind numbers) (mean result here left)
-      → MeansKind (number_kind numbers) (mean result here right) → MeansKind (arithmetic_kind operator numbers) (mean result here (typed.arithmetic numbers operator left right))
-  arithmetic_means operator numbers left right is h k =
-      means_then _ _ (mean result here left) (λ v. mean result here right >>= λ w. operators.arithmetic_of operator v w) h
-      (λ v fit. means_then _ _ (mean result here right) (λ w. operators.arithmetic_of operator v w) k (λ w also. calculates operator numbers is v w fit also))
+  -- arithmetic of two trees of one kind, where there is any
+  there_sound : (at : ℕ) (found : Option BinaryOperator) (numbers : Numbers) (kind : Kind) (left right : Typed) → MeansKind (number_kind numbers) (mean result here left) → MeansKind (number_kind numbers) (mean result here right)
+      → ((v w : Value) → fits_kind v (number_kind numbers) ≡ true → fits_kind w (number_kind numbers) ≡ true → IfSome found (λ found. MeansKind kind (operators.two found v w)))
+      → IfOk (where_there at found left right kind) (Sound result here)
+  there_sound at (Some operator) numbers kind left right h k each =
+      means_then _ _ (mean result here left) (λ v. mean result here right >>= λ w. operators.two operator v w) h
+      (λ v fit. means_then _ _ (mean result here right) (λ w. operators.two operator v w) k (λ w also. each v w fit also))
+  there_sound at None numbers kind left right h k each = tt
 
   -- arithmetic where both are numbers
   arithmetic_sound : (at : ℕ) (operator : Arithmetic) (m n : Option Numbers) (left right : Typed) → MeansNumbers m (mean result here left) → MeansNumbers n (mean result here right)
       → IfOk (arithmetic_on at operator m n left right) (Sound result here)
   arithmetic_sound at operator (Some m) (Some n) left right h k =
-      wanted result here at (takes operator (widened m n)) (typed.arithmetic (widened m n) operator (among n m left) (among m n right)) (arithmetic_kind operator (widened m n))
-      (λ is. arithmetic_means operator (widened m n) (among n m left) (among m n right) is (left_among m n left h) (right_among m n right k))
+      there_sound at (arithmetic_in (widened m n) operator) (widened m n) (arithmetic_kind operator (widened m n)) (among n m left) (among m n right) (left_among m n left h) (right_among m n right k)
+      (calculates operator (widened m n))
   arithmetic_sound at operator (Some m) None left right h k = tt
   arithmetic_sound at operator None n left right h k = tt
 
@@ -129,8 +140,8 @@ module _ (result : Value) (here : Option Value) where
   ordered_sound : (at : ℕ) (way : Order) (m n : Option Numbers) (left right : Typed) → MeansNumbers m (mean result here left) → MeansNumbers n (mean result here right)
       → IfOk (ordered_of at way m n left right) (Sound result here)
   ordered_sound at way (Some m) (Some n) left right h k =
-      means_then _ _ (mean result here left) (λ v. mean result here right >>= λ w. operators.order_of way v w) h
-      (λ v fit. means_then _ _ (mean result here right) (λ w. operators.order_of way v w) k (λ w also. orders way m n v w fit also))
+      means_then _ _ (mean result here left) (λ v. mean result here right >>= λ w. operators.compare (compared_of m n) way v w) h
+      (λ v fit. means_then _ _ (mean result here right) (λ w. operators.compare (compared_of m n) way v w) k (λ w also. orders way m n v w fit also))
   ordered_sound at way (Some m) None left right h k = tt
   ordered_sound at way None n left right h k = tt
 
@@ -141,7 +152,7 @@ module _ (result : Value) (here : Option Value) where
 
   -- a negative means its kind
   pub negative_sound : (at : ℕ) (numbers : Option Numbers) (tree : Typed) → MeansNumbers numbers (mean result here tree) → IfOk (negation_of at numbers tree) (Sound result here)
-  negative_sound at (Some numbers) tree h = means_then _ _ (mean result here tree) operators.negative_of h (negates numbers)
+  negative_sound at (Some numbers) tree h = means_then _ _ (mean result here tree) (operators.negative numbers) h (negates numbers)
   negative_sound at None tree h = tt
 
   -- a number behind `+` means its kind

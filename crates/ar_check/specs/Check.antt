@@ -1,5 +1,7 @@
 -- The typed tree of a condition and its kind, or its first type fault. Children come first, from left to right.
 use Rattle.std.specs.Prelude.{ℕ, suc, is_some, Bool, true, false, ◌&&◌, if◌then◌else◌, nat_lt, List, [], ◌∷◌, length, map, Option, Some, None, Result, Ok, Err}
+use Rattle.ar_value.specs.declared.operator.BinaryOperator.TheVariants as binary
+use Rattle.ar_value.specs.declared.operator.UnaryOperator.TheVariants as unary
 use Rattle.ar_value.specs.Answer.{◌>>=◌}
 use Rattle.ar_value.specs.Kind.{Kind, nil, shaped, common, plain}
 use Rattle.ar_value.specs.Shape.{Shape, shape_named}
@@ -23,6 +25,10 @@ use Rattle.ar_check.specs.declared.error.TypeError.{TypeError}
 use Rattle.ar_check.specs.declared.error.TypeError.TheVariants.{WrongOperand, NoSuchField, NotAList, NoCommonKind, NotScalar, NotTruth, PredicatesTooDeep}
 use Rattle.ar_value.specs.declared.operator.Arithmetic.{Arithmetic}
 use Rattle.ar_value.specs.declared.operator.Arithmetic.TheVariants.{Add, Subtract, Multiply, Divide, Remainder}
+use Rattle.ar_value.specs.declared.operator.BinaryOperator.{BinaryOperator}
+use Rattle.ar_value.specs.declared.operator.Compared.{Compared}
+use Rattle.ar_value.specs.declared.operator.Compared.TheVariants as compared
+use Rattle.ar_value.specs.declared.operator.DecimalArithmetic.TheVariants as on_decimals
 use Rattle.ar_value.specs.declared.operator.Family.{Family}
 use Rattle.ar_value.specs.declared.operator.Family.TheVariants as families
 use Rattle.ar_value.specs.declared.operator.Numbers.{Numbers}
@@ -70,7 +76,7 @@ field_of at name owner = do
 abbrev pub len_of : ℕ → Operand → Answer
 len_of at list = do
   shape ← item_shape at (plain_of list.kind)
-  given (typed.len (made_plain list)) (shaped shapes.whole)
+  given (typed.unary unary.Len (made_plain list)) (shaped shapes.whole)
 
 -- a tree of a kind, where its operands are what it wants
 abbrev pub where_wanted : ℕ → Bool → Typed → Kind → Answer
@@ -84,7 +90,7 @@ is_whole_number scalar = false
 abbrev pub index_of : ℕ → Operand → Operand → Answer
 index_of at list index = do
   shape ← item_shape at (plain_of list.kind)
-  where_wanted at (is_whole_number (scalar index)) (typed.index (made_plain list) (made_plain index)) (shaped shape)
+  where_wanted at (is_whole_number (scalar index)) (typed.binary binary.Index (made_plain list) (made_plain index)) (shaped shape)
 
 -- ---- numbers
 
@@ -98,7 +104,7 @@ widened Wholes Wholes = Wholes
 widened left right = Decimals
 
 abbrev pub negation_of : ℕ → Option Numbers → Typed → Answer
-negation_of at (Some numbers) tree = given (typed.negative numbers tree) (number_kind numbers)
+negation_of at (Some numbers) tree = given (typed.unary (unary.Negate numbers) tree) (number_kind numbers)
 negation_of at None tree = Err (WrongOperand at)
 
 abbrev pub plus_of : ℕ → Option Numbers → Typed → Answer
@@ -110,21 +116,35 @@ abbrev pub arithmetic_kind : Arithmetic → Numbers → Kind
 arithmetic_kind Divide numbers = shaped shapes.decimal
 arithmetic_kind operator numbers = number_kind numbers
 
--- remainders are of wholes alone
-abbrev pub takes : Arithmetic → Numbers → Bool
-takes Remainder Decimals = false
-takes operator numbers = true
+-- arithmetic of two numbers of one kind; remainders are of wholes alone
+abbrev pub arithmetic_in : Numbers → Arithmetic → Option BinaryOperator
+arithmetic_in Wholes operator = Some (binary.Wholes operator)
+arithmetic_in Decimals Add = Some (binary.Decimals on_decimals.Add)
+arithmetic_in Decimals Subtract = Some (binary.Decimals on_decimals.Subtract)
+arithmetic_in Decimals Multiply = Some (binary.Decimals on_decimals.Multiply)
+arithmetic_in Decimals Divide = Some (binary.Decimals on_decimals.Divide)
+arithmetic_in Decimals Remainder = None
+
+-- a tree of an operator, where there is one for its operands
+abbrev pub where_there : ℕ → Option BinaryOperator → Typed → Typed → Kind → Answer
+where_there at (Some operator) left right kind = given (typed.binary operator left right) kind
+where_there at None left right kind = Err (WrongOperand at)
 
 abbrev pub arithmetic_among : ℕ → Arithmetic → Numbers → Typed → Typed → Answer
-arithmetic_among at operator numbers left right =
-    where_wanted at (takes operator numbers) (typed.arithmetic numbers operator left right) (arithmetic_kind operator numbers)
+arithmetic_among at operator numbers left right = where_there at (arithmetic_in numbers operator) left right (arithmetic_kind operator numbers)
 
 abbrev pub arithmetic_on : ℕ → Arithmetic → Option Numbers → Option Numbers → Typed → Typed → Answer
 arithmetic_on at operator (Some m) (Some n) left right = arithmetic_among at operator (widened m n) (among n m left) (among m n right)
 arithmetic_on at operator m n left right = Err (WrongOperand at)
 
+-- two wholes and two decimals each have comparisons of their own
+abbrev pub compared_of : Numbers → Numbers → Compared
+compared_of Wholes Wholes = compared.Wholes
+compared_of Decimals Decimals = compared.Decimals
+compared_of left right = compared.Mixed
+
 abbrev pub ordered_of : ℕ → Order → Option Numbers → Option Numbers → Typed → Typed → Answer
-ordered_of at order (Some m) (Some n) left right = given (typed.ordered m n order left right) truth_kind
+ordered_of at order (Some m) (Some n) left right = given (typed.binary (binary.Compare (compared_of m n) order) left right) truth_kind
 ordered_of at order m n left right = Err (WrongOperand at)
 
 -- ---- equality and membership
@@ -137,7 +157,7 @@ same_family left right = false
 
 -- two scalars of one family, each of which may be nil
 abbrev pub equal_of : ℕ → Option Scalar → Option Scalar → Typed → Typed → Answer
-equal_of at (Some m) (Some n) left right = where_wanted at (same_family (family_in m) (family_in n)) (typed.equal (family_in m) left right) truth_kind
+equal_of at (Some m) (Some n) left right = where_wanted at (same_family (family_in m) (family_in n)) (typed.binary (binary.Equal (family_in m)) left right) truth_kind
 equal_of at m n left right = Err (WrongOperand at)
 
 abbrev pub is_nil_literal : Expression → Bool
@@ -146,16 +166,16 @@ is_nil_literal tree = false
 
 -- anything compares with the literal `nil`
 abbrev pub equality_of : ℕ → (nil_left nil_right : Bool) → Operand → Operand → Answer
-equality_of at true nil_right left right = given (typed.is_nil right.tree) truth_kind
-equality_of at false true left right = given (typed.is_nil left.tree) truth_kind
+equality_of at true nil_right left right = given (typed.unary unary.IsNil right.tree) truth_kind
+equality_of at false true left right = given (typed.unary unary.IsNil left.tree) truth_kind
 equality_of at false false left right = equal_of at (scalar left) (scalar right) left.tree right.tree
 
 abbrev pub negated : Operand → Answer
-negated condition = given (typed.opposite condition.tree) condition.kind
+negated condition = given (typed.unary unary.Not condition.tree) condition.kind
 
 -- a scalar in a list of scalars of its family, any of which may be nil
 abbrev pub member_of : ℕ → Option Scalar → Option Scalar → Typed → Typed → Answer
-member_of at (Some m) (Some n) operand list = where_wanted at (same_family (family_in m) (family_in n)) (typed.within operand list) truth_kind
+member_of at (Some m) (Some n) operand list = where_wanted at (same_family (family_in m) (family_in n)) (typed.binary binary.IsIn operand list) truth_kind
 member_of at m n operand list = Err (WrongOperand at)
 
 -- ---- operators
@@ -163,7 +183,7 @@ member_of at m n operand list = Err (WrongOperand at)
 abbrev pub unary_of : ℕ → Unary → Operand → Answer
 unary_of at unaries.Minus operand = negation_of at (numbers operand) (made_plain operand)
 unary_of at unaries.Plus operand = plus_of at (numbers operand) (made_plain operand)
-unary_of at unaries.Not operand = where_wanted at (is_truth operand) (typed.opposite (made_plain operand)) truth_kind
+unary_of at unaries.Not operand = where_wanted at (is_truth operand) (typed.unary unary.Not (made_plain operand)) truth_kind
 
 abbrev pub calculation_of : ℕ → Arithmetic → Operand → Operand → Answer
 calculation_of at operator left right = arithmetic_on at operator (numbers left) (numbers right) (made_plain left) (made_plain right)
@@ -230,7 +250,7 @@ in_common at tree None = Err (NoCommonKind at)
 
 -- both sides are turned beside one another
 abbrev pub default_tree : Typed → Kind → Typed → Kind → Typed
-default_tree first plain other of_other = typed.otherwise (turned of_other plain first) (turned plain of_other other)
+default_tree first plain other of_other = typed.binary binary.Default (turned of_other plain first) (turned plain of_other other)
 
 abbrev pub default_of : ℕ → Operand → Operand → Answer
 default_of at first other =
@@ -273,7 +293,7 @@ common_of (item ∷ items) = joined item.scalar items
 
 -- an item in a list of scalars
 abbrev pub turned_item : Scalar → Option Scalar → Typed → Typed
-turned_item scalars.Decimal (Some scalars.Whole) tree = typed.as_decimal tree
+turned_item scalars.Decimal (Some scalars.Whole) tree = typed.unary unary.ToDecimal tree
 turned_item wanted scalar tree = tree
 
 abbrev pub scalar_shape : Scalar → Shape
@@ -355,7 +375,7 @@ abbrev mutual
     len_of at list
   typed_of result item around (trees.IsNilAt at operand) = do
     operand ← typed_of result item around operand
-    given (typed.is_nil operand.tree) truth_kind
+    given (typed.unary unary.IsNil operand.tree) truth_kind
   typed_of result item around (trees.DefaultAt at operand otherwise) = do
     operand ← typed_of result item around operand
     otherwise ← typed_of result item around otherwise

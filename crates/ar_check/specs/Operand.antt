@@ -1,5 +1,6 @@
 -- Operands whose kinds are known, and what is made of them where a plain kind or decimals are wanted.
 use Rattle.std.specs.Prelude.{Bool, true, false, ◌&&◌, if◌then◌else◌, Option, Some, None, option_and_then}
+use Rattle.ar_value.specs.declared.operator.UnaryOperator.TheVariants as unary
 use Rattle.ar_value.specs.Kind.{Kind, nil, shaped, is_decimal, is_optional, plain}
 use Rattle.ar_value.specs.Shape.{Shape}
 use Rattle.ar_value.specs.Shape as shapes
@@ -28,7 +29,7 @@ plain_of (shaped shape) = Some (plain shape)
 -- a tree made plain, where it may be nil
 abbrev pub plain_tree : Kind → Typed → Typed
 plain_tree nil tree = tree
-plain_tree (shaped shape) tree = if is_optional shape then typed.plain tree else tree
+plain_tree (shaped shape) tree = if is_optional shape then typed.unary unary.Need tree else tree
 
 abbrev pub made_plain : Operand → Typed
 made_plain operand = plain_tree operand.kind operand.tree
@@ -68,7 +69,7 @@ is_truth operand = is_bool (scalar operand)
 
 -- plain numbers beside others: a whole is turned into decimal beside a decimal
 abbrev pub among : Numbers → Numbers → Typed → Typed
-among Decimals Wholes tree = typed.as_decimal tree
+among Decimals Wholes tree = typed.unary unary.ToDecimal tree
 among other numbers tree = tree
 
 abbrev pub is_whole : Shape → Bool
@@ -77,5 +78,5 @@ is_whole shape = false
 
 -- an operand beside a kind that it has something in common with, likewise; nil stays
 abbrev pub turned : Kind → Kind → Typed → Typed
-turned (shaped other) (shaped shape) tree = if is_decimal other && is_whole (plain shape) then typed.as_decimal tree else tree
+turned (shaped other) (shaped shape) tree = if is_decimal other && is_whole (plain shape) then typed.unary unary.ToDecimal tree else tree
 turned other kind tree = tree

@@ -1,6 +1,7 @@
 //! Laws of kinds and of checked conditions. A law is the contract of a function that does nothing.
 
 ghost use Rattle.std.specs.Prelude.{◌≡◌, ◌≢◌, ℕ, false, None, Option, Ok, true};
+ghost use Rattle.ar_value.specs.declared.operator.BinaryOperator.TheVariants as binary;
 ghost use Rattle.ar_value.specs.Fits.{fits};
 ghost use Rattle.ar_value.specs.Kind.{Kind};
 ghost use Rattle.ar_value.specs.Shape.{Shape};
@@ -55,12 +56,12 @@ pub fn or_with_true_is_true()
 pub fn default_of_a_value_is_the_value()
     ensures { (result : Value) (here : Option Value) (operand stand_in : Typed) (value other : Value)
         → mean result here operand ≡ Ok value → value ≢ values.nil → mean result here stand_in ≡ Ok other
-        → mean result here (typed.otherwise operand stand_in) ≡ Ok value }
+        → mean result here (typed.binary binary.Default operand stand_in) ≡ Ok value }
 {}
 
 /// `default(a, b)` of a nil a means what b means.
 #[tactic(auto, using(crate::proofs::Defaults::is_the_other))]
 pub fn default_of_nil_is_the_other()
     ensures { (result : Value) (here : Option Value) (operand stand_in : Typed)
-        → mean result here operand ≡ Ok values.nil → mean result here (typed.otherwise operand stand_in) ≡ mean result here stand_in }
+        → mean result here operand ≡ Ok values.nil → mean result here (typed.binary binary.Default operand stand_in) ≡ mean result here stand_in }
 {}

@@ -10,11 +10,11 @@ ghost use Rattle.ar_condition.specs.Views.{typed_view};
 ghost use Rattle.ar_check.specs.Memory.{is_memory};
 ghost use Rattle.ar_check.specs.Private.Inside.{item_view, kind_view, operand_view};
 
-use crate::build::{as_decimal, listed};
+use crate::build::{self, listed};
 use crate::error::TypeError;
 use crate::operand::{Kind, Operand};
 use ar_condition::typed::Typed;
-use ar_value::operator::Scalar;
+use ar_value::operator::{Scalar, UnaryOperator};
 use ar_value::shape::Shape;
 use std::alloc::{AllocError, Global};
 
@@ -104,7 +104,7 @@ fn turned_item(alloc: Global, scalar: Scalar, item: Item) -> Result<Typed, Alloc
 {
     match (scalar, item.scalar) {
         (Scalar::Decimal, Some(Scalar::Whole)) => {
-            Ok(Box::into_inner(as_decimal(alloc, item.tree)?))
+            Ok(Box::into_inner(build::unary(alloc, UnaryOperator::ToDecimal, item.tree)?))
         }
         _ => Ok(Box::into_inner(item.tree)),
     }

@@ -12,11 +12,11 @@ ghost use Rattle.ar_condition.specs.Views.{typed_view};
 ghost use Rattle.ar_check.specs.Memory.{is_memory};
 ghost use Rattle.ar_check.specs.Private.Inside.{kind_view, operand_view, shaped_answer, turned_where, turns};
 
-use crate::build::{as_decimal, plain};
+use crate::build;
 use crate::error::TypeError;
 use ar_condition::typed::Typed;
 use ar_value::kind;
-use ar_value::operator::{Numbers, Scalar};
+use ar_value::operator::{Numbers, Scalar, UnaryOperator};
 use ar_value::shape::Shape;
 use std::alloc::{AllocError, Global};
 
@@ -61,7 +61,7 @@ pub(crate) fn plain_tree(
         Kind::Made(shape) => kind::is_optional(shape),
     };
     if is_optional {
-        plain(alloc, tree)
+        build::unary(alloc, UnaryOperator::Need, tree)
     } else {
         Ok(tree)
     }
@@ -264,7 +264,7 @@ pub(crate) fn turned(alloc: Global, turns: bool, tree: Box<Typed>) -> Result<Box
     ensures { IfOk result (λ made. typed_view made.value ≡ turned_where turns (typed_view tree.value)) }
 {
     if turns {
-        as_decimal(alloc, tree)
+        build::unary(alloc, UnaryOperator::ToDecimal, tree)
     } else {
         Ok(tree)
     }

@@ -1,17 +1,16 @@
 //! Operators whose operands have kinds.
 
 ghost use Rattle.std.specs.Prelude.{◌≡◌, ◌&&◌, false, IfOk, Some};
+ghost use Rattle.ar_value.specs.declared.operator.UnaryOperator.TheVariants as unary;
 ghost use Rattle.ar_value.specs.Answer.{Gives};
-ghost use Rattle.ar_check.specs.Check.{arithmetic_kind, binary_of, comparison_of, equality_of, in_of, negated, number_kind, ordering_of, arithmetic_on, calculation_of, both_of, either_of, given, member_of, takes, truth_kind, unary_of, where_wanted, widened};
+ghost use Rattle.ar_check.specs.Check.{arithmetic_in, arithmetic_kind, binary_of, compared_of, comparison_of, equality_of, in_of, negated, number_kind, ordering_of, arithmetic_on, calculation_of, both_of, either_of, given, member_of, truth_kind, unary_of, where_wanted, widened};
 ghost use Rattle.ar_check.specs.Operand.{among, family_in};
 ghost use Rattle.ar_condition.specs.Typed as typed;
 ghost use Rattle.ar_condition.specs.Views.{typed_view};
 ghost use Rattle.ar_check.specs.Memory.{is_memory};
 ghost use Rattle.ar_check.specs.Private.Inside.{item_scalar, kind_view, operand_view};
 
-use crate::build::{
-    arithmetic, as_decimal, both, either, equal, is_nil, negative, opposite, ordered, within,
-};
+use crate::build::{self, both, either};
 use crate::error::TypeError;
 use crate::operand::{
     Kind, Operand, both_plain, into_tree, is_truth, item_shape, made_plain, numbers, scalar,
@@ -20,7 +19,10 @@ use crate::operand::{
 use ar_condition::tree::{Binary, Comparison, Unary};
 use ar_condition::typed::Typed;
 use ar_value::kind::plain;
-use ar_value::operator::{Arithmetic, Family, Numbers, Order, Scalar};
+use ar_value::operator::{
+    Arithmetic, BinaryOperator, Compared, DecimalArithmetic, Family, Numbers, Order, Scalar,
+    UnaryOperator,
+};
 use ar_value::shape::Shape;
 use std::alloc::{AllocError, Global};
 
@@ -71,12 +73,17 @@ pub(crate) fn unary<'s>(
     let numbers = numbers(&operand);
     let operand = made_plain(alloc, operand)?;
     match operator {
-        Unary::Not => where_wanted(at, wanted, opposite(alloc, operand)?, truth()),
+        Unary::Not => where_wanted(
+            at,
+            wanted,
+            build::unary(alloc, UnaryOperator::Not, operand)?,
+            truth(),
+        ),
         Unary::Minus => {
             let Some(numbers) = numbers else {
                 return Err(TypeError::WrongOperand(at));
             };
-            let tree = negative(alloc, numbers, operand)?;
+            let tree = build::unary(alloc, UnaryOperator::Negate(numbers), operand)?;
             let kind = number_kind(numbers);
             Ok(Operand { tree, kind })
         }
@@ -154,7 +161,7 @@ fn negated(alloc: Global, condition: Operand<'_>) -> Result<Operand<'_>, TypeErr
     ensures { Gives is_memory operand_view result (negated (operand_view condition.entry)) }
 {
     let Operand { tree, kind } = condition;
-    let tree = opposite(alloc, tree)?;
+    let tree = build::unary(alloc, UnaryOperator::Not, tree)?;
     Ok(Operand { tree, kind })
 }
 
@@ -206,22 +213,23 @@ fn equate<'s>(
     let (Some(of), Some(beside)) = sides else {
         return Err(TypeError::WrongOperand(at));
     };
-    let tree = equal(alloc, family(of), left, right)?;
+    let tree = build::binary(alloc, BinaryOperator::Equal(family(of)), left, right)?;
     where_wanted(at, family(of) == family(beside), tree, truth())
 }
 
 /// Whether an operand is nil.
 pub(crate) fn is_nil_of<'s>(alloc: Global, operand: Operand<'_>) -> Result<Operand<'s>, TypeError>
-    ensures { Gives is_memory operand_view result (given (typed.is_nil (operand_view operand.entry).tree) truth_kind) }
+    ensures { Gives is_memory operand_view result
+        (given (typed.unary unary.IsNil (operand_view operand.entry).tree) truth_kind) }
 {
     tests_nil(alloc, into_tree(operand))
 }
 
 /// Whether what a tree says is nil.
 fn tests_nil<'s>(alloc: Global, tree: Box<Typed>) -> Result<Operand<'s>, TypeError>
-    ensures { Gives is_memory operand_view result (given (typed.is_nil (typed_view tree.value)) truth_kind) }
+    ensures { Gives is_memory operand_view result (given (typed.unary unary.IsNil (typed_view tree.value)) truth_kind) }
 {
-    let tree = is_nil(alloc, tree)?;
+    let tree = build::unary(alloc, UnaryOperator::IsNil, tree)?;
     let kind = truth();
     Ok(Operand { tree, kind })
 }
@@ -251,7 +259,8 @@ fn order<'s>(
     let (Some(of), Some(beside)) = sides else {
         return Err(TypeError::WrongOperand(at));
     };
-    let tree = ordered(alloc, (of, beside), order, left, right)?;
+    let operator = BinaryOperator::Compare(compared_of(of, beside), order);
+    let tree = build::binary(alloc, operator, left, right)?;
     let kind = truth();
     Ok(Operand { tree, kind })
 }
@@ -287,7 +296,7 @@ fn member<'s>(
     let (Some(of), Some(beside)) = scalars else {
         return Err(TypeError::WrongOperand(at));
     };
-    let tree = within(alloc, operand, list)?;
+    let tree = build::binary(alloc, BinaryOperator::IsIn, operand, list)?;
     where_wanted(at, family(of) == family(beside), tree, truth())
 }
 
@@ -333,9 +342,12 @@ fn calculate_on<'s>(
     let numbers = widened(of, beside);
     let left = among(alloc, beside, of, left)?;
     let right = among(alloc, of, beside, right)?;
-    let tree = arithmetic(alloc, numbers, operator, left, right)?;
+    let Some(arithmetic) = arithmetic_in(numbers, operator) else {
+        return Err(TypeError::WrongOperand(at));
+    };
+    let tree = build::binary(alloc, arithmetic, left, right)?;
     let kind = arithmetic_kind(operator, numbers);
-    where_wanted(at, takes(operator, numbers), tree, kind)
+    Ok(Operand { tree, kind })
 }
 
 /// Wholes alone stay wholes.
@@ -358,16 +370,38 @@ fn among(
     ensures { IfOk result (λ made. typed_view made.value ≡ among other numbers (typed_view tree.value)) }
 {
     match (other, numbers) {
-        (Numbers::Decimals, Numbers::Wholes) => as_decimal(alloc, tree),
+        (Numbers::Decimals, Numbers::Wholes) => build::unary(alloc, UnaryOperator::ToDecimal, tree),
         _ => Ok(tree),
     }
 }
 
-/// Remainders are of wholes alone.
-fn takes(operator: Arithmetic, numbers: Numbers) -> bool
-    ensures { result ≡ takes operator numbers }
+/// Arithmetic of two numbers of one kind; remainders are of wholes alone.
+fn arithmetic_in(numbers: Numbers, operator: Arithmetic) -> Option<BinaryOperator>
+    ensures { result ≡ arithmetic_in numbers operator }
 {
-    !(operator == Arithmetic::Remainder && numbers == Numbers::Decimals)
+    match numbers {
+        Numbers::Wholes => Some(BinaryOperator::Wholes(operator)),
+        Numbers::Decimals => Some(BinaryOperator::Decimals(match operator {
+            Arithmetic::Add => DecimalArithmetic::Add,
+            Arithmetic::Subtract => DecimalArithmetic::Subtract,
+            Arithmetic::Multiply => DecimalArithmetic::Multiply,
+            Arithmetic::Divide => DecimalArithmetic::Divide,
+            Arithmetic::Remainder => return None,
+        })),
+    }
+}
+
+/// Two wholes and two decimals each have comparisons of their own.
+fn compared_of(left: Numbers, right: Numbers) -> Compared
+    ensures { result ≡ compared_of left right }
+{
+    match (left, right) {
+        (Numbers::Wholes, Numbers::Wholes) => Compared::Wholes,
+        (Numbers::Decimals, Numbers::Decimals) => Compared::Decimals,
+        (Numbers::Wholes, Numbers::Decimals) | (Numbers::Decimals, Numbers::Wholes) => {
+            Compared::Mixed
+        }
+    }
 }
 
 /// Quotients are decimals, also of wholes.

@@ -1,6 +1,7 @@
 //! From the tree of a condition to its typed tree.
 
 ghost use Rattle.std.specs.Prelude.{◌≡◌, false, IfErr, IfOk, map, None, Some, option_map, true};
+ghost use Rattle.ar_value.specs.declared.operator.BinaryOperator.TheVariants as binary;
 ghost use Rattle.ar_value.specs.Answer.{Gives, Unless};
 ghost use Rattle.ar_value.specs.Fits.{fits};
 ghost use Rattle.ar_value.specs.Kind.{shaped};
@@ -18,7 +19,7 @@ ghost use Rattle.ar_check.specs.Typing.{IsCondition};
 ghost use Rattle.ar_condition.specs.Views.{typed_view};
 ghost use Rattle.ar_check.specs.Memory.{is_memory};
 
-use crate::build::{choice, field, index, len, otherwise, predicate};
+use crate::build::{self, choice, field, predicate};
 use crate::error::TypeError;
 use crate::list::{Item, list};
 use crate::operand::{
@@ -28,7 +29,7 @@ use crate::operand::{
 use crate::operators::{binary, is_nil_of, truth, unary, where_wanted};
 use ar_condition::tree::{Binary, Literal, Tree};
 use ar_condition::typed::Typed;
-use ar_value::operator::{Predicate, Scalar};
+use ar_value::operator::{BinaryOperator, Predicate, Scalar, UnaryOperator};
 use ar_value::shape::Shape;
 use ar_value::text::Text;
 use std::alloc::{AllocError, Global};
@@ -385,10 +386,15 @@ fn index_tree(
     position: Operand<'_>,
 ) -> Result<Box<Typed>, AllocError>
     ensures { IfOk result (λ tree. typed_view tree.value
-        ≡ typed.index (made_plain (operand_view list.entry)) (made_plain (operand_view position.entry))) }
+        ≡ typed.binary binary.Index (made_plain (operand_view list.entry)) (made_plain (operand_view position.entry))) }
 {
     let list = made_plain(alloc, list)?;
-    index(alloc, list, made_plain(alloc, position)?)
+    build::binary(
+        alloc,
+        BinaryOperator::Index,
+        list,
+        made_plain(alloc, position)?,
+    )
 }
 
 #[tactic(auto, using(crate::proofs::Freely::gives_freely))]
@@ -396,7 +402,7 @@ fn len_of<'s>(alloc: Global, at: usize, list: Operand<'_>) -> Result<Operand<'s>
     ensures { Gives is_memory operand_view result (len_of at (operand_view list.entry)) }
 {
     item_shape(at, &list.kind)?;
-    let tree = len(alloc, made_plain(alloc, list)?)?;
+    let tree = build::unary(alloc, UnaryOperator::Len, made_plain(alloc, list)?)?;
     let kind = Kind::Made(Shape::Whole);
     Ok(Operand { tree, kind })
 }
@@ -471,10 +477,10 @@ fn default_tree(
     other: Box<Typed>,
 ) -> Result<Box<Typed>, AllocError>
     ensures { IfOk result (λ tree. typed_view tree.value
-        ≡ typed.otherwise (typed_view first.value) (turned_where turns (typed_view other.value))) }
+        ≡ typed.binary binary.Default (typed_view first.value) (turned_where turns (typed_view other.value))) }
 {
     let other = turned(alloc, turns, other)?;
-    otherwise(alloc, first, other)
+    build::binary(alloc, BinaryOperator::Default, first, other)
 }
 
 /// The kind of a default: the other's where the first is always nil.

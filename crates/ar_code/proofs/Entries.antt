@@ -1,11 +1,11 @@
 -- Entries of a table by their numbers, and lines of a listing one after the other.
-use Rattle.std.proofs.Common.{◌≡◌, ℕ, suc, ◌+◌, ◌<◌, ◌≤◌, List, [], ◌∷◌, ◌++◌, length, map, drop, get_or, refl, ◌∙◌, ap, sym, append_assoc, add-one, drop-cons}
+use Rattle.std.proofs.Common.{◌≡◌, ℕ, suc, ◌+◌, ◌<◌, ◌≤◌, List, [], ◌∷◌, ◌++◌, length, map, drop, get_or, ◌∙◌, ap, sym, append_assoc, add-one, drop-cons}
 use Rattle.std.specs.Prelude.{slice_index_or}
 use Rattle.std.proofs.Math.ListN.{drop_of_length-le}
 use Rattle.std.proofs.lemmas.List.{append-nil, get_or-map, get_or_past, length-map}
 use Rattle.ar_op.specs.Code.{Code}
 use Rattle.ar_op.specs.declared.op.Op.{Op}
-use Rattle.ar_code.specs.Listing.{line, lines, listing}
+use Rattle.ar_code.specs.Listing.{line, lines}
 
 pub entry_there : {A : Type 0} (f : A → List ℕ) (xs : List A) (n : ℕ) (x : A) → n < length xs → x ≡ slice_index_or xs n x → f x ≡ get_or (map f xs) n []
 entry_there f xs n x within is = ap f is ∙ sym (get_or-map f xs n x [] within)

@@ -4,9 +4,7 @@ pub mod Entries
 pub mod Freely
 pub mod Joins
 pub mod Loops
-pub mod Memory
 pub mod Numbers
-pub mod Ops
-pub mod Parts
-pub mod Takes
+pub mod Ordered
+pub mod Readings
 pub mod Texts

@@ -16,9 +16,9 @@ regroup front first (Ok x) = ap (λ (xs : List _). Ok (xs, x.1)) (simp append_as
 regroup front first (Err f) = refl
 
 -- readers of so many things of a kind
-record Reads {A : Type 0} (one : List ℕ → Reading A) (many : ℕ → List ℕ → Reading (List A)) : Type 0 where
-  none : (bytes : List ℕ) → many 0 bytes ≡ Ok ([], bytes)
-  more : (n : ℕ) (bytes : List ℕ) → many (suc n) bytes ≡ (one bytes >>= λ first. many n first.1 >>= λ others. Ok (first.0 ∷ others.0, others.1))
+pub record Reads {A : Type 0} (one : List ℕ → Reading A) (many : ℕ → List ℕ → Reading (List A)) : Type 0 where
+  pub none : (bytes : List ℕ) → many 0 bytes ≡ Ok ([], bytes)
+  pub more : (n : ℕ) (bytes : List ℕ) → many (suc n) bytes ≡ (one bytes >>= λ first. many n first.1 >>= λ others. Ok (first.0 ∷ others.0, others.1))
 
 goes_on : {A : Type 0} (one : List ℕ → Reading A) (many : ℕ → List ℕ → Reading (List A)) → Reads one many → (front : List A) (count i : ℕ) (bytes after : List ℕ) (first : A) (total : Reading (List A)) → i < count
     → one bytes ≡ Ok (first, after) → behind front (many (count - i) bytes) ≡ total → behind (front ++ first ∷ []) (many (count - (i + 1)) after) ≡ total
@@ -47,7 +47,7 @@ is_done one many reads front count i bytes total le so_far =
 
 -- ---- operations
 
-ops_read : (end texts names : ℕ) → Reads (op_at end texts names) (so_many_ops end texts names)
+pub ops_read : (end texts names : ℕ) → Reads (op_at end texts names) (so_many_ops end texts names)
 unfolding so_many_ops
 ops_read end texts names = record { none = λ bytes. refl; more = λ n bytes. refl }
 
@@ -64,7 +64,7 @@ ops_done end texts names = is_done (op_at end texts names) (so_many_ops end text
 
 -- ---- texts
 
-texts_read : (end : ℕ) → Reads (text_at end) (so_many_texts end)
+pub texts_read : (end : ℕ) → Reads (text_at end) (so_many_texts end)
 unfolding so_many_texts
 texts_read end = record { none = λ bytes. refl; more = λ n bytes. refl }
 

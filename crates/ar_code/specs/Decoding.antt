@@ -3,16 +3,22 @@ use Rattle.std.specs.Prelude.{ℕ, zero, suc, ◌+◌, ◌*◌, ◌-◌, ◌/◌
 use Rattle.std.specs.Str.{bytes_eq, is_utf8}
 use Rattle.ar_value.specs.Answer.{◌>>=◌}
 use Rattle.ar_value.specs.declared.operator.Arithmetic.TheVariants.{Add, Subtract, Multiply, Divide, Remainder}
+use Rattle.ar_value.specs.declared.operator.BinaryOperator.TheVariants as binary
+use Rattle.ar_value.specs.declared.operator.Compared.TheVariants as compared
+use Rattle.ar_value.specs.declared.operator.DecimalArithmetic.TheVariants as on_decimals
 use Rattle.ar_value.specs.declared.operator.Family.TheVariants as families
+use Rattle.ar_value.specs.declared.operator.Numbers.TheVariants.{Wholes, Decimals}
 use Rattle.ar_value.specs.declared.operator.Order.TheVariants.{Less, LessOrEqual, Greater, GreaterOrEqual}
 use Rattle.ar_value.specs.declared.operator.Predicate.TheVariants as predicates
 use Rattle.ar_value.specs.declared.operator.Scalar.{Scalar}
 use Rattle.ar_value.specs.declared.operator.Scalar.TheVariants as scalars
+use Rattle.ar_value.specs.declared.operator.UnaryOperator.TheVariants as unary
 use Rattle.ar_op.specs.Code.{Code, most_entries, most_items}
-use Rattle.ar_op.specs.declared.op.Compared.TheVariants as compared
-use Rattle.ar_op.specs.declared.op.DecimalArithmetic.TheVariants as on_decimals
+use Rattle.ar_op.specs.declared.op.Jump.TheVariants as jumps
 use Rattle.ar_op.specs.declared.op.Op.{Op}
-use Rattle.ar_op.specs.declared.op.Op.TheVariants.{PushBool, PushWhole, PushDecimal, PushText, PushNil, MakeList, LoadResult, Item, Field, Index, Len, Need, IsNil, Default, ToDecimal, IsIn, Not, Wholes, NegW, Decimals, NegD, Compare, Equal, AndJump, OrJump, BranchFalse, Jump, Enter, Step, Return}
+use Rattle.ar_op.specs.declared.op.Op.TheVariants.{Push, MakeList, Field, Unary, Binary, Jump, Enter, Step, Return}
+use Rattle.ar_op.specs.declared.op.Source.{Source}
+use Rattle.ar_op.specs.declared.op.Source.TheVariants as sources
 use Rattle.ar_code.specs.Image.{code_of, magic, number, version}
 use Rattle.ar_code.specs.declared.error.ImageError.{ImageError}
 use Rattle.ar_code.specs.declared.error.ImageError.TheVariants.{BadMagic, BadVersion, Truncated, BadNumber, UnknownOp, BadText, TooLarge, Trailing, OutOfMemory}
@@ -101,79 +107,31 @@ texts_at end bytes = count_at end bytes >>= λ count. so_many_texts end count.0 
 
 -- ---- operations
 
--- what stands behind an operation's code
-pub data Form : Type 0 where
-  nothing : Op → Form
-  one_bit : Form
-  one_whole : Form
-  one_decimal : Form
-  text_number : Form
-  name_number : Form
-  scalar_and_count : Form
-  -- of an operation, whatever its place
-  one_place : Op → Form
+-- one operation for each code, in their order, its fields being empty
+abbrev pub all_ops : List Op
+all_ops =
+    Push (sources.Bool false) ∷ Push (sources.Whole (pos 0)) ∷ Push (sources.Decimal (pos 0)) ∷ Push (sources.Text 0) ∷ Push sources.Nil ∷ MakeList scalars.Bool 0
+    ∷ Push sources.Result ∷ Push sources.Item ∷ Field 0 ∷ Binary binary.Index ∷ Unary unary.Len ∷ Unary unary.Need ∷ Unary unary.IsNil ∷ Binary binary.Default
+    ∷ Unary unary.ToDecimal ∷ Binary binary.IsIn ∷ Unary unary.Not
+    ∷ Binary (binary.Wholes Add) ∷ Binary (binary.Wholes Subtract) ∷ Binary (binary.Wholes Multiply) ∷ Binary (binary.Wholes Divide) ∷ Binary (binary.Wholes Remainder)
+    ∷ Unary (unary.Negate Wholes)
+    ∷ Binary (binary.Decimals on_decimals.Add) ∷ Binary (binary.Decimals on_decimals.Subtract) ∷ Binary (binary.Decimals on_decimals.Multiply) ∷ Binary (binary.Decimals on_decimals.Divide)
+    ∷ Unary (unary.Negate Decimals)
+    ∷ Binary (binary.Compare compared.Wholes Less) ∷ Binary (binary.Compare compared.Wholes LessOrEqual) ∷ Binary (binary.Compare compared.Wholes Greater) ∷ Binary (binary.Compare compared.Wholes GreaterOrEqual)
+    ∷ Binary (binary.Compare compared.Decimals Less) ∷ Binary (binary.Compare compared.Decimals LessOrEqual) ∷ Binary (binary.Compare compared.Decimals Greater) ∷ Binary (binary.Compare compared.Decimals GreaterOrEqual)
+    ∷ Binary (binary.Compare compared.Mixed Less) ∷ Binary (binary.Compare compared.Mixed LessOrEqual) ∷ Binary (binary.Compare compared.Mixed Greater) ∷ Binary (binary.Compare compared.Mixed GreaterOrEqual)
+    ∷ Binary (binary.Equal families.Truth) ∷ Binary (binary.Equal families.Number) ∷ Binary (binary.Equal families.Text)
+    ∷ Jump jumps.And 0 ∷ Jump jumps.Or 0 ∷ Jump jumps.Branch 0 ∷ Jump jumps.Always 0
+    ∷ Enter predicates.All 0 ∷ Step predicates.All 0 ∷ Enter predicates.Any 0 ∷ Step predicates.Any 0
+    ∷ Enter predicates.Count 0 ∷ Step predicates.Count 0 ∷ Enter predicates.Filter 0 ∷ Step predicates.Filter 0 ∷ Return ∷ []
 
-abbrev pub form_code : Form → ℕ
-form_code (nothing op) = code_of op
-form_code one_bit = code_of (PushBool true)
-form_code one_whole = code_of (PushWhole (pos 0))
-form_code one_decimal = code_of (PushDecimal (pos 0))
-form_code text_number = code_of (PushText 0)
-form_code name_number = code_of (Field 0)
-form_code scalar_and_count = code_of (MakeList scalars.Bool 0)
-form_code (one_place op) = code_of op
-
--- the forms of all operations, family by family
-abbrev pub pushes : List Form
-pushes = one_bit ∷ one_whole ∷ one_decimal ∷ text_number ∷ nothing PushNil ∷ []
-
-abbrev pub on_values : List Form
-on_values =
-    scalar_and_count ∷ nothing LoadResult ∷ nothing Item ∷ name_number ∷ nothing Index ∷ nothing Len ∷ nothing Need ∷ nothing IsNil ∷ nothing Default
-    ∷ nothing ToDecimal ∷ nothing IsIn ∷ nothing Not ∷ nothing NegW ∷ nothing NegD ∷ nothing Return ∷ []
-
-abbrev pub on_wholes : List Form
-on_wholes = nothing (Wholes Add) ∷ nothing (Wholes Subtract) ∷ nothing (Wholes Multiply) ∷ nothing (Wholes Divide) ∷ nothing (Wholes Remainder) ∷ []
-
-abbrev pub of_decimals : List Form
-of_decimals = nothing (Decimals on_decimals.Add) ∷ nothing (Decimals on_decimals.Subtract) ∷ nothing (Decimals on_decimals.Multiply) ∷ nothing (Decimals on_decimals.Divide) ∷ []
-
-abbrev pub orders : List Form
-orders =
-    nothing (Compare compared.Wholes Less) ∷ nothing (Compare compared.Wholes LessOrEqual) ∷ nothing (Compare compared.Wholes Greater) ∷ nothing (Compare compared.Wholes GreaterOrEqual)
-    ∷ nothing (Compare compared.Decimals Less) ∷ nothing (Compare compared.Decimals LessOrEqual) ∷ nothing (Compare compared.Decimals Greater) ∷ nothing (Compare compared.Decimals GreaterOrEqual)
-    ∷ nothing (Compare compared.Mixed Less) ∷ nothing (Compare compared.Mixed LessOrEqual) ∷ nothing (Compare compared.Mixed Greater) ∷ nothing (Compare compared.Mixed GreaterOrEqual) ∷ []
-
-abbrev pub equalities : List Form
-equalities = nothing (Equal families.Truth) ∷ nothing (Equal families.Number) ∷ nothing (Equal families.Text) ∷ []
-
-abbrev pub jumps : List Form
-jumps = one_place (AndJump 0) ∷ one_place (OrJump 0) ∷ one_place (BranchFalse 0) ∷ one_place (Jump 0) ∷ []
-
-abbrev pub enters : List Form
-enters = one_place (Enter predicates.All 0) ∷ one_place (Enter predicates.Any 0) ∷ one_place (Enter predicates.Count 0) ∷ one_place (Enter predicates.Filter 0) ∷ []
-
-abbrev pub steps : List Form
-steps = one_place (Step predicates.All 0) ∷ one_place (Step predicates.Any 0) ∷ one_place (Step predicates.Count 0) ∷ one_place (Step predicates.Filter 0) ∷ []
-
-abbrev pub among : List Form → ℕ → Option Form
+abbrev pub among : List Op → ℕ → Option Op
 among [] code = None
-among (form ∷ forms) code = if form_code form == code then Some form else among forms code
+among (op ∷ ops) code = if code_of op == code then Some op else among ops code
 
-abbrev pub first_of : {A : Type 0} → Option A → Option A → Option A
-first_of (Some x) other = Some x
-first_of None other = other
-
-abbrev pub all_families : List (List Form)
-all_families = pushes ∷ on_values ∷ on_wholes ∷ of_decimals ∷ orders ∷ equalities ∷ jumps ∷ enters ∷ steps ∷ []
-
-abbrev pub among_all : List (List Form) → ℕ → Option Form
-among_all [] code = None
-among_all (family ∷ others) code = first_of (among family code) (among_all others code)
-
--- the form of the operations that have a code
-unfoldable pub form_of : ℕ → Option Form
-form_of code = among_all all_families code
+-- the operation that has a code
+unfoldable pub op_of : ℕ → Option Op
+op_of code = among all_ops code
 
 abbrev pub scalar_of : ℕ → Option Scalar
 scalar_of zero = Some scalars.Bool
@@ -207,37 +165,38 @@ entry_at end at count bytes = do
   n ← number_at end narrow bytes
   if nat_lt n.0 count then Ok n else Err (BadText at)
 
-abbrev pub with_place : Op → ℕ → Op
-with_place (AndJump place) n = AndJump n
-with_place (OrJump place) n = OrJump n
-with_place (BranchFalse place) n = BranchFalse n
-with_place (Jump place) n = Jump n
-with_place (Enter predicate place) n = Enter predicate n
-with_place (Step predicate place) n = Step predicate n
-with_place op n = op
+-- a source with the field that stands behind its code, in the operation at a place of code with so many texts
+unfoldable pub source_at : ℕ → (at texts : ℕ) → Source → List ℕ → Reading Source
+source_at end at texts (sources.Bool empty) bytes = bit_at end bytes >>= λ holds. Ok (sources.Bool holds.0, holds.1)
+source_at end at texts (sources.Whole empty) bytes = number_at end wide bytes >>= λ n. Ok (sources.Whole (signed n.0), n.1)
+source_at end at texts (sources.Decimal empty) bytes = number_at end wide bytes >>= λ n. Ok (sources.Decimal (signed n.0), n.1)
+source_at end at texts (sources.Text empty) bytes = entry_at end at texts bytes >>= λ n. Ok (sources.Text n.0, n.1)
+source_at end at texts source bytes = Ok (source, bytes)
 
--- what stands behind the code of an operation at a place, in code with so many texts and names
-unfoldable pub fields_at : ℕ → (at texts names : ℕ) → Form → List ℕ → Reading Op
-fields_at end at texts names (nothing op) bytes = Ok (op, bytes)
-fields_at end at texts names one_bit bytes = bit_at end bytes >>= λ holds. Ok (PushBool holds.0, holds.1)
-fields_at end at texts names one_whole bytes = number_at end wide bytes >>= λ n. Ok (PushWhole (signed n.0), n.1)
-fields_at end at texts names one_decimal bytes = number_at end wide bytes >>= λ n. Ok (PushDecimal (signed n.0), n.1)
-fields_at end at texts names text_number bytes = entry_at end at texts bytes >>= λ n. Ok (PushText n.0, n.1)
-fields_at end at texts names name_number bytes = entry_at end at names bytes >>= λ n. Ok (Field n.0, n.1)
-fields_at end at texts names scalar_and_count bytes = do
+unfoldable pub list_at : ℕ → List ℕ → Reading Op
+list_at end bytes = do
   scalar ← scalar_at end bytes
   count ← items_at end scalar.1
   Ok (MakeList scalar.0 count.0, count.1)
-fields_at end at texts names (one_place op) bytes = number_at end narrow bytes >>= λ n. Ok (with_place op n.0, n.1)
 
-abbrev pub formed : ℕ → (at texts names : ℕ) → Option Form → List ℕ → Reading Op
-formed end at texts names None bytes = Err (UnknownOp at)
-formed end at texts names (Some form) bytes = fields_at end at texts names form bytes
+-- the operation at a place with the fields that stand behind its code, in code with so many texts and names
+unfoldable pub fields_at : ℕ → (at texts names : ℕ) → Op → List ℕ → Reading Op
+fields_at end at texts names (Push source) bytes = source_at end at texts source bytes >>= λ source. Ok (Push source.0, source.1)
+fields_at end at texts names (MakeList scalar empty) bytes = list_at end bytes
+fields_at end at texts names (Field empty) bytes = entry_at end at names bytes >>= λ n. Ok (Field n.0, n.1)
+fields_at end at texts names (Jump jump empty) bytes = number_at end narrow bytes >>= λ n. Ok (Jump jump n.0, n.1)
+fields_at end at texts names (Enter predicate empty) bytes = number_at end narrow bytes >>= λ n. Ok (Enter predicate n.0, n.1)
+fields_at end at texts names (Step predicate empty) bytes = number_at end narrow bytes >>= λ n. Ok (Step predicate n.0, n.1)
+fields_at end at texts names op bytes = Ok (op, bytes)
+
+abbrev pub coded : ℕ → (at texts names : ℕ) → Option Op → List ℕ → Reading Op
+coded end at texts names None bytes = Err (UnknownOp at)
+coded end at texts names (Some op) bytes = fields_at end at texts names op bytes
 
 unfoldable pub op_at : ℕ → (texts names : ℕ) → List ℕ → Reading Op
 op_at end texts names bytes = do
   code ← byte_at end bytes
-  formed end (place end bytes) texts names (form_of code.0) code.1
+  coded end (place end bytes) texts names (op_of code.0) code.1
 
 unfoldable pub so_many_ops : ℕ → (texts names count : ℕ) → List ℕ → Reading (List Op)
 so_many_ops end texts names zero bytes = Ok ([], bytes)

@@ -1,17 +1,32 @@
 -- The image of code: the bytes that stand for it, each code having one.
 use Rattle.std.specs.Prelude.{ℕ, zero, suc, ◌+◌, ◌*◌, ◌/◌, ◌%◌, nat_lt, ℤ, pos, negsuc, Bool, true, false, if◌then◌else◌, List, [], ◌∷◌, ◌++◌, length}
 use Rattle.std.specs.List.{flat_map}
+use Rattle.ar_value.specs.declared.operator.Arithmetic.{Arithmetic}
 use Rattle.ar_value.specs.declared.operator.Arithmetic.TheVariants.{Add, Subtract, Multiply, Divide, Remainder}
+use Rattle.ar_value.specs.declared.operator.BinaryOperator.{BinaryOperator}
+use Rattle.ar_value.specs.declared.operator.BinaryOperator.TheVariants as binary
+use Rattle.ar_value.specs.declared.operator.Compared.{Compared}
+use Rattle.ar_value.specs.declared.operator.Compared.TheVariants as compared
+use Rattle.ar_value.specs.declared.operator.DecimalArithmetic.{DecimalArithmetic}
+use Rattle.ar_value.specs.declared.operator.DecimalArithmetic.TheVariants as on_decimals
+use Rattle.ar_value.specs.declared.operator.Family.{Family}
 use Rattle.ar_value.specs.declared.operator.Family.TheVariants as families
+use Rattle.ar_value.specs.declared.operator.Numbers.TheVariants.{Wholes, Decimals}
+use Rattle.ar_value.specs.declared.operator.Order.{Order}
 use Rattle.ar_value.specs.declared.operator.Order.TheVariants.{Less, LessOrEqual, Greater, GreaterOrEqual}
+use Rattle.ar_value.specs.declared.operator.Predicate.{Predicate}
 use Rattle.ar_value.specs.declared.operator.Predicate.TheVariants as predicates
 use Rattle.ar_value.specs.declared.operator.Scalar.{Scalar}
 use Rattle.ar_value.specs.declared.operator.Scalar.TheVariants as scalars
+use Rattle.ar_value.specs.declared.operator.UnaryOperator.{UnaryOperator}
+use Rattle.ar_value.specs.declared.operator.UnaryOperator.TheVariants as unary
 use Rattle.ar_op.specs.Code.{Code}
-use Rattle.ar_op.specs.declared.op.Compared.TheVariants as compared
-use Rattle.ar_op.specs.declared.op.DecimalArithmetic.TheVariants as on_decimals
+use Rattle.ar_op.specs.declared.op.Jump.{Jump}
+use Rattle.ar_op.specs.declared.op.Jump.TheVariants as jumps
 use Rattle.ar_op.specs.declared.op.Op.{Op}
-use Rattle.ar_op.specs.declared.op.Op.TheVariants.{PushBool, PushWhole, PushDecimal, PushText, PushNil, MakeList, LoadResult, Item, Field, Index, Len, Need, IsNil, Default, ToDecimal, IsIn, Not, Wholes, NegW, Decimals, NegD, Compare, Equal, AndJump, OrJump, BranchFalse, Jump, Enter, Step, Return}
+use Rattle.ar_op.specs.declared.op.Op.TheVariants as ops
+use Rattle.ar_op.specs.declared.op.Source.{Source}
+use Rattle.ar_op.specs.declared.op.Source.TheVariants as sources
 
 -- ---- numbers and texts
 
@@ -38,63 +53,93 @@ strings texts = number (length texts) ++ flat_map string texts
 
 -- ---- operations
 
+abbrev pub source_code : Source → ℕ
+source_code (sources.Bool holds) = 1
+source_code (sources.Whole value) = 2
+source_code (sources.Decimal millionths) = 3
+source_code (sources.Text text) = 4
+source_code sources.Nil = 5
+source_code sources.Result = 7
+source_code sources.Item = 8
+
+abbrev pub unary_code : UnaryOperator → ℕ
+unary_code unary.Len = 11
+unary_code unary.Need = 12
+unary_code unary.IsNil = 13
+unary_code unary.ToDecimal = 15
+unary_code unary.Not = 17
+unary_code (unary.Negate Wholes) = 23
+unary_code (unary.Negate Decimals) = 28
+
+abbrev pub wholes_code : Arithmetic → ℕ
+wholes_code Add = 18
+wholes_code Subtract = 19
+wholes_code Multiply = 20
+wholes_code Divide = 21
+wholes_code Remainder = 22
+
+abbrev pub decimals_code : DecimalArithmetic → ℕ
+decimals_code on_decimals.Add = 24
+decimals_code on_decimals.Subtract = 25
+decimals_code on_decimals.Multiply = 26
+decimals_code on_decimals.Divide = 27
+
+abbrev pub comparison_code : Compared → Order → ℕ
+comparison_code compared.Wholes Less = 29
+comparison_code compared.Wholes LessOrEqual = 30
+comparison_code compared.Wholes Greater = 31
+comparison_code compared.Wholes GreaterOrEqual = 32
+comparison_code compared.Decimals Less = 33
+comparison_code compared.Decimals LessOrEqual = 34
+comparison_code compared.Decimals Greater = 35
+comparison_code compared.Decimals GreaterOrEqual = 36
+comparison_code compared.Mixed Less = 37
+comparison_code compared.Mixed LessOrEqual = 38
+comparison_code compared.Mixed Greater = 39
+comparison_code compared.Mixed GreaterOrEqual = 40
+
+abbrev pub equality_code : Family → ℕ
+equality_code families.Truth = 41
+equality_code families.Number = 42
+equality_code families.Text = 43
+
+abbrev pub binary_code : BinaryOperator → ℕ
+binary_code binary.Index = 10
+binary_code binary.Default = 14
+binary_code binary.IsIn = 16
+binary_code (binary.Wholes operator) = wholes_code operator
+binary_code (binary.Decimals operator) = decimals_code operator
+binary_code (binary.Compare of order) = comparison_code of order
+binary_code (binary.Equal family) = equality_code family
+
+abbrev pub jump_code : Jump → ℕ
+jump_code jumps.And = 44
+jump_code jumps.Or = 45
+jump_code jumps.Branch = 46
+jump_code jumps.Always = 47
+
+abbrev pub enter_code : Predicate → ℕ
+enter_code predicates.All = 48
+enter_code predicates.Any = 50
+enter_code predicates.Count = 52
+enter_code predicates.Filter = 54
+
+abbrev pub step_code : Predicate → ℕ
+step_code predicates.All = 49
+step_code predicates.Any = 51
+step_code predicates.Count = 53
+step_code predicates.Filter = 55
+
 abbrev pub code_of : Op → ℕ
-code_of (PushBool holds) = 1
-code_of (PushWhole value) = 2
-code_of (PushDecimal millionths) = 3
-code_of (PushText text) = 4
-code_of PushNil = 5
-code_of (MakeList scalar count) = 6
-code_of LoadResult = 7
-code_of Item = 8
-code_of (Field name) = 9
-code_of Index = 10
-code_of Len = 11
-code_of Need = 12
-code_of IsNil = 13
-code_of Default = 14
-code_of ToDecimal = 15
-code_of IsIn = 16
-code_of Not = 17
-code_of (Wholes Add) = 18
-code_of (Wholes Subtract) = 19
-code_of (Wholes Multiply) = 20
-code_of (Wholes Divide) = 21
-code_of (Wholes Remainder) = 22
-code_of NegW = 23
-code_of (Decimals on_decimals.Add) = 24
-code_of (Decimals on_decimals.Subtract) = 25
-code_of (Decimals on_decimals.Multiply) = 26
-code_of (Decimals on_decimals.Divide) = 27
-code_of NegD = 28
-code_of (Compare compared.Wholes Less) = 29
-code_of (Compare compared.Wholes LessOrEqual) = 30
-code_of (Compare compared.Wholes Greater) = 31
-code_of (Compare compared.Wholes GreaterOrEqual) = 32
-code_of (Compare compared.Decimals Less) = 33
-code_of (Compare compared.Decimals LessOrEqual) = 34
-code_of (Compare compared.Decimals Greater) = 35
-code_of (Compare compared.Decimals GreaterOrEqual) = 36
-code_of (Compare compared.Mixed Less) = 37
-code_of (Compare compared.Mixed LessOrEqual) = 38
-code_of (Compare compared.Mixed Greater) = 39
-code_of (Compare compared.Mixed GreaterOrEqual) = 40
-code_of (Equal families.Truth) = 41
-code_of (Equal families.Number) = 42
-code_of (Equal families.Text) = 43
-code_of (AndJump place) = 44
-code_of (OrJump place) = 45
-code_of (BranchFalse place) = 46
-code_of (Jump place) = 47
-code_of (Enter predicates.All place) = 48
-code_of (Step predicates.All place) = 49
-code_of (Enter predicates.Any place) = 50
-code_of (Step predicates.Any place) = 51
-code_of (Enter predicates.Count place) = 52
-code_of (Step predicates.Count place) = 53
-code_of (Enter predicates.Filter place) = 54
-code_of (Step predicates.Filter place) = 55
-code_of Return = 56
+code_of (ops.Push source) = source_code source
+code_of (ops.MakeList scalar count) = 6
+code_of (ops.Field name) = 9
+code_of (ops.Unary operator) = unary_code operator
+code_of (ops.Binary operator) = binary_code operator
+code_of (ops.Jump jump place) = jump_code jump
+code_of (ops.Enter predicate step) = enter_code predicate
+code_of (ops.Step predicate enter) = step_code predicate
+code_of ops.Return = 56
 
 abbrev pub bit : Bool → ℕ
 bit true = 1
@@ -106,20 +151,21 @@ scalar_number scalars.Whole = 1
 scalar_number scalars.Decimal = 2
 scalar_number scalars.Text = 3
 
+abbrev pub source_fields : Source → List ℕ
+source_fields (sources.Bool holds) = bit holds ∷ []
+source_fields (sources.Whole value) = number (zigzag value)
+source_fields (sources.Decimal millionths) = number (zigzag millionths)
+source_fields (sources.Text text) = number text
+source_fields source = []
+
 -- what stands behind an operation's code
 abbrev pub fields_of : Op → List ℕ
-fields_of (PushBool holds) = bit holds ∷ []
-fields_of (PushWhole value) = number (zigzag value)
-fields_of (PushDecimal millionths) = number (zigzag millionths)
-fields_of (PushText text) = number text
-fields_of (MakeList scalar count) = number (scalar_number scalar) ++ number count
-fields_of (Field name) = number name
-fields_of (AndJump place) = number place
-fields_of (OrJump place) = number place
-fields_of (BranchFalse place) = number place
-fields_of (Jump place) = number place
-fields_of (Enter predicate step) = number step
-fields_of (Step predicate enter) = number enter
+fields_of (ops.Push source) = source_fields source
+fields_of (ops.MakeList scalar count) = number (scalar_number scalar) ++ number count
+fields_of (ops.Field name) = number name
+fields_of (ops.Jump jump place) = number place
+fields_of (ops.Enter predicate step) = number step
+fields_of (ops.Step predicate enter) = number enter
 fields_of op = []
 
 abbrev pub op_bytes : Op → List ℕ

@@ -2,5 +2,4 @@ pub use Rattle.ar_op.specs.Code
 pub use Rattle.ar_op.specs.Machine
 pub mod Image
 pub mod Decoding
-pub mod Private
 pub mod Listing

@@ -1,75 +1,120 @@
 -- The listing of code: a line for each operation, with its place, its name and its fields.
 use Rattle.std.specs.Prelude.{ℕ, suc, Bool, true, false, List, [], ◌∷◌, ◌++◌, codes, decimal, get_or}
 use Rattle.std.specs.Fmt.{signed_decimal}
+use Rattle.ar_value.specs.declared.operator.Arithmetic.{Arithmetic}
 use Rattle.ar_value.specs.declared.operator.Arithmetic.TheVariants.{Add, Subtract, Multiply, Divide, Remainder}
+use Rattle.ar_value.specs.declared.operator.BinaryOperator.{BinaryOperator}
+use Rattle.ar_value.specs.declared.operator.BinaryOperator.TheVariants as binary
+use Rattle.ar_value.specs.declared.operator.Compared.{Compared}
+use Rattle.ar_value.specs.declared.operator.Compared.TheVariants as compared
+use Rattle.ar_value.specs.declared.operator.DecimalArithmetic.{DecimalArithmetic}
+use Rattle.ar_value.specs.declared.operator.DecimalArithmetic.TheVariants as on_decimals
+use Rattle.ar_value.specs.declared.operator.Family.{Family}
 use Rattle.ar_value.specs.declared.operator.Family.TheVariants as families
+use Rattle.ar_value.specs.declared.operator.Numbers.TheVariants.{Wholes, Decimals}
+use Rattle.ar_value.specs.declared.operator.Order.{Order}
 use Rattle.ar_value.specs.declared.operator.Order.TheVariants.{Less, LessOrEqual, Greater, GreaterOrEqual}
+use Rattle.ar_value.specs.declared.operator.Predicate.{Predicate}
 use Rattle.ar_value.specs.declared.operator.Predicate.TheVariants as predicates
 use Rattle.ar_value.specs.declared.operator.Scalar.{Scalar}
 use Rattle.ar_value.specs.declared.operator.Scalar.TheVariants as scalars
+use Rattle.ar_value.specs.declared.operator.UnaryOperator.{UnaryOperator}
+use Rattle.ar_value.specs.declared.operator.UnaryOperator.TheVariants as unary
 use Rattle.ar_op.specs.Code.{Code}
-use Rattle.ar_op.specs.declared.op.Compared.TheVariants as compared
-use Rattle.ar_op.specs.declared.op.DecimalArithmetic.TheVariants as on_decimals
+use Rattle.ar_op.specs.declared.op.Jump.{Jump}
+use Rattle.ar_op.specs.declared.op.Jump.TheVariants as jumps
 use Rattle.ar_op.specs.declared.op.Op.{Op}
-use Rattle.ar_op.specs.declared.op.Op.TheVariants.{PushBool, PushWhole, PushDecimal, PushText, PushNil, MakeList, LoadResult, Item, Field, Index, Len, Need, IsNil, Default, ToDecimal, IsIn, Not, Wholes, NegW, Decimals, NegD, Compare, Equal, AndJump, OrJump, BranchFalse, Jump, Enter, Step, Return}
+use Rattle.ar_op.specs.declared.op.Op.TheVariants as ops
+use Rattle.ar_op.specs.declared.op.Source.{Source}
+use Rattle.ar_op.specs.declared.op.Source.TheVariants as sources
+
+abbrev pub source_name : Source → List ℕ
+source_name (sources.Bool holds) = codes "PushBool"
+source_name (sources.Whole value) = codes "PushWhole"
+source_name (sources.Decimal millionths) = codes "PushDecimal"
+source_name (sources.Text text) = codes "PushText"
+source_name sources.Nil = codes "PushNil"
+source_name sources.Result = codes "LoadResult"
+source_name sources.Item = codes "Item"
+
+abbrev pub unary_name : UnaryOperator → List ℕ
+unary_name unary.Len = codes "Len"
+unary_name unary.Need = codes "Need"
+unary_name unary.IsNil = codes "IsNil"
+unary_name unary.ToDecimal = codes "ToDecimal"
+unary_name unary.Not = codes "Not"
+unary_name (unary.Negate Wholes) = codes "NegW"
+unary_name (unary.Negate Decimals) = codes "NegD"
+
+abbrev pub wholes_name : Arithmetic → List ℕ
+wholes_name Add = codes "AddW"
+wholes_name Subtract = codes "SubW"
+wholes_name Multiply = codes "MulW"
+wholes_name Divide = codes "DivW"
+wholes_name Remainder = codes "RemW"
+
+abbrev pub decimals_name : DecimalArithmetic → List ℕ
+decimals_name on_decimals.Add = codes "AddD"
+decimals_name on_decimals.Subtract = codes "SubD"
+decimals_name on_decimals.Multiply = codes "MulD"
+decimals_name on_decimals.Divide = codes "DivD"
+
+abbrev pub comparison_name : Compared → Order → List ℕ
+comparison_name compared.Wholes Less = codes "LtW"
+comparison_name compared.Wholes LessOrEqual = codes "LeW"
+comparison_name compared.Wholes Greater = codes "GtW"
+comparison_name compared.Wholes GreaterOrEqual = codes "GeW"
+comparison_name compared.Decimals Less = codes "LtD"
+comparison_name compared.Decimals LessOrEqual = codes "LeD"
+comparison_name compared.Decimals Greater = codes "GtD"
+comparison_name compared.Decimals GreaterOrEqual = codes "GeD"
+comparison_name compared.Mixed Less = codes "LtM"
+comparison_name compared.Mixed LessOrEqual = codes "LeM"
+comparison_name compared.Mixed Greater = codes "GtM"
+comparison_name compared.Mixed GreaterOrEqual = codes "GeM"
+
+abbrev pub equality_name : Family → List ℕ
+equality_name families.Truth = codes "EqBool"
+equality_name families.Number = codes "EqNumber"
+equality_name families.Text = codes "EqText"
+
+abbrev pub binary_name : BinaryOperator → List ℕ
+binary_name binary.Index = codes "Index"
+binary_name binary.Default = codes "Default"
+binary_name binary.IsIn = codes "IsIn"
+binary_name (binary.Wholes operator) = wholes_name operator
+binary_name (binary.Decimals operator) = decimals_name operator
+binary_name (binary.Compare of order) = comparison_name of order
+binary_name (binary.Equal family) = equality_name family
+
+abbrev pub jump_name : Jump → List ℕ
+jump_name jumps.And = codes "AndJump"
+jump_name jumps.Or = codes "OrJump"
+jump_name jumps.Branch = codes "BranchFalse"
+jump_name jumps.Always = codes "Jump"
+
+abbrev pub enter_name : Predicate → List ℕ
+enter_name predicates.All = codes "AllEnter"
+enter_name predicates.Any = codes "AnyEnter"
+enter_name predicates.Count = codes "CountEnter"
+enter_name predicates.Filter = codes "FilterEnter"
+
+abbrev pub step_name : Predicate → List ℕ
+step_name predicates.All = codes "AllStep"
+step_name predicates.Any = codes "AnyStep"
+step_name predicates.Count = codes "CountStep"
+step_name predicates.Filter = codes "FilterStep"
 
 abbrev pub name_of : Op → List ℕ
-name_of (PushBool holds) = codes "PushBool"
-name_of (PushWhole value) = codes "PushWhole"
-name_of (PushDecimal millionths) = codes "PushDecimal"
-name_of (PushText text) = codes "PushText"
-name_of PushNil = codes "PushNil"
-name_of (MakeList scalar count) = codes "MakeList"
-name_of LoadResult = codes "LoadResult"
-name_of Item = codes "Item"
-name_of (Field name) = codes "Field"
-name_of Index = codes "Index"
-name_of Len = codes "Len"
-name_of Need = codes "Need"
-name_of IsNil = codes "IsNil"
-name_of Default = codes "Default"
-name_of ToDecimal = codes "ToDecimal"
-name_of IsIn = codes "IsIn"
-name_of Not = codes "Not"
-name_of (Wholes Add) = codes "AddW"
-name_of (Wholes Subtract) = codes "SubW"
-name_of (Wholes Multiply) = codes "MulW"
-name_of (Wholes Divide) = codes "DivW"
-name_of (Wholes Remainder) = codes "RemW"
-name_of NegW = codes "NegW"
-name_of (Decimals on_decimals.Add) = codes "AddD"
-name_of (Decimals on_decimals.Subtract) = codes "SubD"
-name_of (Decimals on_decimals.Multiply) = codes "MulD"
-name_of (Decimals on_decimals.Divide) = codes "DivD"
-name_of NegD = codes "NegD"
-name_of (Compare compared.Wholes Less) = codes "LtW"
-name_of (Compare compared.Wholes LessOrEqual) = codes "LeW"
-name_of (Compare compared.Wholes Greater) = codes "GtW"
-name_of (Compare compared.Wholes GreaterOrEqual) = codes "GeW"
-name_of (Compare compared.Decimals Less) = codes "LtD"
-name_of (Compare compared.Decimals LessOrEqual) = codes "LeD"
-name_of (Compare compared.Decimals Greater) = codes "GtD"
-name_of (Compare compared.Decimals GreaterOrEqual) = codes "GeD"
-name_of (Compare compared.Mixed Less) = codes "LtM"
-name_of (Compare compared.Mixed LessOrEqual) = codes "LeM"
-name_of (Compare compared.Mixed Greater) = codes "GtM"
-name_of (Compare compared.Mixed GreaterOrEqual) = codes "GeM"
-name_of (Equal families.Truth) = codes "EqBool"
-name_of (Equal families.Number) = codes "EqNumber"
-name_of (Equal families.Text) = codes "EqText"
-name_of (AndJump place) = codes "AndJump"
-name_of (OrJump place) = codes "OrJump"
-name_of (BranchFalse place) = codes "BranchFalse"
-name_of (Jump place) = codes "Jump"
-name_of (Enter predicates.All place) = codes "AllEnter"
-name_of (Step predicates.All place) = codes "AllStep"
-name_of (Enter predicates.Any place) = codes "AnyEnter"
-name_of (Step predicates.Any place) = codes "AnyStep"
-name_of (Enter predicates.Count place) = codes "CountEnter"
-name_of (Step predicates.Count place) = codes "CountStep"
-name_of (Enter predicates.Filter place) = codes "FilterEnter"
-name_of (Step predicates.Filter place) = codes "FilterStep"
-name_of Return = codes "Return"
+name_of (ops.Push source) = source_name source
+name_of (ops.MakeList scalar count) = codes "MakeList"
+name_of (ops.Field name) = codes "Field"
+name_of (ops.Unary operator) = unary_name operator
+name_of (ops.Binary operator) = binary_name operator
+name_of (ops.Jump jump place) = jump_name jump
+name_of (ops.Enter predicate step) = enter_name predicate
+name_of (ops.Step predicate enter) = step_name predicate
+name_of ops.Return = codes "Return"
 
 abbrev pub scalar_name : Scalar → List ℕ
 scalar_name scalars.Bool = codes "bool"
@@ -91,20 +136,21 @@ line_feed = 10
 abbrev pub numbered : List (List ℕ) → ℕ → List ℕ
 numbered texts n = space ∷ (decimal n ++ (space ∷ get_or texts n []))
 
+abbrev pub source_text : Code → Source → List ℕ
+source_text code (sources.Bool holds) = space ∷ truth_name holds
+source_text code (sources.Whole value) = space ∷ signed_decimal value
+source_text code (sources.Decimal millionths) = space ∷ signed_decimal millionths
+source_text code (sources.Text number) = numbered code.texts number
+source_text code source = []
+
 -- what stands behind an operation's name
 abbrev pub fields_text : Code → Op → List ℕ
-fields_text code (PushBool holds) = space ∷ truth_name holds
-fields_text code (PushWhole value) = space ∷ signed_decimal value
-fields_text code (PushDecimal millionths) = space ∷ signed_decimal millionths
-fields_text code (PushText number) = numbered code.texts number
-fields_text code (MakeList scalar count) = space ∷ (scalar_name scalar ++ (space ∷ decimal count))
-fields_text code (Field number) = numbered code.names number
-fields_text code (AndJump place) = space ∷ decimal place
-fields_text code (OrJump place) = space ∷ decimal place
-fields_text code (BranchFalse place) = space ∷ decimal place
-fields_text code (Jump place) = space ∷ decimal place
-fields_text code (Enter predicate step) = space ∷ decimal step
-fields_text code (Step predicate enter) = space ∷ decimal enter
+fields_text code (ops.Push source) = source_text code source
+fields_text code (ops.MakeList scalar count) = space ∷ (scalar_name scalar ++ (space ∷ decimal count))
+fields_text code (ops.Field number) = numbered code.names number
+fields_text code (ops.Jump jump place) = space ∷ decimal place
+fields_text code (ops.Enter predicate step) = space ∷ decimal step
+fields_text code (ops.Step predicate enter) = space ∷ decimal enter
 fields_text code op = []
 
 abbrev pub line : Code → (place : ℕ) → Op → List ℕ

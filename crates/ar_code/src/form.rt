@@ -1,340 +1,254 @@
-//! The codes of operations, each of which stands here once, and what stands behind each in an image.
+//! The codes and the names of operations.
 
-ghost use Rattle.std.specs.Prelude.{◌≡◌, option_map};
-ghost use Rattle.ar_op.specs.declared.op.Op.TheVariants.{Compare, Decimals, Enter, Equal, Step, Wholes};
-ghost use Rattle.ar_code.specs.Decoding.{among, enters, equalities, first_of, form_of, jumps, of_decimals, on_values, on_wholes, orders, pushes, steps};
-ghost use Rattle.ar_code.specs.Image.{code_of};
-ghost use Rattle.ar_code.specs.Private.Forms.{form_view};
+ghost use Rattle.std.specs.Prelude.{◌≡◌};
+ghost use Rattle.ar_code.specs.Decoding.{op_of};
+ghost use Rattle.ar_code.specs.Image.{binary_code, code_of, comparison_code, decimals_code, enter_code, equality_code, jump_code, source_code, step_code, unary_code, wholes_code};
+ghost use Rattle.ar_code.specs.Listing.{binary_name, comparison_name, decimals_name, enter_name, equality_name, jump_name, name_of, source_name, step_name, unary_name, wholes_name};
 
-use ar_op::op::{Compared, DecimalArithmetic, Op};
-use ar_value::operator::{Arithmetic, Family, Order, Predicate};
+use ar_op::op::{Jump, Op, Source};
+use ar_value::operator::{
+    Arithmetic, BinaryOperator, Compared, DecimalArithmetic, Family, Numbers, Order, Predicate,
+    Scalar, UnaryOperator,
+};
 
-/// What stands behind an operation's code.
+/// What an operation is but for its fields: its code in an image, and its name in a listing.
 #[derive(Clone, Copy)]
-pub(crate) enum Form {
-    Nothing(Op),
-    Bit,
-    Whole,
-    Decimal,
-    TextNumber,
-    NameNumber,
-    ScalarAndCount,
-    AndJump,
-    OrJump,
-    BranchFalse,
-    Jump,
-    Enter(Predicate),
-    Step(Predicate),
+pub(crate) struct Form {
+    pub(crate) code: u8,
+    pub(crate) name: &'static str,
 }
 
-/// Operations of a family, by an operator: its code, or the form that a code stands for.
-macro_rules! operators {
-    (code, $operator:expr, $family:ident, $kind:ident, $($code:literal $name:ident),*) => {
-        match $operator {
-            $($kind::$name => $code,)*
-        }
-    };
-    (form, $value:expr, $family:ident, $kind:ident, $($code:literal $name:ident),*) => {
-        match $value {
-            $($code => Some(Form::Nothing(Op::$family($kind::$name))),)*
-            _ => None,
-        }
-    };
+impl Form {
+    fn new(code: u8, name: &'static str) -> Form
+        ensures code { result.code ≡ code }
+        ensures name { result.name.now ≡ name.now }
+    {
+        Form { code, name }
+    }
 }
 
-macro_rules! whole_arithmetic {
-    ($to:ident, $value:expr) => {
-        operators!($to, $value, Wholes, Arithmetic, 18 Add, 19 Subtract, 20 Multiply, 21 Divide, 22 Remainder)
-    };
-}
-
-macro_rules! decimal_arithmetic {
-    ($to:ident, $value:expr) => {
-        operators!($to, $value, Decimals, DecimalArithmetic, 24 Add, 25 Subtract, 26 Multiply, 27 Divide)
-    };
-}
-
-macro_rules! equality {
-    ($to:ident, $value:expr) => {
-        operators!($to, $value, Equal, Family, 41 Truth, 42 Number, 43 Text)
-    };
-}
-
-/// Loops, by a predicate.
-macro_rules! loops {
-    (code, $predicate:expr, $end:ident, $($code:literal $name:ident),*) => {
-        match $predicate {
-            $(Predicate::$name => $code,)*
-        }
-    };
-    (form, $value:expr, $end:ident, $($code:literal $name:ident),*) => {
-        match $value {
-            $($code => Some(Form::$end(Predicate::$name)),)*
-            _ => None,
-        }
-    };
-}
-
-macro_rules! loop_entry {
-    ($to:ident, $value:expr) => {
-        loops!($to, $value, Enter, 48 All, 50 Any, 52 Count, 54 Filter)
-    };
-}
-
-macro_rules! loop_step {
-    ($to:ident, $value:expr) => {
-        loops!($to, $value, Step, 49 All, 51 Any, 53 Count, 55 Filter)
-    };
-}
-
-/// Order comparisons, by what they compare and the order.
-macro_rules! comparisons {
-    (code, $compared:expr, $($code:literal $numbers:ident $order:ident),*) => {
-        match $compared {
-            $((Compared::$numbers, Order::$order) => $code,)*
-        }
-    };
-    (form, $value:expr, $($code:literal $numbers:ident $order:ident),*) => {
-        match $value {
-            $($code => Some(Form::Nothing(Op::Compare(Compared::$numbers, Order::$order))),)*
-            _ => None,
-        }
-    };
-}
-
-macro_rules! order_comparisons {
-    ($to:ident, $value:expr) => {
-        comparisons!(
-            $to, $value,
-            29 Wholes Less, 30 Wholes LessOrEqual, 31 Wholes Greater, 32 Wholes GreaterOrEqual,
-            33 Decimals Less, 34 Decimals LessOrEqual, 35 Decimals Greater, 36 Decimals GreaterOrEqual,
-            37 Mixed Less, 38 Mixed LessOrEqual, 39 Mixed Greater, 40 Mixed GreaterOrEqual
-        )
-    };
-}
-
-const PUSH_BOOL: u8 = 1;
-
-const PUSH_WHOLE: u8 = 2;
-
-const PUSH_DECIMAL: u8 = 3;
-
-const PUSH_TEXT: u8 = 4;
-
-const PUSH_NIL: u8 = 5;
-
-const MAKE_LIST: u8 = 6;
-
-const LOAD_RESULT: u8 = 7;
-
-const ITEM: u8 = 8;
-
-const FIELD: u8 = 9;
-
-const INDEX: u8 = 10;
-
-const LEN: u8 = 11;
-
-const NEED: u8 = 12;
-
-const IS_NIL: u8 = 13;
-
-const DEFAULT: u8 = 14;
-
-const TO_DECIMAL: u8 = 15;
-
-const IS_IN: u8 = 16;
-
-const NOT: u8 = 17;
-
-const NEG_W: u8 = 23;
-
-const NEG_D: u8 = 28;
-
-const AND_JUMP: u8 = 44;
-
-const OR_JUMP: u8 = 45;
-
-const BRANCH_FALSE: u8 = 46;
-
-const JUMP: u8 = 47;
-
-const RETURN: u8 = 56;
-
-/// The code of an operation.
-pub(crate) fn code_of(op: Op) -> u8
-    ensures { result ≡ code_of op }
+pub(crate) fn form_of(op: Op) -> Form
+    ensures code { result.code ≡ code_of op }
+    ensures name { result.name.now ≡ name_of op }
 {
     match op {
-        Op::PushBool(_) => PUSH_BOOL,
-        Op::PushWhole(_) => PUSH_WHOLE,
-        Op::PushDecimal(_) => PUSH_DECIMAL,
-        Op::PushText(_) => PUSH_TEXT,
-        Op::PushNil => PUSH_NIL,
-        Op::MakeList { .. } => MAKE_LIST,
-        Op::LoadResult => LOAD_RESULT,
-        Op::Item => ITEM,
-        Op::Field(_) => FIELD,
-        Op::Index => INDEX,
-        Op::Len => LEN,
-        Op::Need => NEED,
-        Op::IsNil => IS_NIL,
-        Op::Default => DEFAULT,
-        Op::ToDecimal => TO_DECIMAL,
-        Op::IsIn => IS_IN,
-        Op::Not => NOT,
-        Op::Wholes(operator) => code_of_wholes(operator),
-        Op::NegW => NEG_W,
-        Op::Decimals(operator) => code_of_decimals(operator),
-        Op::NegD => NEG_D,
-        Op::Compare(numbers, order) => code_of_order(numbers, order),
-        Op::Equal(family) => code_of_equality(family),
-        Op::AndJump(_) => AND_JUMP,
-        Op::OrJump(_) => OR_JUMP,
-        Op::BranchFalse(_) => BRANCH_FALSE,
-        Op::Jump(_) => JUMP,
-        Op::Enter(predicate, _) => code_of_enter(predicate),
-        Op::Step(predicate, _) => code_of_step(predicate),
-        Op::Return => RETURN,
+        Op::Push(source) => of_source(source),
+        Op::MakeList { .. } => Form::new(6, "MakeList"),
+        Op::Field(_) => Form::new(9, "Field"),
+        Op::Unary(operator) => of_unary(operator),
+        Op::Binary(operator) => of_binary(operator),
+        Op::Jump(jump, _) => of_jump(jump),
+        Op::Enter(predicate, _) => of_enter(predicate),
+        Op::Step(predicate, _) => of_step(predicate),
+        Op::Return => Form::new(56, "Return"),
     }
 }
 
-fn code_of_wholes(operator: Arithmetic) -> u8
-    ensures { result ≡ code_of (Wholes operator) }
+fn of_source(source: Source) -> Form
+    ensures code { result.code ≡ source_code source }
+    ensures name { result.name.now ≡ source_name source }
 {
-    whole_arithmetic!(code, operator)
-}
-
-fn code_of_decimals(operator: DecimalArithmetic) -> u8
-    ensures { result ≡ code_of (Decimals operator) }
-{
-    decimal_arithmetic!(code, operator)
-}
-
-fn code_of_order(numbers: Compared, order: Order) -> u8
-    ensures { result ≡ code_of (Compare numbers order) }
-{
-    order_comparisons!(code, (numbers, order))
-}
-
-fn code_of_equality(family: Family) -> u8
-    ensures { result ≡ code_of (Equal family) }
-{
-    equality!(code, family)
-}
-
-fn code_of_enter(predicate: Predicate) -> u8
-    ensures { result ≡ code_of (Enter predicate 0) }
-{
-    loop_entry!(code, predicate)
-}
-
-fn code_of_step(predicate: Predicate) -> u8
-    ensures { result ≡ code_of (Step predicate 0) }
-{
-    loop_step!(code, predicate)
-}
-
-/// What stands behind a code in an image.
-#[tactic(auto, unfolding(crate::specs::Decoding::form_of))]
-pub(crate) fn form_of(code: u8) -> Option<Form>
-    ensures { option_map form_view result ≡ form_of code }
-{
-    let control = first(jump_form(code), first(enter_form(code), step_form(code)));
-    let compared = first(order_form(code), first(equality_form(code), control));
-    let calculated = first(wholes_form(code), first(decimals_form(code), compared));
-    first(push_form(code), first(value_form(code), calculated))
-}
-
-fn first(form: Option<Form>, other: Option<Form>) -> Option<Form>
-    ensures { option_map form_view result ≡ first_of (option_map form_view form) (option_map form_view other) }
-{
-    match form {
-        Some(form) => Some(form),
-        None => other,
+    match source {
+        Source::Bool(_) => Form::new(1, "PushBool"),
+        Source::Whole(_) => Form::new(2, "PushWhole"),
+        Source::Decimal(_) => Form::new(3, "PushDecimal"),
+        Source::Text(_) => Form::new(4, "PushText"),
+        Source::Nil => Form::new(5, "PushNil"),
+        Source::Result => Form::new(7, "LoadResult"),
+        Source::Item => Form::new(8, "Item"),
     }
 }
 
-fn push_form(code: u8) -> Option<Form>
-    ensures { option_map form_view result ≡ among pushes code }
+fn of_unary(operator: UnaryOperator) -> Form
+    ensures code { result.code ≡ unary_code operator }
+    ensures name { result.name.now ≡ unary_name operator }
 {
-    match code {
-        PUSH_BOOL => Some(Form::Bit),
-        PUSH_WHOLE => Some(Form::Whole),
-        PUSH_DECIMAL => Some(Form::Decimal),
-        PUSH_TEXT => Some(Form::TextNumber),
-        PUSH_NIL => Some(Form::Nothing(Op::PushNil)),
-        _ => None,
+    match operator {
+        UnaryOperator::Len => Form::new(11, "Len"),
+        UnaryOperator::Need => Form::new(12, "Need"),
+        UnaryOperator::IsNil => Form::new(13, "IsNil"),
+        UnaryOperator::ToDecimal => Form::new(15, "ToDecimal"),
+        UnaryOperator::Not => Form::new(17, "Not"),
+        UnaryOperator::Negate(Numbers::Wholes) => Form::new(23, "NegW"),
+        UnaryOperator::Negate(Numbers::Decimals) => Form::new(28, "NegD"),
     }
 }
 
-fn value_form(code: u8) -> Option<Form>
-    ensures { option_map form_view result ≡ among on_values code }
+fn of_binary(operator: BinaryOperator) -> Form
+    ensures code { result.code ≡ binary_code operator }
+    ensures name { result.name.now ≡ binary_name operator }
 {
-    match code {
-        MAKE_LIST => Some(Form::ScalarAndCount),
-        LOAD_RESULT => Some(Form::Nothing(Op::LoadResult)),
-        ITEM => Some(Form::Nothing(Op::Item)),
-        FIELD => Some(Form::NameNumber),
-        INDEX => Some(Form::Nothing(Op::Index)),
-        LEN => Some(Form::Nothing(Op::Len)),
-        NEED => Some(Form::Nothing(Op::Need)),
-        IS_NIL => Some(Form::Nothing(Op::IsNil)),
-        DEFAULT => Some(Form::Nothing(Op::Default)),
-        TO_DECIMAL => Some(Form::Nothing(Op::ToDecimal)),
-        IS_IN => Some(Form::Nothing(Op::IsIn)),
-        NOT => Some(Form::Nothing(Op::Not)),
-        NEG_W => Some(Form::Nothing(Op::NegW)),
-        NEG_D => Some(Form::Nothing(Op::NegD)),
-        RETURN => Some(Form::Nothing(Op::Return)),
-        _ => None,
+    match operator {
+        BinaryOperator::Index => Form::new(10, "Index"),
+        BinaryOperator::Default => Form::new(14, "Default"),
+        BinaryOperator::IsIn => Form::new(16, "IsIn"),
+        BinaryOperator::Wholes(operator) => of_wholes(operator),
+        BinaryOperator::Decimals(operator) => of_decimals(operator),
+        BinaryOperator::Compare(compared, order) => of_comparison(compared, order),
+        BinaryOperator::Equal(family) => of_equality(family),
     }
 }
 
-fn wholes_form(code: u8) -> Option<Form>
-    ensures { option_map form_view result ≡ among on_wholes code }
+fn of_wholes(operator: Arithmetic) -> Form
+    ensures code { result.code ≡ wholes_code operator }
+    ensures name { result.name.now ≡ wholes_name operator }
 {
-    whole_arithmetic!(form, code)
-}
-
-fn decimals_form(code: u8) -> Option<Form>
-    ensures { option_map form_view result ≡ among of_decimals code }
-{
-    decimal_arithmetic!(form, code)
-}
-
-fn order_form(code: u8) -> Option<Form>
-    ensures { option_map form_view result ≡ among orders code }
-{
-    order_comparisons!(form, code)
-}
-
-fn equality_form(code: u8) -> Option<Form>
-    ensures { option_map form_view result ≡ among equalities code }
-{
-    equality!(form, code)
-}
-
-fn jump_form(code: u8) -> Option<Form>
-    ensures { option_map form_view result ≡ among jumps code }
-{
-    match code {
-        AND_JUMP => Some(Form::AndJump),
-        OR_JUMP => Some(Form::OrJump),
-        BRANCH_FALSE => Some(Form::BranchFalse),
-        JUMP => Some(Form::Jump),
-        _ => None,
+    match operator {
+        Arithmetic::Add => Form::new(18, "AddW"),
+        Arithmetic::Subtract => Form::new(19, "SubW"),
+        Arithmetic::Multiply => Form::new(20, "MulW"),
+        Arithmetic::Divide => Form::new(21, "DivW"),
+        Arithmetic::Remainder => Form::new(22, "RemW"),
     }
 }
 
-fn enter_form(code: u8) -> Option<Form>
-    ensures { option_map form_view result ≡ among enters code }
+fn of_decimals(operator: DecimalArithmetic) -> Form
+    ensures code { result.code ≡ decimals_code operator }
+    ensures name { result.name.now ≡ decimals_name operator }
 {
-    loop_entry!(form, code)
+    match operator {
+        DecimalArithmetic::Add => Form::new(24, "AddD"),
+        DecimalArithmetic::Subtract => Form::new(25, "SubD"),
+        DecimalArithmetic::Multiply => Form::new(26, "MulD"),
+        DecimalArithmetic::Divide => Form::new(27, "DivD"),
+    }
 }
 
-fn step_form(code: u8) -> Option<Form>
-    ensures { option_map form_view result ≡ among steps code }
+fn of_comparison(compared: Compared, order: Order) -> Form
+    ensures code { result.code ≡ comparison_code compared order }
+    ensures name { result.name.now ≡ comparison_name compared order }
 {
-    loop_step!(form, code)
+    match (compared, order) {
+        (Compared::Wholes, Order::Less) => Form::new(29, "LtW"),
+        (Compared::Wholes, Order::LessOrEqual) => Form::new(30, "LeW"),
+        (Compared::Wholes, Order::Greater) => Form::new(31, "GtW"),
+        (Compared::Wholes, Order::GreaterOrEqual) => Form::new(32, "GeW"),
+        (Compared::Decimals, Order::Less) => Form::new(33, "LtD"),
+        (Compared::Decimals, Order::LessOrEqual) => Form::new(34, "LeD"),
+        (Compared::Decimals, Order::Greater) => Form::new(35, "GtD"),
+        (Compared::Decimals, Order::GreaterOrEqual) => Form::new(36, "GeD"),
+        (Compared::Mixed, Order::Less) => Form::new(37, "LtM"),
+        (Compared::Mixed, Order::LessOrEqual) => Form::new(38, "LeM"),
+        (Compared::Mixed, Order::Greater) => Form::new(39, "GtM"),
+        (Compared::Mixed, Order::GreaterOrEqual) => Form::new(40, "GeM"),
+    }
+}
+
+fn of_equality(family: Family) -> Form
+    ensures code { result.code ≡ equality_code family }
+    ensures name { result.name.now ≡ equality_name family }
+{
+    match family {
+        Family::Truth => Form::new(41, "EqBool"),
+        Family::Number => Form::new(42, "EqNumber"),
+        Family::Text => Form::new(43, "EqText"),
+    }
+}
+
+fn of_jump(jump: Jump) -> Form
+    ensures code { result.code ≡ jump_code jump }
+    ensures name { result.name.now ≡ jump_name jump }
+{
+    match jump {
+        Jump::And => Form::new(44, "AndJump"),
+        Jump::Or => Form::new(45, "OrJump"),
+        Jump::Branch => Form::new(46, "BranchFalse"),
+        Jump::Always => Form::new(47, "Jump"),
+    }
+}
+
+fn of_enter(predicate: Predicate) -> Form
+    ensures code { result.code ≡ enter_code predicate }
+    ensures name { result.name.now ≡ enter_name predicate }
+{
+    match predicate {
+        Predicate::All => Form::new(48, "AllEnter"),
+        Predicate::Any => Form::new(50, "AnyEnter"),
+        Predicate::Count => Form::new(52, "CountEnter"),
+        Predicate::Filter => Form::new(54, "FilterEnter"),
+    }
+}
+
+fn of_step(predicate: Predicate) -> Form
+    ensures code { result.code ≡ step_code predicate }
+    ensures name { result.name.now ≡ step_name predicate }
+{
+    match predicate {
+        Predicate::All => Form::new(49, "AllStep"),
+        Predicate::Any => Form::new(51, "AnyStep"),
+        Predicate::Count => Form::new(53, "CountStep"),
+        Predicate::Filter => Form::new(55, "FilterStep"),
+    }
+}
+
+/// One operation for each code from 1 on, in their order, its fields being empty.
+const OPS: [Op; 56] = [
+    Op::Push(Source::Bool(false)),
+    Op::Push(Source::Whole(0)),
+    Op::Push(Source::Decimal(0)),
+    Op::Push(Source::Text(0)),
+    Op::Push(Source::Nil),
+    Op::MakeList {
+        scalar: Scalar::Bool,
+        count: 0,
+    },
+    Op::Push(Source::Result),
+    Op::Push(Source::Item),
+    Op::Field(0),
+    Op::Binary(BinaryOperator::Index),
+    Op::Unary(UnaryOperator::Len),
+    Op::Unary(UnaryOperator::Need),
+    Op::Unary(UnaryOperator::IsNil),
+    Op::Binary(BinaryOperator::Default),
+    Op::Unary(UnaryOperator::ToDecimal),
+    Op::Binary(BinaryOperator::IsIn),
+    Op::Unary(UnaryOperator::Not),
+    Op::Binary(BinaryOperator::Wholes(Arithmetic::Add)),
+    Op::Binary(BinaryOperator::Wholes(Arithmetic::Subtract)),
+    Op::Binary(BinaryOperator::Wholes(Arithmetic::Multiply)),
+    Op::Binary(BinaryOperator::Wholes(Arithmetic::Divide)),
+    Op::Binary(BinaryOperator::Wholes(Arithmetic::Remainder)),
+    Op::Unary(UnaryOperator::Negate(Numbers::Wholes)),
+    Op::Binary(BinaryOperator::Decimals(DecimalArithmetic::Add)),
+    Op::Binary(BinaryOperator::Decimals(DecimalArithmetic::Subtract)),
+    Op::Binary(BinaryOperator::Decimals(DecimalArithmetic::Multiply)),
+    Op::Binary(BinaryOperator::Decimals(DecimalArithmetic::Divide)),
+    Op::Unary(UnaryOperator::Negate(Numbers::Decimals)),
+    Op::Binary(BinaryOperator::Compare(Compared::Wholes, Order::Less)),
+    Op::Binary(BinaryOperator::Compare(Compared::Wholes, Order::LessOrEqual)),
+    Op::Binary(BinaryOperator::Compare(Compared::Wholes, Order::Greater)),
+    Op::Binary(BinaryOperator::Compare(Compared::Wholes, Order::GreaterOrEqual)),
+    Op::Binary(BinaryOperator::Compare(Compared::Decimals, Order::Less)),
+    Op::Binary(BinaryOperator::Compare(Compared::Decimals, Order::LessOrEqual)),
+    Op::Binary(BinaryOperator::Compare(Compared::Decimals, Order::Greater)),
+    Op::Binary(BinaryOperator::Compare(Compared::Decimals, Order::GreaterOrEqual)),
+    Op::Binary(BinaryOperator::Compare(Compared::Mixed, Order::Less)),
+    Op::Binary(BinaryOperator::Compare(Compared::Mixed, Order::LessOrEqual)),
+    Op::Binary(BinaryOperator::Compare(Compared::Mixed, Order::Greater)),
+    Op::Binary(BinaryOperator::Compare(Compared::Mixed, Order::GreaterOrEqual)),
+    Op::Binary(BinaryOperator::Equal(Family::Truth)),
+    Op::Binary(BinaryOperator::Equal(Family::Number)),
+    Op::Binary(BinaryOperator::Equal(Family::Text)),
+    Op::Jump(Jump::And, 0),
+    Op::Jump(Jump::Or, 0),
+    Op::Jump(Jump::Branch, 0),
+    Op::Jump(Jump::Always, 0),
+    Op::Enter(Predicate::All, 0),
+    Op::Step(Predicate::All, 0),
+    Op::Enter(Predicate::Any, 0),
+    Op::Step(Predicate::Any, 0),
+    Op::Enter(Predicate::Count, 0),
+    Op::Step(Predicate::Count, 0),
+    Op::Enter(Predicate::Filter, 0),
+    Op::Step(Predicate::Filter, 0),
+    Op::Return,
+];
+
+/// The operation that has a code.
+#[tactic(auto, using(crate::proofs::Ordered::no_op))]
+pub(crate) fn op_of(code: u8) -> Option<Op>
+    ensures { result ≡ op_of code }
+{
+    let place = usize::from(code).checked_sub(1)?;
+    OPS.get(place).copied()
 }

@@ -3,16 +3,15 @@
 ghost use Rattle.std.specs.Prelude.{◌≡◌, ◌≤◌, false, length, map, option_map, string_bytes, IfOk, Ok};
 ghost use Rattle.ar_value.specs.Answer.{Gives};
 ghost use Rattle.ar_op.specs.Code.{Code as Parts, IsWritable};
-ghost use Rattle.ar_code.specs.Decoding.{bit_at, decoded, entry_at, expected, fields_at, is_memory, items_at, letters_at, name_number, op_at, one_bit, one_decimal, one_place, one_whole, parts_at, scalar_and_count, scalar_at, scalar_of, so_many_ops, so_many_texts, text_at, text_number, text_of, texts_at};
+ghost use Rattle.ar_code.specs.Decoding.{bit_at, decoded, entry_at, expected, fields_at, is_memory, items_at, letters_at, list_at, op_at, parts_at, scalar_at, scalar_of, so_many_ops, so_many_texts, source_at, text_at, text_of, texts_at};
 ghost use Rattle.ar_code.specs.Image.{image};
-ghost use Rattle.ar_code.specs.Private.Forms.{fields_in, form_view, ops_in};
 
 use crate::error::ImageError;
-use crate::form::{Form, form_of};
+use crate::form::op_of;
 use crate::image_writing::{MAGIC, VERSION};
 use crate::reader::{byte_at, count_at, narrow_at, place, signed, wide_at};
 use ar_op::code::Code;
-use ar_op::op::Op;
+use ar_op::op::{Op, Source};
 use ar_value::operator::Scalar;
 use std::alloc::Global;
 
@@ -92,76 +91,45 @@ struct Tables {
     names: usize,
 }
 
-#[tactic(auto, unfolding(crate::specs::Decoding::fields_at))]
-fn push_bool(end: usize, at: usize, tables: Tables, bytes: &[u8]) -> Result<(Op, &[u8]), ImageError>
-    requires { length bytes.now ≤ end }
-    ensures exact { Gives (λ _. false) (λ read. (read.0, read.1.now)) result
-        (fields_in end at tables one_bit bytes.now) }
-    ensures shorter { IfOk result (λ read. length read.1.now ≤ length bytes.now) }
-{
-    let (holds, rest) = bit_at(end, bytes)?;
-    Ok((Op::PushBool(holds), rest))
-}
-
-#[tactic(auto, unfolding(crate::specs::Decoding::fields_at))]
-fn push_whole(
+/// A source with the field that stands behind its code.
+#[tactic(auto, unfolding(crate::specs::Decoding::source_at))]
+fn source_at(
     end: usize,
     at: usize,
-    tables: Tables,
+    texts: usize,
+    source: Source,
     bytes: &[u8],
-) -> Result<(Op, &[u8]), ImageError>
+) -> Result<(Source, &[u8]), ImageError>
     requires { length bytes.now ≤ end }
     ensures exact { Gives (λ _. false) (λ read. (read.0, read.1.now)) result
-        (fields_in end at tables one_whole bytes.now) }
+        (source_at end at texts source bytes.now) }
     ensures shorter { IfOk result (λ read. length read.1.now ≤ length bytes.now) }
 {
-    let (number, rest) = wide_at(end, bytes)?;
-    Ok((Op::PushWhole(signed(number)), rest))
+    match source {
+        Source::Bool(_) => {
+            let (holds, rest) = bit_at(end, bytes)?;
+            Ok((Source::Bool(holds), rest))
+        }
+        Source::Whole(_) => {
+            let (number, rest) = wide_at(end, bytes)?;
+            Ok((Source::Whole(signed(number)), rest))
+        }
+        Source::Decimal(_) => {
+            let (number, rest) = wide_at(end, bytes)?;
+            Ok((Source::Decimal(signed(number)), rest))
+        }
+        Source::Text(_) => {
+            let (number, rest) = entry_at(end, at, texts, bytes)?;
+            Ok((Source::Text(number), rest))
+        }
+        Source::Nil | Source::Result | Source::Item => Ok((source, bytes)),
+    }
 }
 
-#[tactic(auto, unfolding(crate::specs::Decoding::fields_at))]
-fn push_decimal(
-    end: usize,
-    at: usize,
-    tables: Tables,
-    bytes: &[u8],
-) -> Result<(Op, &[u8]), ImageError>
+#[tactic(auto, unfolding(crate::specs::Decoding::list_at))]
+fn list_at(end: usize, bytes: &[u8]) -> Result<(Op, &[u8]), ImageError>
     requires { length bytes.now ≤ end }
-    ensures exact { Gives (λ _. false) (λ read. (read.0, read.1.now)) result
-        (fields_in end at tables one_decimal bytes.now) }
-    ensures shorter { IfOk result (λ read. length read.1.now ≤ length bytes.now) }
-{
-    let (number, rest) = wide_at(end, bytes)?;
-    Ok((Op::PushDecimal(signed(number)), rest))
-}
-
-#[tactic(auto, unfolding(crate::specs::Decoding::fields_at))]
-fn push_text(end: usize, at: usize, tables: Tables, bytes: &[u8]) -> Result<(Op, &[u8]), ImageError>
-    requires { length bytes.now ≤ end }
-    ensures exact { Gives (λ _. false) (λ read. (read.0, read.1.now)) result
-        (fields_in end at tables text_number bytes.now) }
-    ensures shorter { IfOk result (λ read. length read.1.now ≤ length bytes.now) }
-{
-    let (number, rest) = entry_at(end, at, tables.texts, bytes)?;
-    Ok((Op::PushText(number), rest))
-}
-
-#[tactic(auto, unfolding(crate::specs::Decoding::fields_at))]
-fn field(end: usize, at: usize, tables: Tables, bytes: &[u8]) -> Result<(Op, &[u8]), ImageError>
-    requires { length bytes.now ≤ end }
-    ensures exact { Gives (λ _. false) (λ read. (read.0, read.1.now)) result
-        (fields_in end at tables name_number bytes.now) }
-    ensures shorter { IfOk result (λ read. length read.1.now ≤ length bytes.now) }
-{
-    let (number, rest) = entry_at(end, at, tables.names, bytes)?;
-    Ok((Op::Field(number), rest))
-}
-
-#[tactic(auto, unfolding(crate::specs::Decoding::fields_at))]
-fn make_list(end: usize, at: usize, tables: Tables, bytes: &[u8]) -> Result<(Op, &[u8]), ImageError>
-    requires { length bytes.now ≤ end }
-    ensures exact { Gives (λ _. false) (λ read. (read.0, read.1.now)) result
-        (fields_in end at tables scalar_and_count bytes.now) }
+    ensures exact { Gives (λ _. false) (λ read. (read.0, read.1.now)) result (list_at end bytes.now) }
     ensures shorter { IfOk result (λ read. length read.1.now ≤ length bytes.now) }
 {
     let (scalar, rest) = scalar_at(end, bytes)?;
@@ -169,41 +137,43 @@ fn make_list(end: usize, at: usize, tables: Tables, bytes: &[u8]) -> Result<(Op,
     Ok((Op::MakeList { scalar, count }, rest))
 }
 
-/// An operation that names a place.
-macro_rules! placed {
-    ($end:ident, $bytes:ident, $place:ident => $op:expr) => {{
-        let ($place, rest) = narrow_at($end, $bytes)?;
-        Ok(($op, rest))
-    }};
-}
-
+/// An operation with the fields that stand behind its code.
 #[tactic(auto, unfolding(crate::specs::Decoding::fields_at))]
 fn fields_at(
     end: usize,
     at: usize,
     tables: Tables,
-    form: Form,
+    op: Op,
     bytes: &[u8],
 ) -> Result<(Op, &[u8]), ImageError>
     requires { length bytes.now ≤ end }
     ensures exact { Gives (λ _. false) (λ read. (read.0, read.1.now)) result
-        (fields_in end at tables (form_view form) bytes.now) }
+        (fields_at end at tables.texts tables.names op bytes.now) }
     ensures shorter { IfOk result (λ read. length read.1.now ≤ length bytes.now) }
 {
-    match form {
-        Form::Nothing(op) => Ok((op, bytes)),
-        Form::Bit => push_bool(end, at, tables, bytes),
-        Form::Whole => push_whole(end, at, tables, bytes),
-        Form::Decimal => push_decimal(end, at, tables, bytes),
-        Form::TextNumber => push_text(end, at, tables, bytes),
-        Form::NameNumber => field(end, at, tables, bytes),
-        Form::ScalarAndCount => make_list(end, at, tables, bytes),
-        Form::AndJump => placed!(end, bytes, place => Op::AndJump(place)),
-        Form::OrJump => placed!(end, bytes, place => Op::OrJump(place)),
-        Form::BranchFalse => placed!(end, bytes, place => Op::BranchFalse(place)),
-        Form::Jump => placed!(end, bytes, place => Op::Jump(place)),
-        Form::Enter(predicate) => placed!(end, bytes, step => Op::Enter(predicate, step)),
-        Form::Step(predicate) => placed!(end, bytes, enter => Op::Step(predicate, enter)),
+    match op {
+        Op::Push(source) => {
+            let (source, rest) = source_at(end, at, tables.texts, source, bytes)?;
+            Ok((Op::Push(source), rest))
+        }
+        Op::MakeList { .. } => list_at(end, bytes),
+        Op::Field(_) => {
+            let (number, rest) = entry_at(end, at, tables.names, bytes)?;
+            Ok((Op::Field(number), rest))
+        }
+        Op::Jump(jump, _) => {
+            let (place, rest) = narrow_at(end, bytes)?;
+            Ok((Op::Jump(jump, place), rest))
+        }
+        Op::Enter(predicate, _) => {
+            let (step, rest) = narrow_at(end, bytes)?;
+            Ok((Op::Enter(predicate, step), rest))
+        }
+        Op::Step(predicate, _) => {
+            let (enter, rest) = narrow_at(end, bytes)?;
+            Ok((Op::Step(predicate, enter), rest))
+        }
+        Op::Unary(_) | Op::Binary(_) | Op::Return => Ok((op, bytes)),
     }
 }
 
@@ -217,8 +187,8 @@ fn op_at(end: usize, tables: Tables, bytes: &[u8]) -> Result<(Op, &[u8]), ImageE
 {
     let at = place(end, bytes);
     let (code, rest) = byte_at(end, bytes)?;
-    match form_of(code) {
-        Some(form) => fields_at(end, at, tables, form, rest),
+    match op_of(code) {
+        Some(op) => fields_at(end, at, tables, op, rest),
         None => Err(ImageError::UnknownOp(at)),
     }
 }
@@ -232,7 +202,8 @@ fn ops_at(
     bytes: &[u8],
 ) -> Result<(Vec<Op>, &[u8]), ImageError>
     requires { length bytes.now ≤ end }
-    ensures exact { Gives is_memory (λ read. (read.0.items, read.1.now)) result (ops_in end tables count bytes.now) }
+    ensures exact { Gives is_memory (λ read. (read.0.items, read.1.now)) result
+        (so_many_ops end tables.texts tables.names count bytes.now) }
     ensures shorter { IfOk result (λ read. length read.1.now ≤ length bytes.now) }
 {
     let mut ops = Vec::new(alloc);
@@ -340,7 +311,7 @@ fn expected<'b>(
 }
 
 /// Texts, names and operations.
-#[tactic(auto, using(crate::proofs::Freely::gives_freely, crate::proofs::Parts::parts_are_code), unfolding(crate::specs::Decoding::parts_at))]
+#[tactic(auto, using(crate::proofs::Freely::gives_freely, crate::proofs::Readings::parts_are_code), unfolding(crate::specs::Decoding::parts_at))]
 fn parts_at(alloc: Global, end: usize, bytes: &[u8]) -> Result<(Code, &[u8]), ImageError>
     requires { length bytes.now ≤ end }
     ensures exact { Gives is_memory (λ read. (read.0, read.1.now)) result (parts_at end bytes.now) }

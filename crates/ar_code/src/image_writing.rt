@@ -3,12 +3,13 @@
 ghost use Rattle.std.specs.Prelude.{◌≡◌, ◌++◌, length, map, string_bytes, IfOk, Ok, OnOk};
 ghost use Rattle.std.specs.List.{AllByRecursion, flat_map};
 ghost use Rattle.ar_op.specs.Code.{InRange, IsCode, IsText};
+ghost use Rattle.ar_op.specs.declared.op.Op.TheVariants.{Push};
 ghost use Rattle.ar_code.specs.Decoding.{decoded};
-ghost use Rattle.ar_code.specs.Image.{fields_of, groups, image, number, op_bytes, scalar_number, string, strings, zigzag};
+ghost use Rattle.ar_code.specs.Image.{fields_of, groups, image, number, op_bytes, scalar_number, source_fields, string, strings, zigzag};
 
-use crate::form::code_of;
+use crate::form::form_of;
 use ar_op::code::Code;
-use ar_op::op::Op;
+use ar_op::op::{Op, Source};
 use ar_value::operator::Scalar;
 use std::alloc::{AllocError, Global};
 
@@ -94,38 +95,31 @@ fn put_list(out: &mut Vec<u8>, scalar: Scalar, count: u8) -> Result<(), AllocErr
     put_number(out, u64::from(count))
 }
 
+fn put_source(out: &mut Vec<u8>, source: Source) -> Result<(), AllocError>
+    ensures written { OnOk result (out.new.items ≡ out.old.items ++ source_fields source) }
+    ensures range { InRange (Push source) }
+{
+    match source {
+        Source::Bool(holds) => Ok(out.push(u8::from(holds))?),
+        Source::Whole(value) => put_number(out, zigzag(value)),
+        Source::Decimal(millionths) => put_number(out, zigzag(millionths)),
+        Source::Text(number) => put_number(out, u64::from(number)),
+        Source::Nil | Source::Result | Source::Item => Ok(()),
+    }
+}
+
 fn put_fields(out: &mut Vec<u8>, op: Op) -> Result<(), AllocError>
     ensures written { OnOk result (out.new.items ≡ out.old.items ++ fields_of op) }
     ensures range { InRange op }
 {
     match op {
-        Op::PushBool(holds) => Ok(out.push(u8::from(holds))?),
-        Op::PushWhole(value) => put_number(out, zigzag(value)),
-        Op::PushDecimal(millionths) => put_number(out, zigzag(millionths)),
+        Op::Push(source) => put_source(out, source),
         Op::MakeList { scalar, count } => put_list(out, scalar, count),
-        Op::PushText(number) | Op::Field(number) => put_number(out, u64::from(number)),
-        Op::AndJump(place) | Op::OrJump(place) | Op::BranchFalse(place) | Op::Jump(place) => {
+        Op::Field(number) => put_number(out, u64::from(number)),
+        Op::Jump(_, place) | Op::Enter(_, place) | Op::Step(_, place) => {
             put_number(out, u64::from(place))
         }
-        Op::Enter(_, place) | Op::Step(_, place) => put_number(out, u64::from(place)),
-        Op::PushNil
-        | Op::LoadResult
-        | Op::Item
-        | Op::Index
-        | Op::Len
-        | Op::Need
-        | Op::IsNil
-        | Op::Default
-        | Op::ToDecimal
-        | Op::IsIn
-        | Op::Not
-        | Op::Wholes(_)
-        | Op::NegW
-        | Op::Decimals(_)
-        | Op::NegD
-        | Op::Compare(_, _)
-        | Op::Equal(_)
-        | Op::Return => Ok(()),
+        Op::Unary(_) | Op::Binary(_) | Op::Return => Ok(()),
     }
 }
 
@@ -134,7 +128,7 @@ fn put_op(out: &mut Vec<u8>, op: Op) -> Result<(), AllocError>
     ensures written { OnOk result (out.new.items ≡ out.old.items ++ op_bytes op) }
     ensures range { OnOk result (InRange op) }
 {
-    out.push(code_of(op))?;
+    out.push(form_of(op).code)?;
     put_fields(out, op)
 }
 

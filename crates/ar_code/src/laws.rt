@@ -14,7 +14,7 @@ pub fn one_image()
 {}
 
 /// No bytes are refused for want of memory: that is never their own fault.
-#[tactic(auto, using(crate::proofs::Memory::decoded_not_memory))]
+#[tactic(auto, using(crate::proofs::Readings::decoded_not_memory))]
 pub fn memory_is_no_fault()
     ensures { (bytes : List ℕ) → decoded bytes ≢ Err OutOfMemory }
 {}

@@ -6,7 +6,7 @@
 //! `specs/Decoding` defines it. What is accepted is the image of what was read, and the image of each
 //! code is accepted. Only want of memory can keep the two from their answers.
 //!
-//! - `form`: the codes of operations, and what stands behind each in an image
+//! - `form`: the codes and the names of operations
 //! - `image_writing`, `image_reading`: images; `reader`: numbers in them
 //! - `listings`: code as lines for people
 //! - [`error`]: why bytes are no image

@@ -2,16 +2,9 @@
 use Rattle.std.proofs.Common.{◌≡◌, ◌<◌, ◌≤◌, ℕ, zero, suc, ◌+◌, true, false, List, [], ◌∷◌, length, Option, Some, None, Result, Ok, Err, IfOk, refl, sym, ap, subst, inl, inr, ◌∙◌, arith}
 use Rattle.std.specs.Prelude.{◌⊎◌, nat_lt}
 use Rattle.std.proofs.lemmas.Bool.Decides.{nat_tests}
-use Rattle.ar_value.specs.Kind.{Kind, merge, nil, plain, shaped}
+use Rattle.ar_value.specs.Kind.{Kind, merge, shaped}
 use Rattle.ar_value.specs.Shape.{Shape, shape_named}
 use Rattle.ar_value.specs.Shape as shapes
-use Rattle.ar_value.specs.declared.operator.Arithmetic.{Arithmetic}
-use Rattle.ar_value.specs.declared.operator.Arithmetic.TheVariants.{Add, Subtract, Multiply, Divide, Remainder}
-use Rattle.ar_value.specs.declared.operator.Family.{Family}
-use Rattle.ar_value.specs.declared.operator.Family.TheVariants as families
-use Rattle.ar_value.specs.declared.operator.Numbers.{Numbers}
-use Rattle.ar_value.specs.declared.operator.Numbers.TheVariants.{Wholes, Decimals}
-use Rattle.ar_value.specs.declared.operator.Order.{Order}
 use Rattle.ar_value.specs.declared.operator.Predicate.{Predicate}
 use Rattle.ar_value.specs.declared.operator.Predicate.TheVariants as predicates
 use Rattle.ar_value.specs.declared.operator.Scalar.{Scalar}
@@ -22,11 +15,12 @@ use Rattle.ar_condition.specs.Typed as typed
 use Rattle.ar_condition.specs.declared.tree.Literal.{Literal}
 use Rattle.ar_condition.specs.declared.tree.Literal.TheVariants as literals
 use Rattle.ar_check.specs.Basics.{literal_kind}
-use Rattle.ar_check.specs.Check.{arithmetic_kind, checked, number_kind, predicate_kind, scalar_shape, truth_kind}
-use Rattle.ar_check.specs.Check.{takes as is_taken}
+use Rattle.ar_check.specs.Check.{checked, predicate_kind, scalar_shape, truth_kind}
 use Rattle.ar_op.specs.Code.{Code}
 use Rattle.ar_op.specs.declared.op.Op.{Op}
-use Rattle.ar_op.specs.declared.op.Op.TheVariants.{PushBool, PushWhole, PushDecimal, PushText, PushNil, MakeList, LoadResult, Item, Field, Index, Len, Need, IsNil, Default, ToDecimal, IsIn, Not, Compare, Equal, AndJump, OrJump, BranchFalse, Jump, Enter, Step}
+use Rattle.ar_op.specs.declared.op.Jump.TheVariants as jumps
+use Rattle.ar_op.specs.declared.op.Op.TheVariants.{Push, MakeList, Field, Unary, Binary, Jump, Enter, Step}
+use Rattle.ar_op.specs.declared.op.Source.TheVariants as sources
 use Rattle.ar_verify.specs.Arrivals.{Around, answer_kind, item_of, lacks, operands}
 use Rattle.ar_verify.specs.Effects.{decimal_kind, decimal_shape, effect, is_family, is_scalar, list_made, of_one_family, truth}
 use Rattle.ar_verify.specs.Effects as effects
@@ -38,9 +32,9 @@ use Rattle.ar_verify.specs.declared.error.Reason.{Reason}
 use Rattle.ar_verify.specs.declared.error.Reason.TheVariants.{BudgetTooLarge, StackTooDeep}
 use Rattle.ar_verify.specs.Verdict.{IsFault}
 use Rattle.ar_compile.specs.Acceptance.{OnlyTooLarge}
-use Rattle.ar_compile.specs.Compiled.{arithmetic_op, compared_of, compiled, negative_op}
+use Rattle.ar_compile.specs.Compiled.{compiled}
 use Rattle.ar_compile.specs.Length.{operations, operations_of_items}
-use Rattle.ar_compile.specs.Private.Kinded.{Kinded, AllKinded, TurnsInto, family_of, whole_turns, optional_turns, measured, innermost, literally, of_field, of_index, made_plain, made_decimal, of_sign, of_arithmetic, of_order, of_equality, of_membership, of_opposite, of_both, of_either, of_choice, of_list, of_len, of_nil_test, of_nil_default, of_default, of_predicate, none, one_more}
+use Rattle.ar_compile.specs.Private.Kinded.{Kinded, AllKinded, measured, innermost, literally, of_field, of_unary, of_binary, of_both, of_either, of_choice, of_list, of_predicate, none, one_more}
 use Rattle.ar_compile.specs.Private.Standing.{StandItems, Stands, StandsLiteral}
 use Rattle.ar_compile.proofs.Blocks.{IsPlain, SkipsTo, places_are_well}
 use Rattle.ar_compile.proofs.Flows.{At, Flows, all_arrive, block, in_turn, one_of_two, one_op, over_list, skipped}
@@ -60,69 +54,16 @@ record Gives (code : Code) (shape : Shape) (around : List Around) (op : Op) (kin
   has : lacks op (operands kinds around) ≡ false
   gives : effect code shape (item_of around) op kinds ≡ Some given
 
-same_family : (shape : Shape) → effects.family_of shape ≡ family_of shape
-same_family shapes.bool = refl
-same_family shapes.whole = refl
-same_family shapes.decimal = refl
-same_family shapes.text = refl
-same_family shape = refl
-
-is_itself : (family : Family) → is_family family (Some family) ≡ true
-is_itself families.Truth = refl
-is_itself families.Number = refl
-is_itself families.Text = refl
-
-is_of_family : (family : Family) (shape : Shape) → family_of (plain shape) ≡ Some family → is_family family (effects.family_of (plain shape)) ≡ true
-is_of_family family shape h = rw (same_family (plain shape), h) (is_itself family)
-
-turns : {of into : Shape} → TurnsInto of into → decimal_shape of ≡ Some into
-turns whole_turns = refl
-turns (optional_turns inside) = rw (turns inside) refl
-
 module _ (code : Code) (wanted : Shape) (around : List Around) where
   abbrev Does : Op → List Kind → List Kind → Type 0
   Does op kinds given = Gives code wanted around op kinds given
 
   literal_does : (literal : Literal) (place : ℕ) (kinds : List Kind) → StandsLiteral code place literal → (op : Op) × At code wanted place op × Does op kinds (literal_kind literal ∷ kinds)
-  literal_does literals.Nil place kinds there = (PushNil, there, record { plain = tt; has = enough (length kinds) 0 (omega arith); gives = refl })
-  literal_does (literals.Bool holds) place kinds there = (PushBool holds, there, record { plain = tt; has = enough (length kinds) 0 (omega arith); gives = refl })
-  literal_does (literals.Whole value) place kinds there = (PushWhole value, there, record { plain = tt; has = enough (length kinds) 0 (omega arith); gives = refl })
-  literal_does (literals.Decimal millionths) place kinds there = (PushDecimal millionths, there, record { plain = tt; has = enough (length kinds) 0 (omega arith); gives = refl })
-  literal_does (literals.Text letters) place kinds there = (PushText there.0, there.1, record { plain = tt; has = enough (length kinds) 0 (omega arith); gives = refl })
-
-  negative_does : (numbers : Numbers) (kinds : List Kind) → Does (negative_op numbers) (number_kind numbers ∷ kinds) (number_kind numbers ∷ kinds)
-  negative_does Wholes kinds = record { plain = tt; has = enough (suc (length kinds)) 1 (omega arith); gives = refl }
-  negative_does Decimals kinds = record { plain = tt; has = enough (suc (length kinds)) 1 (omega arith); gives = refl }
-
-  two : (kinds : List Kind) → nat_lt (suc (suc (length kinds))) 2 ≡ false
-  two kinds = enough (suc (suc (length kinds))) 2 (omega arith)
-
-  arithmetic_does : (numbers : Numbers) (operator : Arithmetic) (kinds : List Kind) → is_taken operator numbers ≡ true → Does (arithmetic_op numbers operator) (number_kind numbers ∷ number_kind numbers ∷ kinds) (arithmetic_kind operator numbers ∷ kinds)
-  arithmetic_does Wholes Add kinds h = record { plain = tt; has = two kinds; gives = refl }
-  arithmetic_does Wholes Subtract kinds h = record { plain = tt; has = two kinds; gives = refl }
-  arithmetic_does Wholes Multiply kinds h = record { plain = tt; has = two kinds; gives = refl }
-  arithmetic_does Wholes Divide kinds h = record { plain = tt; has = two kinds; gives = refl }
-  arithmetic_does Wholes Remainder kinds h = record { plain = tt; has = two kinds; gives = refl }
-  arithmetic_does Decimals Add kinds h = record { plain = tt; has = two kinds; gives = refl }
-  arithmetic_does Decimals Subtract kinds h = record { plain = tt; has = two kinds; gives = refl }
-  arithmetic_does Decimals Multiply kinds h = record { plain = tt; has = two kinds; gives = refl }
-  arithmetic_does Decimals Divide kinds h = record { plain = tt; has = two kinds; gives = refl }
-  arithmetic_does Decimals Remainder kinds h = absurd cc
-
-  order_does : (of beside : Numbers) (way : Order) (kinds : List Kind) → Does (Compare (compared_of of beside) way) (number_kind beside ∷ number_kind of ∷ kinds) (truth_kind ∷ kinds)
-  order_does Wholes Wholes way kinds = record { plain = tt; has = two kinds; gives = refl }
-  order_does Wholes Decimals way kinds = record { plain = tt; has = two kinds; gives = refl }
-  order_does Decimals Wholes way kinds = record { plain = tt; has = two kinds; gives = refl }
-  order_does Decimals Decimals way kinds = record { plain = tt; has = two kinds; gives = refl }
-
-  equal_does : (family : Family) (of beside : Shape) (kinds : List Kind) → family_of (plain of) ≡ Some family → family_of (plain beside) ≡ Some family → Does (Equal family) (shaped beside ∷ shaped of ∷ kinds) (truth_kind ∷ kinds)
-  equal_does family of beside kinds h k = record { plain = tt; has = two kinds; gives = rw (is_of_family family of h, is_of_family family beside k) refl }
-
-  one_family : (family : Family) (of shape : Shape) → family_of (plain of) ≡ Some family → family_of (plain shape) ≡ Some family → of_one_family (effects.family_of (plain of)) (effects.family_of (plain shape)) ≡ true
-  one_family family of shape h k = rw (same_family (plain of), h) (is_of_family family shape k)
-
-  member_does : (family : Family) (of shape : Shape) (max : ℕ) (kinds : List Kind) → family_of (plain of) ≡ Some family → family_of (plain shape) ≡ Some family → Does IsIn (shaped (shapes.list shape max) ∷ shaped of ∷ kinds) (truth_kind ∷ kinds)
-  member_does family of shape max kinds h k = record { plain = tt; has = two kinds; gives = rw (one_family family of shape h k) refl }
+  literal_does literals.Nil place kinds there = ((Push sources.Nil), there, record { plain = tt; has = enough (length kinds) 0 (omega arith); gives = refl })
+  literal_does (literals.Bool holds) place kinds there = (Push (sources.Bool holds), there, record { plain = tt; has = enough (length kinds) 0 (omega arith); gives = refl })
+  literal_does (literals.Whole value) place kinds there = (Push (sources.Whole value), there, record { plain = tt; has = enough (length kinds) 0 (omega arith); gives = refl })
+  literal_does (literals.Decimal millionths) place kinds there = (Push (sources.Decimal millionths), there, record { plain = tt; has = enough (length kinds) 0 (omega arith); gives = refl })
+  literal_does (literals.Text letters) place kinds there = (Push (sources.Text there.0), there.1, record { plain = tt; has = enough (length kinds) 0 (omega arith); gives = refl })
 
   answer_is : (predicate : Predicate) (shape : Shape) (max : ℕ) → answer_kind predicate shape max ≡ predicate_kind predicate (shaped (shapes.list shape max))
   answer_is predicates.All shape max = refl
@@ -222,8 +163,8 @@ module _ (code : Code) (wanted : Shape) where
 
   -- one of two blocks
   choice_goes : (around : List Around) (place : ℕ) (condition met unmet : Typed) (left right kind : Kind) (kinds : List Kind) → Goes around place kinds (place + operations condition) (truth_kind ∷ kinds)
-      → At code wanted (place + operations condition) (BranchFalse (place + operations condition + 1 + operations met + 1)) → Goes around (place + operations condition + 1) kinds (place + operations condition + 1 + operations met) (left ∷ kinds)
-      → At code wanted (place + operations condition + 1 + operations met) (Jump (place + operations condition + 1 + operations met + 1 + operations unmet))
+      → At code wanted (place + operations condition) (Jump jumps.Branch (place + operations condition + 1 + operations met + 1)) → Goes around (place + operations condition + 1) kinds (place + operations condition + 1 + operations met) (left ∷ kinds)
+      → At code wanted (place + operations condition + 1 + operations met) (Jump jumps.Always (place + operations condition + 1 + operations met + 1 + operations unmet))
       → Goes around (place + operations condition + 1 + operations met + 1) kinds (place + operations condition + 1 + operations met + 1 + operations unmet) (right ∷ kinds) → merge left right ≡ Some kind
       → Goes around place kinds (place + (operations condition + 1 + operations met + 1 + operations unmet)) (kind ∷ kinds)
   choice_goes around place condition met unmet left right kind kinds goes branch on_met jump on_unmet merged =
@@ -231,7 +172,7 @@ module _ (code : Code) (wanted : Shape) where
       let middle = p + 1 + operations met in
       let end = middle + 1 + operations unmet in
       up_to around place end (place + (operations condition + 1 + operations met + 1 + operations unmet)) kinds (kind ∷ kinds) (behind_branches place (operations condition) (operations met) (operations unmet))
-      (in_turn goes (one_of_two (subst (λ target. At code wanted p (BranchFalse target)) (sym (add_one middle)) branch)
+      (in_turn goes (one_of_two (subst (λ target. At code wanted p (Jump jumps.Branch target)) (sym (add_one middle)) branch)
       (from_to around (p + 1) (suc p) middle kinds (left ∷ kinds) (sym (add_one p)) on_met) jump (from_to around (middle + 1) (suc middle) end kinds (right ∷ kinds) (sym (add_one middle)) on_unmet) merged))
 
   -- a loop over a list
@@ -271,9 +212,9 @@ module _ (code : Code) (wanted : Shape) where
     flows : (inner : Option Shape) (deep : ℕ) (tree : Typed) (kind : Kind) → Kinded wanted inner deep tree kind → (place : ℕ) → Stands code place tree → (around : List Around) → item_of around ≡ inner → length around ≡ deep → (kinds : List Kind)
         → Goes around place kinds (place + operations tree) (kind ∷ kinds)
     flows inner deep typed.result kind measured place there around item long kinds =
-        up_to around place (suc place) (place + 1) kinds (kind ∷ kinds) (add_one place) (op_goes around place LoadResult kinds (kind ∷ kinds) there (record { plain = tt; has = enough (length kinds) 0 (omega arith); gives = refl }))
+        up_to around place (suc place) (place + 1) kinds (kind ∷ kinds) (add_one place) (op_goes around place (Push sources.Result) kinds (kind ∷ kinds) there (record { plain = tt; has = enough (length kinds) 0 (omega arith); gives = refl }))
     flows (Some shape) deep typed.item kind innermost place there around item long kinds =
-        up_to around place (suc place) (place + 1) kinds (kind ∷ kinds) (add_one place) (op_goes around place Item kinds (kind ∷ kinds) there (record { plain = tt; has = rw item refl; gives = rw item refl }))
+        up_to around place (suc place) (place + 1) kinds (kind ∷ kinds) (add_one place) (op_goes around place (Push sources.Item) kinds (kind ∷ kinds) there (record { plain = tt; has = rw item refl; gives = rw item refl }))
     flows None deep typed.item kind is place there around item long kinds = elim is [ ]
     flows inner deep (typed.literal literal) kind (literally constant_of) place there around item long kinds =
         let does = literal_does code wanted around literal place kinds there in
@@ -281,37 +222,18 @@ module _ (code : Code) (wanted : Shape) where
     flows inner deep (typed.field owner name) kind (of_field {shape = shape} {fields = fields} owner_is named) place there around item long kinds =
         one_goes around place owner (Field there.1.0) kinds (shaped (shapes.object fields) ∷ kinds) (kind ∷ kinds) (flows inner deep owner (shaped (shapes.object fields)) owner_is place there.0 around item long kinds) there.1.1
         (record { plain = tt; has = enough (suc (length kinds)) 1 (omega arith); gives = rw (there.1.2, named) refl })
-    flows inner deep (typed.index list position) kind (of_index {max = max} {shape = shape} list_is index_is) place there around item long kinds =
-        two_go around place list position Index kinds (shaped (shapes.list shape max) ∷ kinds) (shaped shapes.whole ∷ shaped (shapes.list shape max) ∷ kinds) (kind ∷ kinds)
-        (flows inner deep list (shaped (shapes.list shape max)) list_is place there.0 around item long kinds)
-        (flows inner deep position (shaped shapes.whole) index_is (place + operations list) there.1 around item long (shaped (shapes.list shape max) ∷ kinds)) there.2 (record { plain = tt; has = two code wanted around kinds; gives = refl })
-    flows inner deep (typed.plain operand) kind (made_plain {shape = shape} operand_is) place there around item long kinds =
-        one_goes around place operand Need kinds (shaped (shapes.optional shape) ∷ kinds) (kind ∷ kinds) (flows inner deep operand (shaped (shapes.optional shape)) operand_is place there.0 around item long kinds) there.1
-        (record { plain = tt; has = enough (suc (length kinds)) 1 (omega arith); gives = refl })
-    flows inner deep (typed.as_decimal operand) kind (made_decimal {of = of} {into = into} operand_is into_decimal) place there around item long kinds =
-        one_goes around place operand ToDecimal kinds (shaped of ∷ kinds) (kind ∷ kinds) (flows inner deep operand (shaped of) operand_is place there.0 around item long kinds) there.1
-        (record { plain = tt; has = enough (suc (length kinds)) 1 (omega arith); gives = rw (turns into_decimal) refl })
-    flows inner deep (typed.negative numbers operand) kind (of_sign operand_is) place there around item long kinds =
-        one_goes around place operand (negative_op numbers) kinds (number_kind numbers ∷ kinds) (kind ∷ kinds) (flows inner deep operand (number_kind numbers) operand_is place there.0 around item long kinds) there.1 (negative_does code wanted around numbers kinds)
-    flows inner deep (typed.arithmetic numbers operator left right) kind (of_arithmetic left_is right_is taken) place there around item long kinds =
-        two_go around place left right (arithmetic_op numbers operator) kinds (number_kind numbers ∷ kinds) (number_kind numbers ∷ number_kind numbers ∷ kinds) (kind ∷ kinds) (flows inner deep left (number_kind numbers) left_is place there.0 around item long kinds)
-        (flows inner deep right (number_kind numbers) right_is (place + operations left) there.1 around item long (number_kind numbers ∷ kinds)) there.2 (arithmetic_does code wanted around numbers operator kinds taken)
-    flows inner deep (typed.ordered of beside way left right) kind (of_order left_is right_is) place there around item long kinds =
-        two_go around place left right (Compare (compared_of of beside) way) kinds (number_kind of ∷ kinds) (number_kind beside ∷ number_kind of ∷ kinds) (kind ∷ kinds) (flows inner deep left (number_kind of) left_is place there.0 around item long kinds)
-        (flows inner deep right (number_kind beside) right_is (place + operations left) there.1 around item long (number_kind of ∷ kinds)) there.2 (order_does code wanted around of beside way kinds)
-    flows inner deep (typed.equal family left right) kind (of_equality {of = of} {beside = beside} left_is right_is in_left in_right) place there around item long kinds =
-        two_go around place left right (Equal family) kinds (shaped of ∷ kinds) (shaped beside ∷ shaped of ∷ kinds) (kind ∷ kinds) (flows inner deep left (shaped of) left_is place there.0 around item long kinds)
-        (flows inner deep right (shaped beside) right_is (place + operations left) there.1 around item long (shaped of ∷ kinds)) there.2 (equal_does code wanted around family of beside kinds in_left in_right)
-    flows inner deep (typed.within operand list) kind (of_membership {max = max} {of = of} {shape = shape} {family = family} operand_is list_is in_operand in_items) place there around item long kinds =
-        two_go around place operand list IsIn kinds (shaped of ∷ kinds) (shaped (shapes.list shape max) ∷ shaped of ∷ kinds) (kind ∷ kinds) (flows inner deep operand (shaped of) operand_is place there.0 around item long kinds)
-        (flows inner deep list (shaped (shapes.list shape max)) list_is (place + operations operand) there.1 around item long (shaped of ∷ kinds)) there.2 (member_does code wanted around family of shape max kinds in_operand in_items)
-    flows inner deep (typed.opposite operand) kind (of_opposite operand_is) place there around item long kinds =
-        one_goes around place operand Not kinds (truth_kind ∷ kinds) (kind ∷ kinds) (flows inner deep operand truth_kind operand_is place there.0 around item long kinds) there.1 (record { plain = tt; has = enough (suc (length kinds)) 1 (omega arith); gives = refl })
+    flows inner deep (typed.unary operator operand) kind (of_unary {of = of} operand_is gives) place there around item long kinds =
+        one_goes around place operand (Unary operator) kinds (of ∷ kinds) (kind ∷ kinds) (flows inner deep operand of operand_is place there.0 around item long kinds) there.1
+        (record { plain = tt; has = enough (suc (length kinds)) 1 (omega arith); gives = rw gives refl })
+    flows inner deep (typed.binary operator left right) kind (of_binary {of = of} {beside = beside} left_is right_is gives) place there around item long kinds =
+        two_go around place left right (Binary operator) kinds (of ∷ kinds) (beside ∷ of ∷ kinds) (kind ∷ kinds) (flows inner deep left of left_is place there.0 around item long kinds)
+        (flows inner deep right beside right_is (place + operations left) there.1 around item long (of ∷ kinds)) there.2
+        (record { plain = tt; has = enough (suc (suc (length kinds))) 2 (omega arith); gives = rw gives refl })
     flows inner deep (typed.both left right) kind (of_both left_is right_is) place there around item long kinds =
-        first_skips around place left right (AndJump (place + operations left + 1 + operations right)) kinds (flows inner deep left truth_kind left_is place there.0 around item long kinds) there.1 refl
+        first_skips around place left right (Jump jumps.And (place + operations left + 1 + operations right)) kinds (flows inner deep left truth_kind left_is place there.0 around item long kinds) there.1 refl
         (flows inner deep right truth_kind right_is (place + operations left + 1) there.2 around item long kinds)
     flows inner deep (typed.either left right) kind (of_either left_is right_is) place there around item long kinds =
-        first_skips around place left right (OrJump (place + operations left + 1 + operations right)) kinds (flows inner deep left truth_kind left_is place there.0 around item long kinds) there.1 refl
+        first_skips around place left right (Jump jumps.Or (place + operations left + 1 + operations right)) kinds (flows inner deep left truth_kind left_is place there.0 around item long kinds) there.1 refl
         (flows inner deep right truth_kind right_is (place + operations left + 1) there.2 around item long kinds)
     flows inner deep (typed.choice condition met unmet) kind (of_choice {left = left} {right = right} condition_is met_is unmet_is merged) place there around item long kinds =
         choice_goes around place condition met unmet left right kind kinds (flows inner deep condition truth_kind condition_is place there.0 around item long kinds) there.1
@@ -320,17 +242,6 @@ module _ (code : Code) (wanted : Shape) where
     flows inner deep (typed.listed scalar items) kind (of_list all_are) place there around item long kinds =
         up_to around place (suc (place + operations_of_items items)) (place + (operations_of_items items + 1)) kinds (kind ∷ kinds) (behind_one place (operations_of_items items))
         (items_flow inner deep items scalar all_are place there.0 around item long kinds (MakeList scalar (how_many items)) (kind ∷ kinds) there.1 (list_does code wanted around scalar (how_many items) kinds))
-    flows inner deep (typed.len list) kind (of_len {max = max} {shape = shape} list_is) place there around item long kinds =
-        one_goes around place list Len kinds (shaped (shapes.list shape max) ∷ kinds) (kind ∷ kinds) (flows inner deep list (shaped (shapes.list shape max)) list_is place there.0 around item long kinds) there.1
-        (record { plain = tt; has = enough (suc (length kinds)) 1 (omega arith); gives = refl })
-    flows inner deep (typed.is_nil operand) kind (of_nil_test {kind = of} operand_is) place there around item long kinds =
-        one_goes around place operand IsNil kinds (of ∷ kinds) (kind ∷ kinds) (flows inner deep operand of operand_is place there.0 around item long kinds) there.1 (record { plain = tt; has = enough (suc (length kinds)) 1 (omega arith); gives = refl })
-    flows inner deep (typed.otherwise operand other) kind (of_nil_default operand_is other_is) place there around item long kinds =
-        two_go around place operand other Default kinds (nil ∷ kinds) (kind ∷ nil ∷ kinds) (kind ∷ kinds) (flows inner deep operand nil operand_is place there.0 around item long kinds)
-        (flows inner deep other kind other_is (place + operations operand) there.1 around item long (nil ∷ kinds)) there.2 (record { plain = tt; has = two code wanted around kinds; gives = refl })
-    flows inner deep (typed.otherwise operand other) kind (of_default {shape = shape} {right = right} operand_is other_is merged) place there around item long kinds =
-        two_go around place operand other Default kinds (shaped shape ∷ kinds) (right ∷ shaped shape ∷ kinds) (kind ∷ kinds) (flows inner deep operand (shaped shape) operand_is place there.0 around item long kinds)
-        (flows inner deep other right other_is (place + operations operand) there.1 around item long (shaped shape ∷ kinds)) there.2 (record { plain = tt; has = two code wanted around kinds; gives = rw merged refl })
     flows inner deep (typed.predicate predicate list body) kind (of_predicate {max = max} {shape = shape} list_is within body_is) place there around item long kinds =
         loop_goes around place predicate list body shape max kinds (flows inner deep list (shaped (shapes.list shape max)) list_is place there.0 around item long kinds) (rw long within) there.1
         (flows (Some shape) (suc deep) body truth_kind body_is (place + operations list + 1) there.2 (record { item = shape; most = max; below = kinds } ∷ around) refl (ap suc long) []) there.3

@@ -8,16 +8,14 @@ use Rattle.ar_value.specs.declared.operator.Predicate.{Predicate}
 use Rattle.ar_value.specs.declared.operator.Predicate.TheVariants.{All, Any, Count, Filter}
 use Rattle.ar_op.specs.Machine.{is_same, nth}
 use Rattle.ar_op.specs.declared.op.Op.{Op}
-use Rattle.ar_op.specs.declared.op.Op.TheVariants.{AndJump, OrJump, BranchFalse, Jump, Enter, Step, Return}
+use Rattle.ar_op.specs.declared.op.Jump.TheVariants as jumps
+use Rattle.ar_op.specs.declared.op.Op.TheVariants.{Jump, Enter, Step, Return}
 use Rattle.ar_verify.specs.Places.{forward, has_ops, held, in_innermost, most_loops, names_well, nests_well, places_pass, same_loops, stays}
 use Rattle.ar_verify.proofs.Nesting.{IsNoLoop, all_pass_each, begins, behind_step, reaches_less, stands_below, stays_around}
 
 -- an operation that goes on to the next place alone
 abbrev pub IsPlain : Op → Type 0
-IsPlain (AndJump target) = ⊥
-IsPlain (OrJump target) = ⊥
-IsPlain (BranchFalse target) = ⊥
-IsPlain (Jump target) = ⊥
+IsPlain (Jump jump target) = ⊥
 IsPlain (Enter predicate step) = ⊥
 IsPlain (Step predicate enter) = ⊥
 IsPlain Return = ⊥
@@ -25,8 +23,8 @@ IsPlain op = Unit {0}
 
 -- a jump where a truth value decides, or the next place
 abbrev pub SkipsTo : ℕ → Op → Type 0
-SkipsTo target (AndJump place) = place ≡ target
-SkipsTo target (OrJump place) = place ≡ target
+SkipsTo target (Jump jumps.And place) = place ≡ target
+SkipsTo target (Jump jumps.Or place) = place ≡ target
 SkipsTo target op = ⊥
 
 there_are : (ops : List Op) {end : ℕ} → length ops ≡ suc end → has_ops ops ≡ Ok tt
@@ -44,7 +42,7 @@ module _ (ops : List Op) where
     -- a jump over the rest of the block
     skips : {around begin end : ℕ} {op : Op} → At begin op → SkipsTo end op → Block around (suc begin) end → Block around begin end
     -- one of two blocks
-    branches : {around begin middle end : ℕ} → At begin (BranchFalse (suc middle)) → Block around (suc begin) middle → At middle (Jump end) → Block around (suc middle) end → Block around begin end
+    branches : {around begin middle end : ℕ} → At begin (Jump jumps.Branch (suc middle)) → Block around (suc begin) middle → At middle (Jump jumps.Always end) → Block around (suc middle) end → Block around begin end
     loops : {around begin step : ℕ} {predicate : Predicate} → around < most_loops → At begin (Enter predicate step) → Block (suc around) (suc begin) step → At step (Step predicate begin) → Block around begin (suc step)
 
   pub forth : {around begin end : ℕ} → Block around begin end → begin ≤ end
@@ -69,17 +67,14 @@ module _ (ops : List Op) where
   goes_forward place target ahead within = let first : nat_lt target (length ops) ≡ true = grind (arith, nat_tests) in let second : nat_lt place target ≡ true = grind (arith, nat_tests) in rw (first, second) refl
 
   plain_named : (place : ℕ) (op : Op) → IsPlain op → names_well ops place op ≡ None
-  plain_named place (AndJump target) plain = absurd plain
-  plain_named place (OrJump target) plain = absurd plain
-  plain_named place (BranchFalse target) plain = absurd plain
-  plain_named place (Jump target) plain = absurd plain
+  plain_named place (Jump jump target) plain = absurd plain
   plain_named place (Enter predicate step) plain = absurd plain
   plain_named place (Step predicate enter) plain = absurd plain
   plain_named place op plain = refl
 
   skip_named : (place target : ℕ) (op : Op) → SkipsTo target op → place < target → target < length ops → names_well ops place op ≡ None
-  skip_named place target (AndJump named) to ahead within = rw to (goes_forward place target ahead within)
-  skip_named place target (OrJump named) to ahead within = rw to (goes_forward place target ahead within)
+  skip_named place target (Jump jumps.And named) to ahead within = rw to (goes_forward place target ahead within)
+  skip_named place target (Jump jumps.Or named) to ahead within = rw to (goes_forward place target ahead within)
   skip_named place target op to ahead within = absurd to
 
   same : (predicate : Predicate) → is_same predicate predicate ≡ true
@@ -124,10 +119,10 @@ module _ (ops : List Op) where
       elim (leb_tells (suc middle) place) [
         | inl w ↦ names unmet within place w.1 below
         | inr w ↦ elim (leb_tells middle place) [
-          | inl v ↦ at_begin middle place v.1 w.1 (is_named middle (Jump end) jump (goes_forward middle end (omega arith) within))
+          | inl v ↦ at_begin middle place v.1 w.1 (is_named middle (Jump jumps.Always end) jump (goes_forward middle end (omega arith) within))
           | inr v ↦ elim (leb_tells (suc begin) place) [
             | inl u ↦ names met (omega arith) place u.1 v.1
-            | inr u ↦ at_begin begin place from u.1 (is_named begin (BranchFalse (suc middle)) branch (goes_forward begin (suc middle) (omega arith) (omega arith)))
+            | inr u ↦ at_begin begin place from u.1 (is_named begin (Jump jumps.Branch (suc middle)) branch (goes_forward begin (suc middle) (omega arith) (omega arith)))
           ]
         ]
       ]
@@ -155,19 +150,13 @@ module _ (ops : List Op) where
     is_nested place op there well other also = subst (λ op. nests_well ops place op ≡ None) (one_op place op other there also) well
 
     plain_nested : (place : ℕ) (op : Op) → IsPlain op → nests_well ops place op ≡ None
-    plain_nested place (AndJump target) plain = absurd plain
-    plain_nested place (OrJump target) plain = absurd plain
-    plain_nested place (BranchFalse target) plain = absurd plain
-    plain_nested place (Jump target) plain = absurd plain
+    plain_nested place (Jump jump target) plain = absurd plain
     plain_nested place (Enter predicate step) plain = absurd plain
     plain_nested place Return plain = absurd plain
     plain_nested place op plain = refl
 
     no_loop : (op : Op) → IsPlain op → IsNoLoop op
-    no_loop (AndJump target) plain = tt
-    no_loop (OrJump target) plain = tt
-    no_loop (BranchFalse target) plain = tt
-    no_loop (Jump target) plain = tt
+    no_loop (Jump jump target) plain = tt
     no_loop (Enter predicate step) plain = plain
     no_loop (Step predicate enter) plain = plain
     no_loop Return plain = tt
@@ -181,13 +170,13 @@ module _ (ops : List Op) where
     stays_there place target same = rw (same, alike_loops (held ops target)) refl
 
     skip_nested : (place target : ℕ) (op : Op) → SkipsTo target op → held ops place ≡ held ops target → nests_well ops place op ≡ None
-    skip_nested place target (AndJump named) to same = rw to (stays_there place target same)
-    skip_nested place target (OrJump named) to same = rw to (stays_there place target same)
+    skip_nested place target (Jump jumps.And named) to same = rw to (stays_there place target same)
+    skip_nested place target (Jump jumps.Or named) to same = rw to (stays_there place target same)
     skip_nested place target op to same = absurd to
 
     skip_no_loop : (target : ℕ) (op : Op) → SkipsTo target op → IsNoLoop op
-    skip_no_loop target (AndJump named) to = tt
-    skip_no_loop target (OrJump named) to = tt
+    skip_no_loop target (Jump jumps.And named) to = tt
+    skip_no_loop target (Jump jumps.Or named) to = tt
     skip_no_loop target op to = absurd to
 
     -- the operations of a block are nested as they should be, and behind it the same loops are around as before it
@@ -243,20 +232,20 @@ module _ (ops : List Op) where
     nest (branches {begin = begin} {middle = middle} {end = end} branch met jump unmet) inner deep before =
         let ahead = forth met in
         let further = forth unmet in
-        let next : held ops (suc begin) ≡ held ops begin = stays_around ops paired begin (BranchFalse (suc middle)) branch tt in
-        let met_nest = nest met (rw next (reach_less (held ops begin) middle end (omega arith) inner)) (rw next deep) (no_enter begin (BranchFalse (suc middle)) branch tt before) in
+        let next : held ops (suc begin) ≡ held ops begin = stays_around ops paired begin (Jump jumps.Branch (suc middle)) branch tt in
+        let met_nest = nest met (rw next (reach_less (held ops begin) middle end (omega arith) inner)) (rw next deep) (no_enter begin (Jump jumps.Branch (suc middle)) branch tt before) in
         let at_jump : held ops middle ≡ held ops begin = met_nest.behind ∙ next in
-        let behind_jump : held ops (suc middle) ≡ held ops begin = stays_around ops paired middle (Jump end) jump tt ∙ at_jump in
-        let unmet_nest = nest unmet (rw behind_jump inner) (rw behind_jump deep) (no_enter middle (Jump end) jump tt (below_or_in (suc begin) middle (no_enter begin (BranchFalse (suc middle)) branch tt before) met_nest.each)) in
+        let behind_jump : held ops (suc middle) ≡ held ops begin = stays_around ops paired middle (Jump jumps.Always end) jump tt ∙ at_jump in
+        let unmet_nest = nest unmet (rw behind_jump inner) (rw behind_jump deep) (no_enter middle (Jump jumps.Always end) jump tt (below_or_in (suc begin) middle (no_enter begin (Jump jumps.Branch (suc middle)) branch tt before) met_nest.each)) in
         let behind : held ops end ≡ held ops begin = unmet_nest.behind ∙ behind_jump in
         record {
           each = λ place from below. elim (leb_tells (suc middle) place) [
             | inl w ↦ unmet_nest.each place w.1 below
             | inr w ↦ elim (leb_tells middle place) [
-              | inl v ↦ at_first middle place v.1 w.1 (is_nested middle (Jump end) jump (stays_there middle end (at_jump ∙ sym behind)))
+              | inl v ↦ at_first middle place v.1 w.1 (is_nested middle (Jump jumps.Always end) jump (stays_there middle end (at_jump ∙ sym behind)))
               | inr v ↦ elim (leb_tells (suc begin) place) [
                 | inl u ↦ met_nest.each place u.1 v.1
-                | inr u ↦ at_first begin place from u.1 (is_nested begin (BranchFalse (suc middle)) branch (stays_there begin (suc middle) (sym behind_jump)))
+                | inr u ↦ at_first begin place from u.1 (is_nested begin (Jump jumps.Branch (suc middle)) branch (stays_there begin (suc middle) (sym behind_jump)))
               ]
             ]
           ];

@@ -1,12 +1,15 @@
 -- What is checked is within limits where the tree as written is: kinds add no items and lengthen no text or name.
 use Rattle.std.proofs.Common.{◌≡◌, ℕ, suc, Bool, true, false, List, [], ◌∷◌, length, map, Option, Some, None, Result, Ok, Err, IfOk, refl, sym, ap, subst}
 use Rattle.std.specs.Prelude.{◌&&◌, ◌≤◌, if◌then◌else◌}
+use Rattle.ar_value.specs.declared.operator.BinaryOperator.TheVariants as binary
+use Rattle.ar_value.specs.declared.operator.UnaryOperator.TheVariants as unary
 use Rattle.ar_value.specs.Answer.{◌>>=◌}
 use Rattle.ar_value.specs.Kind.{Kind, nil, shaped, common, is_decimal, is_optional, plain}
 use Rattle.ar_value.specs.Shape.{Shape}
 use Rattle.ar_value.specs.Shape as shapes
 use Rattle.ar_value.specs.declared.operator.Arithmetic.{Arithmetic}
 use Rattle.ar_value.specs.declared.operator.Arithmetic.TheVariants.{Add, Subtract, Multiply, Divide, Remainder}
+use Rattle.ar_value.specs.declared.operator.BinaryOperator.{BinaryOperator}
 use Rattle.ar_value.specs.declared.operator.Numbers.{Numbers}
 use Rattle.ar_value.specs.declared.operator.Numbers.TheVariants.{Wholes, Decimals}
 use Rattle.ar_value.specs.declared.operator.Order.{Order}
@@ -25,7 +28,7 @@ use Rattle.ar_condition.specs.declared.tree.Unary.{Unary}
 use Rattle.ar_condition.specs.declared.tree.Unary.TheVariants as unaries
 use Rattle.ar_condition.specs.Typed.{Typed, Typeds, how_many, typeds}
 use Rattle.ar_condition.specs.Typed as typed
-use Rattle.ar_check.specs.Check.{Answer, Item, arithmetic_kind, arithmetic_on, binary_of, body_of, calculation_of, checked, choice_in, choice_of, choice_tree, common_of, comparison_of, condition_of, default_kind, default_of, default_tree, entered, equal_of, equality_of, field_of, field_shape, given, in_common, in_of, index_of, innermost, is_nil_literal, is_whole_number, item_of, item_shape, items_typed, len_of, list_in_common, list_of, member_of, negated, negation_of, no_scalar, ordered_of, ordering_of, over_items, plain_kind, plus_of, predicate_kind, predicate_of, same_family, takes, truth_kind, turned_item, typed_of, unary_of, where_wanted, widened}
+use Rattle.ar_check.specs.Check.{Answer, Item, arithmetic_kind, arithmetic_on, binary_of, body_of, calculation_of, checked, choice_in, choice_of, choice_tree, common_of, comparison_of, condition_of, default_kind, default_of, default_tree, entered, equal_of, equality_of, field_of, field_shape, given, in_common, in_of, index_of, innermost, is_nil_literal, is_whole_number, item_of, item_shape, items_typed, len_of, list_in_common, list_of, member_of, negated, negation_of, no_scalar, ordered_of, ordering_of, over_items, plain_kind, plus_of, predicate_kind, predicate_of, same_family, arithmetic_in, where_there, truth_kind, turned_item, typed_of, unary_of, where_wanted, widened}
 use Rattle.ar_check.specs.Operand.{Operand, among, family_in, is_truth, is_whole, made_plain, numbers, plain_of, plain_tree, scalar, scalar_of, turned}
 use Rattle.ar_check.specs.declared.error.TypeError.{TypeError}
 use Rattle.ar_check.specs.declared.error.TypeError.TheVariants.{NotTruth}
@@ -45,7 +48,7 @@ wanted_within at false tree kind h = tt
 
 -- ---- what is made plain, and what is turned into decimal
 
-plain_chosen : (test : Bool) (tree : Typed) → InLimits tree → InLimits (if test then typed.plain tree else tree)
+plain_chosen : (test : Bool) (tree : Typed) → InLimits tree → InLimits (if test then typed.unary unary.Need tree else tree)
 plain_chosen true tree h = h
 plain_chosen false tree h = h
 
@@ -60,7 +63,7 @@ among_within : (other numbers : Numbers) (tree : Typed) → InLimits tree → In
 among_within Decimals Wholes tree h = h
 among_within other numbers tree h = h
 
-turned_chosen : (test : Bool) (tree : Typed) → InLimits tree → InLimits (if test then typed.as_decimal tree else tree)
+turned_chosen : (test : Bool) (tree : Typed) → InLimits tree → InLimits (if test then typed.unary unary.ToDecimal tree else tree)
 turned_chosen true tree h = h
 turned_chosen false tree h = h
 
@@ -79,18 +82,22 @@ field_within : (at : ℕ) (name : List ℕ) (owner : Operand) → IsShort name �
 field_within at name owner few h = after Within (field_shape at name (plain_of owner.kind)) (λ shape. given (typed.field (made_plain owner) name) (shaped shape)) (λ shape. (plain_within owner h, few))
 
 len_within : (at : ℕ) (list : Operand) → Within list → IfOk (len_of at list) Within
-len_within at list h = after Within (item_shape at (plain_of list.kind)) (λ shape. given (typed.len (made_plain list)) (shaped shapes.whole)) (λ shape. plain_within list h)
+len_within at list h = after Within (item_shape at (plain_of list.kind)) (λ shape. given (typed.unary unary.Len (made_plain list)) (shaped shapes.whole)) (λ shape. plain_within list h)
 
 index_within : (at : ℕ) (list position : Operand) → Within list → Within position → IfOk (index_of at list position) Within
 index_within at list position h k =
-    after Within (item_shape at (plain_of list.kind)) (λ shape. where_wanted at (is_whole_number (scalar position)) (typed.index (made_plain list) (made_plain position)) (shaped shape))
-    (λ shape. wanted_within at (is_whole_number (scalar position)) (typed.index (made_plain list) (made_plain position)) (shaped shape) (plain_within list h, plain_within position k))
+    after Within (item_shape at (plain_of list.kind)) (λ shape. where_wanted at (is_whole_number (scalar position)) (typed.binary binary.Index (made_plain list) (made_plain position)) (shaped shape))
+    (λ shape. wanted_within at (is_whole_number (scalar position)) (typed.binary binary.Index (made_plain list) (made_plain position)) (shaped shape) (plain_within list h, plain_within position k))
 
 -- ---- numbers
 
+there_within : (at : ℕ) (found : Option BinaryOperator) (left right : Typed) (kind : Kind) → InLimits left → InLimits right → IfOk (where_there at found left right kind) Within
+there_within at (Some operator) left right kind h k = (h, k)
+there_within at None left right kind h k = tt
+
 arithmetic_within : (at : ℕ) (operator : Arithmetic) (m n : Option Numbers) (left right : Typed) → InLimits left → InLimits right → IfOk (arithmetic_on at operator m n left right) Within
 arithmetic_within at operator (Some m) (Some n) left right h k =
-    wanted_within at (takes operator (widened m n)) (typed.arithmetic (widened m n) operator (among n m left) (among m n right)) (arithmetic_kind operator (widened m n)) (among_within n m left h, among_within m n right k)
+    there_within at (arithmetic_in (widened m n) operator) (among n m left) (among m n right) (arithmetic_kind operator (widened m n)) (among_within n m left h) (among_within m n right k)
 arithmetic_within at operator (Some m) None left right h k = tt
 arithmetic_within at operator None n left right h k = tt
 
@@ -116,7 +123,7 @@ positive_within at None tree h = tt
 unary_within : (at : ℕ) (operator : Unary) (operand : Operand) → Within operand → IfOk (unary_of at operator operand) Within
 unary_within at unaries.Minus operand h = negative_within at (numbers operand) (made_plain operand) (plain_within operand h)
 unary_within at unaries.Plus operand h = positive_within at (numbers operand) (made_plain operand) (plain_within operand h)
-unary_within at unaries.Not operand h = wanted_within at (is_truth operand) (typed.opposite (made_plain operand)) truth_kind (plain_within operand h)
+unary_within at unaries.Not operand h = wanted_within at (is_truth operand) (typed.unary unary.Not (made_plain operand)) truth_kind (plain_within operand h)
 
 -- ---- equality and membership
 
@@ -125,7 +132,7 @@ negated_within (Ok operand) h = h
 negated_within (Err error) h = tt
 
 equal_within : (at : ℕ) (m n : Option Scalar) (left right : Typed) → InLimits left → InLimits right → IfOk (equal_of at m n left right) Within
-equal_within at (Some m) (Some n) left right h k = wanted_within at (same_family (family_in m) (family_in n)) (typed.equal (family_in m) left right) truth_kind (h, k)
+equal_within at (Some m) (Some n) left right h k = wanted_within at (same_family (family_in m) (family_in n)) (typed.binary (binary.Equal (family_in m)) left right) truth_kind (h, k)
 equal_within at (Some m) None left right h k = tt
 equal_within at None n left right h k = tt
 
@@ -135,7 +142,7 @@ equality_within at false true left right h k = h
 equality_within at false false left right h k = equal_within at (scalar left) (scalar right) left.tree right.tree h k
 
 member_within : (at : ℕ) (m n : Option Scalar) (operand list : Typed) → InLimits operand → InLimits list → IfOk (member_of at m n operand list) Within
-member_within at (Some m) (Some n) operand list h k = wanted_within at (same_family (family_in m) (family_in n)) (typed.within operand list) truth_kind (h, k)
+member_within at (Some m) (Some n) operand list h k = wanted_within at (same_family (family_in m) (family_in n)) (typed.binary binary.IsIn operand list) truth_kind (h, k)
 member_within at (Some m) None operand list h k = tt
 member_within at None n operand list h k = tt
 
@@ -259,7 +266,7 @@ module _ (wanted : Shape) where
         answers (Found items) Within (items_typed wanted inner around items) (λ found. list_of at found (no_scalar found)) (items_within inner around items few.0)
         (λ found h. list_within at found (no_scalar found) (subst (λ many. many ≤ most_items) (sym h.1) few.1) h.0)
     tree_within inner around (trees.LenAt at list) few = answers Within Within (typed_of wanted inner around list) (len_of at) (tree_within inner around list few) (len_within at)
-    tree_within inner around (trees.IsNilAt at operand) few = answers Within Within (typed_of wanted inner around operand) (λ operand. given (typed.is_nil operand.tree) truth_kind) (tree_within inner around operand few) (λ operand h. h)
+    tree_within inner around (trees.IsNilAt at operand) few = answers Within Within (typed_of wanted inner around operand) (λ operand. given (typed.unary unary.IsNil operand.tree) truth_kind) (tree_within inner around operand few) (λ operand h. h)
     tree_within inner around (trees.DefaultAt at operand otherwise) few =
         answers Within Within (typed_of wanted inner around operand) (λ first. typed_of wanted inner around otherwise >>= default_of at first) (tree_within inner around operand few.0)
         (λ first h. answers Within Within (typed_of wanted inner around otherwise) (default_of at first) (tree_within inner around otherwise few.1) (λ second k. default_within at first second h k))

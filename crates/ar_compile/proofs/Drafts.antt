@@ -8,10 +8,11 @@ use Rattle.ar_condition.specs.declared.tree.Literal.TheVariants as literals
 use Rattle.ar_value.specs.declared.operator.Predicate.{Predicate}
 use Rattle.ar_op.specs.Code.{Code, code_of_parts}
 use Rattle.ar_op.specs.declared.op.Op.{Op}
-use Rattle.ar_op.specs.declared.op.Op.TheVariants.{MakeList, Field, Index, Len, Need, IsNil, Default, ToDecimal, IsIn, Not, Compare, Equal, AndJump, OrJump, BranchFalse, Jump, Enter, Step, Return}
-use Rattle.ar_compile.specs.Compiled.{Tables, arithmetic_op, code_at, compared_of, compiled, items_at, literal_op, literal_tables, negative_op, number_of, tables_with, tables_with_items, with_text}
+use Rattle.ar_op.specs.declared.op.Jump.TheVariants as jumps
+use Rattle.ar_op.specs.declared.op.Op.TheVariants.{MakeList, Field, Jump, Enter, Step, Return, Unary, Binary}
+use Rattle.ar_compile.specs.Compiled.{Tables, code_at, compiled, items_at, literal_op, literal_tables, number_of, tables_with, tables_with_items, with_text}
 use Rattle.ar_compile.specs.Length.{operations}
-use Rattle.ar_compile.specs.Private.Drafts.{branches, drafted, drafted_items, enters, no_code, place_of, with_field, with_literal, with_loop, with_op, with_set}
+use Rattle.ar_compile.specs.Private.Drafts.{drafted, drafted_items, enters, no_code, place_of, with_field, with_literal, with_loop, with_op, with_set, jumps_on}
 use Rattle.ar_compile.proofs.Standing.{around_length, length_is, one_length}
 
 abbrev tables_of : Code → Tables
@@ -185,29 +186,29 @@ choice_drafted draft condition met unmet drafts_condition drafts_met drafts_unme
     let tu = tables_with unmet tm in
     let end = r + operations unmet in
     let a = drafted condition draft in
-    let b = drafted met (with_op (BranchFalse 0) a) in
-    let b_is = jump_between draft condition met (BranchFalse 0) drafts_condition drafts_met in
-    let many = around_length c m (BranchFalse 0) (operations condition) (operations met) (length_is p t condition) (length_is q tc met) in
-    let jumped = then_op draft b (c ++ (BranchFalse 0 ∷ m)) tm (Jump 0) b_is ∙ same_ops draft ((c ++ (BranchFalse 0 ∷ m)) ++ Jump 0 ∷ []) (c ++ (BranchFalse 0 ∷ (m ++ Jump 0 ∷ []))) tm (append_assoc c (BranchFalse 0 ∷ m) (Jump 0 ∷ [])) in
-    let b_place = place_found draft b (c ++ (BranchFalse 0 ∷ m)) tm (operations condition + 1 + operations met) b_is many ∙ further p (operations condition) (operations met) in
-    let jumped_place = place_found draft (with_op (Jump 0) b) ((c ++ (BranchFalse 0 ∷ m)) ++ Jump 0 ∷ []) tm (operations condition + 1 + operations met + 1) (then_op draft b (c ++ (BranchFalse 0 ∷ m)) tm (Jump 0) b_is)
-    (one_length (c ++ (BranchFalse 0 ∷ m)) (Jump 0) (operations condition + 1 + operations met) many) ∙ further_on p (operations condition) (operations met) in
-    let d = branches (place_of a) (with_op (Jump 0) b) in
-    let d_is = ap (λ e. with_set (place_of a) (BranchFalse e) (with_op (Jump 0) b)) jumped_place
-    ∙ then_set draft (with_op (Jump 0) b) c (m ++ Jump 0 ∷ []) (BranchFalse 0) (BranchFalse r) tm (place_of a) jumped (ap place_of (drafts_condition draft)) in
+    let b = drafted met (with_op (Jump jumps.Branch 0) a) in
+    let b_is = jump_between draft condition met (Jump jumps.Branch 0) drafts_condition drafts_met in
+    let many = around_length c m (Jump jumps.Branch 0) (operations condition) (operations met) (length_is p t condition) (length_is q tc met) in
+    let jumped = then_op draft b (c ++ (Jump jumps.Branch 0 ∷ m)) tm (Jump jumps.Always 0) b_is ∙ same_ops draft ((c ++ (Jump jumps.Branch 0 ∷ m)) ++ Jump jumps.Always 0 ∷ []) (c ++ (Jump jumps.Branch 0 ∷ (m ++ Jump jumps.Always 0 ∷ []))) tm (append_assoc c (Jump jumps.Branch 0 ∷ m) (Jump jumps.Always 0 ∷ [])) in
+    let b_place = place_found draft b (c ++ (Jump jumps.Branch 0 ∷ m)) tm (operations condition + 1 + operations met) b_is many ∙ further p (operations condition) (operations met) in
+    let jumped_place = place_found draft (with_op (Jump jumps.Always 0) b) ((c ++ (Jump jumps.Branch 0 ∷ m)) ++ Jump jumps.Always 0 ∷ []) tm (operations condition + 1 + operations met + 1) (then_op draft b (c ++ (Jump jumps.Branch 0 ∷ m)) tm (Jump jumps.Always 0) b_is)
+    (one_length (c ++ (Jump jumps.Branch 0 ∷ m)) (Jump jumps.Always 0) (operations condition + 1 + operations met) many) ∙ further_on p (operations condition) (operations met) in
+    let d = jumps_on jumps.Branch (place_of a) (with_op (Jump jumps.Always 0) b) in
+    let d_is = ap (λ e. with_set (place_of a) (Jump jumps.Branch e) (with_op (Jump jumps.Always 0) b)) jumped_place
+    ∙ then_set draft (with_op (Jump jumps.Always 0) b) c (m ++ Jump jumps.Always 0 ∷ []) (Jump jumps.Branch 0) (Jump jumps.Branch r) tm (place_of a) jumped (ap place_of (drafts_condition draft)) in
     let e = drafted unmet d in
-    let front = c ++ (BranchFalse r ∷ (m ++ Jump 0 ∷ [])) in
-    let front_many = around_length c (m ++ Jump 0 ∷ []) (BranchFalse r) (operations condition) (operations met + 1) (length_is p t condition) (one_length m (Jump 0) (operations met) (length_is q tc met)) in
-    let to_met = c ++ (BranchFalse r ∷ m) in
+    let front = c ++ (Jump jumps.Branch r ∷ (m ++ Jump jumps.Always 0 ∷ [])) in
+    let front_many = around_length c (m ++ Jump jumps.Always 0 ∷ []) (Jump jumps.Branch r) (operations condition) (operations met + 1) (length_is p t condition) (one_length m (Jump jumps.Always 0) (operations met) (length_is q tc met)) in
+    let to_met = c ++ (Jump jumps.Branch r ∷ m) in
     let e_is = then_tree draft d front tm (operations condition + 1 + (operations met + 1)) unmet d_is front_many drafts_unmet
     ∙ ap (λ s. extended draft (front ++ code_at s tm unmet) tu) (places p (operations condition) (operations met))
-    ∙ same_ops draft (front ++ u) (to_met ++ (Jump 0 ∷ u)) tu (regroup c m u (BranchFalse r) (Jump 0)) in
-    let to_met_many = around_length c m (BranchFalse r) (operations condition) (operations met) (length_is p t condition) (length_is q tc met) in
-    let e_place = place_found draft e (to_met ++ (Jump 0 ∷ u)) tu (operations condition + 1 + operations met + 1 + operations unmet) e_is (around_length to_met u (Jump 0) (operations condition + 1 + operations met) (operations unmet) to_met_many (length_is r tm unmet))
+    ∙ same_ops draft (front ++ u) (to_met ++ (Jump jumps.Always 0 ∷ u)) tu (regroup c m u (Jump jumps.Branch r) (Jump jumps.Always 0)) in
+    let to_met_many = around_length c m (Jump jumps.Branch r) (operations condition) (operations met) (length_is p t condition) (length_is q tc met) in
+    let e_place = place_found draft e (to_met ++ (Jump jumps.Always 0 ∷ u)) tu (operations condition + 1 + operations met + 1 + operations unmet) e_is (around_length to_met u (Jump jumps.Always 0) (operations condition + 1 + operations met) (operations unmet) to_met_many (length_is r tm unmet))
     ∙ to_the_end p (operations condition) (operations met) (operations unmet) in
-    ap (λ n. with_set (place_of b) (Jump n) e) e_place
-    ∙ then_set draft e to_met u (Jump 0) (Jump end) tu (place_of b) e_is (b_place ∙ sym (place_behind draft to_met (operations condition + 1 + operations met) to_met_many ∙ further p (operations condition) (operations met)))
-    ∙ same_ops draft (to_met ++ (Jump end ∷ u)) (c ++ (BranchFalse r ∷ (m ++ (Jump end ∷ u)))) tu (append_assoc c (BranchFalse r ∷ m) (Jump end ∷ u))
+    ap (λ n. with_set (place_of b) (Jump jumps.Always n) e) e_place
+    ∙ then_set draft e to_met u (Jump jumps.Always 0) (Jump jumps.Always end) tu (place_of b) e_is (b_place ∙ sym (place_behind draft to_met (operations condition + 1 + operations met) to_met_many ∙ further p (operations condition) (operations met)))
+    ∙ same_ops draft (to_met ++ (Jump jumps.Always end ∷ u)) (c ++ (Jump jumps.Branch r ∷ (m ++ (Jump jumps.Always end ∷ u)))) tu (append_assoc c (Jump jumps.Branch r ∷ m) (Jump jumps.Always end ∷ u))
 
 mutual
   drafted_is : (tree : Typed) (draft : Code) → Drafted tree draft
@@ -220,23 +221,13 @@ mutual
       let to = tables_with owner t in
       ap (with_field name) (drafted_is owner draft)
       ∙ ap (λ ops. code_of_parts ops to.texts (with_text name to.names)) (append_assoc draft.ops (code_at p t owner) (Field (number_of name to.names) ∷ []))
-  drafted_is (typed.index list position) draft = two_drafted draft list position Index (λ d. drafted_is list d) (λ d. drafted_is position d)
-  drafted_is (typed.plain operand) draft = one_drafted draft operand Need (λ d. drafted_is operand d)
-  drafted_is (typed.as_decimal operand) draft = one_drafted draft operand ToDecimal (λ d. drafted_is operand d)
-  drafted_is (typed.negative numbers operand) draft = one_drafted draft operand (negative_op numbers) (λ d. drafted_is operand d)
-  drafted_is (typed.arithmetic numbers operator left right) draft = two_drafted draft left right (arithmetic_op numbers operator) (λ d. drafted_is left d) (λ d. drafted_is right d)
-  drafted_is (typed.ordered of beside way left right) draft = two_drafted draft left right (Compare (compared_of of beside) way) (λ d. drafted_is left d) (λ d. drafted_is right d)
-  drafted_is (typed.equal family left right) draft = two_drafted draft left right (Equal family) (λ d. drafted_is left d) (λ d. drafted_is right d)
-  drafted_is (typed.within operand list) draft = two_drafted draft operand list IsIn (λ d. drafted_is operand d) (λ d. drafted_is list d)
-  drafted_is (typed.opposite operand) draft = one_drafted draft operand Not (λ d. drafted_is operand d)
-  drafted_is (typed.both left right) draft = jump_drafted draft left right (AndJump 0) AndJump (λ d. drafted_is left d) (λ d. drafted_is right d)
-  drafted_is (typed.either left right) draft = jump_drafted draft left right (OrJump 0) OrJump (λ d. drafted_is left d) (λ d. drafted_is right d)
+  drafted_is (typed.unary operator operand) draft = one_drafted draft operand (Unary operator) (λ d. drafted_is operand d)
+  drafted_is (typed.binary operator left right) draft = two_drafted draft left right (Binary operator) (λ d. drafted_is left d) (λ d. drafted_is right d)
+  drafted_is (typed.both left right) draft = jump_drafted draft left right (Jump jumps.And 0) (Jump jumps.And) (λ d. drafted_is left d) (λ d. drafted_is right d)
+  drafted_is (typed.either left right) draft = jump_drafted draft left right (Jump jumps.Or 0) (Jump jumps.Or) (λ d. drafted_is left d) (λ d. drafted_is right d)
   drafted_is (typed.choice condition met unmet) draft = choice_drafted draft condition met unmet (λ d. drafted_is condition d) (λ d. drafted_is met d) (λ d. drafted_is unmet d)
   drafted_is (typed.listed scalar items) draft =
       then_op draft (drafted_items items draft) (items_at (place_of draft) (tables_of draft) items) (tables_with_items items (tables_of draft)) (MakeList scalar (how_many items)) (items_are items draft)
-  drafted_is (typed.len list) draft = one_drafted draft list Len (λ d. drafted_is list d)
-  drafted_is (typed.is_nil operand) draft = one_drafted draft operand IsNil (λ d. drafted_is operand d)
-  drafted_is (typed.otherwise operand other) draft = two_drafted draft operand other Default (λ d. drafted_is operand d) (λ d. drafted_is other d)
   drafted_is (typed.predicate predicate list body) draft = loop_drafted draft list body predicate (λ d. drafted_is list d) (λ d. drafted_is body d)
 
   items_are : (items : Typeds) (draft : Code) → drafted_items items draft ≡ extended draft (items_at (place_of draft) (tables_of draft) items) (tables_with_items items (tables_of draft))

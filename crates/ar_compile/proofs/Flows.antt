@@ -13,7 +13,8 @@ use Rattle.ar_value.proofs.Merges.{merge_with_itself}
 use Rattle.ar_op.specs.Code.{Code}
 use Rattle.ar_op.specs.Machine.{nth}
 use Rattle.ar_op.specs.declared.op.Op.{Op}
-use Rattle.ar_op.specs.declared.op.Op.TheVariants.{AndJump, OrJump, BranchFalse, Jump, Enter, Step, Return}
+use Rattle.ar_op.specs.declared.op.Jump.TheVariants as jumps
+use Rattle.ar_op.specs.declared.op.Op.TheVariants.{Jump, Enter, Step, Return}
 use Rattle.ar_verify.specs.Arrivals.{Around, Operands, Sent, all_sent, answer_kind, arrived, at_place, deepest, item_of, joined, lacks, merged, most_operands, operands, passed_on, sent, sent_on, sent_to, to_next}
 use Rattle.ar_verify.specs.Effects.{effect, truth}
 use Rattle.ar_verify.specs.Places.{most_loops}
@@ -49,7 +50,7 @@ module _ (code : Code) (shape : Shape) where
         → Flows around begin kinds (suc begin) given
     in_turn : {around : List Around} {begin middle end : ℕ} {kinds given last : List Kind} → Flows around begin kinds middle given → Flows around middle given end last → Flows around begin kinds end last
     skipped : {around : List Around} {begin end : ℕ} {kinds : List Kind} {op : Op} → At begin op → SkipsTo end op → Flows around (suc begin) kinds end (truth ∷ kinds) → Flows around begin (truth ∷ kinds) end (truth ∷ kinds)
-    one_of_two : {around : List Around} {begin middle end : ℕ} {kinds : List Kind} {left right kind : Kind} → At begin (BranchFalse (suc middle)) → Flows around (suc begin) kinds middle (left ∷ kinds) → At middle (Jump end)
+    one_of_two : {around : List Around} {begin middle end : ℕ} {kinds : List Kind} {left right kind : Kind} → At begin (Jump jumps.Branch (suc middle)) → Flows around (suc begin) kinds middle (left ∷ kinds) → At middle (Jump jumps.Always end)
         → Flows around (suc middle) kinds end (right ∷ kinds) → merge left right ≡ Some kind → Flows around begin (truth ∷ kinds) end (kind ∷ kinds)
     over_list : {around : List Around} {begin step most : ℕ} {kinds : List Kind} {item : Shape} {predicate : Predicate} → length around < most_loops → At begin (Enter predicate step)
         → Flows (record { item = item; most = most; below = kinds } ∷ around) (suc begin) [] step (truth ∷ []) → At step (Step predicate begin)
@@ -147,10 +148,7 @@ module _ (code : Code) (shape : Shape) where
   Passes around begin kinds end given = (before : List Sent) → arrived (sent_to begin before) ≡ Ok (operands kinds around) → Fresh begin end before → Outcome around begin end given before
 
   plain_passes : (place : ℕ) (op : Op) (kinds : List Kind) (around : List Around) → IsPlain op → passed_on code shape place op kinds around ≡ to_next place around (effect code shape (item_of around) op kinds)
-  plain_passes place (AndJump target) kinds around plain = absurd plain
-  plain_passes place (OrJump target) kinds around plain = absurd plain
-  plain_passes place (BranchFalse target) kinds around plain = absurd plain
-  plain_passes place (Jump target) kinds around plain = absurd plain
+  plain_passes place (Jump jump target) kinds around plain = absurd plain
   plain_passes place (Enter predicate step) kinds around plain = absurd plain
   plain_passes place (Step predicate enter) kinds around plain = absurd plain
   plain_passes place Return kinds around plain = absurd plain
@@ -190,8 +188,8 @@ module _ (code : Code) (shape : Shape) where
   -- the messages of a jump, and all that comes behind it
   skip_passes : (place target : ℕ) (op : Op) (kinds : List Kind) (around : List Around) → SkipsTo target op
       → (lacks op (operands (truth ∷ kinds) around) ≡ false) × (passed_on code shape place op (truth ∷ kinds) around ≡ Ok (sent target (truth ∷ kinds) around ∷ sent (suc place) kinds around ∷ []))
-  skip_passes place target (AndJump named) kinds around to = (none_lacks (length kinds), rw to refl)
-  skip_passes place target (OrJump named) kinds around to = (none_lacks (length kinds), rw to refl)
+  skip_passes place target (Jump jumps.And named) kinds around to = (none_lacks (length kinds), rw to refl)
+  skip_passes place target (Jump jumps.Or named) kinds around to = (none_lacks (length kinds), rw to refl)
   skip_passes place target op kinds around to = absurd to
 
   -- from messages to the end of a block and to another place, through what is behind that place
@@ -233,7 +231,7 @@ module _ (code : Code) (shape : Shape) where
   four_lists before two front last one_more =
       append_assoc ((before ++ two) ++ front) (one_more ∷ []) last ∙ append_assoc (before ++ two) front (one_more ∷ last) ∙ append_assoc before two (front ++ (one_more ∷ last))
 
-  branch_on : (around : List Around) (begin middle end : ℕ) (kinds : List Kind) (left right kind : Kind) → At middle (Jump end) → suc begin < middle → suc middle < end → merge left right ≡ Some kind
+  branch_on : (around : List Around) (begin middle end : ℕ) (kinds : List Kind) (left right kind : Kind) → At middle (Jump jumps.Always end) → suc begin < middle → suc middle < end → merge left right ≡ Some kind
       → Passes around (suc middle) kinds end (right ∷ kinds) → (before : List Sent) → Fresh begin end before → flow begin before ≡ flow (suc begin) (before ++ sent (suc middle) kinds around ∷ sent (suc begin) kinds around ∷ [])
       → Through around (suc begin) middle (left ∷ kinds) (before ++ sent (suc middle) kinds around ∷ sent (suc begin) kinds around ∷ [])
       → ((place : ℕ) → suc begin < place → (place ≡ suc middle → ⊥) → sent_to place (sent (suc middle) kinds around ∷ sent (suc begin) kinds around ∷ []) ≡ []) → Outcome around begin end (kind ∷ kinds) before
@@ -250,15 +248,15 @@ module _ (code : Code) (shape : Shape) where
       ∙ only_more (suc middle) before two (fresh (suc middle) (omega arith) k) ∙ sent_here (suc middle) kinds around (sent (suc begin) kinds around ∷ []) ∙ ap (λ others. operands kinds around ∷ others) (sent_away (suc middle) (suc begin) kinds around [] (λ same. omega arith)) in
       let fresh_unmet : Fresh (suc middle) end (three ++ one_more ∷ []) = λ place from below.
       none_more place three (one_more ∷ []) (none_more place (before ++ two) met.more (none_front place (omega arith) below (λ same. omega arith)) (low place (omega arith))) (sent_away place end (left ∷ kinds) around [] (λ same. omega arith)) in
-      elim (steps middle (Jump end) (operands (left ∷ kinds) around) three (one_more ∷ []) jump came_jump (nothing_lacks (suc (length kinds))) refl) [
-        | inl jumps ↦ elim (unmet (three ++ one_more ∷ []) (ap arrived at_unmet) fresh_unmet) [
+      elim (steps middle (Jump jumps.Always end) (operands (left ∷ kinds) around) three (one_more ∷ []) jump came_jump (nothing_lacks (suc (length kinds))) refl) [
+        | inl jumped ↦ elim (unmet (three ++ one_more ∷ []) (ap arrived at_unmet) fresh_unmet) [
           | inl last ↦
               let none_two : sent_to end two ≡ [] = away_two end (omega arith) (λ same. omega arith) in
               let all_there : sent_to end (two ++ (met.more ++ (one_more ∷ last.more))) ≡ operands (left ∷ kinds) around ∷ sent_to end last.more =
               only_more end two (met.more ++ (one_more ∷ last.more)) none_two ∙ only_more end met.more (one_more ∷ last.more) (low end (omega arith)) ∙ sent_here end (left ∷ kinds) around last.more in
               inl (record {
                 more = two ++ (met.more ++ (one_more ∷ last.more));
-                flows = goes ∙ met.flows ∙ jumps ∙ last.flows ∙ ap (flow end) (four_lists before two met.more last.more one_more);
+                flows = goes ∙ met.flows ∙ jumped ∙ last.flows ∙ ap (flow end) (four_lists before two met.more last.more one_more);
                 within = (
                   (omega arith, omega arith),
                   (
@@ -270,13 +268,13 @@ module _ (code : Code) (shape : Shape) where
                 );
                 came = ap arrived all_there ∙ front_arrives around (left ∷ kinds) (right ∷ kinds) (kind ∷ kinds) (sent_to end last.more) last.came (merged_tops left right kind kinds common);
               })
-          | inr deep ↦ inr (deep.0, goes ∙ met.flows ∙ jumps ∙ deep.1)
+          | inr deep ↦ inr (deep.0, goes ∙ met.flows ∙ jumped ∙ deep.1)
         ]
         | inr deep ↦ inr (middle, goes ∙ met.flows ∙ deep)
       ]
 
   -- one of two blocks
-  branch_passes : (around : List Around) (begin middle end : ℕ) (kinds : List Kind) (left right kind : Kind) → At begin (BranchFalse (suc middle)) → At middle (Jump end) → suc begin < middle → suc middle < end → merge left right ≡ Some kind
+  branch_passes : (around : List Around) (begin middle end : ℕ) (kinds : List Kind) (left right kind : Kind) → At begin (Jump jumps.Branch (suc middle)) → At middle (Jump jumps.Always end) → suc begin < middle → suc middle < end → merge left right ≡ Some kind
       → Passes around (suc begin) kinds middle (left ∷ kinds) → Passes around (suc middle) kinds end (right ∷ kinds) → Passes around begin (truth ∷ kinds) end (kind ∷ kinds)
   branch_passes around begin middle end kinds left right kind branch jump h k common met unmet before came fresh =
       let two = sent (suc middle) kinds around ∷ sent (suc begin) kinds around ∷ [] in
@@ -284,7 +282,7 @@ module _ (code : Code) (shape : Shape) where
       let came_next = ap arrived (only_more (suc begin) before two (fresh (suc begin) (omega arith) (omega arith)) ∙ next) in
       let away_two : (place : ℕ) → suc begin < place → (place ≡ suc middle → ⊥) → sent_to place two ≡ [] = λ place from differs. elsewhere place two ((λ same. differs (sym same)), ((λ same. omega arith), tt)) in
       let fresh_next : Fresh (suc begin) middle (before ++ two) = λ place from below. none_more place before two (fresh place (omega arith) (omega arith)) (away_two place from (λ same. omega arith)) in
-      elim (steps begin (BranchFalse (suc middle)) (operands (truth ∷ kinds) around) before two branch came (none_lacks (length kinds)) refl) [
+      elim (steps begin (Jump jumps.Branch (suc middle)) (operands (truth ∷ kinds) around) before two branch came (none_lacks (length kinds)) refl) [
         | inl goes ↦ elim (met (before ++ two) came_next fresh_next) [
           | inl through_met ↦ branch_on around begin middle end kinds left right kind jump h k common unmet before fresh goes through_met away_two
           | inr deep ↦ inr (deep.0, goes ∙ deep.1)

@@ -1,13 +1,18 @@
 -- What is typed has its kind, as a typed tree.
-use Rattle.std.proofs.Common.{◌≡◌, ◌<◌, ℕ, suc, Bool, true, false, List, [], ◌∷◌, length, map, Option, Some, None, Ok, Err, IfOk, refl, sym, ap, subst, ◌∙◌}
+use Rattle.std.proofs.Common.{◌≡◌, ◌<◌, ℕ, suc, Bool, true, false, List, [], ◌∷◌, length, map, Option, Some, None, Ok, Err, IfOk, IfSome, refl, sym, ap, subst}
 use Rattle.std.specs.Prelude.{◌&&◌, if◌then◌else◌, nat_lt, option_and_then}
 use Rattle.std.proofs.lemmas.Bool.{ltb-true}
+use Rattle.ar_value.specs.declared.operator.BinaryOperator.TheVariants as binary
+use Rattle.ar_value.specs.declared.operator.UnaryOperator.TheVariants as unary
 use Rattle.ar_value.specs.Answer.{◌>>=◌}
 use Rattle.ar_value.specs.Kind.{Kind, nil, shaped, common, is_decimal, merge, plain, turned_beside, whole_as_decimal}
 use Rattle.ar_value.specs.Shape.{Shape, FieldShapes, shape_named}
 use Rattle.ar_value.specs.Shape as shapes
 use Rattle.ar_value.specs.declared.operator.Arithmetic.{Arithmetic}
 use Rattle.ar_value.specs.declared.operator.Arithmetic.TheVariants.{Add, Subtract, Multiply, Divide, Remainder}
+use Rattle.ar_value.specs.declared.operator.BinaryOperator.{BinaryOperator}
+use Rattle.ar_value.specs.declared.operator.Family.{Family}
+use Rattle.ar_value.specs.declared.operator.Family.TheVariants as families
 use Rattle.ar_value.specs.declared.operator.Numbers.{Numbers}
 use Rattle.ar_value.specs.declared.operator.Numbers.TheVariants.{Wholes, Decimals}
 use Rattle.ar_value.specs.declared.operator.Order.{Order}
@@ -26,14 +31,15 @@ use Rattle.ar_condition.specs.declared.tree.Unary.TheVariants as unaries
 use Rattle.ar_condition.specs.Typed.{Typed, Typeds, typeds, how_many}
 use Rattle.ar_condition.specs.Typed as typed
 use Rattle.ar_check.specs.Basics.{most_predicates}
-use Rattle.ar_check.specs.Check.{Answer, Item, arithmetic_kind, arithmetic_on, binary_of, body_of, calculation_of, checked, choice_in, choice_of, common_of, comparison_of, condition_of, default_kind, default_of, entered, equal_of, equality_of, field_of, field_shape, found_field, given, in_common, in_of, index_of, innermost as innermost_of, is_nil_literal, is_whole_number, item_of, item_shape, items_typed, len_of, list_in_common, list_of, member_of, negated, negation_of, no_scalar, number_kind, ordered_of, ordering_of, over_items, plain_kind, plus_of, predicate_kind, predicate_of, same_family, scalar_shape, takes, truth_kind, turned_item, typed_of, unary_of, where_wanted, widened}
+use Rattle.ar_check.specs.Check.{Answer, Item, arithmetic_kind, arithmetic_on, binary_of, body_of, calculation_of, checked, choice_in, choice_of, common_of, comparison_of, condition_of, default_kind, default_of, entered, equal_of, equality_of, field_of, field_shape, found_field, given, in_common, in_of, index_of, innermost as innermost_of, is_nil_literal, is_whole_number, item_of, item_shape, items_typed, len_of, list_in_common, list_of, member_of, negated, negation_of, no_scalar, number_kind, ordered_of, ordering_of, over_items, plain_kind, plus_of, predicate_kind, predicate_of, same_family, scalar_shape, arithmetic_in, compared_of, where_there, truth_kind, turned_item, typed_of, unary_of, where_wanted, widened}
 use Rattle.ar_check.specs.Operand.{Operand, among, family_in, is_truth, is_bool, is_whole, made_plain, numbers, numbers_in, plain_of, plain_tree, scalar, scalar_of, turned}
 use Rattle.ar_check.specs.declared.error.TypeError.TheVariants.{NotTruth, PredicatesTooDeep}
 use Rattle.ar_check.proofs.Lists.{all_suit, common_suits, suits}
 use Rattle.ar_check.proofs.Means.{answers, both_hold}
-use Rattle.ar_check.proofs.Parts.{ListOf, is_list}
-use Rattle.ar_compile.specs.Private.Kinded.{Kinded, AllKinded, TurnsInto, family_of, whole_turns, optional_turns, measured, innermost, literally, of_field, of_index, of_sign, of_arithmetic, of_order, of_equality, of_membership, of_opposite, of_both, of_either, of_choice, of_list, of_len, of_nil_test, of_nil_default, of_default, of_predicate, none, one_more}
-use Rattle.ar_compile.specs.Private.Kinded as kinded
+use Rattle.ar_check.proofs.Parts.{ListOf, is_list, one_family}
+use Rattle.ar_verify.specs.Effects.{binary_kind, family_of, is_family, unary_kind}
+use Rattle.ar_verify.specs.Effects as effects
+use Rattle.ar_compile.specs.Private.Kinded.{Kinded, AllKinded, measured, innermost, literally, of_field, of_unary, of_binary, of_both, of_either, of_choice, of_list, of_predicate, none, one_more}
 
 module _ (wanted : Shape) (inner : Option Shape) (around : ℕ) where
   abbrev Has : Typed → Kind → Type 0
@@ -51,7 +57,7 @@ module _ (wanted : Shape) (inner : Option Shape) (around : ℕ) where
 
   tree_plain : (kind : Kind) (tree : Typed) → Has tree kind → Has (plain_tree kind tree) (plain_kind kind)
   tree_plain nil tree h = h
-  tree_plain (shaped (shapes.optional shape)) tree h = kinded.made_plain h
+  tree_plain (shaped (shapes.optional shape)) tree h = of_unary h refl
   tree_plain (shaped shape) tree h = h
 
   is_plain : (operand : Operand) → Is operand → Has (made_plain operand) (plain_kind operand.kind)
@@ -131,32 +137,59 @@ module _ (wanted : Shape) (inner : Option Shape) (around : ℕ) where
   plain_list list shape of h = subst (λ kind. Has (made_plain list) kind) of.1 (is_plain list h)
 
   len_kinded : (at : ℕ) (list : Operand) → Is list → IfOk (len_of at list) Is
-  len_kinded at list h = answers _ _ (item_shape at (plain_of list.kind)) (λ shape. given (typed.len (made_plain list)) (shaped shapes.whole)) (is_list at list.kind) (λ shape of. of_len (plain_list list shape of h))
+  len_kinded at list h = answers _ _ (item_shape at (plain_of list.kind)) (λ shape. given (typed.unary unary.Len (made_plain list)) (shaped shapes.whole)) (is_list at list.kind) (λ shape of. of_unary (plain_list list shape of h) refl)
 
   index_kinded : (at : ℕ) (list position : Operand) → Is list → Is position → IfOk (index_of at list position) Is
   index_kinded at list position h k =
-      answers _ _ (item_shape at (plain_of list.kind)) (λ shape. where_wanted at (is_whole_number (scalar position)) (typed.index (made_plain list) (made_plain position)) (shaped shape)) (is_list at list.kind)
-      (λ shape of. wanted_kinded at (is_whole_number (scalar position)) (typed.index (made_plain list) (made_plain position)) (shaped shape)
-      (λ is. of_index (plain_list list shape of h) (whole_of_scalar (scalar position) (made_plain position) (is_scalar position k) is)))
+      answers _ _ (item_shape at (plain_of list.kind)) (λ shape. where_wanted at (is_whole_number (scalar position)) (typed.binary binary.Index (made_plain list) (made_plain position)) (shaped shape)) (is_list at list.kind)
+      (λ shape of. wanted_kinded at (is_whole_number (scalar position)) (typed.binary binary.Index (made_plain list) (made_plain position)) (shaped shape)
+      (λ is. of_binary (plain_list list shape of h) (whole_of_scalar (scalar position) (made_plain position) (is_scalar position k) is) refl))
 
   -- ---- numbers
 
   left_among : (m n : Numbers) (tree : Typed) → Has tree (number_kind m) → Has (among n m tree) (number_kind (widened m n))
   left_among Wholes Wholes tree h = h
-  left_among Wholes Decimals tree h = kinded.made_decimal h whole_turns
+  left_among Wholes Decimals tree h = of_unary h refl
   left_among Decimals Wholes tree h = h
   left_among Decimals Decimals tree h = h
 
   right_among : (m n : Numbers) (tree : Typed) → Has tree (number_kind n) → Has (among m n tree) (number_kind (widened m n))
   right_among Wholes Wholes tree h = h
   right_among Wholes Decimals tree h = h
-  right_among Decimals Wholes tree h = kinded.made_decimal h whole_turns
+  right_among Decimals Wholes tree h = of_unary h refl
   right_among Decimals Decimals tree h = h
+
+  -- arithmetic of two numbers of one kind, where there is any
+  calculates : (operator : Arithmetic) (numbers : Numbers) → IfSome (arithmetic_in numbers operator) (λ found. binary_kind found (number_kind numbers) (number_kind numbers) ≡ Some (arithmetic_kind operator numbers))
+  calculates Add Wholes = refl
+  calculates Subtract Wholes = refl
+  calculates Multiply Wholes = refl
+  calculates Divide Wholes = refl
+  calculates Remainder Wholes = refl
+  calculates Add Decimals = refl
+  calculates Subtract Decimals = refl
+  calculates Multiply Decimals = refl
+  calculates Divide Decimals = refl
+  calculates Remainder Decimals = tt
+
+  there_kinded : (at : ℕ) (found : Option BinaryOperator) (numbers : Numbers) (left right : Typed) (kind : Kind) → Has left (number_kind numbers) → Has right (number_kind numbers)
+      → IfSome found (λ found. binary_kind found (number_kind numbers) (number_kind numbers) ≡ Some kind) → IfOk (where_there at found left right kind) Is
+  there_kinded at (Some operator) numbers left right kind h k gives = of_binary h k gives
+  there_kinded at None numbers left right kind h k gives = tt
+
+  orders : (m n : Numbers) (way : Order) → binary_kind (binary.Compare (compared_of m n) way) (number_kind m) (number_kind n) ≡ Some truth_kind
+  orders Wholes Wholes way = refl
+  orders Wholes Decimals way = refl
+  orders Decimals Wholes way = refl
+  orders Decimals Decimals way = refl
+
+  negates : (numbers : Numbers) → unary_kind (unary.Negate numbers) (number_kind numbers) ≡ Some (number_kind numbers)
+  negates Wholes = refl
+  negates Decimals = refl
 
   arithmetic_kinded : (at : ℕ) (operator : Arithmetic) (m n : Option Numbers) (left right : Typed) → HasNumbers m left → HasNumbers n right → IfOk (arithmetic_on at operator m n left right) Is
   arithmetic_kinded at operator (Some m) (Some n) left right h k =
-      wanted_kinded at (takes operator (widened m n)) (typed.arithmetic (widened m n) operator (among n m left) (among m n right)) (arithmetic_kind operator (widened m n))
-      (λ is. of_arithmetic (left_among m n left h) (right_among m n right k) is)
+      there_kinded at (arithmetic_in (widened m n) operator) (widened m n) (among n m left) (among m n right) (arithmetic_kind operator (widened m n)) (left_among m n left h) (right_among m n right k) (calculates operator (widened m n))
   arithmetic_kinded at operator (Some m) None left right h k = tt
   arithmetic_kinded at operator None n left right h k = tt
 
@@ -164,7 +197,7 @@ module _ (wanted : Shape) (inner : Option Shape) (around : ℕ) where
   sum_kinded at operator left right h k = arithmetic_kinded at operator (numbers left) (numbers right) (made_plain left) (made_plain right) (are_numbers left h) (are_numbers right k)
 
   ordered_kinded : (at : ℕ) (way : Order) (m n : Option Numbers) (left right : Typed) → HasNumbers m left → HasNumbers n right → IfOk (ordered_of at way m n left right) Is
-  ordered_kinded at way (Some m) (Some n) left right h k = of_order h k
+  ordered_kinded at way (Some m) (Some n) left right h k = of_binary h k (orders m n way)
   ordered_kinded at way (Some m) None left right h k = tt
   ordered_kinded at way None n left right h k = tt
 
@@ -172,7 +205,7 @@ module _ (wanted : Shape) (inner : Option Shape) (around : ℕ) where
   order_kinded at way left right h k = ordered_kinded at way (numbers left) (numbers right) (made_plain left) (made_plain right) (are_numbers left h) (are_numbers right k)
 
   negative_kinded : (at : ℕ) (found : Option Numbers) (tree : Typed) → HasNumbers found tree → IfOk (negation_of at found tree) Is
-  negative_kinded at (Some found) tree h = of_sign h
+  negative_kinded at (Some found) tree h = of_unary h (negates found)
   negative_kinded at None tree h = tt
 
   positive_kinded : (at : ℕ) (found : Option Numbers) (tree : Typed) → HasNumbers found tree → IfOk (plus_of at found tree) Is
@@ -182,7 +215,7 @@ module _ (wanted : Shape) (inner : Option Shape) (around : ℕ) where
   unary_kinded : (at : ℕ) (operator : Unary) (operand : Operand) → Is operand → IfOk (unary_of at operator operand) Is
   unary_kinded at unaries.Minus operand h = negative_kinded at (numbers operand) (made_plain operand) (are_numbers operand h)
   unary_kinded at unaries.Plus operand h = positive_kinded at (numbers operand) (made_plain operand) (are_numbers operand h)
-  unary_kinded at unaries.Not operand h = wanted_kinded at (is_truth operand) (typed.opposite (made_plain operand)) truth_kind (λ is. of_opposite (is_true operand h is))
+  unary_kinded at unaries.Not operand h = wanted_kinded at (is_truth operand) (typed.unary unary.Not (made_plain operand)) truth_kind (λ is. of_unary (is_true operand h is) refl)
 
   -- ---- truth values
 
@@ -198,50 +231,45 @@ module _ (wanted : Shape) (inner : Option Shape) (around : ℕ) where
   truth_kinded (Err e) h = tt
 
   negated_kinded : (answer : Answer) → IfOk answer IsTruth → IfOk (answer >>= negated) Is
-  negated_kinded (Ok operand) h = subst (λ kind. Has (typed.opposite operand.tree) kind) (sym h.0) (of_opposite h.1)
+  negated_kinded (Ok operand) h = subst (λ kind. Has (typed.unary unary.Not operand.tree) kind) (sym h.0) (of_unary h.1 refl)
   negated_kinded (Err e) h = tt
 
   -- ---- equality and membership
 
-  -- the shape of a scalar, and its family
-  record ScalarShape (kind : Kind) (found : Scalar) : Type 0 where
-    of : Shape
-    is : kind ≡ shaped of
-    family : family_of (plain of) ≡ Some (family_in found)
+  -- a scalar is of its family
+  shape_family : (shape : Shape) (found : Scalar) → scalar_of shape ≡ Some found → family_of shape ≡ Some (family_in found)
+  shape_family shapes.bool scalars.Bool is = refl
+  shape_family shapes.whole scalars.Whole is = refl
+  shape_family shapes.decimal scalars.Decimal is = refl
+  shape_family shapes.text scalars.Text is = refl
+  shape_family shape found is = absurd cc
 
-  scalar_shape_of : (kind : Kind) (found : Scalar) → option_and_then scalar_of (plain_of kind) ≡ Some found → ScalarShape kind found
-  scalar_shape_of nil found is = absurd cc
-  scalar_shape_of (shaped shape) found is = record { of = shape; is = refl; family = rw is refl }
+  kind_family : (kind : Kind) (found : Scalar) → option_and_then scalar_of (plain_of kind) ≡ Some found → effects.family_in kind ≡ Some (family_in found)
+  kind_family nil found is = absurd cc
+  kind_family (shaped shape) found is = shape_family (plain shape) found is
 
-  one_family : (left right : Scalar) → same_family (family_in left) (family_in right) ≡ true → family_in right ≡ family_in left
-  one_family scalars.Bool scalars.Bool is = refl
-  one_family scalars.Whole scalars.Whole is = refl
-  one_family scalars.Whole scalars.Decimal is = refl
-  one_family scalars.Decimal scalars.Whole is = refl
-  one_family scalars.Decimal scalars.Decimal is = refl
-  one_family scalars.Text scalars.Text is = refl
-  one_family left right is = absurd cc
+  is_itself : (family : Family) → is_family family (Some family) ≡ true
+  is_itself families.Truth = refl
+  is_itself families.Number = refl
+  is_itself families.Text = refl
 
   equal_kinded : (at : ℕ) (m n : Option Scalar) (left right : Operand) → scalar left ≡ m → scalar right ≡ n → Is left → Is right → IfOk (equal_of at m n left.tree right.tree) IsTruth
   equal_kinded at (Some m) (Some n) left right of_m of_n h k =
-      let l = scalar_shape_of left.kind m of_m in
-      let r = scalar_shape_of right.kind n of_n in
-      truth_wanted at (same_family (family_in m) (family_in n)) (typed.equal (family_in m) left.tree right.tree)
-      (λ is. of_equality (subst (λ kind. Has left.tree kind) l.is h) (subst (λ kind. Has right.tree kind) r.is k) l.family (r.family ∙ ap (λ f. Some f) (one_family m n is)))
+      truth_wanted at (same_family (family_in m) (family_in n)) (typed.binary (binary.Equal (family_in m)) left.tree right.tree)
+      (λ is. of_binary h k (rw (kind_family left.kind m of_m, kind_family right.kind n of_n, one_family m n is, is_itself (family_in m)) refl))
   equal_kinded at (Some m) None left right of_m of_n h k = tt
   equal_kinded at None n left right of_m of_n h k = tt
 
   equality_kinded : (at : ℕ) (nil_left nil_right : Bool) (left right : Operand) → Is left → Is right → IfOk (equality_of at nil_left nil_right left right) IsTruth
-  equality_kinded at true nil_right left right h k = (refl, of_nil_test k)
-  equality_kinded at false true left right h k = (refl, of_nil_test h)
+  equality_kinded at true nil_right left right h k = (refl, of_unary k refl)
+  equality_kinded at false true left right h k = (refl, of_unary h refl)
   equality_kinded at false false left right h k = equal_kinded at (scalar left) (scalar right) left right refl refl h k
 
   member_kinded : (at : ℕ) (m n : Option Scalar) (left : Operand) (list : Typed) (shape : Shape) (max : ℕ) → scalar left ≡ m → scalar_of (plain shape) ≡ n → Is left → Has list (shaped (shapes.list shape max))
       → IfOk (member_of at m n left.tree list) IsTruth
   member_kinded at (Some m) (Some n) left list shape max of_m of_n h k =
-      let l = scalar_shape_of left.kind m of_m in
-      truth_wanted at (same_family (family_in m) (family_in n)) (typed.within left.tree list)
-      (λ is. of_membership (subst (λ kind. Has left.tree kind) l.is h) k l.family (rw of_n (ap (λ f. Some f) (one_family m n is))))
+      truth_wanted at (same_family (family_in m) (family_in n)) (typed.binary binary.IsIn left.tree list)
+      (λ is. of_binary h k (rw (kind_family left.kind m of_m, shape_family (plain shape) n of_n, one_family m n is, is_itself (family_in m)) refl))
   member_kinded at (Some m) None left list shape max of_m of_n h k = tt
   member_kinded at None n left list shape max of_m of_n h k = tt
 
@@ -279,10 +307,10 @@ module _ (wanted : Shape) (inner : Option Shape) (around : ℕ) where
   -- ---- choices and defaults
 
   turned_by : (turns : Bool) (shape : Shape) (tree : Typed) → Has tree (shaped shape)
-      → Has (if turns && is_whole (plain shape) then typed.as_decimal tree else tree) (if turns then shaped (whole_as_decimal shape) else shaped shape)
+      → Has (if turns && is_whole (plain shape) then typed.unary unary.ToDecimal tree else tree) (if turns then shaped (whole_as_decimal shape) else shaped shape)
   turned_by false shape tree h = h
-  turned_by true shapes.whole tree h = kinded.made_decimal h whole_turns
-  turned_by true (shapes.optional shapes.whole) tree h = kinded.made_decimal h (optional_turns whole_turns)
+  turned_by true shapes.whole tree h = of_unary h refl
+  turned_by true (shapes.optional shapes.whole) tree h = of_unary h refl
   turned_by true shape tree h = h
 
   turned_kinded : (other kind : Kind) (tree : Typed) → Has tree kind → Has (turned other kind tree) (turned_beside other kind)
@@ -308,26 +336,26 @@ module _ (wanted : Shape) (inner : Option Shape) (around : ℕ) where
     is : kind ≡ shaped (plain of)
 
   plain_turned_by : (turns : Bool) (shape : Shape) (tree : Typed) → Has tree (shaped shape)
-      → PlainTurned (if turns && is_whole (plain (plain shape)) then typed.as_decimal tree else tree) (if turns then shaped (whole_as_decimal (plain shape)) else shaped (plain shape))
+      → PlainTurned (if turns && is_whole (plain (plain shape)) then typed.unary unary.ToDecimal tree else tree) (if turns then shaped (whole_as_decimal (plain shape)) else shaped (plain shape))
   plain_turned_by false shape tree h = record { of = shape; has = h; is = refl }
-  plain_turned_by true shapes.whole tree h = record { of = shapes.decimal; has = kinded.made_decimal h whole_turns; is = refl }
-  plain_turned_by true (shapes.optional shapes.whole) tree h = record { of = shapes.optional shapes.decimal; has = kinded.made_decimal h (optional_turns whole_turns); is = refl }
+  plain_turned_by true shapes.whole tree h = record { of = shapes.decimal; has = of_unary h refl; is = refl }
+  plain_turned_by true (shapes.optional shapes.whole) tree h = record { of = shapes.optional shapes.decimal; has = of_unary h refl; is = refl }
   plain_turned_by true (shapes.optional (shapes.optional shapes.whole)) tree h =
-      record { of = shapes.optional (shapes.optional shapes.decimal); has = kinded.made_decimal h (optional_turns (optional_turns whole_turns)); is = refl }
+      record { of = shapes.optional (shapes.optional shapes.decimal); has = of_unary h refl; is = refl }
   plain_turned_by true shape tree h = record { of = shape; has = h; is = refl }
 
   plain_turned : (other : Kind) (shape : Shape) (tree : Typed) → Has tree (shaped shape) → PlainTurned (turned other (shaped (plain shape)) tree) (turned_beside other (shaped (plain shape)))
   plain_turned nil shape tree h = record { of = shape; has = h; is = refl }
   plain_turned (shaped other) shape tree h = plain_turned_by (is_decimal other) shape tree h
 
-  default_found : (at : ℕ) (found : Option Kind) (of right : Kind) (first other : Typed) → PlainTurned first of → merge of right ≡ found → Has other right → IfOk (in_common at (typed.otherwise first other) found) Is
+  default_found : (at : ℕ) (found : Option Kind) (of right : Kind) (first other : Typed) → PlainTurned first of → merge of right ≡ found → Has other right → IfOk (in_common at (typed.binary binary.Default first other) found) Is
   default_found at None of right first other h is k = tt
-  default_found at (Some kind) of right first other h is k = of_default h.has k (subst (λ of. merge of right ≡ Some kind) h.is is)
+  default_found at (Some kind) of right first other h is k = of_binary h.has k (subst (λ of. merge of right ≡ Some kind) h.is is)
 
   default_kinds : (at : ℕ) (of of_other : Kind) (first other : Typed) → Has first of → Has other of_other
-      → IfOk (in_common at (typed.otherwise (turned of_other (plain_kind of) first) (turned (plain_kind of) of_other other)) (default_kind (plain_kind of) of_other)) Is
-  default_kinds at nil nil first other h k = of_nil_default h k
-  default_kinds at nil (shaped shape) first other h k = of_nil_default h k
+      → IfOk (in_common at (typed.binary binary.Default (turned of_other (plain_kind of) first) (turned (plain_kind of) of_other other)) (default_kind (plain_kind of) of_other)) Is
+  default_kinds at nil nil first other h k = of_binary h k refl
+  default_kinds at nil (shaped shape) first other h k = of_binary h k refl
   default_kinds at (shaped shape) of_other first other h k =
       default_found at (common (shaped (plain shape)) of_other) (turned_beside of_other (shaped (plain shape))) (turned_beside (shaped (plain shape)) of_other) (turned of_other (shaped (plain shape)) first)
       (turned (shaped (plain shape)) of_other other) (plain_turned of_other shape first h) refl (turned_kinded (shaped (plain shape)) of_other other k)
@@ -344,7 +372,7 @@ module _ (wanted : Shape) (inner : Option Shape) (around : ℕ) where
   item_turned : (found : Scalar) (of : Option Scalar) (tree : Typed) → suits found of ≡ true → HasScalar of tree → Has (turned_item found of tree) (shaped (scalar_shape found))
   item_turned scalars.Bool (Some scalars.Bool) tree is h = h
   item_turned scalars.Whole (Some scalars.Whole) tree is h = h
-  item_turned scalars.Decimal (Some scalars.Whole) tree is h = kinded.made_decimal h whole_turns
+  item_turned scalars.Decimal (Some scalars.Whole) tree is h = of_unary h refl
   item_turned scalars.Decimal (Some scalars.Decimal) tree is h = h
   item_turned scalars.Text (Some scalars.Text) tree is h = h
   item_turned found of tree is h = absurd cc
@@ -426,7 +454,7 @@ module _ (wanted : Shape) where
     tree_kinded inner around (trees.ListAt at items) =
         answers _ _ (items_typed wanted inner around items) (λ items. list_of at items (no_scalar items)) (items_kinded inner around items) (λ items h. list_kinded wanted inner around at items (no_scalar items) h)
     tree_kinded inner around (trees.LenAt at list) = answers _ _ (typed_of wanted inner around list) (len_of at) (tree_kinded inner around list) (len_kinded wanted inner around at)
-    tree_kinded inner around (trees.IsNilAt at operand) = answers _ _ (typed_of wanted inner around operand) (λ operand. given (typed.is_nil operand.tree) truth_kind) (tree_kinded inner around operand) (λ operand h. of_nil_test h)
+    tree_kinded inner around (trees.IsNilAt at operand) = answers _ _ (typed_of wanted inner around operand) (λ operand. given (typed.unary unary.IsNil operand.tree) truth_kind) (tree_kinded inner around operand) (λ operand h. of_unary h refl)
     tree_kinded inner around (trees.DefaultAt at operand otherwise) =
         answers _ _ (typed_of wanted inner around operand) (λ first. typed_of wanted inner around otherwise >>= default_of at first) (tree_kinded inner around operand)
         (λ first h. answers _ _ (typed_of wanted inner around otherwise) (default_of at first) (tree_kinded inner around otherwise) (λ second k. default_kinded wanted inner around at first second h k))

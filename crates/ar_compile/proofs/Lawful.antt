@@ -8,15 +8,12 @@ use Rattle.ar_condition.specs.Typed.{Typed, Typeds, how_many}
 use Rattle.ar_condition.specs.Typed as typed
 use Rattle.ar_condition.specs.declared.tree.Literal.{Literal}
 use Rattle.ar_condition.specs.declared.tree.Literal.TheVariants as literals
-use Rattle.ar_value.specs.declared.operator.Arithmetic.{Arithmetic}
-use Rattle.ar_value.specs.declared.operator.Arithmetic.TheVariants.{Add, Subtract, Multiply, Divide, Remainder}
-use Rattle.ar_value.specs.declared.operator.Numbers.{Numbers}
-use Rattle.ar_value.specs.declared.operator.Numbers.TheVariants.{Wholes, Decimals}
 use Rattle.ar_op.specs.Code.{Inside, IsCode, IsEntry, most_entries}
 use Rattle.ar_op.specs.Machine.{nth}
 use Rattle.ar_op.specs.declared.op.Op.{Op}
-use Rattle.ar_op.specs.declared.op.Op.TheVariants.{MakeList, Field, Index, Len, Need, IsNil, Default, ToDecimal, IsIn, Not, Compare, Equal, AndJump, OrJump, BranchFalse, Jump, Enter, Step, Return}
-use Rattle.ar_compile.specs.Compiled.{Tables, arithmetic_op, code_at, compared_of, compiled, items_at, literal_op, literal_tables, negative_op, no_tables, number_of, tables_with, tables_with_items, with_text}
+use Rattle.ar_op.specs.declared.op.Jump.TheVariants as jumps
+use Rattle.ar_op.specs.declared.op.Op.TheVariants.{MakeList, Field, Jump, Enter, Step, Return, Unary, Binary}
+use Rattle.ar_compile.specs.Compiled.{Tables, code_at, compiled, items_at, literal_op, literal_tables, no_tables, number_of, tables_with, tables_with_items, with_text}
 use Rattle.ar_compile.specs.Length.{length_of, operations, operations_of_items}
 use Rattle.ar_condition.specs.Limits.{AllInLimits, InLimits, IsShortLiteral}
 use Rattle.ar_compile.proofs.Standing.{GrowTables, is_there, items_grow, length_is, one_text_grows, tables_grow, then_grow}
@@ -108,25 +105,10 @@ mutual
   tables_little typed.item tables h = no_growth tables 1
   tables_little (typed.literal literal) tables h = literal_little literal tables h
   tables_little (typed.field owner name) tables h = field_little name tables (tables_with owner tables) (operations owner) h.1 (tables_little owner tables h.0)
-  tables_little (typed.index list position) tables h =
-      then_little tables (tables_with list tables) (tables_with position (tables_with list tables)) (operations list) (operations position) (operations list + operations position + 1) (two_room (operations list) (operations position))
-      (tables_little list tables h.0) (tables_little position (tables_with list tables) h.1)
-  tables_little (typed.plain operand) tables h = more_room tables (tables_with operand tables) (operations operand) (operations operand + 1) (one_room (operations operand)) (tables_little operand tables h)
-  tables_little (typed.as_decimal operand) tables h = more_room tables (tables_with operand tables) (operations operand) (operations operand + 1) (one_room (operations operand)) (tables_little operand tables h)
-  tables_little (typed.negative numbers operand) tables h = more_room tables (tables_with operand tables) (operations operand) (operations operand + 1) (one_room (operations operand)) (tables_little operand tables h)
-  tables_little (typed.arithmetic numbers operator left right) tables h =
+  tables_little (typed.unary operator operand) tables h = more_room tables (tables_with operand tables) (operations operand) (operations operand + 1) (one_room (operations operand)) (tables_little operand tables h)
+  tables_little (typed.binary operator left right) tables h =
       then_little tables (tables_with left tables) (tables_with right (tables_with left tables)) (operations left) (operations right) (operations left + operations right + 1) (two_room (operations left) (operations right))
       (tables_little left tables h.0) (tables_little right (tables_with left tables) h.1)
-  tables_little (typed.ordered of beside way left right) tables h =
-      then_little tables (tables_with left tables) (tables_with right (tables_with left tables)) (operations left) (operations right) (operations left + operations right + 1) (two_room (operations left) (operations right))
-      (tables_little left tables h.0) (tables_little right (tables_with left tables) h.1)
-  tables_little (typed.equal family left right) tables h =
-      then_little tables (tables_with left tables) (tables_with right (tables_with left tables)) (operations left) (operations right) (operations left + operations right + 1) (two_room (operations left) (operations right))
-      (tables_little left tables h.0) (tables_little right (tables_with left tables) h.1)
-  tables_little (typed.within operand list) tables h =
-      then_little tables (tables_with operand tables) (tables_with list (tables_with operand tables)) (operations operand) (operations list) (operations operand + operations list + 1) (two_room (operations operand) (operations list))
-      (tables_little operand tables h.0) (tables_little list (tables_with operand tables) h.1)
-  tables_little (typed.opposite operand) tables h = more_room tables (tables_with operand tables) (operations operand) (operations operand + 1) (one_room (operations operand)) (tables_little operand tables h)
   tables_little (typed.both left right) tables h =
       then_little tables (tables_with left tables) (tables_with right (tables_with left tables)) (operations left) (operations right) (operations left + 1 + operations right) (jump_room (operations left) (operations right))
       (tables_little left tables h.0) (tables_little right (tables_with left tables) h.1)
@@ -140,11 +122,6 @@ mutual
       then_little tables c u (operations condition) (operations met + operations unmet) (operations condition + 1 + operations met + 1 + operations unmet) (choice_room (operations condition) (operations met) (operations unmet))
       (tables_little condition tables h.0) (then_little c m u (operations met) (operations unmet) (operations met + operations unmet) (exact_room (operations met) (operations unmet)) (tables_little met c h.1) (tables_little unmet m h.2))
   tables_little (typed.listed scalar items) tables h = more_room tables (tables_with_items items tables) (operations_of_items items) (operations_of_items items + 1) (one_room (operations_of_items items)) (items_little items tables h.0)
-  tables_little (typed.len list) tables h = more_room tables (tables_with list tables) (operations list) (operations list + 1) (one_room (operations list)) (tables_little list tables h)
-  tables_little (typed.is_nil operand) tables h = more_room tables (tables_with operand tables) (operations operand) (operations operand + 1) (one_room (operations operand)) (tables_little operand tables h)
-  tables_little (typed.otherwise operand other) tables h =
-      then_little tables (tables_with operand tables) (tables_with other (tables_with operand tables)) (operations operand) (operations other) (operations operand + operations other + 1) (two_room (operations operand) (operations other))
-      (tables_little operand tables h.0) (tables_little other (tables_with operand tables) h.1)
   tables_little (typed.predicate predicate list body) tables h =
       then_little tables (tables_with list tables) (tables_with body (tables_with list tables)) (operations list) (operations body) (operations list + 1 + operations body + 1) (loop_room (operations list) (operations body))
       (tables_little list tables h.0) (tables_little body (tables_with list tables) h.1)
@@ -173,18 +150,6 @@ module _ (final : Tables) where
   jump_fits : (xs ys : List Op) (op : Op) → AllFit xs → AllFit ys → Fits op → AllFit (xs ++ (op ∷ ys))
   jump_fits xs ys op h k l = all_behind Fits xs (op ∷ ys) h (l, k)
 
-  arithmetic_fits : (numbers : Numbers) (operator : Arithmetic) → Fits (arithmetic_op numbers operator)
-  arithmetic_fits Wholes operator = tt
-  arithmetic_fits Decimals Add = tt
-  arithmetic_fits Decimals Subtract = tt
-  arithmetic_fits Decimals Multiply = tt
-  arithmetic_fits Decimals Divide = tt
-  arithmetic_fits Decimals Remainder = tt
-
-  negative_fits : (numbers : Numbers) → Fits (negative_op numbers)
-  negative_fits Wholes = tt
-  negative_fits Decimals = tt
-
   literal_fits : (literal : Literal) (tables : Tables) → GrowTables (literal_tables literal tables) final → Fits (literal_op literal tables)
   literal_fits literals.Nil tables grow = tt
   literal_fits (literals.Bool truth) tables grow = tt
@@ -202,37 +167,18 @@ module _ (final : Tables) where
         let n = number_of name to.names in
         one_fits (code_at place tables owner) (Field n) (code_fits owner place tables h.0 (grow.0, λ k found is. grow.1 k found (one_text_grows name to.names k found is)))
         (below final.names n name (grow.1 n name (is_there name to.names)))
-    code_fits (typed.index list position) place tables h grow =
-        let tl = tables_with list tables in
-        two_fit (code_at place tables list) (code_at (place + operations list) tl position) Index (code_fits list place tables h.0 (then_grow tl (tables_with position tl) final (tables_grow position tl) grow))
-        (code_fits position (place + operations list) tl h.1 grow) tt
-    code_fits (typed.plain operand) place tables h grow = one_fits (code_at place tables operand) Need (code_fits operand place tables h grow) tt
-    code_fits (typed.as_decimal operand) place tables h grow = one_fits (code_at place tables operand) ToDecimal (code_fits operand place tables h grow) tt
-    code_fits (typed.negative numbers operand) place tables h grow = one_fits (code_at place tables operand) (negative_op numbers) (code_fits operand place tables h grow) (negative_fits numbers)
-    code_fits (typed.arithmetic numbers operator left right) place tables h grow =
+    code_fits (typed.unary operator operand) place tables h grow = one_fits (code_at place tables operand) (Unary operator) (code_fits operand place tables h grow) tt
+    code_fits (typed.binary operator left right) place tables h grow =
         let tl = tables_with left tables in
-        two_fit (code_at place tables left) (code_at (place + operations left) tl right) (arithmetic_op numbers operator) (code_fits left place tables h.0 (then_grow tl (tables_with right tl) final (tables_grow right tl) grow))
-        (code_fits right (place + operations left) tl h.1 grow) (arithmetic_fits numbers operator)
-    code_fits (typed.ordered of beside way left right) place tables h grow =
-        let tl = tables_with left tables in
-        two_fit (code_at place tables left) (code_at (place + operations left) tl right) (Compare (compared_of of beside) way) (code_fits left place tables h.0 (then_grow tl (tables_with right tl) final (tables_grow right tl) grow))
+        two_fit (code_at place tables left) (code_at (place + operations left) tl right) (Binary operator) (code_fits left place tables h.0 (then_grow tl (tables_with right tl) final (tables_grow right tl) grow))
         (code_fits right (place + operations left) tl h.1 grow) tt
-    code_fits (typed.equal family left right) place tables h grow =
-        let tl = tables_with left tables in
-        two_fit (code_at place tables left) (code_at (place + operations left) tl right) (Equal family) (code_fits left place tables h.0 (then_grow tl (tables_with right tl) final (tables_grow right tl) grow))
-        (code_fits right (place + operations left) tl h.1 grow) tt
-    code_fits (typed.within operand list) place tables h grow =
-        let tl = tables_with operand tables in
-        two_fit (code_at place tables operand) (code_at (place + operations operand) tl list) IsIn (code_fits operand place tables h.0 (then_grow tl (tables_with list tl) final (tables_grow list tl) grow))
-        (code_fits list (place + operations operand) tl h.1 grow) tt
-    code_fits (typed.opposite operand) place tables h grow = one_fits (code_at place tables operand) Not (code_fits operand place tables h grow) tt
     code_fits (typed.both left right) place tables h grow =
         let tl = tables_with left tables in
-        jump_fits (code_at place tables left) (code_at (place + operations left + 1) tl right) (AndJump (place + operations left + 1 + operations right))
+        jump_fits (code_at place tables left) (code_at (place + operations left + 1) tl right) (Jump jumps.And (place + operations left + 1 + operations right))
         (code_fits left place tables h.0 (then_grow tl (tables_with right tl) final (tables_grow right tl) grow)) (code_fits right (place + operations left + 1) tl h.1 grow) tt
     code_fits (typed.either left right) place tables h grow =
         let tl = tables_with left tables in
-        jump_fits (code_at place tables left) (code_at (place + operations left + 1) tl right) (OrJump (place + operations left + 1 + operations right))
+        jump_fits (code_at place tables left) (code_at (place + operations left + 1) tl right) (Jump jumps.Or (place + operations left + 1 + operations right))
         (code_fits left place tables h.0 (then_grow tl (tables_with right tl) final (tables_grow right tl) grow)) (code_fits right (place + operations left + 1) tl h.1 grow) tt
     code_fits (typed.choice condition met unmet) place tables h grow =
         let c = tables_with condition tables in
@@ -243,16 +189,10 @@ module _ (final : Tables) where
         let met_grows = then_grow m u final (tables_grow unmet m) grow in
         let met_code = code_at p c met in
         let unmet_code = code_at q m unmet in
-        let behind = jump_fits met_code unmet_code (Jump (q + operations unmet)) (code_fits met p c h.1 met_grows) (code_fits unmet q m h.2 grow) tt in
-        jump_fits (code_at place tables condition) (met_code ++ (Jump (q + operations unmet) ∷ unmet_code)) (BranchFalse q)
+        let behind = jump_fits met_code unmet_code (Jump jumps.Always (q + operations unmet)) (code_fits met p c h.1 met_grows) (code_fits unmet q m h.2 grow) tt in
+        jump_fits (code_at place tables condition) (met_code ++ (Jump jumps.Always (q + operations unmet) ∷ unmet_code)) (Jump jumps.Branch q)
         (code_fits condition place tables h.0 (then_grow c m final (tables_grow met c) met_grows)) behind tt
     code_fits (typed.listed scalar items) place tables h grow = one_fits (items_at place tables items) (MakeList scalar (how_many items)) (items_fit items place tables h.0 grow) h.1
-    code_fits (typed.len list) place tables h grow = one_fits (code_at place tables list) Len (code_fits list place tables h grow) tt
-    code_fits (typed.is_nil operand) place tables h grow = one_fits (code_at place tables operand) IsNil (code_fits operand place tables h grow) tt
-    code_fits (typed.otherwise operand other) place tables h grow =
-        let tl = tables_with operand tables in
-        two_fit (code_at place tables operand) (code_at (place + operations operand) tl other) Default (code_fits operand place tables h.0 (then_grow tl (tables_with other tl) final (tables_grow other tl) grow))
-        (code_fits other (place + operations operand) tl h.1 grow) tt
     code_fits (typed.predicate predicate list body) place tables h grow =
         let l = tables_with list tables in
         let p = place + operations list + 1 in

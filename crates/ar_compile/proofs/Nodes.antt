@@ -3,10 +3,11 @@ use Rattle.std.proofs.Common.{◌≡◌, ℕ, suc, ◌+◌, ◌≤◌, Bool, tru
 use Rattle.std.specs.Prelude.{if◌then◌else◌}
 use Rattle.ar_value.specs.Answer.{◌>>=◌}
 use Rattle.ar_value.specs.Kind.{Kind, fits_kind}
-use Rattle.ar_value.specs.Operators.{Meaning, faulted, ill_kinded, truth}
+use Rattle.ar_value.specs.Operators.{Meaning, faulted, ill_kinded, truth, two}
 use Rattle.ar_value.specs.Value.{Value}
 use Rattle.ar_value.specs.Value as values
 use Rattle.ar_value.specs.declared.fault.Fault.{Fault}
+use Rattle.ar_value.specs.declared.operator.BinaryOperator.{BinaryOperator}
 use Rattle.ar_condition.specs.Meaning.{mean}
 use Rattle.ar_condition.specs.Typed.{Typed}
 use Rattle.ar_condition.specs.Typed as typed
@@ -16,7 +17,8 @@ use Rattle.ar_check.proofs.Operands.{on_bool}
 use Rattle.ar_op.specs.Code.{Code}
 use Rattle.ar_op.specs.Machine.{Loop, State, effect, falls, floor, here, performed, takes}
 use Rattle.ar_op.specs.declared.op.Op.{Op}
-use Rattle.ar_op.specs.declared.op.Op.TheVariants.{AndJump, OrJump, BranchFalse, Jump}
+use Rattle.ar_op.specs.declared.op.Jump.TheVariants as jumps
+use Rattle.ar_op.specs.declared.op.Op.TheVariants.{Binary, Jump}
 use Rattle.ar_compile.specs.Length.{operations}
 use Rattle.ar_compile.specs.Private.Standing.{At}
 use Rattle.ar_compile.proofs.Steps.{Good, Leads, by_op, by_value, leads_bind, leads_more}
@@ -91,40 +93,33 @@ module _ (code : Code) (result : Value) (answer : Result Bool Fault) where
 
   -- ---- one operand
 
-  -- what an operation gives of an operand of a kind
-  abbrev pub GivesOfOne : Op → List Loop → Kind → (Value → Meaning) → Type 0
-  GivesOfOne op loops kind f = (v : Value) → fits_kind v kind ≡ true → (operands : List Value) → effect code result (here loops) op (v ∷ operands) ≡ (f v >>= λ w. Ok (w ∷ operands))
-
-  pub of_one : (place : ℕ) (loops : List Loop) (operand : Typed) (kind : Kind) (op : Op) (f : Value → Meaning) → Runs place operand loops → At code (place + operations operand) op → takes op ≡ 1 → Falls op
-      → Meant loops kind operand → GivesOfOne op loops kind f
+  pub of_one : (place : ℕ) (loops : List Loop) (operand : Typed) (op : Op) (f : Value → Meaning) → Runs place operand loops → At code (place + operations operand) op → takes op ≡ 1 → Falls op
+      → ((v : Value) (operands : List Value) → effect code result (here loops) op (v ∷ operands) ≡ (f v >>= λ w. Ok (w ∷ operands)))
       → (operands : List Value) → floor loops ≤ length operands → LeadsTo (mean result (here loops) operand >>= f) (place + (operations operand + 1)) operands loops → Reached place operands loops
-  of_one place loops operand kind op f runs there taken falling fit gives operands room leads =
+  of_one place loops operand op f runs there taken falling gives operands room leads =
+      let m = mean result (here loops) operand in
+      let end = place + (operations operand + 1) in
       runs operands room
-      (leads_fit kind (mean result (here loops) operand) (λ v. LeadsTo (f v) (place + (operations operand + 1)) operands loops) (λ v. Reached (place + operations operand) (v ∷ operands) loops) fit
-      (λ v fits h. by_value code result answer op (place + operations operand) (v ∷ operands) operands loops (f v) there (room_for_one (takes op) (floor loops) (length operands) taken room) falling
-      (gives v fits operands) (moved (f v) (place + (operations operand + 1)) (suc (place + operations operand)) operands loops (one_behind place (operations operand)) h))
-      (leads_bind code result answer (mean result (here loops) operand) f (λ v. Reached (place + (operations operand + 1)) (v ∷ operands) loops) leads))
+      (leads_more code result answer m (λ v. LeadsTo (f v) end operands loops) (λ v. Reached (place + operations operand) (v ∷ operands) loops)
+      (λ v is h. by_value code result answer op (place + operations operand) (v ∷ operands) operands loops (f v) there (room_for_one (takes op) (floor loops) (length operands) taken room) falling
+      (gives v operands) (moved (f v) end (suc (place + operations operand)) operands loops (one_behind place (operations operand)) h))
+      (leads_bind code result answer m f (λ v. Reached end (v ∷ operands) loops) leads))
 
   -- ---- two operands
 
-  abbrev pub GivesOfTwo : Op → List Loop → (left right : Kind) → (Value → Value → Meaning) → Type 0
-  GivesOfTwo op loops left right f =
-      (v w : Value) → fits_kind v left ≡ true → fits_kind w right ≡ true → (operands : List Value) → effect code result (here loops) op (w ∷ v ∷ operands) ≡ (f v w >>= λ x. Ok (x ∷ operands))
-
-  pub of_two : (place : ℕ) (loops : List Loop) (left right : Typed) (l r : Kind) (op : Op) (f : Value → Value → Meaning) → Runs place left loops → Runs (place + operations left) right loops
-      → At code (place + operations left + operations right) op → takes op ≡ 2 → Falls op → Meant loops l left → Meant loops r right → GivesOfTwo op loops l r f
-      → (operands : List Value) → floor loops ≤ length operands
-      → LeadsTo (mean result (here loops) left >>= λ v. mean result (here loops) right >>= λ w. f v w) (place + (operations left + operations right + 1)) operands loops → Reached place operands loops
-  of_two place loops left right l r op f runs_left runs_right there taken falling fit_left fit_right gives operands room leads =
+  pub of_two : (place : ℕ) (loops : List Loop) (left right : Typed) (operator : BinaryOperator) → Runs place left loops → Runs (place + operations left) right loops
+      → At code (place + operations left + operations right) (Binary operator) → Runs place (typed.binary operator left right) loops
+  of_two place loops left right operator runs_left runs_right there operands room leads =
       let mean_left = mean result (here loops) left in
       let mean_right = mean result (here loops) right in
+      let f = λ (v w : Value). two operator v w in
       let end = place + (operations left + operations right + 1) in
       runs_left operands room
-      (leads_fit l mean_left (λ v. LeadsTo (mean_right >>= λ w. f v w) end operands loops) (λ v. Reached (place + operations left) (v ∷ operands) loops) fit_left
-      (λ v fits h. runs_right (v ∷ operands) (room_more (floor loops) (length operands) room)
-      (leads_fit r mean_right (λ w. LeadsTo (f v w) end operands loops) (λ w. Reached (place + operations left + operations right) (w ∷ v ∷ operands) loops) fit_right
-      (λ w also k. by_value code result answer op (place + operations left + operations right) (w ∷ v ∷ operands) operands loops (f v w) there
-      (room_for_two (takes op) (floor loops) (length operands) taken room) falling (gives v w fits also operands)
+      (leads_more code result answer mean_left (λ v. LeadsTo (mean_right >>= λ w. f v w) end operands loops) (λ v. Reached (place + operations left) (v ∷ operands) loops)
+      (λ v is h. runs_right (v ∷ operands) (room_more (floor loops) (length operands) room)
+      (leads_more code result answer mean_right (λ w. LeadsTo (f v w) end operands loops) (λ w. Reached (place + operations left + operations right) (w ∷ v ∷ operands) loops)
+      (λ w also k. by_value code result answer (Binary operator) (place + operations left + operations right) (w ∷ v ∷ operands) operands loops (f v w) there
+      (room_for_two 2 (floor loops) (length operands) refl room) (λ s. refl) refl
       (moved (f v w) end (suc (place + operations left + operations right)) operands loops (two_behind place (operations left) (operations right)) k))
       (leads_bind code result answer mean_right (λ w. f v w) (λ x. Reached end (x ∷ operands) loops) h)))
       (leads_bind code result answer mean_left (λ v. mean_right >>= λ w. f v w) (λ x. Reached end (x ∷ operands) loops) leads))
@@ -140,29 +135,29 @@ module _ (code : Code) (result : Value) (answer : Result Bool Fault) where
       (λ v fits h. on_bool (λ v. LeadsTo (truth v >>= next) end operands loops → Reached place (v ∷ operands) loops) each v fits h)
       (leads_bind code result answer m (λ v. truth v >>= next) (λ v. Reached end (v ∷ operands) loops) leads)
 
-  and_jump : (place target end : ℕ) (right : Typed) (b : Bool) (operands : List Value) (loops : List Loop) → At code place (AndJump target) → Runs (place + 1) right loops
+  and_jump : (place target end : ℕ) (right : Typed) (b : Bool) (operands : List Value) (loops : List Loop) → At code place (Jump jumps.And target) → Runs (place + 1) right loops
       → place + 1 + operations right ≡ end → target ≡ end → floor loops ≤ length operands
       → LeadsTo (if b then mean result (here loops) right else Ok (values.bool false)) end operands loops → Reached place (values.bool b ∷ operands) loops
   and_jump place target end right true operands loops there runs is to room leads =
-      by_op code result answer (AndJump target) place (values.bool true ∷ operands) loops there (room_for_one 1 (floor loops) (length operands) refl room)
+      by_op code result answer (Jump jumps.And target) place (values.bool true ∷ operands) loops there (room_for_one 1 (floor loops) (length operands) refl room)
       (reached_at (place + 1) (suc place) operands loops (add_one place)
       (runs operands room (moved (mean result (here loops) right) end (place + 1 + operations right) operands loops (sym is) leads)))
   and_jump place target end right false operands loops there runs is to room leads =
-      by_op code result answer (AndJump target) place (values.bool false ∷ operands) loops there (room_for_one 1 (floor loops) (length operands) refl room)
+      by_op code result answer (Jump jumps.And target) place (values.bool false ∷ operands) loops there (room_for_one 1 (floor loops) (length operands) refl room)
       (reached_at end target (values.bool false ∷ operands) loops (sym to) leads)
 
-  or_jump : (place target end : ℕ) (right : Typed) (b : Bool) (operands : List Value) (loops : List Loop) → At code place (OrJump target) → Runs (place + 1) right loops
+  or_jump : (place target end : ℕ) (right : Typed) (b : Bool) (operands : List Value) (loops : List Loop) → At code place (Jump jumps.Or target) → Runs (place + 1) right loops
       → place + 1 + operations right ≡ end → target ≡ end → floor loops ≤ length operands
       → LeadsTo (if b then Ok (values.bool true) else mean result (here loops) right) end operands loops → Reached place (values.bool b ∷ operands) loops
   or_jump place target end right false operands loops there runs is to room leads =
-      by_op code result answer (OrJump target) place (values.bool false ∷ operands) loops there (room_for_one 1 (floor loops) (length operands) refl room)
+      by_op code result answer (Jump jumps.Or target) place (values.bool false ∷ operands) loops there (room_for_one 1 (floor loops) (length operands) refl room)
       (reached_at (place + 1) (suc place) operands loops (add_one place)
       (runs operands room (moved (mean result (here loops) right) end (place + 1 + operations right) operands loops (sym is) leads)))
   or_jump place target end right true operands loops there runs is to room leads =
-      by_op code result answer (OrJump target) place (values.bool true ∷ operands) loops there (room_for_one 1 (floor loops) (length operands) refl room)
+      by_op code result answer (Jump jumps.Or target) place (values.bool true ∷ operands) loops there (room_for_one 1 (floor loops) (length operands) refl room)
       (reached_at end target (values.bool true ∷ operands) loops (sym to) leads)
 
-  pub of_both : (place : ℕ) (loops : List Loop) (left right : Typed) → Runs place left loops → At code (place + operations left) (AndJump (place + operations left + 1 + operations right))
+  pub of_both : (place : ℕ) (loops : List Loop) (left right : Typed) → Runs place left loops → At code (place + operations left) (Jump jumps.And (place + operations left + 1 + operations right))
       → Runs (place + operations left + 1) right loops → Meant loops truth_kind left → Runs place (typed.both left right) loops
   of_both place loops left right runs_left there runs_right fit operands room leads =
       let end = place + (operations left + 1 + operations right) in
@@ -171,7 +166,7 @@ module _ (code : Code) (result : Value) (answer : Result Bool Fault) where
       (by_truth (mean result (here loops) left) (λ b. if b then mean result (here loops) right else Ok (values.bool false)) (place + operations left) end operands loops fit
       (λ b h. and_jump (place + operations left) (place + operations left + 1 + operations right) end right b operands loops there runs_right (sym is) (sym is) room h) leads)
 
-  pub of_either : (place : ℕ) (loops : List Loop) (left right : Typed) → Runs place left loops → At code (place + operations left) (OrJump (place + operations left + 1 + operations right))
+  pub of_either : (place : ℕ) (loops : List Loop) (left right : Typed) → Runs place left loops → At code (place + operations left) (Jump jumps.Or (place + operations left + 1 + operations right))
       → Runs (place + operations left + 1) right loops → Meant loops truth_kind left → Runs place (typed.either left right) loops
   of_either place loops left right runs_left there runs_right fit operands room leads =
       let end = place + (operations left + 1 + operations right) in
@@ -183,31 +178,31 @@ module _ (code : Code) (result : Value) (answer : Result Bool Fault) where
   -- ---- choices
 
   -- behind what is met, on to the end
-  met_jumps : (place target end : ℕ) (v : Value) (operands : List Value) (loops : List Loop) → At code place (Jump target) → target ≡ end → floor loops ≤ length operands
+  met_jumps : (place target end : ℕ) (v : Value) (operands : List Value) (loops : List Loop) → At code place (Jump jumps.Always target) → target ≡ end → floor loops ≤ length operands
       → Reached end (v ∷ operands) loops → Reached place (v ∷ operands) loops
   met_jumps place target end v operands loops there to room h =
-      by_op code result answer (Jump target) place (v ∷ operands) loops there (no_room (floor loops) (suc (length operands)) (room_more (floor loops) (length operands) room))
+      by_op code result answer (Jump jumps.Always target) place (v ∷ operands) loops there (no_room (floor loops) (suc (length operands)) (room_more (floor loops) (length operands) room))
       (reached_at end target (v ∷ operands) loops (sym to) h)
 
-  branch : (place unmet_place met_end end : ℕ) (met unmet : Typed) (b : Bool) (operands : List Value) (loops : List Loop) → At code place (BranchFalse unmet_place)
-      → Runs (place + 1) met loops → place + 1 + operations met ≡ met_end → At code met_end (Jump end) → Runs unmet_place unmet loops → unmet_place + operations unmet ≡ end → floor loops ≤ length operands
+  branch : (place unmet_place met_end end : ℕ) (met unmet : Typed) (b : Bool) (operands : List Value) (loops : List Loop) → At code place (Jump jumps.Branch unmet_place)
+      → Runs (place + 1) met loops → place + 1 + operations met ≡ met_end → At code met_end (Jump jumps.Always end) → Runs unmet_place unmet loops → unmet_place + operations unmet ≡ end → floor loops ≤ length operands
       → LeadsTo (if b then mean result (here loops) met else mean result (here loops) unmet) end operands loops → Reached place (values.bool b ∷ operands) loops
   branch place unmet_place met_end end met unmet true operands loops there runs_met is jump runs_unmet to room leads =
-      by_op code result answer (BranchFalse unmet_place) place (values.bool true ∷ operands) loops there (room_for_one 1 (floor loops) (length operands) refl room)
+      by_op code result answer (Jump jumps.Branch unmet_place) place (values.bool true ∷ operands) loops there (room_for_one 1 (floor loops) (length operands) refl room)
       (reached_at (place + 1) (suc place) operands loops (add_one place)
       (runs_met operands room
       (leads_more code result answer (mean result (here loops) met) (λ v. Reached end (v ∷ operands) loops) (λ v. Reached (place + 1 + operations met) (v ∷ operands) loops)
       (λ v found h. reached_at met_end (place + 1 + operations met) (v ∷ operands) loops (sym is) (met_jumps met_end end end v operands loops jump refl room h)) leads)))
   branch place unmet_place met_end end met unmet false operands loops there runs_met is jump runs_unmet to room leads =
-      by_op code result answer (BranchFalse unmet_place) place (values.bool false ∷ operands) loops there (room_for_one 1 (floor loops) (length operands) refl room)
+      by_op code result answer (Jump jumps.Branch unmet_place) place (values.bool false ∷ operands) loops there (room_for_one 1 (floor loops) (length operands) refl room)
       (runs_unmet operands room (moved (mean result (here loops) unmet) end (unmet_place + operations unmet) operands loops (sym to) leads))
 
   behind_both : (place l m n : ℕ) → place + (l + 1 + m + 1 + n) ≡ place + l + 1 + m + 1 + n
   behind_both place l m n = omega arith
 
   pub of_choice : (place : ℕ) (loops : List Loop) (condition met unmet : Typed) → Runs place condition loops
-      → At code (place + operations condition) (BranchFalse (place + operations condition + 1 + operations met + 1)) → Runs (place + operations condition + 1) met loops
-      → At code (place + operations condition + 1 + operations met) (Jump (place + operations condition + 1 + operations met + 1 + operations unmet))
+      → At code (place + operations condition) (Jump jumps.Branch (place + operations condition + 1 + operations met + 1)) → Runs (place + operations condition + 1) met loops
+      → At code (place + operations condition + 1 + operations met) (Jump jumps.Always (place + operations condition + 1 + operations met + 1 + operations unmet))
       → Runs (place + operations condition + 1 + operations met + 1) unmet loops → Meant loops truth_kind condition → Runs place (typed.choice condition met unmet) loops
   of_choice place loops condition met unmet runs branches runs_met jump runs_unmet fit operands room leads =
       let p = place + operations condition in

@@ -1,10 +1,9 @@
 -- The machine on the code of a tree comes to what the tree means.
-use Rattle.std.proofs.Common.{◌≡◌, ℕ, suc, ◌+◌, ◌≤◌, pos, Bool, true, not, List, ◌∷◌, length, Option, Some, Result, Ok, refl, sym, ap, subst, arith}
-use Rattle.std.specs.Prelude.{if◌then◌else◌}
+use Rattle.std.proofs.Common.{◌≡◌, ℕ, suc, ◌+◌, ◌≤◌, Bool, true, List, ◌∷◌, length, Option, Some, Result, Ok, refl, sym, ap, subst, arith}
 use Rattle.ar_value.specs.Answer.{◌>>=◌}
 use Rattle.ar_value.specs.Fits.{fits}
-use Rattle.ar_value.specs.Kind.{Kind, nil, shaped}
-use Rattle.ar_value.specs.Operators.{Failure, Meaning, arithmetic_of, field_in, ill_kinded, index_in, is_nil, items_in, negative_of, not_nil, order_of, same, scalar_item, to_decimal, truth}
+use Rattle.ar_value.specs.Kind.{Kind, shaped}
+use Rattle.ar_value.specs.Operators.{Failure, Meaning, field_in, ill_kinded, items_in, one, scalar_item, truth}
 use Rattle.ar_value.specs.Operators.{there as there_or}
 use Rattle.ar_value.specs.Shape.{Shape}
 use Rattle.ar_value.specs.Shape as shapes
@@ -18,20 +17,20 @@ use Rattle.ar_condition.specs.Typed.{Typed, Typeds, how_many}
 use Rattle.ar_condition.specs.Typed as typed
 use Rattle.ar_condition.specs.declared.tree.Literal.{Literal}
 use Rattle.ar_condition.specs.declared.tree.Literal.TheVariants as literals
-use Rattle.ar_check.specs.Check.{number_kind, scalar_shape, truth_kind}
+use Rattle.ar_check.specs.Check.{scalar_shape, truth_kind}
 use Rattle.ar_check.proofs.Means.{IsThere, MeansKind}
 use Rattle.ar_check.proofs.Operands.{on_list}
 use Rattle.ar_op.specs.Code.{Code}
 use Rattle.ar_op.specs.Machine.{Loop, floor, here}
-use Rattle.ar_op.specs.declared.op.Op.TheVariants.{PushBool, PushWhole, PushDecimal, PushText, PushNil, MakeList, LoadResult, Item, Field, Index, Len, Need, IsNil, Default, ToDecimal, IsIn, Not, Compare, Equal, Enter, Step}
-use Rattle.ar_compile.specs.Compiled.{arithmetic_op, compared_of, negative_op}
+use Rattle.ar_op.specs.declared.op.Op.TheVariants.{Push, MakeList, Field, Unary, Enter, Step}
+use Rattle.ar_op.specs.declared.op.Source.TheVariants as sources
 use Rattle.ar_compile.specs.Length.{operations, operations_of_items}
-use Rattle.ar_compile.specs.Private.Kinded.{Kinded, AllKinded, of_field, of_index, made_plain, made_decimal, of_sign, of_arithmetic, of_order, of_equality, of_membership, of_opposite, of_both, of_either, of_choice, of_list, of_len, of_nil_test, of_nil_default, of_default, of_predicate, one_more}
+use Rattle.ar_compile.specs.Private.Kinded.{Kinded, AllKinded, of_field, of_unary, of_binary, of_both, of_either, of_choice, of_list, of_predicate, one_more}
 use Rattle.ar_compile.specs.Private.Standing.{At, StandItems, Stands, StandsLiteral}
 use Rattle.ar_compile.proofs.Loops.{runs_over}
 use Rattle.ar_compile.proofs.Nodes.{LeadsTo, Reached, Runs, add_one, leads_fit, moved, of_none, of_one, of_two, reached_at, room_for_one, room_more}
 use Rattle.ar_compile.proofs.Nodes as nodes
-use Rattle.ar_compile.proofs.Scalars.{AllScalar, arithmetic_falls, arithmetic_gives, arithmetic_takes, equal_gives, made_whole, membership, membership_gives, negative_falls, negative_gives, negative_takes, order_gives, pushed, pushed_length, scalar_fits}
+use Rattle.ar_compile.proofs.Scalars.{AllScalar, made_whole, pushed, pushed_length, scalar_fits}
 use Rattle.ar_compile.proofs.Steps.{Leads, by_op, by_value, leads_bind, leads_more}
 
 count_room : (floor held many : ℕ) → floor ≤ held → floor + many ≤ many + held
@@ -60,12 +59,12 @@ module _ (code : Code) (wanted : Shape) (result : Value) (answer : Result Bool F
   -- ---- literals and fields
 
   literal_runs : (literal : Literal) (place : ℕ) (loops : List Loop) → StandsLiteral code place literal → Simulates place (typed.literal literal) loops
-  literal_runs literals.Nil place loops there = of_none code result answer place loops PushNil (Ok values.nil) there refl (λ s. refl) (λ operands. refl)
-  literal_runs (literals.Bool b) place loops there = of_none code result answer place loops (PushBool b) (Ok (values.bool b)) there refl (λ s. refl) (λ operands. refl)
-  literal_runs (literals.Whole value) place loops there = of_none code result answer place loops (PushWhole value) (Ok (values.whole value)) there refl (λ s. refl) (λ operands. refl)
-  literal_runs (literals.Decimal millionths) place loops there = of_none code result answer place loops (PushDecimal millionths) (Ok (values.decimal millionths)) there refl (λ s. refl) (λ operands. refl)
+  literal_runs literals.Nil place loops there = of_none code result answer place loops (Push sources.Nil) (Ok values.nil) there refl (λ s. refl) (λ operands. refl)
+  literal_runs (literals.Bool b) place loops there = of_none code result answer place loops (Push (sources.Bool b)) (Ok (values.bool b)) there refl (λ s. refl) (λ operands. refl)
+  literal_runs (literals.Whole value) place loops there = of_none code result answer place loops (Push (sources.Whole value)) (Ok (values.whole value)) there refl (λ s. refl) (λ operands. refl)
+  literal_runs (literals.Decimal millionths) place loops there = of_none code result answer place loops (Push (sources.Decimal millionths)) (Ok (values.decimal millionths)) there refl (λ s. refl) (λ operands. refl)
   literal_runs (literals.Text letters) place loops there =
-      of_none code result answer place loops (PushText there.0) (Ok (values.text letters)) there.1 refl (λ s. refl) (λ operands. rw there.2 refl)
+      of_none code result answer place loops (Push (sources.Text there.0)) (Ok (values.text letters)) there.1 refl (λ s. refl) (λ operands. rw there.2 refl)
 
   -- ---- items of a list literal
 
@@ -145,46 +144,16 @@ module _ (code : Code) (wanted : Shape) (result : Value) (answer : Result Bool F
 
   mutual
     pub runs : (inner : Option Shape) (around : ℕ) (tree : Typed) (kind : Kind) → Kinded wanted inner around tree kind → (place : ℕ) → Stands code place tree → (loops : List Loop) → IsThere inner (here loops) → Simulates place tree loops
-    runs inner around typed.result kind is place there loops fit = of_none code result answer place loops LoadResult (Ok result) there refl (λ s. refl) (λ operands. refl)
-    runs inner around typed.item kind is place there loops fit = of_none code result answer place loops Item (there_or ill_kinded (here loops)) there refl (λ s. refl) (λ operands. refl)
+    runs inner around typed.result kind is place there loops fit = of_none code result answer place loops (Push sources.Result) (Ok result) there refl (λ s. refl) (λ operands. refl)
+    runs inner around typed.item kind is place there loops fit = of_none code result answer place loops (Push sources.Item) (there_or ill_kinded (here loops)) there refl (λ s. refl) (λ operands. refl)
     runs inner around (typed.literal literal) kind is place there loops fit = literal_runs literal place loops there
     runs inner around (typed.field owner name) kind (of_field {shape = shape} {fields = fields} owner_is named) place there loops fit =
-        of_one code result answer place loops owner (shaped (shapes.object fields)) (Field there.1.0) (field_in name) (runs inner around owner (shaped (shapes.object fields)) owner_is place there.0 loops fit) there.1.1 refl (λ s. refl)
-        (means inner (here loops) fit around owner (shaped (shapes.object fields)) owner_is) (λ v fits operands. rw there.1.2 refl)
-    runs inner around (typed.index list position) kind (of_index {max = max} {shape = shape} list_is index_is) place there loops fit =
-        of_two code result answer place loops list position (shaped (shapes.list shape max)) (shaped shapes.whole) Index (λ v w. index_in v w)
-        (runs inner around list (shaped (shapes.list shape max)) list_is place there.0 loops fit) (runs inner around position (shaped shapes.whole) index_is (place + operations list) there.1 loops fit) there.2 refl (λ s. refl)
-        (means inner (here loops) fit around list (shaped (shapes.list shape max)) list_is) (means inner (here loops) fit around position (shaped shapes.whole) index_is) (λ v w fits also operands. refl)
-    runs inner around (typed.plain operand) kind (made_plain {shape = shape} operand_is) place there loops fit =
-        of_one code result answer place loops operand (shaped (shapes.optional shape)) Need not_nil (runs inner around operand (shaped (shapes.optional shape)) operand_is place there.0 loops fit) there.1 refl (λ s. refl)
-        (means inner (here loops) fit around operand (shaped (shapes.optional shape)) operand_is) (λ v fits operands. refl)
-    runs inner around (typed.as_decimal operand) kind (made_decimal {of = of} operand_is turns) place there loops fit =
-        of_one code result answer place loops operand (shaped of) ToDecimal to_decimal (runs inner around operand (shaped of) operand_is place there.0 loops fit) there.1 refl (λ s. refl)
-        (means inner (here loops) fit around operand (shaped of) operand_is) (λ v fits operands. refl)
-    runs inner around (typed.negative numbers operand) kind (of_sign operand_is) place there loops fit =
-        of_one code result answer place loops operand (number_kind numbers) (negative_op numbers) negative_of (runs inner around operand (number_kind numbers) operand_is place there.0 loops fit) there.1 (negative_takes code result answer loops numbers)
-        (negative_falls code result answer loops numbers) (means inner (here loops) fit around operand (number_kind numbers) operand_is) (negative_gives code result answer loops numbers)
-    runs inner around (typed.arithmetic numbers operator left right) kind (of_arithmetic left_is right_is taken) place there loops fit =
-        of_two code result answer place loops left right (number_kind numbers) (number_kind numbers) (arithmetic_op numbers operator) (λ v w. arithmetic_of operator v w)
-        (runs inner around left (number_kind numbers) left_is place there.0 loops fit) (runs inner around right (number_kind numbers) right_is (place + operations left) there.1 loops fit) there.2
-        (arithmetic_takes code result answer loops numbers operator) (arithmetic_falls code result answer loops numbers operator)
-        (means inner (here loops) fit around left (number_kind numbers) left_is) (means inner (here loops) fit around right (number_kind numbers) right_is) (arithmetic_gives code result answer loops numbers operator taken)
-    runs inner around (typed.ordered of beside way left right) kind (of_order left_is right_is) place there loops fit =
-        of_two code result answer place loops left right (number_kind of) (number_kind beside) (Compare (compared_of of beside) way) (λ v w. order_of way v w)
-        (runs inner around left (number_kind of) left_is place there.0 loops fit) (runs inner around right (number_kind beside) right_is (place + operations left) there.1 loops fit) there.2 refl (λ s. refl)
-        (means inner (here loops) fit around left (number_kind of) left_is) (means inner (here loops) fit around right (number_kind beside) right_is) (order_gives code result answer loops of beside way)
-    runs inner around (typed.equal family left right) kind (of_equality {of = of} {beside = beside} left_is right_is in_left in_right) place there loops fit =
-        of_two code result answer place loops left right (shaped of) (shaped beside) (Equal family) (λ v w. Ok (values.bool (same v w)))
-        (runs inner around left (shaped of) left_is place there.0 loops fit) (runs inner around right (shaped beside) right_is (place + operations left) there.1 loops fit) there.2 refl (λ s. refl)
-        (means inner (here loops) fit around left (shaped of) left_is) (means inner (here loops) fit around right (shaped beside) right_is) (equal_gives code result answer loops family of beside in_left in_right)
-    runs inner around (typed.within operand list) kind (of_membership {max = max} {of = of} {shape = shape} {family = family} operand_is list_is in_operand in_items) place there loops fit =
-        of_two code result answer place loops operand list (shaped of) (shaped (shapes.list shape max)) IsIn (λ v w. membership code result answer loops v w)
-        (runs inner around operand (shaped of) operand_is place there.0 loops fit) (runs inner around list (shaped (shapes.list shape max)) list_is (place + operations operand) there.1 loops fit) there.2 refl (λ s. refl)
-        (means inner (here loops) fit around operand (shaped of) operand_is) (means inner (here loops) fit around list (shaped (shapes.list shape max)) list_is)
-        (membership_gives code result answer loops family of shape max in_operand in_items)
-    runs inner around (typed.opposite operand) kind (of_opposite operand_is) place there loops fit =
-        of_one code result answer place loops operand truth_kind Not (λ v. truth v >>= λ holds. Ok (values.bool (not holds))) (runs inner around operand truth_kind operand_is place there.0 loops fit) there.1 refl (λ s. refl)
-        (means inner (here loops) fit around operand truth_kind operand_is) (λ v fits operands. refl)
+        of_one code result answer place loops owner (Field there.1.0) (field_in name) (runs inner around owner (shaped (shapes.object fields)) owner_is place there.0 loops fit) there.1.1 refl (λ s. refl)
+        (λ v operands. rw there.1.2 refl)
+    runs inner around (typed.unary operator operand) kind (of_unary {of = of} operand_is gives) place there loops fit =
+        of_one code result answer place loops operand (Unary operator) (one operator) (runs inner around operand of operand_is place there.0 loops fit) there.1 refl (λ s. refl) (λ v operands. refl)
+    runs inner around (typed.binary operator left right) kind (of_binary {of = of} {beside = beside} left_is right_is gives) place there loops fit =
+        of_two code result answer place loops left right operator (runs inner around left of left_is place there.0 loops fit) (runs inner around right beside right_is (place + operations left) there.1 loops fit) there.2
     runs inner around (typed.both left right) kind (of_both left_is right_is) place there loops fit =
         nodes.of_both code result answer place loops left right (runs inner around left truth_kind left_is place there.0 loops fit) there.1
         (runs inner around right truth_kind right_is (place + operations left + 1) there.2 loops fit) (means inner (here loops) fit around left truth_kind left_is)
@@ -197,21 +166,6 @@ module _ (code : Code) (wanted : Shape) (result : Value) (answer : Result Bool F
         (runs inner around unmet right unmet_is (place + operations condition + 1 + operations met + 1) there.4 loops fit) (means inner (here loops) fit around condition truth_kind condition_is)
     runs inner around (typed.listed scalar items) kind (of_list all_are) place there loops fit =
         list_runs place scalar items loops (items_run inner around items scalar all_are place there.0 loops fit) there.1
-    runs inner around (typed.len list) kind (of_len {max = max} {shape = shape} list_is) place there loops fit =
-        of_one code result answer place loops list (shaped (shapes.list shape max)) Len (λ v. items_in v >>= λ items. Ok (values.whole (pos (count items))))
-        (runs inner around list (shaped (shapes.list shape max)) list_is place there.0 loops fit) there.1 refl (λ s. refl)
-        (means inner (here loops) fit around list (shaped (shapes.list shape max)) list_is) (λ v fits operands. refl)
-    runs inner around (typed.is_nil operand) kind (of_nil_test {kind = of} operand_is) place there loops fit =
-        of_one code result answer place loops operand of IsNil (λ v. Ok (values.bool (is_nil v))) (runs inner around operand of operand_is place there.0 loops fit) there.1 refl (λ s. refl)
-        (means inner (here loops) fit around operand of operand_is) (λ v fits operands. refl)
-    runs inner around (typed.otherwise operand other) kind (of_nil_default operand_is other_is) place there loops fit =
-        of_two code result answer place loops operand other nil kind Default (λ v w. Ok (if is_nil v then w else v))
-        (runs inner around operand nil operand_is place there.0 loops fit) (runs inner around other kind other_is (place + operations operand) there.1 loops fit) there.2 refl (λ s. refl)
-        (means inner (here loops) fit around operand nil operand_is) (means inner (here loops) fit around other kind other_is) (λ v w fits also operands. refl)
-    runs inner around (typed.otherwise operand other) kind (of_default {shape = shape} {right = right} operand_is other_is merged) place there loops fit =
-        of_two code result answer place loops operand other (shaped shape) right Default (λ v w. Ok (if is_nil v then w else v))
-        (runs inner around operand (shaped shape) operand_is place there.0 loops fit) (runs inner around other right other_is (place + operations operand) there.1 loops fit) there.2 refl (λ s. refl)
-        (means inner (here loops) fit around operand (shaped shape) operand_is) (means inner (here loops) fit around other right other_is) (λ v w fits also operands. refl)
     runs inner around (typed.predicate predicate list body) kind (of_predicate {max = max} {shape = shape} list_is within body_is) place there loops fit =
         predicate_runs place predicate list body shape max loops (runs inner around list (shaped (shapes.list shape max)) list_is place there.0 loops fit) there.1 there.3
         (λ loop fits. runs (Some shape) (suc around) body truth_kind body_is (place + operations list + 1) there.2 (loop ∷ loops) fits)

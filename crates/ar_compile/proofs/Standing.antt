@@ -10,8 +10,9 @@ use Rattle.ar_condition.specs.declared.tree.Literal.TheVariants as literals
 use Rattle.ar_op.specs.Code.{Code, code_of_parts}
 use Rattle.ar_op.specs.Machine.{nth}
 use Rattle.ar_op.specs.declared.op.Op.{Op}
-use Rattle.ar_op.specs.declared.op.Op.TheVariants.{MakeList, Field, Index, Len, Need, IsNil, Default, ToDecimal, IsIn, Not, Compare, Equal, AndJump, OrJump, BranchFalse, Jump, Enter, Step, Return}
-use Rattle.ar_compile.specs.Compiled.{Tables, arithmetic_op, code_at, compared_of, compiled, items_at, literal_op, literal_tables, negative_op, no_tables, number_of, tables_with, tables_with_items, with_text}
+use Rattle.ar_op.specs.declared.op.Jump.TheVariants as jumps
+use Rattle.ar_op.specs.declared.op.Op.TheVariants.{MakeList, Field, Jump, Enter, Step, Return, Unary, Binary}
+use Rattle.ar_compile.specs.Compiled.{Tables, code_at, compiled, items_at, literal_op, literal_tables, no_tables, number_of, tables_with, tables_with_items, with_text}
 use Rattle.ar_compile.specs.Length.{operations, operations_of_items}
 use Rattle.ar_compile.specs.Private.Standing.{At, StandItems, Stands, StandsLiteral}
 
@@ -44,45 +45,25 @@ mutual
   length_is place tables typed.item = refl
   length_is place tables (typed.literal literal) = refl
   length_is place tables (typed.field owner name) = one_length (code_at place tables owner) (Field (number_of name (tables_with owner tables).names)) (operations owner) (length_is place tables owner)
-  length_is place tables (typed.index list position) =
-      two_lengths (code_at place tables list) (code_at (place + operations list) (tables_with list tables) position) Index (operations list) (operations position)
-      (length_is place tables list) (length_is (place + operations list) (tables_with list tables) position)
-  length_is place tables (typed.plain operand) = one_length (code_at place tables operand) Need (operations operand) (length_is place tables operand)
-  length_is place tables (typed.as_decimal operand) = one_length (code_at place tables operand) ToDecimal (operations operand) (length_is place tables operand)
-  length_is place tables (typed.negative numbers operand) = one_length (code_at place tables operand) (negative_op numbers) (operations operand) (length_is place tables operand)
-  length_is place tables (typed.arithmetic numbers operator left right) =
-      two_lengths (code_at place tables left) (code_at (place + operations left) (tables_with left tables) right) (arithmetic_op numbers operator) (operations left) (operations right)
+  length_is place tables (typed.unary operator operand) = one_length (code_at place tables operand) (Unary operator) (operations operand) (length_is place tables operand)
+  length_is place tables (typed.binary operator left right) =
+      two_lengths (code_at place tables left) (code_at (place + operations left) (tables_with left tables) right) (Binary operator) (operations left) (operations right)
       (length_is place tables left) (length_is (place + operations left) (tables_with left tables) right)
-  length_is place tables (typed.ordered of beside way left right) =
-      two_lengths (code_at place tables left) (code_at (place + operations left) (tables_with left tables) right) (Compare (compared_of of beside) way) (operations left) (operations right)
-      (length_is place tables left) (length_is (place + operations left) (tables_with left tables) right)
-  length_is place tables (typed.equal family left right) =
-      two_lengths (code_at place tables left) (code_at (place + operations left) (tables_with left tables) right) (Equal family) (operations left) (operations right)
-      (length_is place tables left) (length_is (place + operations left) (tables_with left tables) right)
-  length_is place tables (typed.within operand list) =
-      two_lengths (code_at place tables operand) (code_at (place + operations operand) (tables_with operand tables) list) IsIn (operations operand) (operations list)
-      (length_is place tables operand) (length_is (place + operations operand) (tables_with operand tables) list)
-  length_is place tables (typed.opposite operand) = one_length (code_at place tables operand) Not (operations operand) (length_is place tables operand)
   length_is place tables (typed.both left right) =
-      around_length (code_at place tables left) (code_at (place + operations left + 1) (tables_with left tables) right) (AndJump (place + operations left + 1 + operations right)) (operations left) (operations right)
+      around_length (code_at place tables left) (code_at (place + operations left + 1) (tables_with left tables) right) (Jump jumps.And (place + operations left + 1 + operations right)) (operations left) (operations right)
       (length_is place tables left) (length_is (place + operations left + 1) (tables_with left tables) right)
   length_is place tables (typed.either left right) =
-      around_length (code_at place tables left) (code_at (place + operations left + 1) (tables_with left tables) right) (OrJump (place + operations left + 1 + operations right)) (operations left) (operations right)
+      around_length (code_at place tables left) (code_at (place + operations left + 1) (tables_with left tables) right) (Jump jumps.Or (place + operations left + 1 + operations right)) (operations left) (operations right)
       (length_is place tables left) (length_is (place + operations left + 1) (tables_with left tables) right)
   length_is place tables (typed.choice condition met unmet) =
       let p = place + operations condition + 1 in
       let q = p + operations met + 1 in
       let met_code = code_at p (tables_with condition tables) met in
       let unmet_code = code_at q (tables_with met (tables_with condition tables)) unmet in
-      let behind = around_length met_code unmet_code (Jump (q + operations unmet)) (operations met) (operations unmet) (length_is p (tables_with condition tables) met) (length_is q (tables_with met (tables_with condition tables)) unmet) in
-      around_length (code_at place tables condition) (met_code ++ (Jump (q + operations unmet) ∷ unmet_code)) (BranchFalse q) (operations condition) (operations met + 1 + operations unmet) (length_is place tables condition) behind
+      let behind = around_length met_code unmet_code (Jump jumps.Always (q + operations unmet)) (operations met) (operations unmet) (length_is p (tables_with condition tables) met) (length_is q (tables_with met (tables_with condition tables)) unmet) in
+      around_length (code_at place tables condition) (met_code ++ (Jump jumps.Always (q + operations unmet) ∷ unmet_code)) (Jump jumps.Branch q) (operations condition) (operations met + 1 + operations unmet) (length_is place tables condition) behind
       ∙ three_sum (operations condition) (operations met) (operations unmet)
   length_is place tables (typed.listed scalar items) = one_length (items_at place tables items) (MakeList scalar (how_many items)) (operations_of_items items) (items_length place tables items)
-  length_is place tables (typed.len list) = one_length (code_at place tables list) Len (operations list) (length_is place tables list)
-  length_is place tables (typed.is_nil operand) = one_length (code_at place tables operand) IsNil (operations operand) (length_is place tables operand)
-  length_is place tables (typed.otherwise operand other) =
-      two_lengths (code_at place tables operand) (code_at (place + operations operand) (tables_with operand tables) other) Default (operations operand) (operations other)
-      (length_is place tables operand) (length_is (place + operations operand) (tables_with operand tables) other)
   length_is place tables (typed.predicate predicate list body) =
       let p = place + operations list + 1 in
       let body_code = code_at p (tables_with list tables) body in
@@ -148,19 +129,9 @@ mutual
   tables_grow (typed.field owner name) tables =
       let before = tables_grow owner tables in
       (before.0, λ n found is. one_text_grows name (tables_with owner tables).names n found (before.1 n found is))
-  tables_grow (typed.index list position) tables = then_grow tables (tables_with list tables) (tables_with position (tables_with list tables)) (tables_grow list tables) (tables_grow position (tables_with list tables))
-  tables_grow (typed.plain operand) tables = tables_grow operand tables
-  tables_grow (typed.as_decimal operand) tables = tables_grow operand tables
-  tables_grow (typed.negative numbers operand) tables = tables_grow operand tables
-  tables_grow (typed.arithmetic numbers operator left right) tables =
+  tables_grow (typed.unary operator operand) tables = tables_grow operand tables
+  tables_grow (typed.binary operator left right) tables =
       then_grow tables (tables_with left tables) (tables_with right (tables_with left tables)) (tables_grow left tables) (tables_grow right (tables_with left tables))
-  tables_grow (typed.ordered of beside way left right) tables =
-      then_grow tables (tables_with left tables) (tables_with right (tables_with left tables)) (tables_grow left tables) (tables_grow right (tables_with left tables))
-  tables_grow (typed.equal family left right) tables =
-      then_grow tables (tables_with left tables) (tables_with right (tables_with left tables)) (tables_grow left tables) (tables_grow right (tables_with left tables))
-  tables_grow (typed.within operand list) tables =
-      then_grow tables (tables_with operand tables) (tables_with list (tables_with operand tables)) (tables_grow operand tables) (tables_grow list (tables_with operand tables))
-  tables_grow (typed.opposite operand) tables = tables_grow operand tables
   tables_grow (typed.both left right) tables =
       then_grow tables (tables_with left tables) (tables_with right (tables_with left tables)) (tables_grow left tables) (tables_grow right (tables_with left tables))
   tables_grow (typed.either left right) tables =
@@ -170,10 +141,6 @@ mutual
       let m = tables_with met c in
       then_grow tables c (tables_with unmet m) (tables_grow condition tables) (then_grow c m (tables_with unmet m) (tables_grow met c) (tables_grow unmet m))
   tables_grow (typed.listed scalar items) tables = items_grow items tables
-  tables_grow (typed.len list) tables = tables_grow list tables
-  tables_grow (typed.is_nil operand) tables = tables_grow operand tables
-  tables_grow (typed.otherwise operand other) tables =
-      then_grow tables (tables_with operand tables) (tables_with other (tables_with operand tables)) (tables_grow operand tables) (tables_grow other (tables_with operand tables))
   tables_grow (typed.predicate predicate list body) tables =
       then_grow tables (tables_with list tables) (tables_with body (tables_with list tables)) (tables_grow list tables) (tables_grow body (tables_with list tables))
 
@@ -289,30 +256,15 @@ module _ (code : Code) where
         let n = number_of name before.names in
         let parts = one_holds place tables owner (Field n) h in
         (standing owner place tables parts.0 (have.0, λ k found is. have.1 k found (one_text_grows name before.names k found is)), (n, parts.1, have.1 n name (is_there name before.names)))
-    standing (typed.index list position) place tables h have =
-        let parts = two_hold place tables list position Index h in
-        (standing list place tables parts.first (have_left list position tables have), standing position (place + operations list) (tables_with list tables) parts.second have, parts.last)
-    standing (typed.plain operand) place tables h have = let parts = one_holds place tables operand Need h in (standing operand place tables parts.0 have, parts.1)
-    standing (typed.as_decimal operand) place tables h have = let parts = one_holds place tables operand ToDecimal h in (standing operand place tables parts.0 have, parts.1)
-    standing (typed.negative numbers operand) place tables h have = let parts = one_holds place tables operand (negative_op numbers) h in (standing operand place tables parts.0 have, parts.1)
-    standing (typed.arithmetic numbers operator left right) place tables h have =
-        let parts = two_hold place tables left right (arithmetic_op numbers operator) h in
+    standing (typed.unary operator operand) place tables h have = let parts = one_holds place tables operand (Unary operator) h in (standing operand place tables parts.0 have, parts.1)
+    standing (typed.binary operator left right) place tables h have =
+        let parts = two_hold place tables left right (Binary operator) h in
         (standing left place tables parts.first (have_left left right tables have), standing right (place + operations left) (tables_with left tables) parts.second have, parts.last)
-    standing (typed.ordered of beside way left right) place tables h have =
-        let parts = two_hold place tables left right (Compare (compared_of of beside) way) h in
-        (standing left place tables parts.first (have_left left right tables have), standing right (place + operations left) (tables_with left tables) parts.second have, parts.last)
-    standing (typed.equal family left right) place tables h have =
-        let parts = two_hold place tables left right (Equal family) h in
-        (standing left place tables parts.first (have_left left right tables have), standing right (place + operations left) (tables_with left tables) parts.second have, parts.last)
-    standing (typed.within operand list) place tables h have =
-        let parts = two_hold place tables operand list IsIn h in
-        (standing operand place tables parts.first (have_left operand list tables have), standing list (place + operations operand) (tables_with operand tables) parts.second have, parts.last)
-    standing (typed.opposite operand) place tables h have = let parts = one_holds place tables operand Not h in (standing operand place tables parts.0 have, parts.1)
     standing (typed.both left right) place tables h have =
-        let parts = jump_holds place tables left right (AndJump (place + operations left + 1 + operations right)) h in
+        let parts = jump_holds place tables left right (Jump jumps.And (place + operations left + 1 + operations right)) h in
         (standing left place tables parts.first (have_left left right tables have), parts.jump, standing right (place + operations left + 1) (tables_with left tables) parts.second have)
     standing (typed.either left right) place tables h have =
-        let parts = jump_holds place tables left right (OrJump (place + operations left + 1 + operations right)) h in
+        let parts = jump_holds place tables left right (Jump jumps.Or (place + operations left + 1 + operations right)) h in
         (standing left place tables parts.first (have_left left right tables have), parts.jump, standing right (place + operations left + 1) (tables_with left tables) parts.second have)
     standing (typed.choice condition met unmet) place tables h have =
         let p = place + operations condition + 1 in
@@ -321,19 +273,14 @@ module _ (code : Code) where
         let m = tables_with met c in
         let met_code = code_at p c met in
         let unmet_code = code_at q m unmet in
-        let parts = hold_parts code.ops place (operations condition) (code_at place tables condition) (BranchFalse q ∷ (met_code ++ (Jump (q + operations unmet) ∷ unmet_code))) (length_is place tables condition) h in
-        let others = hold_parts code.ops p (operations met) met_code (Jump (q + operations unmet) ∷ unmet_code) (length_is p c met) parts.1.1 in
+        let parts = hold_parts code.ops place (operations condition) (code_at place tables condition) (Jump jumps.Branch q ∷ (met_code ++ (Jump jumps.Always (q + operations unmet) ∷ unmet_code))) (length_is place tables condition) h in
+        let others = hold_parts code.ops p (operations met) met_code (Jump jumps.Always (q + operations unmet) ∷ unmet_code) (length_is p c met) parts.1.1 in
         let have_m = have_before m (tables_with unmet m) (tables_grow unmet m) have in
         let have_c = have_before c m (tables_grow met c) have_m in
         (standing condition place tables parts.0 have_c, parts.1.0, standing met p c others.0 have_m, others.1.0, standing unmet q m others.1.1 have)
     standing (typed.listed scalar items) place tables h have =
         let parts = hold_parts code.ops place (operations_of_items items) (items_at place tables items) (MakeList scalar (how_many items) ∷ []) (items_length place tables items) h in
         (items_standing items place tables parts.0 have, parts.1.0)
-    standing (typed.len list) place tables h have = let parts = one_holds place tables list Len h in (standing list place tables parts.0 have, parts.1)
-    standing (typed.is_nil operand) place tables h have = let parts = one_holds place tables operand IsNil h in (standing operand place tables parts.0 have, parts.1)
-    standing (typed.otherwise operand other) place tables h have =
-        let parts = two_hold place tables operand other Default h in
-        (standing operand place tables parts.first (have_left operand other tables have), standing other (place + operations operand) (tables_with operand tables) parts.second have, parts.last)
     standing (typed.predicate predicate list body) place tables h have =
         let p = place + operations list + 1 in
         let l = tables_with list tables in

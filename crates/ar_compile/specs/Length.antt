@@ -10,24 +10,14 @@ abbrev mutual
   operations typed.item = 1
   operations (typed.literal literal) = 1
   operations (typed.field owner name) = operations owner + 1
-  operations (typed.index list position) = operations list + operations position + 1
-  operations (typed.plain operand) = operations operand + 1
-  operations (typed.as_decimal operand) = operations operand + 1
-  operations (typed.negative numbers operand) = operations operand + 1
-  operations (typed.arithmetic numbers operator left right) = operations left + operations right + 1
-  operations (typed.ordered of beside way left right) = operations left + operations right + 1
-  operations (typed.equal family left right) = operations left + operations right + 1
-  operations (typed.within operand list) = operations operand + operations list + 1
-  operations (typed.opposite operand) = operations operand + 1
+  operations (typed.unary operator operand) = operations operand + 1
+  operations (typed.binary operator left right) = operations left + operations right + 1
   -- a jump stands between the sides
   operations (typed.both left right) = operations left + 1 + operations right
   operations (typed.either left right) = operations left + 1 + operations right
   -- a branch stands before what is met, and a jump behind it
   operations (typed.choice condition met unmet) = operations condition + 1 + operations met + 1 + operations unmet
   operations (typed.listed scalar items) = operations_of_items items + 1
-  operations (typed.len list) = operations list + 1
-  operations (typed.is_nil operand) = operations operand + 1
-  operations (typed.otherwise operand other) = operations operand + operations other + 1
   -- the body stands between the loop's Enter and its Step
   operations (typed.predicate predicate list body) = operations list + 1 + operations body + 1
 

@@ -12,13 +12,13 @@ ghost use Rattle.ar_condition.specs.Typed as typed;
 ghost use Rattle.ar_condition.specs.Views.{typed_view};
 ghost use Rattle.ar_check.specs.Check.{checked};
 ghost use Rattle.ar_op.specs.Code.{most_entries};
-ghost use Rattle.ar_op.specs.declared.op.Op.TheVariants.{MakeList};
+ghost use Rattle.ar_op.specs.declared.op.Op.TheVariants.{MakeList, Jump as JumpTo};
 ghost use Rattle.ar_compile.specs.Acceptance.{OnlyTooLarge};
-ghost use Rattle.ar_compile.specs.Compiled.{arithmetic_op, compared_of, compiled, decimal_op, negative_op};
+ghost use Rattle.ar_compile.specs.Compiled.{compiled};
 ghost use Rattle.ar_compile.specs.Ends.{EndsWith};
 ghost use Rattle.ar_compile.specs.Length.{length_of, operations, operations_of_items};
 ghost use Rattle.ar_compile.specs.declared.error.CompileError.TheVariants.{TooManyOps};
-ghost use Rattle.ar_compile.specs.Private.Drafts.{drafted, drafted_items, place_of, with_field, with_literal, with_op};
+ghost use Rattle.ar_compile.specs.Private.Drafts.{drafted, drafted_items, jumps_on, place_of, with_field, with_literal, with_op};
 ghost use Rattle.ar_compile.specs.Private.Trees.{items_view};
 
 use crate::draft::{Draft, MOST_OPS};
@@ -26,64 +26,20 @@ use crate::error::CompileError;
 use crate::length::room_after;
 use ar_condition::Typed;
 use ar_condition::tree::Literal;
-use ar_op::op::{Compared, DecimalArithmetic};
+use ar_op::op::{Jump, Source};
 use ar_op::{Code, Op};
-use ar_value::operator::{Arithmetic, Numbers, Predicate, Scalar};
+use ar_value::operator::{Predicate, Scalar};
 use std::alloc::{AllocError, Global};
-
-fn decimal_op(operator: Arithmetic) -> Op
-    ensures { result ≡ decimal_op operator }
-{
-    match operator {
-        Arithmetic::Add => Op::Decimals(DecimalArithmetic::Add),
-        Arithmetic::Subtract => Op::Decimals(DecimalArithmetic::Subtract),
-        Arithmetic::Multiply => Op::Decimals(DecimalArithmetic::Multiply),
-        Arithmetic::Divide => Op::Decimals(DecimalArithmetic::Divide),
-        // No checked condition has one.
-        Arithmetic::Remainder => Op::Wholes(Arithmetic::Remainder),
-    }
-}
-
-fn arithmetic_op(numbers: Numbers, operator: Arithmetic) -> Op
-    ensures { result ≡ arithmetic_op numbers operator }
-{
-    match numbers {
-        Numbers::Wholes => Op::Wholes(operator),
-        Numbers::Decimals => decimal_op(operator),
-    }
-}
-
-fn negative_op(numbers: Numbers) -> Op
-    ensures { result ≡ negative_op numbers }
-{
-    match numbers {
-        Numbers::Wholes => Op::NegW,
-        Numbers::Decimals => Op::NegD,
-    }
-}
-
-/// Two wholes and two decimals each have comparisons of their own.
-fn compared_of(of: Numbers, beside: Numbers) -> Compared
-    ensures { result ≡ compared_of of beside }
-{
-    match (of, beside) {
-        (Numbers::Wholes, Numbers::Wholes) => Compared::Wholes,
-        (Numbers::Decimals, Numbers::Decimals) => Compared::Decimals,
-        (Numbers::Wholes, Numbers::Decimals) | (Numbers::Decimals, Numbers::Wholes) => {
-            Compared::Mixed
-        }
-    }
-}
 
 fn put_literal(alloc: Global, draft: &mut Draft, literal: &Literal) -> Result<(), AllocError>
     requires { place_of draft.old ≤ 4096 }
     ensures { OnOk result (draft.new ≡ with_literal literal.now draft.old) }
 {
     match literal {
-        Literal::Nil => draft.push(Op::PushNil),
-        Literal::Bool(truth) => draft.push(Op::PushBool(*truth)),
-        Literal::Whole(value) => draft.push(Op::PushWhole(*value)),
-        Literal::Decimal(decimal) => draft.push(Op::PushDecimal(decimal.millionths())),
+        Literal::Nil => draft.push(Op::Push(Source::Nil)),
+        Literal::Bool(truth) => draft.push(Op::Push(Source::Bool(*truth))),
+        Literal::Whole(value) => draft.push(Op::Push(Source::Whole(*value))),
+        Literal::Decimal(decimal) => draft.push(Op::Push(Source::Decimal(decimal.millionths()))),
         Literal::Text(text) => draft.push_text(alloc, text.as_str()),
     }
 }
@@ -95,52 +51,20 @@ pub(crate) fn put(alloc: Global, draft: &mut Draft, tree: &Typed) -> Result<(), 
     ensures { OnOk result (draft.new ≡ drafted (typed_view tree.now) draft.old) }
 {
     match tree {
-        Typed::Result => draft.push(Op::LoadResult),
-        Typed::Item => draft.push(Op::Item),
+        Typed::Result => draft.push(Op::Push(Source::Result)),
+        Typed::Item => draft.push(Op::Push(Source::Item)),
         Typed::Literal(literal) => put_literal(alloc, draft, literal),
         Typed::Field { owner, name } => put_field(alloc, draft, owner, name.as_str()),
-        Typed::Plain(operand) => put_one(alloc, draft, operand, Op::Need),
-        Typed::AsDecimal(operand) => put_one(alloc, draft, operand, Op::ToDecimal),
-        Typed::Negative { numbers, operand } => {
-            put_one(alloc, draft, operand, negative_op(*numbers))
+        Typed::Unary { operator, operand } => {
+            put_one(alloc, draft, operand, Op::Unary(*operator))
         }
-        Typed::Not(operand) => put_one(alloc, draft, operand, Op::Not),
-        Typed::Len(list) => put_one(alloc, draft, list, Op::Len),
-        Typed::IsNil(operand) => put_one(alloc, draft, operand, Op::IsNil),
-        Typed::Index { list, index } => put_two(alloc, draft, list, index, Op::Index),
-        Typed::Arithmetic {
-            numbers,
+        Typed::Binary {
             operator,
             left,
             right,
-        } => put_two(
-            alloc,
-            draft,
-            left,
-            right,
-            arithmetic_op(*numbers, *operator),
-        ),
-        Typed::Ordered {
-            of,
-            beside,
-            order,
-            left,
-            right,
-        } => {
-            let compare = Op::Compare(compared_of(*of, *beside), *order);
-            put_two(alloc, draft, left, right, compare)
-        }
-        Typed::Equal {
-            family,
-            left,
-            right,
-        } => put_two(alloc, draft, left, right, Op::Equal(*family)),
-        Typed::Within { operand, list } => put_two(alloc, draft, operand, list, Op::IsIn),
-        Typed::Default { operand, otherwise } => {
-            put_two(alloc, draft, operand, otherwise, Op::Default)
-        }
-        Typed::And { left, right } => put_and(alloc, draft, left, right),
-        Typed::Or { left, right } => put_or(alloc, draft, left, right),
+        } => put_two(alloc, draft, left, right, Op::Binary(*operator)),
+        Typed::And { left, right } => put_sides(alloc, draft, Jump::And, left, right),
+        Typed::Or { left, right } => put_sides(alloc, draft, Jump::Or, left, right),
         Typed::Choice { condition, yes, no } => put_choice(alloc, draft, condition, yes, no),
         Typed::List { scalar, items } => put_list(alloc, draft, *scalar, &items.items),
         Typed::Predicate {
@@ -192,37 +116,27 @@ fn put_two(
     draft.push(op)
 }
 
-/// The right side is jumped over where the left one is false.
+/// Two sides, of which the right one is jumped over where the left one decides.
 #[cycle(compiler)]
 #[tactic(auto, using(crate::proofs::Drafts::drafted_length, crate::proofs::Drafts::one_place_more))]
-fn put_and(alloc: Global, draft: &mut Draft, left: &Typed, right: &Typed) -> Result<(), AllocError>
+fn put_sides(
+    alloc: Global,
+    draft: &mut Draft,
+    jump: Jump,
+    left: &Typed,
+    right: &Typed,
+) -> Result<(), AllocError>
     requires { (InLimits (typed_view left.now)) × (InLimits (typed_view right.now))
         × (place_of draft.old + operations (typed_view left.now) + 1 + operations (typed_view right.now) ≤ 4096) }
-    ensures { OnOk result (draft.new ≡ drafted (typed.both (typed_view left.now) (typed_view right.now)) draft.old) }
+    ensures { OnOk result (draft.new ≡ jumps_on jump (place_of (drafted (typed_view left.now) draft.old))
+        (drafted (typed_view right.now) (with_op (JumpTo jump 0) (drafted (typed_view left.now) draft.old)))) }
 {
     put(alloc, draft, left)?;
-    let jump = draft.place();
-    draft.push(Op::AndJump(0))?;
+    let place = draft.place();
+    draft.push(Op::Jump(jump, 0))?;
     put(alloc, draft, right)?;
     let end = draft.place();
-    draft.set(jump, Op::AndJump(end as u32));
-    Ok(())
-}
-
-/// The right side is jumped over where the left one is true.
-#[cycle(compiler)]
-#[tactic(auto, using(crate::proofs::Drafts::drafted_length, crate::proofs::Drafts::one_place_more))]
-fn put_or(alloc: Global, draft: &mut Draft, left: &Typed, right: &Typed) -> Result<(), AllocError>
-    requires { (InLimits (typed_view left.now)) × (InLimits (typed_view right.now))
-        × (place_of draft.old + operations (typed_view left.now) + 1 + operations (typed_view right.now) ≤ 4096) }
-    ensures { OnOk result (draft.new ≡ drafted (typed.either (typed_view left.now) (typed_view right.now)) draft.old) }
-{
-    put(alloc, draft, left)?;
-    let jump = draft.place();
-    draft.push(Op::OrJump(0))?;
-    put(alloc, draft, right)?;
-    let end = draft.place();
-    draft.set(jump, Op::OrJump(end as u32));
+    draft.set(place, Op::Jump(jump, end as u32));
     Ok(())
 }
 
@@ -244,15 +158,15 @@ fn put_choice(
 {
     put(alloc, draft, condition)?;
     let branch = draft.place();
-    draft.push(Op::BranchFalse(0))?;
+    draft.push(Op::Jump(Jump::Branch, 0))?;
     put(alloc, draft, met)?;
     let jump = draft.place();
-    draft.push(Op::Jump(0))?;
+    draft.push(Op::Jump(Jump::Always, 0))?;
     let behind_met = draft.place();
-    draft.set(branch, Op::BranchFalse(behind_met as u32));
+    draft.set(branch, Op::Jump(Jump::Branch, behind_met as u32));
     put(alloc, draft, unmet)?;
     let end = draft.place();
-    draft.set(jump, Op::Jump(end as u32));
+    draft.set(jump, Op::Jump(Jump::Always, end as u32));
     Ok(())
 }
 

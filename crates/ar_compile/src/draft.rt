@@ -5,6 +5,7 @@ ghost use Rattle.ar_op.specs.Code.{IsCode, code_of_parts};
 ghost use Rattle.ar_compile.specs.Private.Drafts.{no_code, place_of, with_field, with_op, with_push_text, with_set};
 
 use crate::table::{add_text, number_of};
+use ar_op::op::Source;
 use ar_op::{Code, Op};
 use std::alloc::{AllocError, Global};
 use std::marker::Model;
@@ -62,7 +63,7 @@ impl Draft {
         ensures { OnOk result (self.new ≡ with_push_text text.now self.old) }
     {
         let number = number_of(&self.texts, text);
-        self.ops.push(Op::PushText(number as u32))?;
+        self.ops.push(Op::Push(Source::Text(number as u32)))?;
         add_text(alloc, &mut self.texts, text, number)
     }
 

@@ -15,19 +15,9 @@ pub(crate) fn room_after(room: usize, tree: &Typed) -> Option<usize>
     match tree {
         Typed::Result | Typed::Item | Typed::Literal(_) => room.checked_sub(1),
         Typed::Field { owner, .. } => room_after_one(room, owner),
-        Typed::Plain(operand)
-        | Typed::AsDecimal(operand)
-        | Typed::Not(operand)
-        | Typed::IsNil(operand) => room_after_one(room, operand),
-        Typed::Negative { operand, .. } => room_after_one(room, operand),
-        Typed::Len(list) => room_after_one(room, list),
-        Typed::Index { list, index } => room_after_two(room, list, index),
-        Typed::Arithmetic { left, right, .. }
-        | Typed::Ordered { left, right, .. }
-        | Typed::Equal { left, right, .. } => room_after_two(room, left, right),
+        Typed::Unary { operand, .. } => room_after_one(room, operand),
+        Typed::Binary { left, right, .. } => room_after_two(room, left, right),
         Typed::And { left, right } | Typed::Or { left, right } => room_after_two(room, left, right),
-        Typed::Within { operand, list } => room_after_two(room, operand, list),
-        Typed::Default { operand, otherwise } => room_after_two(room, operand, otherwise),
         Typed::Choice { condition, yes, no } => {
             room_after(room_after_two(room, condition, yes)?, no)?.checked_sub(1)
         }

@@ -34,21 +34,11 @@ pub fn in_limits(tree: &Typed) -> bool
         Typed::Result | Typed::Item => true,
         Typed::Literal(literal) => is_short(literal),
         Typed::Field { owner, name } => in_limits(owner) && name.as_str().len() <= MOST_BYTES,
-        Typed::Plain(operand)
-        | Typed::AsDecimal(operand)
-        | Typed::Not(operand)
-        | Typed::IsNil(operand) => in_limits(operand),
-        Typed::Negative { operand, .. } => in_limits(operand),
-        Typed::Len(list) => in_limits(list),
-        Typed::Index { list, index } => in_limits(list) && in_limits(index),
-        Typed::Arithmetic { left, right, .. }
-        | Typed::Ordered { left, right, .. }
-        | Typed::Equal { left, right, .. } => in_limits(left) && in_limits(right),
+        Typed::Unary { operand, .. } => in_limits(operand),
+        Typed::Binary { left, right, .. } => in_limits(left) && in_limits(right),
         Typed::And { left, right } | Typed::Or { left, right } => {
             in_limits(left) && in_limits(right)
         }
-        Typed::Within { operand, list } => in_limits(operand) && in_limits(list),
-        Typed::Default { operand, otherwise } => in_limits(operand) && in_limits(otherwise),
         Typed::Choice { condition, yes, no } => {
             in_limits(condition) && in_limits(yes) && in_limits(no)
         }

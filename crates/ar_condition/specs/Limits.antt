@@ -48,22 +48,12 @@ abbrev mutual
   InLimits typed.item = Unit {0}
   InLimits (typed.literal literal) = IsShortLiteral literal
   InLimits (typed.field owner name) = InLimits owner × IsShort name
-  InLimits (typed.index list position) = InLimits list × InLimits position
-  InLimits (typed.plain operand) = InLimits operand
-  InLimits (typed.as_decimal operand) = InLimits operand
-  InLimits (typed.negative numbers operand) = InLimits operand
-  InLimits (typed.arithmetic numbers operator left right) = InLimits left × InLimits right
-  InLimits (typed.ordered of beside way left right) = InLimits left × InLimits right
-  InLimits (typed.equal family left right) = InLimits left × InLimits right
-  InLimits (typed.within operand list) = InLimits operand × InLimits list
-  InLimits (typed.opposite operand) = InLimits operand
+  InLimits (typed.unary operator operand) = InLimits operand
+  InLimits (typed.binary operator left right) = InLimits left × InLimits right
   InLimits (typed.both left right) = InLimits left × InLimits right
   InLimits (typed.either left right) = InLimits left × InLimits right
   InLimits (typed.choice condition met unmet) = InLimits condition × InLimits met × InLimits unmet
   InLimits (typed.listed scalar items) = AllInLimits items × (how_many items ≤ most_items)
-  InLimits (typed.len list) = InLimits list
-  InLimits (typed.is_nil operand) = InLimits operand
-  InLimits (typed.otherwise operand other) = InLimits operand × InLimits other
   InLimits (typed.predicate predicate list body) = InLimits list × InLimits body
 
   pub AllInLimits : Typeds → Type 0

@@ -1,7 +1,7 @@
 -- What a typed condition means where `result` has a value, and so has the innermost item: a value, or a fault.
-use Rattle.std.specs.Prelude.{pos, Bool, true, false, not, if◌then◌else◌, Option, Some, Result, Ok, Err}
+use Rattle.std.specs.Prelude.{pos, Bool, true, false, if◌then◌else◌, Option, Some, Result, Ok, Err}
 use Rattle.ar_value.specs.Answer.{◌>>=◌}
-use Rattle.ar_value.specs.Operators.{Failure, Meaning, arithmetic_of, faulted, field_in, has_item, ill_kinded, index_in, is_nil, items_in, negative_of, not_nil, order_of, same, scalar_item, there, to_decimal, truth}
+use Rattle.ar_value.specs.Operators.{Failure, Meaning, faulted, field_in, ill_kinded, items_in, one, scalar_item, there, truth, two}
 use Rattle.ar_value.specs.Value.{Value, Items, nil, bool, whole, decimal, text, list, no_items, item, count}
 use Rattle.ar_value.specs.declared.fault.Fault.{Fault}
 use Rattle.ar_condition.specs.declared.tree.Literal.{Literal}
@@ -52,34 +52,11 @@ abbrev mutual
   mean result here typed.item = there ill_kinded here
   mean result here (typed.literal literal) = Ok (literal_value literal)
   mean result here (typed.field owner name) = mean result here owner >>= field_in name
-  mean result here (typed.index many place) = do
-    among ← mean result here many
-    index ← mean result here place
-    index_in among index
-  mean result here (typed.plain operand) = mean result here operand >>= not_nil
-  mean result here (typed.as_decimal operand) = mean result here operand >>= to_decimal
-  mean result here (typed.negative numbers operand) = mean result here operand >>= negative_of
-  mean result here (typed.arithmetic numbers operator left right) = do
+  mean result here (typed.unary operator operand) = mean result here operand >>= one operator
+  mean result here (typed.binary operator left right) = do
     left ← mean result here left
     right ← mean result here right
-    arithmetic_of operator left right
-  mean result here (typed.ordered of beside way left right) = do
-    left ← mean result here left
-    right ← mean result here right
-    order_of way left right
-  mean result here (typed.equal family left right) = do
-    left ← mean result here left
-    right ← mean result here right
-    Ok (bool (same left right))
-  mean result here (typed.within operand many) = do
-    value ← mean result here operand
-    among ← mean result here many
-    items ← items_in among
-    Ok (bool (has_item value items))
-  mean result here (typed.opposite operand) = do
-    value ← mean result here operand
-    holds ← truth value
-    Ok (bool (not holds))
+    two operator left right
   -- the right side only where the left one doesn't decide
   mean result here (typed.both left right) = do
     first ← mean result here left
@@ -95,16 +72,6 @@ abbrev mutual
     holds ← truth condition
     if holds then mean result here met else mean result here unmet
   mean result here (typed.listed scalar items) = items_mean result here items >>= λ items. Ok (list items)
-  mean result here (typed.len many) = do
-    among ← mean result here many
-    items ← items_in among
-    Ok (whole (pos (count items)))
-  mean result here (typed.is_nil operand) = mean result here operand >>= λ value. Ok (bool (is_nil value))
-  -- both sides
-  mean result here (typed.otherwise operand other) = do
-    value ← mean result here operand
-    other ← mean result here other
-    Ok (if is_nil value then other else value)
   mean result here (typed.predicate predicate many body) = do
     among ← mean result here many
     items ← items_in among

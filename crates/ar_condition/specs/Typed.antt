@@ -2,11 +2,9 @@
 use Rattle.std.specs.Prelude.{ℕ, suc, List, [], ◌∷◌}
 use Rattle.ar_condition.specs.declared.tree.Literal.{Literal}
 use Rattle.ar_value.specs.declared.operator.Predicate.{Predicate}
-use Rattle.ar_value.specs.declared.operator.Arithmetic.{Arithmetic}
-use Rattle.ar_value.specs.declared.operator.Family.{Family}
-use Rattle.ar_value.specs.declared.operator.Numbers.{Numbers}
-use Rattle.ar_value.specs.declared.operator.Order.{Order}
+use Rattle.ar_value.specs.declared.operator.BinaryOperator.{BinaryOperator}
 use Rattle.ar_value.specs.declared.operator.Scalar.{Scalar}
+use Rattle.ar_value.specs.declared.operator.UnaryOperator.{UnaryOperator}
 
 mutual
   pub data Typed : Type 0 where
@@ -16,24 +14,12 @@ mutual
     item : Typed
     literal : Literal → Typed
     field : (whole : Typed) (name : List ℕ) → Typed
-    index : (list index : Typed) → Typed
-    -- what isn't nil; nil is the fault
-    plain : (operand : Typed) → Typed
-    -- a whole as a decimal; nil stays
-    as_decimal : (operand : Typed) → Typed
-    negative : Numbers → (operand : Typed) → Typed
-    arithmetic : Numbers → Arithmetic → (left right : Typed) → Typed
-    ordered : (of beside : Numbers) → Order → (left right : Typed) → Typed
-    equal : Family → (left right : Typed) → Typed
-    within : (operand list : Typed) → Typed
-    opposite : (operand : Typed) → Typed
+    unary : UnaryOperator → (operand : Typed) → Typed
+    binary : BinaryOperator → (left right : Typed) → Typed
     both : (left right : Typed) → Typed
     either : (left right : Typed) → Typed
     choice : (condition met unmet : Typed) → Typed
     listed : Scalar → (items : Typeds) → Typed
-    len : (list : Typed) → Typed
-    is_nil : (operand : Typed) → Typed
-    otherwise : (operand other : Typed) → Typed
     predicate : Predicate → (list body : Typed) → Typed
 
   pub data Typeds : Type 0 where

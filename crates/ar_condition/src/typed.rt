@@ -1,11 +1,12 @@
 //! Typed conditions: what a condition says once its kinds are known.
 
 use crate::tree::Literal;
-use ar_value::operator::{Arithmetic, Family, Numbers, Order, Predicate, Scalar};
+use ar_value::operator::{BinaryOperator, Predicate, Scalar, UnaryOperator};
 use ar_value::text::Text;
 
-/// A condition whose kinds are known. `!=` is `==` negated, `not in` is `in` negated, a comparison
-/// with the literal `nil` is `isNil`, and `+a` is `a`.
+/// A condition whose kinds are known: where an operand is made plain or turned into decimal, a node
+/// says so. `!=` is `==` negated, `not in` is `in` negated, a comparison with the literal `nil` is
+/// `isNil`, and `+a` is `a`.
 #[cycle(typed)]
 #[derive(Drop)]
 pub enum Typed {
@@ -18,45 +19,17 @@ pub enum Typed {
         owner: Box<Typed>,
         name: Text,
     },
-    Index {
-        list: Box<Typed>,
-        index: Box<Typed>,
-    },
-    /// An operand that may be nil where a plain one is wanted: nil is the fault `NilOperand`.
-    Plain(Box<Typed>),
-    /// A whole where a decimal is wanted; nil stays.
-    AsDecimal(Box<Typed>),
-    Negative {
-        numbers: Numbers,
+    /// An operator on one operand.
+    Unary {
+        operator: UnaryOperator,
         operand: Box<Typed>,
     },
-    /// Both sides have these numbers.
-    Arithmetic {
-        numbers: Numbers,
-        operator: Arithmetic,
+    /// An operator on two operands.
+    Binary {
+        operator: BinaryOperator,
         left: Box<Typed>,
         right: Box<Typed>,
     },
-    /// The left side has numbers of the one kind, the right side of the other.
-    Ordered {
-        of: Numbers,
-        beside: Numbers,
-        order: Order,
-        left: Box<Typed>,
-        right: Box<Typed>,
-    },
-    /// Either side may be nil.
-    Equal {
-        family: Family,
-        left: Box<Typed>,
-        right: Box<Typed>,
-    },
-    /// Whether a list has an item that equals the operand.
-    Within {
-        operand: Box<Typed>,
-        list: Box<Typed>,
-    },
-    Not(Box<Typed>),
     And {
         left: Box<Typed>,
         right: Box<Typed>,
@@ -74,12 +47,6 @@ pub enum Typed {
     List {
         scalar: Scalar,
         items: TypedItems,
-    },
-    Len(Box<Typed>),
-    IsNil(Box<Typed>),
-    Default {
-        operand: Box<Typed>,
-        otherwise: Box<Typed>,
     },
     Predicate {
         predicate: Predicate,

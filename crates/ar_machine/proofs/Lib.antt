@@ -1,3 +1,6 @@
+pub mod Lending
+pub mod Well
+pub mod Kinded
 pub mod Entries
 pub mod Items
 pub mod Stacks
@@ -7,3 +10,4 @@ pub mod Simulation
 pub mod Reached
 pub mod Ends
 pub mod Verified
+pub mod Unstuck

@@ -1,6 +1,6 @@
 -- Definitions of private contracts and of proofs alone, which follow the code: a reader need not believe them.
-pub mod Action
 pub mod Memory
 pub mod Operand
 pub mod State
 pub mod Same
+pub mod Unchecked

@@ -4,7 +4,7 @@
 //! defines the machine: what a step of a code on a value leads to, every operand being tested, and
 //! what stands after so many steps.
 //!
-//! - [`op`]: operations
+//! - [`op`]: operations, made of the operators of `ar_value`, of what is pushed and of jumps
 //! - [`code`]: code, which contracts see as the `Code` of `specs/Code`
 #![tactic(auto)]
 

@@ -1,23 +1,36 @@
 //! Operations of the stack machine.
 
-use ar_value::operator::{Arithmetic, Family, Order, Predicate, Scalar};
+ghost use Rattle.std.specs.Prelude.{◌≡◌};
+ghost use Rattle.ar_op.specs.Machine.{takes};
 
-/// The operators on two decimals that give a decimal. There is no remainder of decimals.
-#[derive(Clone, Copy, Debug, PartialEq, Eq)]
-pub enum DecimalArithmetic {
-    Add,
-    Subtract,
-    Multiply,
-    Divide,
+use ar_value::operator::{BinaryOperator, Predicate, Scalar, UnaryOperator};
+
+/// What is pushed.
+#[derive(Clone, Copy)]
+pub enum Source {
+    Bool(bool),
+    Whole(i64),
+    /// In millionths.
+    Decimal(i64),
+    /// A text of the code, by its number.
+    Text(u32),
+    Nil,
+    /// The measured value.
+    Result,
+    /// The innermost item of a loop.
+    Item,
 }
 
-/// What numbers an order comparison takes.
+/// When a jump goes to its place, and what it does with the truth value on top.
 #[derive(Clone, Copy, Debug, PartialEq, Eq)]
-pub enum Compared {
-    Wholes,
-    Decimals,
-    /// Wholes or decimals, on either side.
-    Mixed,
+pub enum Jump {
+    /// Where a false truth value is on top, which stays; else on without it.
+    And,
+    /// Where a true truth value is on top, which stays; else on without it.
+    Or,
+    /// Takes a truth value, and goes there where it is false.
+    Branch,
+    Always,
 }
 
 /// An operation. It takes its operands from the top of the stack, the right one being the last that
@@ -25,52 +38,15 @@ pub enum Compared {
 /// operation in its code, from 0.
 #[derive(Clone, Copy)]
 pub enum Op {
-    PushBool(bool),
-    PushWhole(i64),
-    /// In millionths.
-    PushDecimal(i64),
-    /// Pushes a text of the code, by its number.
-    PushText(u32),
-    PushNil,
+    Push(Source),
     /// Takes so many scalars of one kind, at most 16, and gives the list of them.
     MakeList { scalar: Scalar, count: u8 },
-    /// Pushes the measured value.
-    LoadResult,
-    /// Pushes the innermost item of a loop.
-    Item,
     /// Takes a record and gives its field, by the number of the field's name in the code.
     Field(u32),
-    /// Takes a list and a whole and gives the item there; -1 is the last.
-    Index,
-    Len,
-    /// Takes what isn't nil and gives it; nil is a fault.
-    Need,
-    IsNil,
-    /// Takes two and gives the first, or the second where the first is nil.
-    Default,
-    /// Takes a whole and gives it as a decimal; nil stays.
-    ToDecimal,
-    /// Takes a scalar or nil, and a list of these, all of one family, and says whether the list has an
-    /// item that equals it.
-    IsIn,
-    Not,
-    /// Arithmetic of two wholes: `AddW`, `SubW`, `MulW`, `DivW`, `RemW`.
-    Wholes(Arithmetic),
-    NegW,
-    /// Arithmetic of two decimals: `AddD`, `SubD`, `MulD`, `DivD`.
-    Decimals(DecimalArithmetic),
-    NegD,
-    /// An order comparison of two numbers: `LtW`, `LeW`, `GtW`, `GeW`, and so with `D` and `M`.
-    Compare(Compared, Order),
-    /// Whether two scalars of a family are equal; either may be nil.
-    Equal(Family),
-    /// Goes to a place where a false truth value is on top, and else takes it off.
-    AndJump(u32),
-    /// Goes to a place where a true truth value is on top, and else takes it off.
-    OrJump(u32),
-    /// Takes a truth value and goes to a place where it is false.
-    BranchFalse(u32),
-    Jump(u32),
+    Unary(UnaryOperator),
+    Binary(BinaryOperator),
+    /// Goes to a place, or on.
+    Jump(Jump, u32),
     /// Takes a list and begins a loop at its first item. Where there is none it gives the answer and
     /// goes behind the loop's step, whose place it names.
     Enter(Predicate, u32),
@@ -79,4 +55,23 @@ pub enum Op {
     Step(Predicate, u32),
     /// Takes a truth value, which is the answer.
     Return,
+}
+
+impl Op {
+    /// How many operands it takes or looks at.
+    pub fn takes(self) -> usize
+        ensures { result ≡ takes self }
+    {
+        match self {
+            Op::Push(_) | Op::Jump(Jump::Always, _) => 0,
+            Op::MakeList { count, .. } => usize::from(count),
+            Op::Binary(_) => 2,
+            Op::Jump(Jump::And | Jump::Or | Jump::Branch, _)
+            | Op::Field(_)
+            | Op::Unary(_)
+            | Op::Enter(..)
+            | Op::Step(..)
+            | Op::Return => 1,
+        }
+    }
 }

@@ -1,5 +1,6 @@
 //! Code that is given back, and images with a byte less or another one.
 
+use ar_code::op::Source;
 use ar_code::{Code, ImageError, Op, decode, encode};
 use ar_value::Shape;
 use ar_verify::{Cause, Reason, verify};
@@ -14,7 +15,7 @@ const SUCCESS_RATE: [u8; 18] = [
 
 /// Code that pushes a number and doesn't return.
 fn without_return(alloc: Global) -> Result<Code, AllocError> {
-    let ops = vec![in alloc; Op::PushWhole(7)]?;
+    let ops = vec![in alloc; Op::Push(Source::Whole(7))]?;
     Ok(Code::of_parts(ops, Vec::new(alloc), Vec::new(alloc)))
 }
 
@@ -25,7 +26,7 @@ fn is_given_back(alloc: Global, code: Code) -> bool {
         Ok(_) => false,
         Err(refused) => {
             refused.cause == Cause::Fault { place: 0, reason }
-                && matches!(refused.code.ops(), [Op::PushWhole(7)])
+                && matches!(refused.code.ops(), [Op::Push(Source::Whole(7))])
         }
     }
 }

@@ -14,7 +14,6 @@ use Rattle.ar_verify.specs.Arrivals.{Around, Operands, Sent, all_sent, arrival, 
 use Rattle.ar_verify.specs.Budget.{most_items, most_on_top}
 use Rattle.ar_verify.specs.Memory.{is_memory}
 use Rattle.ar_verify.specs.Places.{all_pass, names_well}
-use Rattle.ar_verify.specs.Private.Action.{action}
 use Rattle.ar_verify.specs.Private.Failures.{Meets, cause_at}
 use Rattle.ar_verify.specs.Private.Held.{arrival_view}
 use Rattle.ar_verify.specs.Private.Sending.{sends_by}
@@ -173,17 +172,17 @@ module _ (code : Code) (shape : Shape) (named : all_pass (names_well code.ops) 0
     left_now : all_sent code shape ≡ (at_place place now >>= λ more. sent_on code shape (suc place) rest (comes.sents ++ more))
     left_now = comes.left ∙ ap (λ left. sent_on code shape place left comes.sents) first_left
 
-    same_sends : (m : Result Operands Reason) → (m >>= sends_by code shape (place + 1) (action op)) ≡ (m >>= sends code shape place op)
+    same_sends : (m : Result Operands Reason) → (m >>= sends_by code shape (place + 1) op) ≡ (m >>= sends code shape place op)
     same_sends (Ok had) = sym (sends_as code shape place op had)
     same_sends (Err reason) = refl
 
     pub stops : (reason : Reason) → looked_at code shape place op s ≡ Err reason → all_sent code shape ≡ Err (Fault place reason)
     stops reason refuses =
-        let none = refused (entry s.table place) (sends_by code shape (place + 1) (action op)) (visited place s) reason refuses in
+        let none = refused (entry s.table place) (sends_by code shape (place + 1) op) (visited place s) reason refuses in
         let same : now ≡ Err reason = ap (λ m. m >>= sends code shape place op) (sym here) ∙ sym (same_sends (entry s.table place)) ∙ none in
         left_now ∙ ap (λ now. at_place place now >>= λ more. sent_on code shape (suc place) rest (comes.sents ++ more)) same
 
-    module _ (had : Operands) (more : List Sent) (arrives : entry s.table place ≡ Ok had) (sent : sends_by code shape (place + 1) (action op) had ≡ Ok more) where
+    module _ (had : Operands) (more : List Sent) (arrives : entry s.table place ≡ Ok had) (sent : sends_by code shape (place + 1) op had ≡ Ok more) where
       arrives_here : arrived (sent_to place comes.sents) ≡ Ok had
       arrives_here = sym here ∙ arrives
 
@@ -195,7 +194,7 @@ module _ (code : Code) (shape : Shape) (named : all_pass (names_well code.ops) 0
 
       within_table : AllByRecursion (λ one. one.target < length (without s.table place)) more
       within_table =
-          rw length-set (rw comes.long (sends_within (suc (length code.ops)) code shape (place + 1) (omega arith) (action op) had more
+          rw length-set (rw comes.long (sends_within (suc (length code.ops)) code shape (place + 1) (omega arith) op had more
           (stays_within code.ops place op (passes_each (names_well code.ops) code.ops named place op there)) sent))
 
       comes_next : ComesTo code shape (place + 1) (visited place s had more)
@@ -213,7 +212,7 @@ module _ (code : Code) (shape : Shape) (named : all_pass (names_well code.ops) 0
 
     pub goes_on : (next : State) → looked_at code shape place op s ≡ Ok next → ComesTo code shape (place + 1) next
     goes_on next finds =
-        let both = found_both (entry s.table place) (sends_by code shape (place + 1) (action op)) (visited place s) next finds in
+        let both = found_both (entry s.table place) (sends_by code shape (place + 1) op) (visited place s) next finds in
         subst (ComesTo code shape (place + 1)) both.made (comes_next both.x both.y both.first both.second)
 
     -- likewise told by why the code stops
@@ -223,7 +222,7 @@ module _ (code : Code) (shape : Shape) (named : all_pass (names_well code.ops) 0
     stopped failures.OutOfMemory cause next is refuses = rw is tt
 
   pub inside_table : (op default : Op) (arrived : List (Result held.Operands Reason)) → table_view arrived ≡ s.table → place < length code.ops → op ≡ slice_index_or code.ops place default
-      → StaysWithin (length arrived) (action op)
+      → StaysWithin (length arrived) op
   inside_table op default arrived is within at =
       let long : length arrived ≡ suc (length code.ops) = sym (length-map arrived arrival_view) ∙ ap length is ∙ comes.long in
       rw long (stays_within code.ops place op (passes_each (names_well code.ops) code.ops named place op (there op default within at)))

@@ -8,7 +8,9 @@ use Rattle.ar_value.specs.declared.operator.Predicate.{Predicate}
 use Rattle.ar_op.specs.Code.{Code}
 use Rattle.ar_op.specs.Machine.{nth}
 use Rattle.ar_op.specs.declared.op.Op.{Op}
-use Rattle.ar_op.specs.declared.op.Op.TheVariants.{PushBool, AndJump, OrJump, BranchFalse, Jump, Enter, Step, Return}
+use Rattle.ar_op.specs.declared.op.Jump.TheVariants.{And, Or, Branch, Always}
+use Rattle.ar_op.specs.declared.op.Op.TheVariants.{Push, Jump, Enter, Step, Return}
+use Rattle.ar_op.specs.declared.op.Source.TheVariants as sources
 use Rattle.ar_verify.specs.Arrivals.{Sent}
 use Rattle.ar_verify.specs.Budget.{GoesOn, JumpsTo, Stops, most_at, price}
 use Rattle.ar_verify.specs.Private.Costs.{AreCosts, HasPassed, IsCapped, IsCost, LeadsInside, cost_by, cost_by_either, cost_by_jump, cost_by_loop, cost_by_next, number_at, too_dear}
@@ -141,12 +143,12 @@ module _ (code : Code) (shape : Shape) (sents : List Sent) (is : Clean code shap
         either_by target op there on jump (not_last code shape sents is place op there further) far.0 far.1 by
 
     capped_by : (op : Op) → At place op → Capped place (cost_by costs place (most_here place) op)
-    capped_by (AndJump target) there = either_here target (AndJump target) there tt tt refl (way_due place (AndJump target) there)
-    capped_by (OrJump target) there = either_here target (OrJump target) there tt tt refl (way_due place (OrJump target) there)
-    capped_by (BranchFalse target) there = either_here target (BranchFalse target) there tt tt refl (way_due place (BranchFalse target) there)
-    capped_by (Jump target) there =
-        let far = jumps_well code shape sents is place target (Jump target) refl there in
-        jump_by target (Jump target) there refl far.0 far.1 (way_due place (Jump target) there)
+    capped_by (Jump And target) there = either_here target (Jump And target) there tt tt refl (way_due place (Jump And target) there)
+    capped_by (Jump Or target) there = either_here target (Jump Or target) there tt tt refl (way_due place (Jump Or target) there)
+    capped_by (Jump Branch target) there = either_here target (Jump Branch target) there tt tt refl (way_due place (Jump Branch target) there)
+    capped_by (Jump Always target) there =
+        let far = jumps_well code shape sents is place target (Jump Always target) refl there in
+        jump_by target (Jump Always target) there refl far.0 far.1 (way_due place (Jump Always target) there)
     capped_by (Enter predicate step) there =
         let pair = the_step code shape sents is place step predicate there in
         loop_by step predicate there (not_last code shape sents is place (Enter predicate step) there tt) pair.0 (not_last code shape sents is step (Step predicate place) pair.1 tt)
@@ -160,10 +162,10 @@ pub leads_inside : (code : Code) (place : ℕ) (op : Op) → HasPassed code → 
 leads_inside code place op has there = leads code has.0 has.1.0 (clean code has.0 has.1.0 has.1.1) place op there
   where
     leads : (code : Code) (shape : Shape) (sents : List Sent) (is : Clean code shape sents) (place : ℕ) (op : Op) → nth code.ops place ≡ Some op → LeadsInside (length code.ops) place op
-    leads code shape sents is place (AndJump target) there = (not_last code shape sents is place (AndJump target) there tt, (jumps_well code shape sents is place target (AndJump target) refl there).1)
-    leads code shape sents is place (OrJump target) there = (not_last code shape sents is place (OrJump target) there tt, (jumps_well code shape sents is place target (OrJump target) refl there).1)
-    leads code shape sents is place (BranchFalse target) there = (not_last code shape sents is place (BranchFalse target) there tt, (jumps_well code shape sents is place target (BranchFalse target) refl there).1)
-    leads code shape sents is place (Jump target) there = (jumps_well code shape sents is place target (Jump target) refl there).1
+    leads code shape sents is place (Jump And target) there = (not_last code shape sents is place (Jump And target) there tt, (jumps_well code shape sents is place target (Jump And target) refl there).1)
+    leads code shape sents is place (Jump Or target) there = (not_last code shape sents is place (Jump Or target) there tt, (jumps_well code shape sents is place target (Jump Or target) refl there).1)
+    leads code shape sents is place (Jump Branch target) there = (not_last code shape sents is place (Jump Branch target) there tt, (jumps_well code shape sents is place target (Jump Branch target) refl there).1)
+    leads code shape sents is place (Jump Always target) there = (jumps_well code shape sents is place target (Jump Always target) refl there).1
     leads code shape sents is place (Enter predicate step) there =
         let pair = the_step code shape sents is place step predicate there in
         (not_last code shape sents is place (Enter predicate step) there tt, not_last code shape sents is step (Step predicate place) pair.1 tt)
@@ -193,10 +195,10 @@ one_more code most costs place op same there behind other le inside = elim (leb_
 
 module _ (code : Code) (ops : List Op) (same_ops : ops ≡ code.ops) (from : ℕ) (some : 0 < from) (costs lent : List ℕ) (same : lent ≡ costs) (count : length costs ≡ length ops) where
   abbrev op_before : Op
-  op_before = get_or ops (from - 1) (PushBool false)
+  op_before = get_or ops (from - 1) (Push (sources.Bool false))
 
   op_there : from - 1 < length ops → nth code.ops (from - 1) ≡ Some op_before
-  op_there inside = ap (λ ops. nth ops (from - 1)) (sym same_ops) ∙ nth_at ops (from - 1) (PushBool false) inside
+  op_there inside = ap (λ ops. nth ops (from - 1)) (sym same_ops) ∙ nth_at ops (from - 1) (Push (sources.Bool false)) inside
 
   pub leads_before : HasPassed code → from - 1 < length ops → LeadsInside (length lent) (from - 1) op_before
   leads_before has inside =

@@ -8,7 +8,9 @@ use Rattle.ar_value.specs.declared.operator.Predicate.{Predicate}
 use Rattle.ar_op.specs.Code.{Code}
 use Rattle.ar_op.specs.Machine.{nth}
 use Rattle.ar_op.specs.declared.op.Op.{Op}
-use Rattle.ar_op.specs.declared.op.Op.TheVariants.{IsIn, AndJump, OrJump, BranchFalse, Jump, Enter, Step, Return}
+use Rattle.ar_op.specs.declared.op.Jump.TheVariants.{And, Or, Branch, Always}
+use Rattle.ar_op.specs.declared.op.Op.TheVariants.{Binary, Jump, Enter, Step, Return}
+use Rattle.ar_value.specs.declared.operator.BinaryOperator.TheVariants as binary
 use Rattle.ar_verify.specs.Arrivals.{Sent}
 use Rattle.ar_verify.specs.Budget.{GoesOn, IsBudget, IsDearest, JumpsTo, Stops, Way, goes_on, jumps, loops, most_at, price, stops}
 use Rattle.ar_verify.proofs.Nesting.{stands_below}
@@ -37,10 +39,10 @@ module _ (code : Code) (shape : Shape) (sents : List Sent) (is : Clean code shap
   LoopWay place step cost = (body : ℕ) × (rest : ℕ) × Forward (suc place) body × Forward (suc step) rest × (cost ≡ suc (most_here place * body + rest))
 
   abbrev pub WayBy : (place : ℕ) → Op → (cost : ℕ) → Type 0
-  WayBy place (AndJump target) cost = NextWay place (AndJump target) cost ⊎ JumpWay target cost
-  WayBy place (OrJump target) cost = NextWay place (OrJump target) cost ⊎ JumpWay target cost
-  WayBy place (BranchFalse target) cost = NextWay place (BranchFalse target) cost ⊎ JumpWay target cost
-  WayBy place (Jump target) cost = JumpWay target cost
+  WayBy place (Jump And target) cost = NextWay place (Jump And target) cost ⊎ JumpWay target cost
+  WayBy place (Jump Or target) cost = NextWay place (Jump Or target) cost ⊎ JumpWay target cost
+  WayBy place (Jump Branch target) cost = NextWay place (Jump Branch target) cost ⊎ JumpWay target cost
+  WayBy place (Jump Always target) cost = JumpWay target cost
   WayBy place (Enter predicate step) cost = LoopWay place step cost
   WayBy place (Step predicate enter) cost = cost ≡ 1
   WayBy place Return cost = cost ≡ 1
@@ -52,10 +54,10 @@ module _ (code : Code) (shape : Shape) (sents : List Sent) (is : Clean code shap
   by_stop place op h = absurd h
 
   by_next : (place : ℕ) (op : Op) (rest : ℕ) → GoesOn op → Forward (suc place) rest → WayBy place op (price op (most_here place) + rest)
-  by_next place (AndJump target) rest h way = inl (rest, way, refl)
-  by_next place (OrJump target) rest h way = inl (rest, way, refl)
-  by_next place (BranchFalse target) rest h way = inl (rest, way, refl)
-  by_next place (Jump target) rest h way = absurd h
+  by_next place (Jump And target) rest h way = inl (rest, way, refl)
+  by_next place (Jump Or target) rest h way = inl (rest, way, refl)
+  by_next place (Jump Branch target) rest h way = inl (rest, way, refl)
+  by_next place (Jump Always target) rest h way = absurd h
   by_next place (Enter predicate step) rest h way = absurd h
   by_next place (Step predicate enter) rest h way = absurd h
   by_next place Return rest h way = absurd h
@@ -65,10 +67,10 @@ module _ (code : Code) (shape : Shape) (sents : List Sent) (is : Clean code shap
   jump_way target named rest same way = (rest, subst (λ place. Forward place rest) (sym same) way, refl)
 
   by_jump : (place target : ℕ) (op : Op) (rest : ℕ) → JumpsTo op target → Forward target rest → WayBy place op (suc rest)
-  by_jump place target (AndJump named) rest h way = inr (jump_way target named rest h way)
-  by_jump place target (OrJump named) rest h way = inr (jump_way target named rest h way)
-  by_jump place target (BranchFalse named) rest h way = inr (jump_way target named rest h way)
-  by_jump place target (Jump named) rest h way = jump_way target named rest h way
+  by_jump place target (Jump And named) rest h way = inr (jump_way target named rest h way)
+  by_jump place target (Jump Or named) rest h way = inr (jump_way target named rest h way)
+  by_jump place target (Jump Branch named) rest h way = inr (jump_way target named rest h way)
+  by_jump place target (Jump Always named) rest h way = jump_way target named rest h way
   by_jump place target op rest h way = absurd h
 
   same_op : (place : ℕ) (op other : Op) → At place op → At place other → op ≡ other
@@ -141,18 +143,18 @@ module _ (code : Code) (shape : Shape) (sents : List Sent) (is : Clean code shap
   )
 
   dear_by : (place : ℕ) (op : Op) → At place op → ((other : ℕ) → place < other → other < length code.ops → Dear other) → Dear place
-  dear_by place (AndJump target) there further =
-      let far = jumps_well code shape sents is place target (AndJump target) refl there in
-      either_dear place target (AndJump target) there tt refl (λ cost by. by) (further (suc place) (omega arith) (not_last code shape sents is place (AndJump target) there tt)) (further target far.0 far.1)
-  dear_by place (OrJump target) there further =
-      let far = jumps_well code shape sents is place target (OrJump target) refl there in
-      either_dear place target (OrJump target) there tt refl (λ cost by. by) (further (suc place) (omega arith) (not_last code shape sents is place (OrJump target) there tt)) (further target far.0 far.1)
-  dear_by place (BranchFalse target) there further =
-      let far = jumps_well code shape sents is place target (BranchFalse target) refl there in
-      either_dear place target (BranchFalse target) there tt refl (λ cost by. by) (further (suc place) (omega arith) (not_last code shape sents is place (BranchFalse target) there tt)) (further target far.0 far.1)
-  dear_by place (Jump target) there further =
-      let far = jumps_well code shape sents is place target (Jump target) refl there in
-      jump_dear place target (Jump target) there refl (λ cost by. by) (further target far.0 far.1)
+  dear_by place (Jump And target) there further =
+      let far = jumps_well code shape sents is place target (Jump And target) refl there in
+      either_dear place target (Jump And target) there tt refl (λ cost by. by) (further (suc place) (omega arith) (not_last code shape sents is place (Jump And target) there tt)) (further target far.0 far.1)
+  dear_by place (Jump Or target) there further =
+      let far = jumps_well code shape sents is place target (Jump Or target) refl there in
+      either_dear place target (Jump Or target) there tt refl (λ cost by. by) (further (suc place) (omega arith) (not_last code shape sents is place (Jump Or target) there tt)) (further target far.0 far.1)
+  dear_by place (Jump Branch target) there further =
+      let far = jumps_well code shape sents is place target (Jump Branch target) refl there in
+      either_dear place target (Jump Branch target) there tt refl (λ cost by. by) (further (suc place) (omega arith) (not_last code shape sents is place (Jump Branch target) there tt)) (further target far.0 far.1)
+  dear_by place (Jump Always target) there further =
+      let far = jumps_well code shape sents is place target (Jump Always target) refl there in
+      jump_dear place target (Jump Always target) there refl (λ cost by. by) (further target far.0 far.1)
   dear_by place (Enter predicate step) there further =
       let pair = the_step code shape sents is place step predicate there in
       let ahead = pair.0 in
@@ -182,7 +184,7 @@ module _ (code : Code) (shape : Shape) (sents : List Sent) (is : Clean code shap
   due_is place below = (dear_at place).1 below
 
   some_cost : (op : Op) (most : ℕ) → 1 ≤ price op most
-  some_cost IsIn most = omega arith
+  some_cost (Binary binary.IsIn) most = omega arith
   some_cost op most = omega arith
 
   way_costs : (place cost : ℕ) → Forward place cost → 1 ≤ cost

@@ -10,7 +10,7 @@ use Rattle.std.proofs.lemmas.Option.{slice_get-get_or}
 use Rattle.ar_value.specs.declared.operator.Predicate.{Predicate}
 use Rattle.ar_op.specs.Machine.{nth}
 use Rattle.ar_op.specs.declared.op.Op.{Op}
-use Rattle.ar_op.specs.declared.op.Op.TheVariants.{AndJump, OrJump, BranchFalse, Jump, Enter, Step, Return}
+use Rattle.ar_op.specs.declared.op.Op.TheVariants.{Jump, Enter, Step, Return}
 use Rattle.ar_verify.specs.Private.Depths.{depth_at, depth_behind, depths, is_inside, last_of, nests_by, open_behind, stays_by, step_of, open_steps, IsNested, JumpsInside}
 use Rattle.ar_verify.specs.declared.error.Cause.TheVariants.{Fault}
 use Rattle.ar_verify.specs.Places.{all_pass, held, holding, in_innermost, names_well, nests_well, reaches, same_loops, stays, unless}
@@ -185,10 +185,7 @@ module _ (ops : List Op) (paired : (place : ℕ) (op : Op) → nth ops place ≡
 
     -- what the code tests is pass 3
     pub nests_is : (place : ℕ) (op : Op) → place < length ops → place ≤ n → nth ops place ≡ Some op → nests_by (depths 0 ops) (last_of (open_steps ops (held ops place))) place op ≡ nests_well ops place op
-    nests_is place (AndJump target) within le there = stays_is place target within le (is_ahead ops place target (paired place (AndJump target) there))
-    nests_is place (OrJump target) within le there = stays_is place target within le (is_ahead ops place target (paired place (OrJump target) there))
-    nests_is place (BranchFalse target) within le there = stays_is place target within le (is_ahead ops place target (paired place (BranchFalse target) there))
-    nests_is place (Jump target) within le there = stays_is place target within le (is_ahead ops place target (paired place (Jump target) there))
+    nests_is place (Jump jump target) within le there = stays_is place target within le (is_ahead ops place target (paired place (Jump jump target) there))
     nests_is place (Enter predicate step) within le there =
         let here = depth_is place within in
         let begun = begins ops paired predicate place step there in
@@ -220,10 +217,7 @@ module _ (ops : List Op) (passed : all_pass (names_well ops) 0 ops ≡ Ok tt) (a
   is_counted place within = let as_many = ap length counted ∙ as_many_as_operations 0 ops in omega (arith, as_many)
 
   pub jumps_inside : (place : ℕ) (op : Op) → nth ops place ≡ Some op → JumpsInside (length around) op
-  jumps_inside place (AndJump target) there = is_counted target (is_ahead ops place target (passes_each (names_well ops) ops passed place (AndJump target) there)).1
-  jumps_inside place (OrJump target) there = is_counted target (is_ahead ops place target (passes_each (names_well ops) ops passed place (OrJump target) there)).1
-  jumps_inside place (BranchFalse target) there = is_counted target (is_ahead ops place target (passes_each (names_well ops) ops passed place (BranchFalse target) there)).1
-  jumps_inside place (Jump target) there = is_counted target (is_ahead ops place target (passes_each (names_well ops) ops passed place (Jump target) there)).1
+  jumps_inside place (Jump jump target) there = is_counted target (is_ahead ops place target (passes_each (names_well ops) ops passed place (Jump jump target) there)).1
   jumps_inside place op there = tt
 
   module _ (place : ℕ) (steps : List ℕ) (within : place < length ops) (so_far : IsNested ops place steps) (innermost : Option ℕ) (last : innermost ≡ last_of steps) (d : Op) where

@@ -15,29 +15,37 @@ use Rattle.ar_value.specs.Value.{Value, Items, count}
 use Rattle.ar_value.specs.Value as values
 use Rattle.ar_value.specs.declared.operator.Arithmetic.{Arithmetic}
 use Rattle.ar_value.specs.declared.operator.Arithmetic.TheVariants.{Add, Subtract, Multiply, Divide, Remainder}
+use Rattle.ar_value.specs.declared.operator.BinaryOperator.{BinaryOperator}
+use Rattle.ar_value.specs.declared.operator.BinaryOperator.TheVariants as binary
+use Rattle.ar_value.specs.declared.operator.Compared.{Compared}
+use Rattle.ar_value.specs.declared.operator.Compared.TheVariants as compared
+use Rattle.ar_value.specs.declared.operator.DecimalArithmetic.{DecimalArithmetic}
+use Rattle.ar_value.specs.declared.operator.DecimalArithmetic.TheVariants as on_decimals
 use Rattle.ar_value.specs.declared.operator.Family.{Family}
 use Rattle.ar_value.specs.declared.operator.Family.TheVariants as families
+use Rattle.ar_value.specs.declared.operator.Numbers.{Numbers}
+use Rattle.ar_value.specs.declared.operator.Numbers.TheVariants as numbers
 use Rattle.ar_value.specs.declared.operator.Order.{Order}
 use Rattle.ar_value.specs.declared.operator.Scalar.{Scalar}
 use Rattle.ar_value.specs.declared.operator.Scalar.TheVariants as scalars
+use Rattle.ar_value.specs.declared.operator.UnaryOperator.{UnaryOperator}
+use Rattle.ar_value.specs.declared.operator.UnaryOperator.TheVariants as unary
 use Rattle.ar_value.proofs.Merges.{merge_has_both}
 use Rattle.ar_op.specs.Code.{Code, Inside}
 use Rattle.ar_op.specs.Machine as machine
 use Rattle.ar_op.specs.Machine.{nth}
-use Rattle.ar_op.specs.declared.op.Compared.{Compared}
-use Rattle.ar_op.specs.declared.op.Compared.TheVariants as compared
-use Rattle.ar_op.specs.declared.op.DecimalArithmetic.{DecimalArithmetic}
-use Rattle.ar_op.specs.declared.op.DecimalArithmetic.TheVariants as on_decimals
 use Rattle.ar_op.specs.declared.op.Op.{Op}
-use Rattle.ar_op.specs.declared.op.Op.TheVariants.{PushBool, PushWhole, PushDecimal, PushText, PushNil, MakeList, LoadResult, Item, Field, Index, Len, Need, IsNil, Default, ToDecimal, IsIn, Not, Wholes, NegW, Decimals, NegD, Compare, Equal}
-use Rattle.ar_verify.specs.Effects.{decimal_kind, decimal_shape, decimals_kind, default_kind, effect, equal_kind, family_in, family_of, field_kind, is_compared, is_family, is_number, is_scalar, item_kind, length_kind, list_made, member_kind, needed_kind, of_one_family, on_one, on_two, opposite_kind, order_kind, quotient_kind, same_kind, scalar_shape, truth, where_taken, wholes_kind}
+use Rattle.ar_op.specs.declared.op.Op.TheVariants.{Push, MakeList, Field, Unary, Binary}
+use Rattle.ar_op.specs.declared.op.Source.{Source}
+use Rattle.ar_op.specs.declared.op.Source.TheVariants as sources
+use Rattle.ar_verify.specs.Effects.{decimal_kind, decimal_shape, decimals_kind, default_kind, effect, equal_kind, family_in, family_of, field_kind, is_compared, is_family, is_number, is_scalar, item_kind, length_kind, list_made, member_kind, needed_kind, of_one_family, on_one, on_two, opposite_kind, order_kind, quotient_kind, negative_kind, pushed_kind, scalar_shape, truth, unary_kind, binary_kind, where_taken, wholes_kind}
 use Rattle.ar_verify.proofs.Values.{Means, MeansKind, both, both_hold, decimal_or_fault, field_means, index_means, on_bool, on_decimal, on_list, on_text, on_whole, whole_or_fault, IsThere}
 
 -- what an operation gives of one operand, and of two, is of the kind that is said
-abbrev OneSound : (Kind → Option Kind) → (Value → Meaning) → Type 0
+abbrev pub OneSound : (Kind → Option Kind) → (Value → Meaning) → Type 0
 OneSound give act = (kind : Kind) (v : Value) → fits_kind v kind ≡ true → IfSome (give kind) (λ given. MeansKind given (act v))
 
-abbrev TwoSound : (Kind → Kind → Option Kind) → (Value → Value → Meaning) → Type 0
+abbrev pub TwoSound : (Kind → Kind → Option Kind) → (Value → Value → Meaning) → Type 0
 TwoSound give act = (left right : Kind) (v w : Value) → fits_kind v left ≡ true → fits_kind w right ≡ true → IfSome (give left right) (λ given. MeansKind given (act v w))
 
 -- where kinds are taken, they are such
@@ -55,10 +63,10 @@ scalar_fits scalars.Decimal (shaped shapes.decimal) v is fit = fit
 scalar_fits scalars.Text (shaped shapes.text) v is fit = fit
 scalar_fits scalar kind v is fit = absurd cc
 
-opposite_sound : OneSound opposite_kind machine.opposite
+opposite_sound : OneSound opposite_kind operators.opposite
 opposite_sound kind v fit =
-    taken (is_scalar scalars.Bool kind) truth (machine.opposite v)
-    (λ is. on_bool (λ v. MeansKind truth (machine.opposite v)) (λ b. refl) v (scalar_fits scalars.Bool kind v is fit))
+    taken (is_scalar scalars.Bool kind) truth (operators.opposite v)
+    (λ is. on_bool (λ v. MeansKind truth (operators.opposite v)) (λ b. refl) v (scalar_fits scalars.Bool kind v is fit))
 
 two_wholes : (P : Value → Value → Type 0) → ((x y : ℤ) → P (values.whole x) (values.whole y)) → (v w : Value) → fits v shapes.whole ≡ true → fits w shapes.whole ≡ true → P v w
 two_wholes P each v w fit also = on_whole (λ v. P v w) (λ x. on_whole (λ w. P (values.whole x) w) (λ y. each x y) w also) v fit
@@ -73,33 +81,31 @@ of_wholes Multiply x y = whole_or_fault (product x y)
 of_wholes Divide x y = decimal_or_fault (quotient x y)
 of_wholes Remainder x y = whole_or_fault (remainder x y)
 
-of_decimals : (operator : DecimalArithmetic) (x y : ℤ) → MeansKind (shaped shapes.decimal) (operators.decimal_arithmetic (machine.as_arithmetic operator) x y)
+of_decimals : (operator : DecimalArithmetic) (x y : ℤ) → MeansKind (shaped shapes.decimal) (operators.decimal_arithmetic operator x y)
 of_decimals on_decimals.Add x y = decimal_or_fault (sum x y)
 of_decimals on_decimals.Subtract x y = decimal_or_fault (difference x y)
 of_decimals on_decimals.Multiply x y = decimal_or_fault (decimal_product x y)
 of_decimals on_decimals.Divide x y = decimal_or_fault (quotient x y)
 
-wholes_sound : (operator : Arithmetic) → TwoSound (wholes_kind operator) (machine.wholes operator)
+wholes_sound : (operator : Arithmetic) → TwoSound (wholes_kind operator) (operators.wholes operator)
 wholes_sound operator left right v w fit also =
-    taken (is_scalar scalars.Whole left && is_scalar scalars.Whole right) (quotient_kind operator) (machine.wholes operator v w)
+    taken (is_scalar scalars.Whole left && is_scalar scalars.Whole right) (quotient_kind operator) (operators.wholes operator v w)
     (λ is. let each = both_hold (is_scalar scalars.Whole left) (is_scalar scalars.Whole right) is in
-    two_wholes (λ v w. MeansKind (quotient_kind operator) (machine.wholes operator v w)) (λ x y. of_wholes operator x y) v w
+    two_wholes (λ v w. MeansKind (quotient_kind operator) (operators.wholes operator v w)) (λ x y. of_wholes operator x y) v w
     (scalar_fits scalars.Whole left v each.0 fit) (scalar_fits scalars.Whole right w each.1 also))
 
-decimals_sound : (operator : DecimalArithmetic) → TwoSound decimals_kind (machine.decimals operator)
+decimals_sound : (operator : DecimalArithmetic) → TwoSound decimals_kind (operators.decimals operator)
 decimals_sound operator left right v w fit also =
-    taken (is_scalar scalars.Decimal left && is_scalar scalars.Decimal right) (shaped shapes.decimal) (machine.decimals operator v w)
+    taken (is_scalar scalars.Decimal left && is_scalar scalars.Decimal right) (shaped shapes.decimal) (operators.decimals operator v w)
     (λ is. let each = both_hold (is_scalar scalars.Decimal left) (is_scalar scalars.Decimal right) is in
-    two_decimals (λ v w. MeansKind (shaped shapes.decimal) (machine.decimals operator v w)) (λ x y. of_decimals operator x y) v w
+    two_decimals (λ v w. MeansKind (shaped shapes.decimal) (operators.decimals operator v w)) (λ x y. of_decimals operator x y) v w
     (scalar_fits scalars.Decimal left v each.0 fit) (scalar_fits scalars.Decimal right w each.1 also))
 
-negative_whole_sound : OneSound (same_kind scalars.Whole) machine.negative_whole
-negative_whole_sound (shaped shapes.whole) v fit = on_whole (λ v. MeansKind (shaped shapes.whole) (machine.negative_whole v)) (λ w. whole_or_fault (negation w)) v fit
-negative_whole_sound kind v fit = tt
-
-negative_decimal_sound : OneSound (same_kind scalars.Decimal) machine.negative_decimal
-negative_decimal_sound (shaped shapes.decimal) v fit = on_decimal (λ v. MeansKind (shaped shapes.decimal) (machine.negative_decimal v)) (λ d. decimal_or_fault (negation d)) v fit
-negative_decimal_sound kind v fit = tt
+negative_sound : (of : Numbers) → OneSound (negative_kind of) (operators.negative of)
+negative_sound numbers.Wholes (shaped shapes.whole) v fit = on_whole (λ v. MeansKind (shaped shapes.whole) (operators.negative numbers.Wholes v)) (λ w. whole_or_fault (negation w)) v fit
+negative_sound numbers.Decimals (shaped shapes.decimal) v fit = on_decimal (λ v. MeansKind (shaped shapes.decimal) (operators.negative numbers.Decimals v)) (λ d. decimal_or_fault (negation d)) v fit
+negative_sound numbers.Wholes kind v fit = tt
+negative_sound numbers.Decimals kind v fit = tt
 
 -- ---- order
 
@@ -109,24 +115,24 @@ on_number P of_whole of_decimal (shaped shapes.decimal) v is fit = on_decimal P 
 on_number P of_whole of_decimal kind v is fit = absurd cc
 
 compares : (numbers : Compared) (way : Order) (left right : Kind) (v w : Value) → is_compared numbers left ≡ true → is_compared numbers right ≡ true → fits_kind v left ≡ true → fits_kind w right ≡ true
-    → MeansKind truth (machine.compare numbers way v w)
+    → MeansKind truth (operators.compare numbers way v w)
 compares compared.Wholes way left right v w is beside fit also =
-    two_wholes (λ v w. MeansKind truth (machine.compare compared.Wholes way v w)) (λ x y. refl) v w (scalar_fits scalars.Whole left v is fit) (scalar_fits scalars.Whole right w beside also)
+    two_wholes (λ v w. MeansKind truth (operators.compare compared.Wholes way v w)) (λ x y. refl) v w (scalar_fits scalars.Whole left v is fit) (scalar_fits scalars.Whole right w beside also)
 compares compared.Decimals way left right v w is beside fit also =
-    two_decimals (λ v w. MeansKind truth (machine.compare compared.Decimals way v w)) (λ x y. refl) v w (scalar_fits scalars.Decimal left v is fit) (scalar_fits scalars.Decimal right w beside also)
+    two_decimals (λ v w. MeansKind truth (operators.compare compared.Decimals way v w)) (λ x y. refl) v w (scalar_fits scalars.Decimal left v is fit) (scalar_fits scalars.Decimal right w beside also)
 compares compared.Mixed way left right v w is beside fit also =
-    on_number (λ v. MeansKind truth (machine.compare compared.Mixed way v w))
-    (λ x. on_number (λ w. MeansKind truth (machine.compare compared.Mixed way (values.whole x) w)) (λ y. refl) (λ y. refl) right w beside also)
-    (λ x. on_number (λ w. MeansKind truth (machine.compare compared.Mixed way (values.decimal x) w)) (λ y. refl) (λ y. refl) right w beside also) left v is fit
+    on_number (λ v. MeansKind truth (operators.compare compared.Mixed way v w))
+    (λ x. on_number (λ w. MeansKind truth (operators.compare compared.Mixed way (values.whole x) w)) (λ y. refl) (λ y. refl) right w beside also)
+    (λ x. on_number (λ w. MeansKind truth (operators.compare compared.Mixed way (values.decimal x) w)) (λ y. refl) (λ y. refl) right w beside also) left v is fit
 
-compare_sound : (numbers : Compared) (way : Order) → TwoSound (order_kind numbers) (machine.compare numbers way)
+compare_sound : (numbers : Compared) (way : Order) → TwoSound (order_kind numbers) (operators.compare numbers way)
 compare_sound numbers way left right v w fit also =
-    taken (is_compared numbers left && is_compared numbers right) truth (machine.compare numbers way v w)
+    taken (is_compared numbers left && is_compared numbers right) truth (operators.compare numbers way v w)
     (λ is. let each = both_hold (is_compared numbers left) (is_compared numbers right) is in compares numbers way left right v w each.0 each.1 fit also)
 
 -- ---- families
 
-in_family_by : (family : Family) (shape : Shape) (v : Value) → is_family family (family_of shape) ≡ true → fits v shape ≡ true → machine.is_in_family family v ≡ true
+in_family_by : (family : Family) (shape : Shape) (v : Value) → is_family family (family_of shape) ≡ true → fits v shape ≡ true → operators.is_in_family family v ≡ true
 in_family_by families.Truth shapes.bool (values.bool b) is fit = refl
 in_family_by families.Number shapes.whole (values.whole w) is fit = refl
 in_family_by families.Number shapes.decimal (values.decimal d) is fit = refl
@@ -135,33 +141,33 @@ in_family_by family shape values.nil is fit = refl
 in_family_by family shape v is fit = absurd cc
 
 -- nil, or a scalar of a family
-in_family : (family : Family) (shape : Shape) (v : Value) → is_family family (family_of (plain shape)) ≡ true → fits v shape ≡ true → machine.is_in_family family v ≡ true
+in_family : (family : Family) (shape : Shape) (v : Value) → is_family family (family_of (plain shape)) ≡ true → fits v shape ≡ true → operators.is_in_family family v ≡ true
 in_family family (shapes.optional shape) values.nil is fit = refl
 in_family family (shapes.optional shape) v is fit = in_family_by family shape v is fit
 in_family family shape v is fit = in_family_by family shape v is fit
 
-kind_in_family : (family : Family) (kind : Kind) (v : Value) → is_family family (family_in kind) ≡ true → fits_kind v kind ≡ true → machine.is_in_family family v ≡ true
+kind_in_family : (family : Family) (kind : Kind) (v : Value) → is_family family (family_in kind) ≡ true → fits_kind v kind ≡ true → operators.is_in_family family v ≡ true
 kind_in_family family (shaped shape) v is fit = in_family family shape v is fit
 kind_in_family families.Truth nil v is fit = absurd cc
 kind_in_family families.Number nil v is fit = absurd cc
 kind_in_family families.Text nil v is fit = absurd cc
 
-all_in_family : (family : Family) (shape : Shape) (items : Items) → is_family family (family_of (plain shape)) ≡ true → all_items (λ v. fits v shape) items ≡ true → machine.are_in_family family items ≡ true
+all_in_family : (family : Family) (shape : Shape) (items : Items) → is_family family (family_of (plain shape)) ≡ true → all_items (λ v. fits v shape) items ≡ true → operators.are_in_family family items ≡ true
 all_in_family family shape values.no_items is fit = refl
 all_in_family family shape (values.item v items) is fit =
     let parts = both_hold (fits v shape) (all_items (λ v. fits v shape) items) fit in
-    both (machine.is_in_family family v) (machine.are_in_family family items) (in_family family shape v is parts.0) (all_in_family family shape items is parts.1)
+    both (operators.is_in_family family v) (operators.are_in_family family items) (in_family family shape v is parts.0) (all_in_family family shape items is parts.1)
 
-kinded_means : (is_kinded : Bool) (b : Bool) → is_kinded ≡ true → MeansKind truth (machine.where_kinded is_kinded (values.bool b))
+kinded_means : (is_kinded : Bool) (b : Bool) → is_kinded ≡ true → MeansKind truth (operators.where_kinded is_kinded (values.bool b))
 kinded_means true b h = refl
 kinded_means false b h = absurd cc
 
-equal_sound : (family : Family) → TwoSound (equal_kind family) (machine.equal family)
+equal_sound : (family : Family) → TwoSound (equal_kind family) (operators.equal family)
 equal_sound family left right v w fit also =
-    taken (is_family family (family_in left) && is_family family (family_in right)) truth (machine.equal family v w)
+    taken (is_family family (family_in left) && is_family family (family_in right)) truth (operators.equal family v w)
     (λ is. let each = both_hold (is_family family (family_in left)) (is_family family (family_in right)) is in
-    kinded_means (machine.is_in_family family v && machine.is_in_family family w) (operators.same v w)
-    (both (machine.is_in_family family v) (machine.is_in_family family w) (kind_in_family family left v each.0 fit) (kind_in_family family right w each.1 also)))
+    kinded_means (operators.is_in_family family v && operators.is_in_family family w) (operators.same v w)
+    (both (operators.is_in_family family v) (operators.is_in_family family w) (kind_in_family family left v each.0 fit) (kind_in_family family right w each.1 also)))
 
 middle : (a b c : Bool) → b ≡ true → (a || b || c) ≡ true
 middle true b c h = refl
@@ -172,10 +178,10 @@ last true b c h = refl
 last false true c h = refl
 last false false c h = h
 
-family_is_one : (family : Family) (value : Value) (items : Items) → machine.are_in_family family (values.item value items) ≡ true → machine.of_one_family value items ≡ true
+family_is_one : (family : Family) (value : Value) (items : Items) → operators.are_in_family family (values.item value items) ≡ true → operators.of_one_family value items ≡ true
 family_is_one families.Truth value items h = rw h refl
-family_is_one families.Number value items h = middle (machine.are_in_family families.Truth (values.item value items)) (machine.are_in_family families.Number (values.item value items)) (machine.are_in_family families.Text (values.item value items)) h
-family_is_one families.Text value items h = last (machine.are_in_family families.Truth (values.item value items)) (machine.are_in_family families.Number (values.item value items)) (machine.are_in_family families.Text (values.item value items)) h
+family_is_one families.Number value items h = middle (operators.are_in_family families.Truth (values.item value items)) (operators.are_in_family families.Number (values.item value items)) (operators.are_in_family families.Text (values.item value items)) h
+family_is_one families.Text value items h = last (operators.are_in_family families.Truth (values.item value items)) (operators.are_in_family families.Number (values.item value items)) (operators.are_in_family families.Text (values.item value items)) h
 
 is_itself : (family : Family) → is_family family (Some family) ≡ true
 is_itself families.Truth = refl
@@ -184,17 +190,17 @@ is_itself families.Text = refl
 
 -- a value and items, where their families are one
 one_family : (of beside : Option Family) (kind : Kind) (shape : Shape) (v : Value) (items : Items) → family_in kind ≡ of → family_of (plain shape) ≡ beside → of_one_family of beside ≡ true → fits_kind v kind ≡ true
-    → all_items (λ v. fits v shape) items ≡ true → machine.of_one_family v items ≡ true
+    → all_items (λ v. fits v shape) items ≡ true → operators.of_one_family v items ≡ true
 one_family (Some family) beside kind shape v items is also one fit all =
     family_is_one family v items
-    (both (machine.is_in_family family v) (machine.are_in_family family items) (kind_in_family family kind v (rw is (is_itself family)) fit) (all_in_family family shape items (rw also one) all))
+    (both (operators.is_in_family family v) (operators.are_in_family family items) (kind_in_family family kind v (rw is (is_itself family)) fit) (all_in_family family shape items (rw also one) all))
 one_family None beside kind shape v items is also one fit all = absurd cc
 
-member_sound : TwoSound member_kind machine.is_among
+member_sound : TwoSound member_kind operators.is_among
 member_sound kind (shaped (shapes.list shape max)) v w fit also =
-    taken (of_one_family (family_in kind) (family_of (plain shape))) truth (machine.is_among v w)
-    (λ one. on_list (λ w. MeansKind truth (machine.is_among v w)) shape max
-    (λ items short all. kinded_means (machine.of_one_family v items) (operators.has_item v items) (one_family (family_in kind) (family_of (plain shape)) kind shape v items refl refl one fit all)) w also)
+    taken (of_one_family (family_in kind) (family_of (plain shape))) truth (operators.is_among v w)
+    (λ one. on_list (λ w. MeansKind truth (operators.is_among v w)) shape max
+    (λ items short all. kinded_means (operators.of_one_family v items) (operators.has_item v items) (one_family (family_in kind) (family_of (plain shape)) kind shape v items refl refl one fit all)) w also)
 member_sound kind other v w fit also = tt
 
 -- ---- nil
@@ -302,9 +308,28 @@ item_sound : TwoSound item_kind operators.index_in
 item_sound (shaped (shapes.list shape max)) (shaped shapes.whole) v w fit also = index_means shape max v w fit also
 item_sound left right v w fit also = tt
 
-length_sound : OneSound length_kind machine.length_of
-length_sound (shaped (shapes.list shape max)) v fit = on_list (λ v. MeansKind (shaped shapes.whole) (machine.length_of v)) shape max (λ items short all. refl) v fit
+length_sound : OneSound length_kind operators.length_of
+length_sound (shaped (shapes.list shape max)) v fit = on_list (λ v. MeansKind (shaped shapes.whole) (operators.length_of v)) shape max (λ items short all. refl) v fit
 length_sound kind v fit = tt
+
+-- ---- operators by their families
+
+pub unary_sound : (operator : UnaryOperator) → OneSound (unary_kind operator) (operators.one operator)
+unary_sound unary.Len = length_sound
+unary_sound unary.Need = needed_sound
+unary_sound unary.IsNil = some_truth
+unary_sound unary.ToDecimal = decimal_sound
+unary_sound unary.Not = opposite_sound
+unary_sound (unary.Negate of) = negative_sound of
+
+pub binary_sound : (operator : BinaryOperator) → TwoSound (binary_kind operator) (operators.two operator)
+binary_sound binary.Index = item_sound
+binary_sound binary.Default = default_sound
+binary_sound binary.IsIn = member_sound
+binary_sound (binary.Wholes operator) = wholes_sound operator
+binary_sound (binary.Decimals operator) = decimals_sound operator
+binary_sound (binary.Compare of way) = compare_sound of way
+binary_sound (binary.Equal family) = equal_sound family
 
 -- ---- operands
 
@@ -380,46 +405,36 @@ module _ (base : List Value) where
 
   -- ---- all operations
 
-  -- the innermost item, where there is one
-  item_pushed : (shape : Option Shape) (v : Option Value) (top : List Value) (kinds : List Kind) → IsThere shape v → Fit top kinds
-      → IfSome (option_map (λ shape. shaped shape ∷ kinds) shape) (λ kinds. Leaves kinds (operators.there ill_kinded v >>= λ v. Ok (v ∷ (top ++ base))))
-  item_pushed (Some shape) (Some v) top kinds there fit = pushed v (shaped shape) top kinds there fit
-  item_pushed (Some shape) None top kinds there fit = absurd there
-  item_pushed None v top kinds there fit = tt
+  text_pushed : (texts : List (List ℕ)) (n : ℕ) → n < length texts → MeansKind (shaped shapes.text) (operators.there ill_kinded (nth texts n) >>= λ letters. Ok (values.text letters))
+  text_pushed (text ∷ texts) zero inside = refl
+  text_pushed (text ∷ texts) (suc n) inside = text_pushed texts n (omega arith)
+  text_pushed [] n inside = absurd (omega arith)
 
-  text_pushed : (texts : List (List ℕ)) (n : ℕ) (top : List Value) (kinds : List Kind) → n < length texts → Fit top kinds → Leaves (shaped shapes.text ∷ kinds) (operators.there ill_kinded (nth texts n) >>= λ letters. Ok (values.text letters ∷ (top ++ base)))
-  text_pushed (text ∷ texts) zero top kinds inside fit = pushed (values.text text) (shaped shapes.text) top kinds refl fit
-  text_pushed (text ∷ texts) (suc n) top kinds inside fit = text_pushed texts n top kinds (omega arith) fit
-  text_pushed [] n top kinds inside fit = absurd (omega arith)
+  item_pushed : (shape : Option Shape) (v : Option Value) → IsThere shape v → IfSome (option_map shaped shape) (λ kind. MeansKind kind (operators.there ill_kinded v))
+  item_pushed (Some shape) (Some v) there = there
+  item_pushed (Some shape) None there = absurd there
+  item_pushed None v there = tt
 
   field_taken : (name : Option (List ℕ)) (top : List Value) (kinds : List Kind) → Fit top kinds
       → IfSome (option_and_then (λ name. on_one (field_kind name) kinds) name) (λ kinds. Leaves kinds (operators.there ill_kinded name >>= λ name. machine.on_one (operators.field_in name) (top ++ base)))
   field_taken (Some name) top kinds fit = of_one (field_kind name) (operators.field_in name) top kinds (field_sound name) fit
   field_taken None top kinds fit = tt
 
-  pub effect_sound : (code : Code) (result : Value) (shape : Shape) → fits result shape ≡ true → (item : Option Value) (of : Option Shape) → IsThere of item → (op : Op) → Inside (length code.texts) (length code.names) op
-      → (top : List Value) (kinds : List Kind) → Fit top kinds → IfSome (effect code shape of op kinds) (λ kinds. Leaves kinds (machine.effect code result item op (top ++ base)))
-  effect_sound code result shape is item of there (PushBool holds) inside top kinds fit = pushed (values.bool holds) truth top kinds refl fit
-  effect_sound code result shape is item of there (PushWhole w) inside top kinds fit = pushed (values.whole w) (shaped shapes.whole) top kinds refl fit
-  effect_sound code result shape is item of there (PushDecimal d) inside top kinds fit = pushed (values.decimal d) (shaped shapes.decimal) top kinds refl fit
-  effect_sound code result shape is item of there (PushText number) inside top kinds fit = text_pushed code.texts number top kinds inside fit
-  effect_sound code result shape is item of there PushNil inside top kinds fit = pushed values.nil nil top kinds refl fit
-  effect_sound code result shape is item of there (MakeList scalar count) inside top kinds fit = made scalar count count values.no_items top kinds (omega arith) refl fit
-  effect_sound code result shape is item of there LoadResult inside top kinds fit = pushed result (shaped shape) top kinds is fit
-  effect_sound code result shape is item of there Item inside top kinds fit = item_pushed of item top kinds there fit
-  effect_sound code result shape is item of there (Field number) inside top kinds fit = field_taken (nth code.names number) top kinds fit
-  effect_sound code result shape is item of there Index inside top kinds fit = of_two item_kind operators.index_in top kinds item_sound fit
-  effect_sound code result shape is item of there Len inside top kinds fit = of_one length_kind machine.length_of top kinds length_sound fit
-  effect_sound code result shape is item of there Need inside top kinds fit = of_one needed_kind operators.not_nil top kinds needed_sound fit
-  effect_sound code result shape is item of there IsNil inside top kinds fit = of_one (λ kind. Some truth) (λ v. Ok (values.bool (operators.is_nil v))) top kinds some_truth fit
-  effect_sound code result shape is item of there Default inside top kinds fit = of_two default_kind otherwise top kinds default_sound fit
-  effect_sound code result shape is item of there ToDecimal inside top kinds fit = of_one decimal_kind operators.to_decimal top kinds decimal_sound fit
-  effect_sound code result shape is item of there IsIn inside top kinds fit = of_two member_kind machine.is_among top kinds member_sound fit
-  effect_sound code result shape is item of there Not inside top kinds fit = of_one opposite_kind machine.opposite top kinds opposite_sound fit
-  effect_sound code result shape is item of there (Wholes operator) inside top kinds fit = of_two (wholes_kind operator) (machine.wholes operator) top kinds (wholes_sound operator) fit
-  effect_sound code result shape is item of there NegW inside top kinds fit = of_one (same_kind scalars.Whole) machine.negative_whole top kinds negative_whole_sound fit
-  effect_sound code result shape is item of there (Decimals operator) inside top kinds fit = of_two decimals_kind (machine.decimals operator) top kinds (decimals_sound operator) fit
-  effect_sound code result shape is item of there NegD inside top kinds fit = of_one (same_kind scalars.Decimal) machine.negative_decimal top kinds negative_decimal_sound fit
-  effect_sound code result shape is item of there (Compare numbers order) inside top kinds fit = of_two (order_kind numbers) (machine.compare numbers order) top kinds (compare_sound numbers order) fit
-  effect_sound code result shape is item of there (Equal family) inside top kinds fit = of_two (equal_kind family) (machine.equal family) top kinds (equal_sound family) fit
-  effect_sound code result shape is item of there op inside top kinds fit = tt
+  module _ (code : Code) (result : Value) (shape : Shape) (is : fits result shape ≡ true) (item : Option Value) (of : Option Shape) (there : IsThere of item) where
+    source_sound : (source : Source) → Inside (length code.texts) (length code.names) (Push source) → IfSome (pushed_kind shape of source) (λ kind. MeansKind kind (machine.pushed code result item source))
+    source_sound (sources.Bool holds) inside = refl
+    source_sound (sources.Whole value) inside = refl
+    source_sound (sources.Decimal millionths) inside = refl
+    source_sound (sources.Text number) inside = text_pushed code.texts number inside
+    source_sound sources.Nil inside = refl
+    source_sound sources.Result inside = is
+    source_sound sources.Item inside = item_pushed of item there
+
+    pub effect_sound : (op : Op) → Inside (length code.texts) (length code.names) op
+        → (top : List Value) (kinds : List Kind) → Fit top kinds → IfSome (effect code shape of op kinds) (λ kinds. Leaves kinds (machine.effect code result item op (top ++ base)))
+    effect_sound (Push source) inside top kinds fit = given (pushed_kind shape of source) (machine.pushed code result item source) top kinds (source_sound source inside) fit
+    effect_sound (MakeList scalar count) inside top kinds fit = made scalar count count values.no_items top kinds (omega arith) refl fit
+    effect_sound (Field number) inside top kinds fit = field_taken (nth code.names number) top kinds fit
+    effect_sound (Unary operator) inside top kinds fit = of_one (unary_kind operator) (operators.one operator) top kinds (unary_sound operator) fit
+    effect_sound (Binary operator) inside top kinds fit = of_two (binary_kind operator) (operators.two operator) top kinds (binary_sound operator) fit
+    effect_sound op inside top kinds fit = tt

@@ -1,6 +1,7 @@
 pub mod Depths
 pub mod Entries
 pub mod Nesting
+pub mod Nested
 pub mod Passes
 pub mod Values
 pub mod Effects

@@ -8,7 +8,7 @@ use Rattle.ar_value.specs.declared.operator.Predicate.{Predicate}
 use Rattle.ar_value.specs.declared.operator.Predicate.TheVariants.{All, Any, Count, Filter}
 use Rattle.ar_op.specs.Machine.{begins_loop, is_same, nth}
 use Rattle.ar_op.specs.declared.op.Op.{Op}
-use Rattle.ar_op.specs.declared.op.Op.TheVariants.{AndJump, OrJump, BranchFalse, Jump, Enter, Step}
+use Rattle.ar_op.specs.declared.op.Op.TheVariants.{Jump, Enter, Step}
 use Rattle.ar_verify.specs.Budget.{JumpsTo}
 use Rattle.ar_verify.specs.Places.{Pass, all_pass, ends_loop, forward, found, held, holding, in_innermost, inside, most_loops, names_well, nests_well, or_else, reaches, same_loops, stays, unless}
 use Rattle.ar_verify.specs.declared.error.Cause.{Cause}
@@ -310,8 +310,5 @@ module _ (ops : List Op) (paired : (place : ℕ) (op : Op) → nth ops place ≡
       subst (λ p. (place < p) × (p < length ops) × (held ops place ≡ held ops p)) is (bounds.0, bounds.1, same)
 
   pub same_target : (place target : ℕ) (op : Op) → JumpsTo op target → nth ops place ≡ Some op → nests_well ops place op ≡ None → (place < target) × (target < length ops) × (held ops place ≡ held ops target)
-  same_target place target (AndJump named) jumps there nested = stays_by place target named jumps (paired place (AndJump named) there) nested
-  same_target place target (OrJump named) jumps there nested = stays_by place target named jumps (paired place (OrJump named) there) nested
-  same_target place target (BranchFalse named) jumps there nested = stays_by place target named jumps (paired place (BranchFalse named) there) nested
-  same_target place target (Jump named) jumps there nested = stays_by place target named jumps (paired place (Jump named) there) nested
+  same_target place target (Jump jump named) jumps there nested = stays_by place target named jumps (paired place (Jump jump named) there) nested
   same_target place target op jumps there nested = absurd jumps

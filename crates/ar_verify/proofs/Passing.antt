@@ -12,7 +12,8 @@ use Rattle.ar_value.specs.declared.operator.Predicate.{Predicate}
 use Rattle.ar_op.specs.Code.{Code}
 use Rattle.ar_op.specs.Machine.{nth}
 use Rattle.ar_op.specs.declared.op.Op.{Op}
-use Rattle.ar_op.specs.declared.op.Op.TheVariants.{AndJump, OrJump, BranchFalse, Jump, Enter, Step, Return}
+use Rattle.ar_op.specs.declared.op.Jump.TheVariants as jumps
+use Rattle.ar_op.specs.declared.op.Op.TheVariants.{Jump, Enter, Step, Return}
 use Rattle.ar_verify.specs.Arrivals.{Around, Operands, Sent, answer_kind, arrival, arrived, at_place, deepest, ended, entered, item_of, lacks, most_operands, on_truth, passed_on, sends, sent, sent_on, sent_to, to_next, where_shallow}
 use Rattle.ar_verify.specs.Effects.{effect, truth}
 use Rattle.ar_verify.specs.Places.{all_pass, ends_loop, forward, names_well, unless}
@@ -121,16 +122,16 @@ module _ (code : Code) (shape : Shape) where
 
   module _ (ops : List Op) where
     pub passed_ahead : (place : ℕ) (op : Op) (kinds : List Kind) (loops : List Around) (more : List Sent) → names_well ops place op ≡ None → passed_on code shape place op kinds loops ≡ Ok more → AllByRecursion (Ahead place) more
-    passed_ahead place (AndJump target) kinds loops more well h =
+    passed_ahead place (Jump jumps.And target) kinds loops more well h =
         let top = on_top kinds (λ taken. Ok (sent target kinds loops ∷ sent (suc place) taken loops ∷ [])) more h in
         both_ahead place target (suc place) kinds top.taken loops loops more (is_ahead ops place target well).0 (omega arith) top.sent
-    passed_ahead place (OrJump target) kinds loops more well h =
+    passed_ahead place (Jump jumps.Or target) kinds loops more well h =
         let top = on_top kinds (λ taken. Ok (sent target kinds loops ∷ sent (suc place) taken loops ∷ [])) more h in
         both_ahead place target (suc place) kinds top.taken loops loops more (is_ahead ops place target well).0 (omega arith) top.sent
-    passed_ahead place (BranchFalse target) kinds loops more well h =
+    passed_ahead place (Jump jumps.Branch target) kinds loops more well h =
         let top = on_top kinds (λ taken. Ok (sent target taken loops ∷ sent (suc place) taken loops ∷ [])) more h in
         both_ahead place target (suc place) top.taken top.taken loops loops more (is_ahead ops place target well).0 (omega arith) top.sent
-    passed_ahead place (Jump target) kinds loops more well h =
+    passed_ahead place (Jump jumps.Always target) kinds loops more well h =
         let same : (sent target kinds loops ∷ []) ≡ more = cc in rw (sym same) ((is_ahead ops place target well).0, tt)
     passed_ahead place (Enter predicate step) kinds loops more well h =
         let each = none_of_both (forward ops place step) (unless (ends_loop predicate place (nth ops step)) UnpairedLoop) well in

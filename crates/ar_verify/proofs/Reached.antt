@@ -10,7 +10,8 @@ use Rattle.ar_value.specs.declared.operator.Predicate.{Predicate}
 use Rattle.ar_op.specs.Code.{Code}
 use Rattle.ar_op.specs.Machine.{nth}
 use Rattle.ar_op.specs.declared.op.Op.{Op}
-use Rattle.ar_op.specs.declared.op.Op.TheVariants.{AndJump, OrJump, BranchFalse, Jump, Enter, Step, Return}
+use Rattle.ar_op.specs.declared.op.Jump.TheVariants.{And, Or, Branch, Always}
+use Rattle.ar_op.specs.declared.op.Op.TheVariants.{Jump, Enter, Step, Return}
 use Rattle.ar_verify.specs.Arrivals.{Around, Operands, Sent, all_sent, answer_kind, arrival, arrived, ended, item_of, operands, passed_on, sent, sent_to, to_next}
 use Rattle.ar_verify.specs.Budget.{JumpsTo}
 use Rattle.ar_verify.specs.Effects.{effect}
@@ -187,17 +188,17 @@ module _ (code : Code) (shape : Shape) (sents : List Sent) (is : Clean code shap
   falls_well place op given loops more there plain further here h = let next = goes_next place loops given more h in rw next.sent (next_well place op next.kinds loops there plain further here, tt)
 
   passed_well : (place : ℕ) (op : Op) (kinds : List Kind) (loops : List Around) (more : List Sent) → At place op → arrival place sents ≡ Ok (operands kinds loops) → loops ≡ loops_at place → passed_on code shape place op kinds loops ≡ Ok more → AllByRecursion WellSent more
-  passed_well place (AndJump target) kinds loops more there came here h =
+  passed_well place (Jump And target) kinds loops more there came here h =
       let top = on_top kinds (λ taken. Ok (sent target kinds loops ∷ sent (suc place) taken loops ∷ [])) more h in
-      two_well (sent target kinds loops) (sent (suc place) top.taken loops) more top.sent (jump_well place target (AndJump target) kinds loops there refl here) (next_well place (AndJump target) top.taken loops there tt tt here)
-  passed_well place (OrJump target) kinds loops more there came here h =
+      two_well (sent target kinds loops) (sent (suc place) top.taken loops) more top.sent (jump_well place target (Jump And target) kinds loops there refl here) (next_well place (Jump And target) top.taken loops there tt tt here)
+  passed_well place (Jump Or target) kinds loops more there came here h =
       let top = on_top kinds (λ taken. Ok (sent target kinds loops ∷ sent (suc place) taken loops ∷ [])) more h in
-      two_well (sent target kinds loops) (sent (suc place) top.taken loops) more top.sent (jump_well place target (OrJump target) kinds loops there refl here) (next_well place (OrJump target) top.taken loops there tt tt here)
-  passed_well place (BranchFalse target) kinds loops more there came here h =
+      two_well (sent target kinds loops) (sent (suc place) top.taken loops) more top.sent (jump_well place target (Jump Or target) kinds loops there refl here) (next_well place (Jump Or target) top.taken loops there tt tt here)
+  passed_well place (Jump Branch target) kinds loops more there came here h =
       let top = on_top kinds (λ taken. Ok (sent target taken loops ∷ sent (suc place) taken loops ∷ [])) more h in
-      two_well (sent target top.taken loops) (sent (suc place) top.taken loops) more top.sent (jump_well place target (BranchFalse target) top.taken loops there refl here) (next_well place (BranchFalse target) top.taken loops there tt tt here)
-  passed_well place (Jump target) kinds loops more there came here h =
-      rw (sym (same_sent code shape (sent target kinds loops ∷ []) more h)) (jump_well place target (Jump target) kinds loops there refl here, tt)
+      two_well (sent target top.taken loops) (sent (suc place) top.taken loops) more top.sent (jump_well place target (Jump Branch target) top.taken loops there refl here) (next_well place (Jump Branch target) top.taken loops there tt tt here)
+  passed_well place (Jump Always target) kinds loops more there came here h =
+      rw (sym (same_sent code shape (sent target kinds loops ∷ []) more h)) (jump_well place target (Jump Always target) kinds loops there refl here, tt)
   passed_well place (Enter predicate step) kinds loops more there came here h =
       let enter = enters predicate place step kinds loops more h in
       let pair = the_step place step predicate there in

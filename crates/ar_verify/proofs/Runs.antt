@@ -11,10 +11,11 @@ use Rattle.ar_op.specs.Machine.{Loop, Next, State, after, begin, ends, follow, g
 use Rattle.ar_op.specs.declared.op.Op.{Op}
 use Rattle.ar_verify.specs.Arrivals.{Around, Operands, Sent, deepest, height, sent, sent_to}
 use Rattle.ar_verify.specs.Arrivals as arrivals
-use Rattle.ar_verify.specs.Places.{held}
+use Rattle.ar_verify.specs.Places.{held, most_loops}
 use Rattle.ar_verify.specs.Safety.{IsSafe}
 use Rattle.ar_verify.proofs.Arriving.{all_more, arrives, of_place}
 use Rattle.ar_verify.proofs.Effects.{fit_length}
+use Rattle.ar_verify.proofs.Nested.{few_held}
 use Rattle.ar_verify.proofs.Passing.{later_is}
 use Rattle.ar_verify.proofs.Reached.{Clean, Comes, all_come}
 use Rattle.ar_verify.proofs.Reached as reached
@@ -104,6 +105,18 @@ module _ (code : Code) (shape : Shape) (sents : List Sent) (is : Clean code shap
       let below = arrival_below s.place good.op good.there in
       omega arith
 
+  as_many_loops : (loops : List Loop) (enters : List ℕ) (base : List Value) → sound.InLoops code shape sents is tables value fit_value due prices loops enters base → length loops ≡ length enters
+  as_many_loops [] [] base none = refl
+  as_many_loops (loop ∷ outer) (enter ∷ enters) base h = ap suc (as_many_loops outer enters h.0 h.2)
+  as_many_loops [] (enter ∷ enters) base h = absurd h
+  as_many_loops (loop ∷ outer) [] base h = absurd h
+
+  loops_below : (s : State) → Good s → length s.loops ≤ most_loops
+  loops_below s good =
+      let many = as_many_loops s.loops (held code.ops s.place) good.base good.loops in
+      let few = few_held code.ops (reached.pairs code shape sents is) (reached.nests code shape sents is) s.place in
+      omega arith
+
   begins : Good begin
   begins =
       let sent_is = later_is code shape code.ops 0 code.ops (sent 0 [] [] ∷ []) sents is.paired is.all in
@@ -114,6 +127,11 @@ module _ (code : Code) (shape : Shape) (sents : List Sent) (is : Clean code shap
   few_after n s (goes t) come good same = let alike : t ≡ s = cc in subst (λ s. length s.operands ≤ deepest sents) alike (operands_below t good)
   few_after n s (ends answer total) come good same = absurd cc
   few_after n s (stuck place) come good same = absurd cc
+
+  nested_after : (n : ℕ) (s : State) (next : Next) → after code value n begin ≡ next → Safe next → next ≡ goes s → length s.loops ≤ most_loops
+  nested_after n s (goes t) come good same = let alike : t ≡ s = cc in subst (λ s. length s.loops ≤ most_loops) alike (loops_below t good)
+  nested_after n s (ends answer total) come good same = absurd cc
+  nested_after n s (stuck place) come good same = absurd cc
 
   never_stuck : (next : Next) (place : ℕ) → Safe next → next ≡ stuck place → ⊥
   never_stuck (goes t) place good same = cc
@@ -130,5 +148,6 @@ module _ (code : Code) (shape : Shape) (sents : List Sent) (is : Clean code shap
         ends = end.2;
         paid = omega (arith, end.3);
         unstuck = λ n place same. never_stuck (after code value n begin) place (safe_after n begin begins) same;
+        nested = λ n s same. nested_after n s (after code value n begin) refl (safe_after n begin begins) same;
         few = λ n s same. few_after n s (after code value n begin) refl (safe_after n begin begins) same;
       }

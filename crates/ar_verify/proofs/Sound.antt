@@ -19,7 +19,10 @@ use Rattle.ar_op.specs.Code.{Code, Inside}
 use Rattle.ar_op.specs.Machine.{Loop, Next, State, answer_of, begins_loop, cost_of, decided, ends, entered, falls, found_by, goes, here, is_same, left, looked_at, next_item, nth, paid, performed, step, stepped, stuck, takes, to}
 use Rattle.ar_op.specs.Machine as machine
 use Rattle.ar_op.specs.declared.op.Op.{Op}
-use Rattle.ar_op.specs.declared.op.Op.TheVariants.{Item, IsIn, AndJump, OrJump, BranchFalse, Jump, Enter, Step, Return}
+use Rattle.ar_op.specs.declared.op.Jump.TheVariants.{And, Or, Branch, Always}
+use Rattle.ar_op.specs.declared.op.Op.TheVariants.{Push, Binary, Jump, Enter, Step, Return}
+use Rattle.ar_op.specs.declared.op.Source.TheVariants as sources
+use Rattle.ar_value.specs.declared.operator.BinaryOperator.TheVariants as binary
 use Rattle.ar_verify.specs.Arrivals.{Around, Operands, Sent, answer_kind, arrival, ended, item_of, lacks, operands, passed_on, sent, to_next}
 use Rattle.ar_verify.specs.Budget.{GoesOn, JumpsTo, most_at, most_items, most_on_top, price}
 use Rattle.ar_verify.specs.Effects.{effect, member_kind, on_two, truth}
@@ -108,7 +111,7 @@ length_both (x ∷ xs) ys = let rest = length_both xs ys in omega arith
 
 -- an operation that is let through has its operands
 has_operands : (op : Op) (had : Operands) → lacks op had ≡ false → takes op ≤ length had.kinds
-has_operands Item had h = omega arith
+has_operands (Push sources.Item) had h = omega arith
 has_operands op had h = grind (arith, nat_tests)
 
 -- ---- what is still to pay
@@ -239,52 +242,52 @@ module _ (code : Code) (shape : Shape) (sents : List Sent) (is : Clean code shap
   Steps place op there = (top base : List Value) (loops : List Loop) (cost : ℕ) → Fit top (Here_at place op there).had.kinds → InLoops loops (held code.ops place) base
       → Leads place loops cost (performed code value op (at place (top ++ base) loops (cost + 1)))
 
-  and_leads : (place target : ℕ) (there : At place (AndJump target)) → Steps place (AndJump target) there
+  and_leads : (place target : ℕ) (there : At place (Jump And target)) → Steps place (Jump And target) there
   and_leads place target there top base loops cost fit around_it =
-      let h = Here_at place (AndJump target) there in
+      let h = Here_at place (Jump And target) there in
       let on = passing.on_top h.had.kinds (λ taken. Ok (sent target h.had.kinds h.had.loops ∷ sent (suc place) taken h.had.loops ∷ [])) h.more h.sends.passed in
       let come = two_come (sent target h.had.kinds h.had.loops) (sent (suc place) on.taken h.had.loops) h.more on.sent h.come in
-      let jump = jumps_well code shape sents is place target (AndJump target) refl there in
-      let next : 1 + due (suc place) ≤ due place = prices.next place (AndJump target) there tt in
-      let far : suc (due target) ≤ due place = prices.jump place target (AndJump target) there refl in
+      let jump = jumps_well code shape sents is place target (Jump And target) refl there in
+      let next : 1 + due (suc place) ≤ due place = prices.next place (Jump And target) there tt in
+      let far : suc (due target) ≤ due place = prices.jump place target (Jump And target) there refl in
       truth_leads _ place place loops cost top base on.taken (subst (λ kinds. Fit top kinds) on.are fit)
       (λ holds others fits. if_leads holds _ _ place loops cost
-      (goes_to (sent (suc place) on.taken h.had.loops) come.1 place others base loops cost (cost + 1) fits (same_around place (suc place) loops base (sym (around_next code shape sents is place (AndJump target) there tt)) around_it) (omega arith) (omega arith))
+      (goes_to (sent (suc place) on.taken h.had.loops) come.1 place others base loops cost (cost + 1) fits (same_around place (suc place) loops base (sym (around_next code shape sents is place (Jump And target) there tt)) around_it) (omega arith) (omega arith))
       (goes_to (sent target h.had.kinds h.had.loops) come.0 place top base loops cost (cost + 1) fit (same_around place target loops base jump.2 around_it) (omega arith) (omega arith)))
 
-  or_leads : (place target : ℕ) (there : At place (OrJump target)) → Steps place (OrJump target) there
+  or_leads : (place target : ℕ) (there : At place (Jump Or target)) → Steps place (Jump Or target) there
   or_leads place target there top base loops cost fit around_it =
-      let h = Here_at place (OrJump target) there in
+      let h = Here_at place (Jump Or target) there in
       let on = passing.on_top h.had.kinds (λ taken. Ok (sent target h.had.kinds h.had.loops ∷ sent (suc place) taken h.had.loops ∷ [])) h.more h.sends.passed in
       let come = two_come (sent target h.had.kinds h.had.loops) (sent (suc place) on.taken h.had.loops) h.more on.sent h.come in
-      let jump = jumps_well code shape sents is place target (OrJump target) refl there in
-      let next : 1 + due (suc place) ≤ due place = prices.next place (OrJump target) there tt in
-      let far : suc (due target) ≤ due place = prices.jump place target (OrJump target) there refl in
+      let jump = jumps_well code shape sents is place target (Jump Or target) refl there in
+      let next : 1 + due (suc place) ≤ due place = prices.next place (Jump Or target) there tt in
+      let far : suc (due target) ≤ due place = prices.jump place target (Jump Or target) there refl in
       truth_leads _ place place loops cost top base on.taken (subst (λ kinds. Fit top kinds) on.are fit)
       (λ holds others fits. if_leads holds _ _ place loops cost
       (goes_to (sent target h.had.kinds h.had.loops) come.0 place top base loops cost (cost + 1) fit (same_around place target loops base jump.2 around_it) (omega arith) (omega arith))
-      (goes_to (sent (suc place) on.taken h.had.loops) come.1 place others base loops cost (cost + 1) fits (same_around place (suc place) loops base (sym (around_next code shape sents is place (OrJump target) there tt)) around_it) (omega arith) (omega arith)))
+      (goes_to (sent (suc place) on.taken h.had.loops) come.1 place others base loops cost (cost + 1) fits (same_around place (suc place) loops base (sym (around_next code shape sents is place (Jump Or target) there tt)) around_it) (omega arith) (omega arith)))
 
   -- to one of two places, with the same operands
-  branch_leads : (place target : ℕ) (there : At place (BranchFalse target)) → Steps place (BranchFalse target) there
+  branch_leads : (place target : ℕ) (there : At place (Jump Branch target)) → Steps place (Jump Branch target) there
   branch_leads place target there top base loops cost fit around_it =
-      let h = Here_at place (BranchFalse target) there in
+      let h = Here_at place (Jump Branch target) there in
       let on = passing.on_top h.had.kinds (λ taken. Ok (sent target taken h.had.loops ∷ sent (suc place) taken h.had.loops ∷ [])) h.more h.sends.passed in
       let come = two_come (sent target on.taken h.had.loops) (sent (suc place) on.taken h.had.loops) h.more on.sent h.come in
-      let jump = jumps_well code shape sents is place target (BranchFalse target) refl there in
-      let next : 1 + due (suc place) ≤ due place = prices.next place (BranchFalse target) there tt in
-      let far : suc (due target) ≤ due place = prices.jump place target (BranchFalse target) there refl in
+      let jump = jumps_well code shape sents is place target (Jump Branch target) refl there in
+      let next : 1 + due (suc place) ≤ due place = prices.next place (Jump Branch target) there tt in
+      let far : suc (due target) ≤ due place = prices.jump place target (Jump Branch target) there refl in
       truth_leads _ place place loops cost top base on.taken (subst (λ kinds. Fit top kinds) on.are fit)
       (λ holds others fits. either_place holds (suc place) target place loops cost (others ++ base)
-      (goes_to (sent (suc place) on.taken h.had.loops) come.1 place others base loops cost (cost + 1) fits (same_around place (suc place) loops base (sym (around_next code shape sents is place (BranchFalse target) there tt)) around_it) (omega arith) (omega arith))
+      (goes_to (sent (suc place) on.taken h.had.loops) come.1 place others base loops cost (cost + 1) fits (same_around place (suc place) loops base (sym (around_next code shape sents is place (Jump Branch target) there tt)) around_it) (omega arith) (omega arith))
       (goes_to (sent target on.taken h.had.loops) come.0 place others base loops cost (cost + 1) fits (same_around place target loops base jump.2 around_it) (omega arith) (omega arith)))
 
-  jump_leads : (place target : ℕ) (there : At place (Jump target)) → Steps place (Jump target) there
+  jump_leads : (place target : ℕ) (there : At place (Jump Always target)) → Steps place (Jump Always target) there
   jump_leads place target there top base loops cost fit around_it =
-      let h = Here_at place (Jump target) there in
+      let h = Here_at place (Jump Always target) there in
       let come = one_comes (sent target h.had.kinds h.had.loops) h.more h.sends.passed h.come in
-      let jump = jumps_well code shape sents is place target (Jump target) refl there in
-      let far : suc (due target) ≤ due place = prices.jump place target (Jump target) there refl in
+      let jump = jumps_well code shape sents is place target (Jump Always target) refl there in
+      let far : suc (due target) ≤ due place = prices.jump place target (Jump Always target) there refl in
       goes_to (sent target h.had.kinds h.had.loops) come place top base loops cost (cost + 1) fit (same_around place target loops base jump.2 around_it) (omega arith) (omega arith)
 
   -- ---- operations that go on to the next place
@@ -293,10 +296,10 @@ module _ (code : Code) (shape : Shape) (sents : List Sent) (is : Clean code shap
   where_some (Some x) P p = p
   where_some None P p = tt
 
-  cost_of_member : (top base : List Value) (kinds : List Kind) → Fit top kinds → IfSome (on_two member_kind kinds) (λ given. cost_of IsIn (top ++ base) ≤ price IsIn (most_on_top kinds))
+  cost_of_member : (top base : List Value) (kinds : List Kind) → Fit top kinds → IfSome (on_two member_kind kinds) (λ given. cost_of (Binary binary.IsIn) (top ++ base) ≤ price (Binary binary.IsIn) (most_on_top kinds))
   cost_of_member (v ∷ top) base (shaped (shapes.list shape most) ∷ left ∷ kinds) fit =
-      where_some (option_map (λ given. given ∷ kinds) (member_kind left (shaped (shapes.list shape most)))) (cost_of IsIn (v ∷ (top ++ base)) ≤ suc most)
-      (on_list (λ v. cost_of IsIn (v ∷ (top ++ base)) ≤ suc most) shape most (λ items short all. grind (arith, nat_tests)) v fit.0)
+      where_some (option_map (λ given. given ∷ kinds) (member_kind left (shaped (shapes.list shape most)))) (cost_of (Binary binary.IsIn) (v ∷ (top ++ base)) ≤ suc most)
+      (on_list (λ v. cost_of (Binary binary.IsIn) (v ∷ (top ++ base)) ≤ suc most) shape most (λ items short all. grind (arith, nat_tests)) v fit.0)
   cost_of_member [] base (shaped (shapes.list shape most) ∷ left ∷ kinds) fit = absurd fit
   cost_of_member top base (kind ∷ left ∷ kinds) fit = tt
   cost_of_member top base (kind ∷ []) fit = tt
@@ -304,7 +307,7 @@ module _ (code : Code) (shape : Shape) (sents : List Sent) (is : Clean code shap
 
   -- an operation that goes on costs at most what is said of it
   cost_is_paid : (of : Option Shape) (op : Op) (top base : List Value) (kinds : List Kind) → Fit top kinds → IfSome (effect code shape of op kinds) (λ given. cost_of op (top ++ base) ≤ price op (most_on_top kinds))
-  cost_is_paid of IsIn top base kinds fit = cost_of_member top base kinds fit
+  cost_is_paid of (Binary binary.IsIn) top base kinds fit = cost_of_member top base kinds fit
   cost_is_paid of op top base kinds fit = where_some (effect code shape of op kinds) (1 ≤ 1) (omega arith)
 
   -- where an operation gives operands, or meets a fault
@@ -318,8 +321,8 @@ module _ (code : Code) (shape : Shape) (sents : List Sent) (is : Clean code shap
   falls_on place op there on plain kinds loops_before come base operands loops cost more (Err ill_kinded) leaves around_it some enough = absurd leaves
 
   some_cost : (op : Op) (operands : List Value) → 1 ≤ cost_of op operands
-  some_cost IsIn (values.list items ∷ operands) = omega arith
-  some_cost IsIn operands = omega arith
+  some_cost (Binary binary.IsIn) (values.list items ∷ operands) = omega arith
+  some_cost (Binary binary.IsIn) operands = omega arith
   some_cost op operands = omega arith
 
   -- what is due at a place, by what arrives there
@@ -538,10 +541,10 @@ module _ (code : Code) (shape : Shape) (sents : List Sent) (is : Clean code shap
       → Leads place loops cost (performed code value op (paid op (at place (top ++ base) loops cost)))
 
   performs : (place : ℕ) (op : Op) (there : At place op) → StepsBy place op there
-  performs place (AndJump target) there = and_leads place target there
-  performs place (OrJump target) there = or_leads place target there
-  performs place (BranchFalse target) there = branch_leads place target there
-  performs place (Jump target) there = jump_leads place target there
+  performs place (Jump And target) there = and_leads place target there
+  performs place (Jump Or target) there = or_leads place target there
+  performs place (Jump Branch target) there = branch_leads place target there
+  performs place (Jump Always target) there = jump_leads place target there
   performs place (Enter predicate step) there = enter_leads place step predicate there
   performs place (Step predicate enter) there = step_leads place enter predicate there
   performs place Return there = return_leads place there

@@ -8,15 +8,15 @@ use Rattle.ar_value.specs.Shape.{Shape}
 use Rattle.ar_value.specs.declared.operator.Predicate.{Predicate}
 use Rattle.ar_op.specs.Code.{Code}
 use Rattle.ar_op.specs.Machine.{nth}
+use Rattle.ar_op.specs.declared.op.Jump.{Jump}
+use Rattle.ar_op.specs.declared.op.Jump.TheVariants as jumps
 use Rattle.ar_op.specs.declared.op.Op.{Op}
 use Rattle.ar_op.specs.declared.op.Op.TheVariants as ops
-use Rattle.ar_verify.specs.Arrivals.{Around, Operands, Sent, answer_kind, item_of, sent, where_shallow}
+use Rattle.ar_verify.specs.Arrivals.{Around, Operands, Sent, answer_kind, item_of, lacks, sent, where_shallow}
+use Rattle.ar_verify.specs.Effects.{effect}
 use Rattle.ar_verify.specs.Places.{ends_loop, forward, names_well, unless}
-use Rattle.ar_verify.specs.Private.Action.{action, after_effect}
-use Rattle.ar_verify.specs.Private.Sending.{around, ending, going_on, lacks_by, list_taken, passed_by, sends_by, truth_taken}
+use Rattle.ar_verify.specs.Private.Sending.{around, ending, going_on, jumping, kept_or_taken, list_taken, passed_by, sends_by, truth_taken}
 use Rattle.ar_verify.specs.Private.Table.{StaysWithin}
-use Rattle.ar_verify.specs.declared.action.Action.{Action}
-use Rattle.ar_verify.specs.declared.action.Action.TheVariants as actions
 use Rattle.ar_verify.specs.declared.error.Reason.{Reason}
 use Rattle.ar_verify.specs.declared.error.Reason.TheVariants.{MissingOperand, UnpairedLoop}
 use Rattle.ar_verify.proofs.Nesting.{is_ahead, none_of_both}
@@ -49,30 +49,37 @@ module _ (count : ℕ) where
   shallow_same sents more false reason is = absurd cc
 
   module _ (code : Code) (result : Shape) (next : ℕ) (inside : next < count) where
-    passed_within : (action : Action) (kinds : List Kind) (loops : List Around) (more : List Sent) → StaysWithin count action → passed_by code result next action kinds loops ≡ Ok more → Within more
-    passed_within (actions.Effect effect) kinds loops more within is = going_within next loops (after_effect code result (item_of loops) effect kinds) more inside is
-    passed_within (actions.KeepOrTake target) kinds loops more within is =
+    keeps_or_takes : (target : ℕ) (kinds : List Kind) (loops : List Around) (more : List Sent) → target < count → kept_or_taken next target kinds loops ≡ Ok more → Within more
+    keeps_or_takes target kinds loops more within is =
         let taken = bound (truth_taken kinds) (λ taken. Ok (sent target kinds loops ∷ sent next taken loops ∷ [])) more is in
         ok_within (sent target kinds loops ∷ sent next taken.0 loops ∷ []) more (within, (inside, tt)) taken.2
-    passed_within (actions.Branch target) kinds loops more within is =
+
+    jump_within : (jump : Jump) (target : ℕ) (kinds : List Kind) (loops : List Around) (more : List Sent) → target < count → jumping jump next target kinds loops ≡ Ok more → Within more
+    jump_within jumps.And target kinds loops more within is = keeps_or_takes target kinds loops more within is
+    jump_within jumps.Or target kinds loops more within is = keeps_or_takes target kinds loops more within is
+    jump_within jumps.Branch target kinds loops more within is =
         let taken = bound (truth_taken kinds) (λ taken. Ok (sent target taken loops ∷ sent next taken loops ∷ [])) more is in
         ok_within (sent target taken.0 loops ∷ sent next taken.0 loops ∷ []) more (within, (inside, tt)) taken.2
-    passed_within (actions.Jump target) kinds loops more within is = ok_within (sent target kinds loops ∷ []) more (within, tt) is
-    passed_within (actions.Enter predicate step) kinds loops more within is =
+    jump_within jumps.Always target kinds loops more within is = ok_within (sent target kinds loops ∷ []) more (within, tt) is
+
+    passed_within : (op : Op) (kinds : List Kind) (loops : List Around) (more : List Sent) → StaysWithin count op → passed_by code result next op kinds loops ≡ Ok more → Within more
+    passed_within (ops.Jump jump target) kinds loops more within is = jump_within jump target kinds loops more within is
+    passed_within (ops.Enter predicate step) kinds loops more within is =
         let taken = bound (list_taken kinds) (λ taken. Ok (sent next [] (around taken ∷ loops) ∷ sent (step + 1) (answer_kind predicate taken.0.0 taken.0.1 ∷ taken.1) loops ∷ [])) more is in
         ok_within (sent next [] (around taken.0 ∷ loops) ∷ sent (step + 1) (answer_kind predicate taken.0.0.0 taken.0.0.1 ∷ taken.0.1) loops ∷ []) more (inside, (within, tt)) taken.2
-    passed_within (actions.Step predicate) kinds loops more within is =
+    passed_within (ops.Step predicate enter) kinds loops more within is =
         let taken = bound (truth_taken kinds) (λ taken. ending predicate next taken loops) more is in
         ending_within predicate next taken.0 loops more inside taken.2
-    passed_within actions.Return kinds loops more within is =
+    passed_within ops.Return kinds loops more within is =
         let taken = bound (truth_taken kinds) (λ taken. Ok []) more is in
         ok_within [] more tt taken.2
+    passed_within op kinds loops more within is = going_within next loops (effect code result (item_of loops) op kinds) more inside is
 
-    pub sends_within : (action : Action) (had : Operands) (more : List Sent) → StaysWithin count action → sends_by code result next action had ≡ Ok more → Within more
-    sends_within action had more within is =
-        let enough = unlike (lacks_by action had) MissingOperand (passed_by code result next action had.kinds had.loops >>= where_shallow) more is in
-        let passed = bound (passed_by code result next action had.kinds had.loops) where_shallow more enough.1 in
-        same_within passed.0 more (passed_within action had.kinds had.loops passed.0 within passed.1) (shallow_same passed.0 more _ _ passed.2)
+    pub sends_within : (op : Op) (had : Operands) (more : List Sent) → StaysWithin count op → sends_by code result next op had ≡ Ok more → Within more
+    sends_within op had more within is =
+        let enough = unlike (lacks op had) MissingOperand (passed_by code result next op had.kinds had.loops >>= where_shallow) more is in
+        let passed = bound (passed_by code result next op had.kinds had.loops) where_shallow more enough.1 in
+        same_within passed.0 more (passed_within op had.kinds had.loops passed.0 within passed.1) (shallow_same passed.0 more _ _ passed.2)
 
 -- ---- operations that name places well
 
@@ -80,11 +87,8 @@ module _ (all : List Op) (place : ℕ) where
   ahead : (target : ℕ) → forward all place target ≡ None → target < suc (length all)
   ahead target well = let inside = (is_ahead all place target well).1 in omega arith
 
-  pub stays_within : (op : Op) → names_well all place op ≡ None → StaysWithin (suc (length all)) (action op)
-  stays_within (ops.AndJump target) well = ahead target well
-  stays_within (ops.OrJump target) well = ahead target well
-  stays_within (ops.BranchFalse target) well = ahead target well
-  stays_within (ops.Jump target) well = ahead target well
+  pub stays_within : (op : Op) → names_well all place op ≡ None → StaysWithin (suc (length all)) op
+  stays_within (ops.Jump jump target) well = ahead target well
   stays_within (ops.Enter predicate step) well =
       let each = none_of_both (forward all place step) (unless (ends_loop predicate place (nth all step)) UnpairedLoop) well in
       let inside = (is_ahead all place step each.0).1 in omega arith

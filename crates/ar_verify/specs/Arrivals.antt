@@ -9,8 +9,11 @@ use Rattle.ar_value.specs.declared.operator.Predicate.{Predicate}
 use Rattle.ar_value.specs.declared.operator.Predicate.TheVariants.{All, Any, Count, Filter}
 use Rattle.ar_op.specs.Code.{Code}
 use Rattle.ar_op.specs.Machine.{takes}
+use Rattle.ar_op.specs.declared.op.Jump.{Jump}
+use Rattle.ar_op.specs.declared.op.Jump.TheVariants as jumps
 use Rattle.ar_op.specs.declared.op.Op.{Op}
-use Rattle.ar_op.specs.declared.op.Op.TheVariants.{Item, AndJump, OrJump, BranchFalse, Jump, Enter, Step, Return}
+use Rattle.ar_op.specs.declared.op.Op.TheVariants as ops
+use Rattle.ar_op.specs.declared.op.Source.TheVariants as sources
 use Rattle.ar_verify.specs.Effects.{effect, truth}
 use Rattle.ar_verify.specs.declared.error.Cause.{Cause}
 use Rattle.ar_verify.specs.declared.error.Cause.TheVariants.{Fault}
@@ -82,7 +85,7 @@ item_of (loop ∷ outer) = Some loop.item
 
 -- whether an operand is missing above the floor, or the item
 abbrev pub lacks : Op → Operands → Bool
-lacks Item had = is_none (item_of had.loops)
+lacks (ops.Push sources.Item) had = is_none (item_of had.loops)
 lacks op had = nat_lt (length had.kinds) (takes op)
 
 -- where a truth value is on top
@@ -112,14 +115,18 @@ abbrev pub ended : Predicate → (place : ℕ) → List Kind → List Around →
 ended predicate place [] (loop ∷ outer) = Ok (sent (suc place) (answer_kind predicate loop.item loop.most ∷ loop.below) outer ∷ [])
 ended predicate place kinds loops = Err BadMerge
 
+-- to the place of a jump or on, with the truth value on top where it stays
+abbrev pub jumped : Jump → (place target : ℕ) → List Kind → List Around → Result (List Sent) Reason
+jumped jumps.And place target kinds loops = on_truth kinds (λ taken. Ok (sent target kinds loops ∷ sent (suc place) taken loops ∷ []))
+jumped jumps.Or place target kinds loops = on_truth kinds (λ taken. Ok (sent target kinds loops ∷ sent (suc place) taken loops ∷ []))
+jumped jumps.Branch place target kinds loops = on_truth kinds (λ taken. Ok (sent target taken loops ∷ sent (suc place) taken loops ∷ []))
+jumped jumps.Always place target kinds loops = Ok (sent target kinds loops ∷ [])
+
 abbrev pub passed_on : Code → Shape → (place : ℕ) → Op → List Kind → List Around → Result (List Sent) Reason
-passed_on code result place (AndJump target) kinds loops = on_truth kinds (λ taken. Ok (sent target kinds loops ∷ sent (suc place) taken loops ∷ []))
-passed_on code result place (OrJump target) kinds loops = on_truth kinds (λ taken. Ok (sent target kinds loops ∷ sent (suc place) taken loops ∷ []))
-passed_on code result place (BranchFalse target) kinds loops = on_truth kinds (λ taken. Ok (sent target taken loops ∷ sent (suc place) taken loops ∷ []))
-passed_on code result place (Jump target) kinds loops = Ok (sent target kinds loops ∷ [])
-passed_on code result place (Enter predicate step) kinds loops = entered predicate place step kinds loops
-passed_on code result place (Step predicate enter) kinds loops = on_truth kinds (λ taken. ended predicate place taken loops)
-passed_on code result place Return kinds loops = on_truth kinds (λ taken. Ok [])
+passed_on code result place (ops.Jump jump target) kinds loops = jumped jump place target kinds loops
+passed_on code result place (ops.Enter predicate step) kinds loops = entered predicate place step kinds loops
+passed_on code result place (ops.Step predicate enter) kinds loops = on_truth kinds (λ taken. ended predicate place taken loops)
+passed_on code result place ops.Return kinds loops = on_truth kinds (λ taken. Ok [])
 passed_on code result place op kinds loops = to_next place loops (effect code result (item_of loops) op kinds)
 
 abbrev pub most_operands : ℕ

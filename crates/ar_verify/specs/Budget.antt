@@ -3,10 +3,12 @@
 use Rattle.std.specs.Prelude.{◌≡◌, ◌≤◌, ℕ, suc, ◌+◌, ◌*◌, List, ◌∷◌, Some, Result, Ok, Err}
 use Rattle.ar_value.specs.Kind.{Kind, shaped}
 use Rattle.ar_value.specs.Shape.{list}
+use Rattle.ar_value.specs.declared.operator.BinaryOperator.TheVariants.{IsIn}
 use Rattle.ar_value.specs.declared.operator.Predicate.{Predicate}
 use Rattle.ar_op.specs.Machine.{nth}
+use Rattle.ar_op.specs.declared.op.Jump.TheVariants.{Always}
 use Rattle.ar_op.specs.declared.op.Op.{Op}
-use Rattle.ar_op.specs.declared.op.Op.TheVariants.{IsIn, AndJump, OrJump, BranchFalse, Jump, Enter, Step, Return}
+use Rattle.ar_op.specs.declared.op.Op.TheVariants.{Binary, Jump, Enter, Step, Return}
 use Rattle.ar_verify.specs.Arrivals.{Operands, Sent, arrival}
 use Rattle.ar_verify.specs.declared.error.Reason.{Reason}
 
@@ -23,22 +25,19 @@ most_items (Err reason) = 0
 
 -- IsIn costs one more for each item that its list may have
 abbrev pub price : Op → (most : ℕ) → ℕ
-price IsIn most = suc most
+price (Binary IsIn) most = suc most
 price op most = 1
 
 -- ---- where a run goes on
 
 -- by a jump
 abbrev pub JumpsTo : Op → ℕ → Type 0
-JumpsTo (AndJump place) target = place ≡ target
-JumpsTo (OrJump place) target = place ≡ target
-JumpsTo (BranchFalse place) target = place ≡ target
-JumpsTo (Jump place) target = place ≡ target
+JumpsTo (Jump jump place) target = place ≡ target
 JumpsTo op target = ⊥
 
 -- at the next place
 abbrev pub GoesOn : Op → Type 0
-GoesOn (Jump place) = ⊥
+GoesOn (Jump Always place) = ⊥
 GoesOn (Enter predicate step) = ⊥
 GoesOn (Step predicate enter) = ⊥
 GoesOn Return = ⊥

@@ -5,16 +5,24 @@ use Rattle.ar_value.specs.Kind.{Kind, nil, shaped, merge, plain}
 use Rattle.ar_value.specs.Shape.{Shape, bool, whole, decimal, text, list, object, optional, shape_named}
 use Rattle.ar_value.specs.declared.operator.Arithmetic.{Arithmetic}
 use Rattle.ar_value.specs.declared.operator.Arithmetic.TheVariants.{Divide}
+use Rattle.ar_value.specs.declared.operator.BinaryOperator.{BinaryOperator}
+use Rattle.ar_value.specs.declared.operator.BinaryOperator.TheVariants as binary
+use Rattle.ar_value.specs.declared.operator.Compared.{Compared}
+use Rattle.ar_value.specs.declared.operator.Compared.TheVariants.{Wholes as WholesOnly, Decimals as DecimalsOnly, Mixed}
 use Rattle.ar_value.specs.declared.operator.Family.{Family}
 use Rattle.ar_value.specs.declared.operator.Family.TheVariants as families
+use Rattle.ar_value.specs.declared.operator.Numbers.{Numbers}
+use Rattle.ar_value.specs.declared.operator.Numbers.TheVariants as numbers
 use Rattle.ar_value.specs.declared.operator.Scalar.{Scalar}
 use Rattle.ar_value.specs.declared.operator.Scalar.TheVariants as scalars
+use Rattle.ar_value.specs.declared.operator.UnaryOperator.{UnaryOperator}
+use Rattle.ar_value.specs.declared.operator.UnaryOperator.TheVariants as unary
 use Rattle.ar_op.specs.Code.{Code}
 use Rattle.ar_op.specs.Machine.{nth}
-use Rattle.ar_op.specs.declared.op.Compared.{Compared}
-use Rattle.ar_op.specs.declared.op.Compared.TheVariants.{Wholes as WholesOnly, Decimals as DecimalsOnly, Mixed}
 use Rattle.ar_op.specs.declared.op.Op.{Op}
-use Rattle.ar_op.specs.declared.op.Op.TheVariants.{PushBool, PushWhole, PushDecimal, PushText, PushNil, MakeList, LoadResult, Item, Field, Index, Len, Need, IsNil, Default, ToDecimal, IsIn, Not, Wholes, NegW, Decimals, NegD, Compare, Equal}
+use Rattle.ar_op.specs.declared.op.Op.TheVariants.{Push, MakeList, Field, Unary, Binary}
+use Rattle.ar_op.specs.declared.op.Source.{Source}
+use Rattle.ar_op.specs.declared.op.Source.TheVariants as sources
 
 -- ---- scalars
 
@@ -112,6 +120,10 @@ decimals_kind left right = where_taken (is_scalar scalars.Decimal left && is_sca
 abbrev pub same_kind : Scalar → Kind → Option Kind
 same_kind scalar kind = where_taken (is_scalar scalar kind) kind
 
+abbrev pub negative_kind : Numbers → Kind → Option Kind
+negative_kind numbers.Wholes = same_kind scalars.Whole
+negative_kind numbers.Decimals = same_kind scalars.Decimal
+
 abbrev pub is_number : Kind → Bool
 is_number (shaped whole) = true
 is_number (shaped decimal) = true
@@ -127,6 +139,25 @@ order_kind numbers left right = where_taken (is_compared numbers left && is_comp
 
 abbrev pub equal_kind : Family → (left right : Kind) → Option Kind
 equal_kind family left right = where_taken (is_family family (family_in left) && is_family family (family_in right)) truth
+
+-- ---- operators by their families
+
+abbrev pub unary_kind : UnaryOperator → Kind → Option Kind
+unary_kind unary.Len = length_kind
+unary_kind unary.Need = needed_kind
+unary_kind unary.IsNil = λ kind. Some truth
+unary_kind unary.ToDecimal = decimal_kind
+unary_kind unary.Not = opposite_kind
+unary_kind (unary.Negate of) = negative_kind of
+
+abbrev pub binary_kind : BinaryOperator → (left right : Kind) → Option Kind
+binary_kind binary.Index = item_kind
+binary_kind binary.Default = default_kind
+binary_kind binary.IsIn = member_kind
+binary_kind (binary.Wholes operator) = wholes_kind operator
+binary_kind (binary.Decimals operator) = decimals_kind
+binary_kind (binary.Compare of way) = order_kind of
+binary_kind (binary.Equal family) = equal_kind family
 
 -- ---- operands from the top; the right one is on top of the left one
 
@@ -144,29 +175,25 @@ list_made scalar max zero kinds = Some (shaped (list (scalar_shape scalar) max) 
 list_made scalar max (suc n) (kind ∷ kinds) = if is_scalar scalar kind then list_made scalar max n kinds else None
 list_made scalar max (suc n) [] = None
 
--- what an operation leaves, where `result` has a shape, and so has the innermost item of a loop
+-- what is pushed, where `result` has a shape, and so has the innermost item of a loop
+abbrev pub pushed_kind : Shape → Option Shape → Source → Option Kind
+pushed_kind result here (sources.Bool holds) = Some truth
+pushed_kind result here (sources.Whole value) = Some (shaped whole)
+pushed_kind result here (sources.Decimal millionths) = Some (shaped decimal)
+pushed_kind result here (sources.Text number) = Some (shaped text)
+pushed_kind result here sources.Nil = Some nil
+pushed_kind result here sources.Result = Some (shaped result)
+pushed_kind result here sources.Item = option_map shaped here
+
+-- the field of a record, by the number of its name
+abbrev pub field_by : Code → ℕ → List Kind → Option (List Kind)
+field_by code number kinds = option_and_then (λ name. on_one (field_kind name) kinds) (nth code.names number)
+
+-- what an operation leaves
 abbrev pub effect : Code → Shape → Option Shape → Op → List Kind → Option (List Kind)
-effect code result here (PushBool holds) kinds = Some (truth ∷ kinds)
-effect code result here (PushWhole value) kinds = Some (shaped whole ∷ kinds)
-effect code result here (PushDecimal millionths) kinds = Some (shaped decimal ∷ kinds)
-effect code result here (PushText number) kinds = Some (shaped text ∷ kinds)
-effect code result here PushNil kinds = Some (nil ∷ kinds)
+effect code result here (Push source) kinds = option_map (λ kind. kind ∷ kinds) (pushed_kind result here source)
 effect code result here (MakeList scalar count) kinds = list_made scalar count count kinds
-effect code result here LoadResult kinds = Some (shaped result ∷ kinds)
-effect code result here Item kinds = option_map (λ shape. shaped shape ∷ kinds) here
-effect code result here (Field number) kinds = option_and_then (λ name. on_one (field_kind name) kinds) (nth code.names number)
-effect code result here Index kinds = on_two item_kind kinds
-effect code result here Len kinds = on_one length_kind kinds
-effect code result here Need kinds = on_one needed_kind kinds
-effect code result here IsNil kinds = on_one (λ kind. Some truth) kinds
-effect code result here Default kinds = on_two default_kind kinds
-effect code result here ToDecimal kinds = on_one decimal_kind kinds
-effect code result here IsIn kinds = on_two member_kind kinds
-effect code result here Not kinds = on_one opposite_kind kinds
-effect code result here (Wholes operator) kinds = on_two (wholes_kind operator) kinds
-effect code result here NegW kinds = on_one (same_kind scalars.Whole) kinds
-effect code result here (Decimals operator) kinds = on_two decimals_kind kinds
-effect code result here NegD kinds = on_one (same_kind scalars.Decimal) kinds
-effect code result here (Compare numbers order) kinds = on_two (order_kind numbers) kinds
-effect code result here (Equal family) kinds = on_two (equal_kind family) kinds
+effect code result here (Field number) kinds = field_by code number kinds
+effect code result here (Unary operator) kinds = on_one (unary_kind operator) kinds
+effect code result here (Binary operator) kinds = on_two (binary_kind operator) kinds
 effect code result here op kinds = None

@@ -5,7 +5,7 @@ use Rattle.ar_value.specs.Answer.{◌>>=◌}
 use Rattle.ar_value.specs.declared.operator.Predicate.{Predicate}
 use Rattle.ar_op.specs.Machine.{begins_loop, is_same, nth}
 use Rattle.ar_op.specs.declared.op.Op.{Op}
-use Rattle.ar_op.specs.declared.op.Op.TheVariants.{AndJump, OrJump, BranchFalse, Jump, Enter, Step, Return}
+use Rattle.ar_op.specs.declared.op.Op.TheVariants.{Jump, Enter, Step, Return}
 use Rattle.ar_verify.specs.declared.error.Cause.{Cause}
 use Rattle.ar_verify.specs.declared.error.Cause.TheVariants.{Fault}
 use Rattle.ar_verify.specs.declared.error.Reason.{Reason}
@@ -55,10 +55,7 @@ module _ (ops : List Op) where
   forward place named = or_else (inside named) (unless (nat_lt place named) Backward)
 
   abbrev pub names_well : Pass
-  names_well place (AndJump target) = forward place target
-  names_well place (OrJump target) = forward place target
-  names_well place (BranchFalse target) = forward place target
-  names_well place (Jump target) = forward place target
+  names_well place (Jump jump target) = forward place target
   names_well place (Enter predicate step) = or_else (forward place step) (unless (ends_loop predicate place (nth ops step)) UnpairedLoop)
   names_well place (Step predicate enter) = or_else (inside enter) (unless (nat_lt enter place && begins_loop predicate place (nth ops enter)) UnpairedLoop)
   names_well place op = None
@@ -97,10 +94,7 @@ module _ (ops : List Op) where
   stays place target = unless (same_loops (held place) (held target)) CrossesLoop
 
   abbrev pub nests_well : Pass
-  nests_well place (AndJump target) = stays place target
-  nests_well place (OrJump target) = stays place target
-  nests_well place (BranchFalse target) = stays place target
-  nests_well place (Jump target) = stays place target
+  nests_well place (Jump jump target) = stays place target
   nests_well place (Enter predicate step) = or_else (unless (nat_le (length (held (suc place))) most_loops) LoopsTooDeep) (unless (in_innermost (held place) step) CrossesLoop)
   nests_well place Return = unless (same_loops (held place) []) CrossesLoop
   nests_well place op = None

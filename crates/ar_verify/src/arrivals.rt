@@ -9,7 +9,6 @@ ghost use Rattle.ar_verify.specs.Arrivals.{operands};
 ghost use Rattle.ar_verify.specs.Budget.{most_on_top};
 ghost use Rattle.ar_verify.specs.Memory.{is_memory};
 ghost use Rattle.ar_verify.specs.Places.{all_pass, names_well};
-ghost use Rattle.ar_verify.specs.Private.Action.{action};
 ghost use Rattle.ar_verify.specs.Private.Failures.{Meets};
 ghost use Rattle.ar_verify.specs.Private.Held.{arrival_view, operands_view};
 ghost use Rattle.ar_verify.specs.Private.Sending.{sends_view, sent_view};
@@ -17,7 +16,6 @@ ghost use Rattle.ar_verify.specs.Private.Stacks.{from_top};
 ghost use Rattle.ar_verify.specs.Private.Table.{ComesTo, StaysWithin, entry, looked_at, one_more, pass_view, summary_view, summed_up, table_view, with_all, with_one, without};
 ghost use Rattle.ar_verify.specs.declared.error.Reason.TheVariants.{Unreachable};
 
-use crate::action::action_of;
 use crate::error::{Cause, Reason};
 use crate::failure::Failure;
 use crate::kind::{Kind, list_in};
@@ -159,13 +157,13 @@ impl<'s> Pass<'s> {
         op: Op,
     ) -> Result<(), Failure>
         requires inside { place + 1 < length self.old.arrived.items }
-        requires targets { StaysWithin (length self.old.arrived.items) (action op) }
+        requires targets { StaysWithin (length self.old.arrived.items) op }
         ensures { Meets (λ _. pass_view self.new) result
             (looked_at code.now (shape_view measured.now) place op (pass_view self.old)) }
     {
         let had = take(&mut self.arrived, place)?;
         self.found.note_items(most_on_top(&had.kinds))?;
-        let sends = send_on(alloc, code, measured, place + 1, action_of(op), had)?;
+        let sends = send_on(alloc, code, measured, place + 1, op, had)?;
         self.found.depth = self.found.depth.max(sends.deepest());
         send_all(alloc, &mut self.arrived, sends)?;
         Ok(())

@@ -5,7 +5,8 @@ ghost use Rattle.ar_verify.specs.Private.Costs.{cost_by, cost_by_jump, cost_by_l
 ghost use Rattle.ar_verify.specs.Verdict.{greatest_budget};
 
 use ar_op::code::Code;
-use ar_op::op::Op;
+use ar_op::op::{Jump, Op};
+use ar_value::operator::BinaryOperator;
 use std::alloc::{AllocError, Global};
 
 /// The greatest budget that code is accepted with.
@@ -28,7 +29,7 @@ fn cost_by_next(op: Op, most: u64, next: u64) -> u64
     ensures { result ≡ cost_by_next op most next }
 {
     let price = match op {
-        Op::IsIn => most.saturating_add(1),
+        Op::Binary(BinaryOperator::IsIn) => most.saturating_add(1),
         _ => 1,
     };
     price.saturating_add(next).min(TOO_DEAR)
@@ -57,12 +58,12 @@ fn cost_by(costs: &[u64], place: usize, most: u64, op: Op) -> u64
     ensures { result ≡ cost_by costs.now place most op }
 {
     match op {
-        Op::AndJump(target) | Op::OrJump(target) | Op::BranchFalse(target) => {
+        Op::Jump(Jump::Always, target) => cost_by_jump(costs[target as usize]),
+        Op::Jump(_, target) => {
             let goes_on = cost_by_next(op, most, costs[place + 1]);
             let jumps = cost_by_jump(costs[target as usize]);
             goes_on.max(jumps)
         }
-        Op::Jump(target) => cost_by_jump(costs[target as usize]),
         Op::Enter(_, step) => cost_by_loop(most, costs[place + 1], costs[step as usize + 1]),
         Op::Step(..) | Op::Return => 1,
         _ => cost_by_next(op, most, costs[place + 1]),

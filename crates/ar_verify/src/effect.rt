@@ -4,17 +4,16 @@
 ghost use Rattle.std.specs.Prelude.{◌≡◌, IfOk, map, option_map, string_bytes};
 ghost use Rattle.ar_value.specs.View.{shape_view};
 ghost use Rattle.ar_op.specs.Machine.{nth};
-ghost use Rattle.ar_verify.specs.Effects.{list_made, on_one, on_two, scalar_shape};
-ghost use Rattle.ar_verify.specs.Private.Action.{after_effect, field_by, one, pushed, two};
+ghost use Rattle.ar_verify.specs.Effects.{binary_kind, effect, field_by, list_made, on_one, on_two, pushed_kind, scalar_shape, unary_kind};
 ghost use Rattle.ar_verify.specs.Private.Kinds.{any_view, kind_view};
 ghost use Rattle.ar_verify.specs.Private.Stacks.{Leaves, TakesScalar, from_top};
 
-use crate::action::{Binary, Effect, Source, Unary};
 use crate::kind::{AnyShape, Kind, is_scalar};
 use crate::operators::{apply_binary, apply_unary, field_of};
 use crate::stack::pop;
 use ar_op::code::Code;
-use ar_value::operator::Scalar;
+use ar_op::op::{Op, Source};
+use ar_value::operator::{BinaryOperator, Scalar, UnaryOperator};
 use ar_value::shape::Shape;
 use std::alloc::{AllocError, Global};
 
@@ -26,13 +25,13 @@ fn pushed<'s>(
     source: Source,
 ) -> Result<Option<Kind<'s>>, AllocError>
     ensures { IfOk result (λ given. option_map kind_view given
-        ≡ pushed (shape_view measured.now) (option_map (λ shape. any_view shape.now) here.entry) source) }
+        ≡ pushed_kind (shape_view measured.now) (option_map (λ shape. any_view shape.now) here.entry) source) }
 {
     Ok(Some(match source {
-        Source::Bool => Kind::made(alloc, Shape::Bool)?,
-        Source::Whole => Kind::made(alloc, Shape::Whole)?,
-        Source::Decimal => Kind::made(alloc, Shape::Decimal)?,
-        Source::Text => Kind::made(alloc, Shape::Text)?,
+        Source::Bool(_) => Kind::made(alloc, Shape::Bool)?,
+        Source::Whole(_) => Kind::made(alloc, Shape::Whole)?,
+        Source::Decimal(_) => Kind::made(alloc, Shape::Decimal)?,
+        Source::Text(_) => Kind::made(alloc, Shape::Text)?,
         Source::Nil => Kind::Nil,
         Source::Result => Kind::Shape(AnyShape::Declared(measured)),
         Source::Item => match here {
@@ -45,10 +44,11 @@ fn pushed<'s>(
 /// Takes an operand.
 fn unary<'s>(
     alloc: Global,
-    operator: Unary,
+    operator: UnaryOperator,
     kinds: &mut Vec<Kind<'s>>,
 ) -> Result<Option<Kind<'s>>, AllocError>
-    ensures { IfOk result (λ given. Leaves given kinds.new.items (on_one (one operator) (from_top kinds.old.items))) }
+    ensures { IfOk result
+        (λ given. Leaves given kinds.new.items (on_one (unary_kind operator) (from_top kinds.old.items))) }
 {
     match pop(kinds) {
         Some(operand) => apply_unary(alloc, operator, operand),
@@ -59,10 +59,11 @@ fn unary<'s>(
 /// Takes two operands, the right one from the top.
 fn binary<'s>(
     alloc: Global,
-    operator: Binary,
+    operator: BinaryOperator,
     kinds: &mut Vec<Kind<'s>>,
 ) -> Result<Option<Kind<'s>>, AllocError>
-    ensures { IfOk result (λ given. Leaves given kinds.new.items (on_two (two operator) (from_top kinds.old.items))) }
+    ensures { IfOk result
+        (λ given. Leaves given kinds.new.items (on_two (binary_kind operator) (from_top kinds.old.items))) }
 {
     let Some(right) = pop(kinds) else {
         return Ok(None);
@@ -149,23 +150,24 @@ fn make_list<'s>(
     Ok(Some(Kind::made(alloc, list)?))
 }
 
-/// Takes the operands of an effect and gives what it makes of them.
+/// Takes the operands of an operation that goes on to the next place, and gives what it makes of them.
 pub(crate) fn apply<'s>(
     alloc: Global,
     code: &Code,
     measured: &'s Shape,
     here: Option<&AnyShape<'s>>,
-    effect: Effect,
+    op: Op,
     kinds: &mut Vec<Kind<'s>>,
 ) -> Result<Option<Kind<'s>>, AllocError>
     ensures { IfOk result (λ given. Leaves given kinds.new.items
-        (after_effect code.now (shape_view measured.now) (option_map (λ shape. any_view shape.now) here.entry) effect (from_top kinds.old.items))) }
+        (effect code.now (shape_view measured.now) (option_map (λ shape. any_view shape.now) here.entry) op (from_top kinds.old.items))) }
 {
-    match effect {
-        Effect::Push(source) => pushed(alloc, measured, here, source),
-        Effect::MakeList { scalar, count } => make_list(alloc, scalar, count, kinds),
-        Effect::Field(number) => field(alloc, code, number, kinds),
-        Effect::Unary(operator) => unary(alloc, operator, kinds),
-        Effect::Binary(operator) => binary(alloc, operator, kinds),
+    match op {
+        Op::Push(source) => pushed(alloc, measured, here, source),
+        Op::MakeList { scalar, count } => make_list(alloc, scalar, count, kinds),
+        Op::Field(number) => field(alloc, code, number, kinds),
+        Op::Unary(operator) => unary(alloc, operator, kinds),
+        Op::Binary(operator) => binary(alloc, operator, kinds),
+        Op::Jump(..) | Op::Enter(..) | Op::Step(..) | Op::Return => Ok(None),
     }
 }

@@ -11,15 +11,13 @@
 //! - `places`: whether the places that operations name are as they should be; `loops`: whether loops
 //!   lie one in another
 //! - `kind`, `stack`: kinds of operands, which share the shapes that code makes; `sameness`: which
-//!   shapes are the same; `action`: operations by what they do with kinds; `operators`, `effect`: what
-//!   they give of them
+//!   shapes are the same; `operators`, `effect`: what operations give of them
 //! - `operands`, `sending`, `arrivals`: what operations send on, and what arrives at each place
 //! - `budget`: what a run may cost at most
 //! - `failure`, [`error`]: why code isn't accepted
 //! - [`laws`]: what holds of all verdicts
 #![tactic(auto)]
 
-mod action;
 mod arrivals;
 mod budget;
 mod effect;

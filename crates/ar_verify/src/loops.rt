@@ -78,9 +78,7 @@ fn nests_well(around: &[usize], innermost: Option<usize>, place: usize, op: Op) 
     ensures { result ≡ nests_by around.now innermost place op }
 {
     match op {
-        Op::AndJump(target) | Op::OrJump(target) | Op::BranchFalse(target) | Op::Jump(target) => {
-            stays(around, innermost, place, target as usize)
-        }
+        Op::Jump(_, target) => { stays(around, innermost, place, target as usize) }
         Op::Enter(_, step) => {
             let is_shallow = around[place] < MOST_LOOPS;
             let ends_inside = is_inside(innermost, step as usize);

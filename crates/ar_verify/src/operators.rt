@@ -3,17 +3,16 @@
 ghost use Rattle.std.specs.Prelude.{◌≡◌, ◌&&◌, IfOk, option_map};
 ghost use Rattle.ar_value.specs.Kind.{shaped};
 ghost use Rattle.ar_value.specs.View.{shape_view};
-ghost use Rattle.ar_verify.specs.Effects.{decimal_kind, decimal_shape, family_in, is_scalar, decimals_kind, default_kind, equal_kind, field_kind, is_compared, is_family, is_number, item_kind, length_kind, member_kind, needed_kind, of_one_family, opposite_kind, order_kind, quotient_kind, same_kind, truth, where_taken, wholes_kind};
-ghost use Rattle.ar_verify.specs.Private.Action.{one, two};
+ghost use Rattle.ar_verify.specs.Effects.{decimal_kind, decimal_shape, family_in, is_scalar, binary_kind, decimals_kind, default_kind, equal_kind, field_kind, is_compared, is_family, is_number, item_kind, length_kind, member_kind, needed_kind, negative_kind, of_one_family, opposite_kind, order_kind, quotient_kind, same_kind, truth, unary_kind, where_taken, wholes_kind};
 ghost use Rattle.ar_verify.specs.Private.Kinds.{kind_view};
 
-use crate::action::{Binary, Unary};
 use crate::kind::{
     AnyShape, Kind, family_in, family_of, field_in, into_list, is_scalar, list_in, merge, plain,
 };
-use ar_op::op::Compared;
 use ar_value::kind;
-use ar_value::operator::{Arithmetic, Family, Scalar};
+use ar_value::operator::{
+    Arithmetic, BinaryOperator, Compared, Family, Numbers, Scalar, UnaryOperator,
+};
 use ar_value::shape::Shape;
 use std::alloc::{AllocError, Global};
 
@@ -185,6 +184,15 @@ fn same<'s>(scalar: Scalar, operand: Kind<'s>) -> Option<Kind<'s>>
     }
 }
 
+fn negative<'s>(numbers: Numbers, operand: Kind<'s>) -> Option<Kind<'s>>
+    ensures { option_map kind_view result ≡ negative_kind numbers (kind_view operand.entry) }
+{
+    match numbers {
+        Numbers::Wholes => same(Scalar::Whole, operand),
+        Numbers::Decimals => same(Scalar::Decimal, operand),
+    }
+}
+
 #[tactic(auto, using(crate::proofs::Parts::number_is_either))]
 fn is_compared(numbers: Compared, operand: &Kind<'_>) -> bool
     ensures { result ≡ is_compared numbers (kind_view operand.now) }
@@ -201,19 +209,18 @@ fn is_compared(numbers: Compared, operand: &Kind<'_>) -> bool
 /// What an operator gives of one operand.
 pub(crate) fn apply_unary<'s>(
     alloc: Global,
-    operator: Unary,
+    operator: UnaryOperator,
     operand: Kind<'s>,
 ) -> Result<Option<Kind<'s>>, AllocError>
-    ensures { IfOk result (λ given. option_map kind_view given ≡ one operator (kind_view operand.entry)) }
+    ensures { IfOk result (λ given. option_map kind_view given ≡ unary_kind operator (kind_view operand.entry)) }
 {
     match operator {
-        Unary::Len => length(alloc, &operand),
-        Unary::Need => needed(alloc, operand),
-        Unary::IsNil => Ok(Some(Kind::made(alloc, Shape::Bool)?)),
-        Unary::ToDecimal => decimal(alloc, &operand),
-        Unary::Not => where_taken(alloc, is_scalar(Scalar::Bool, &operand), Shape::Bool),
-        Unary::NegateWhole => Ok(same(Scalar::Whole, operand)),
-        Unary::NegateDecimal => Ok(same(Scalar::Decimal, operand)),
+        UnaryOperator::Len => length(alloc, &operand),
+        UnaryOperator::Need => needed(alloc, operand),
+        UnaryOperator::IsNil => Ok(Some(Kind::made(alloc, Shape::Bool)?)),
+        UnaryOperator::ToDecimal => decimal(alloc, &operand),
+        UnaryOperator::Not => where_taken(alloc, is_scalar(Scalar::Bool, &operand), Shape::Bool),
+        UnaryOperator::Negate(numbers) => Ok(negative(numbers, operand)),
     }
 }
 
@@ -239,31 +246,31 @@ fn are_in_family(family: Family, left: &Kind<'_>, right: &Kind<'_>) -> bool
 /// What an operator gives of two operands.
 pub(crate) fn apply_binary<'s>(
     alloc: Global,
-    operator: Binary,
+    operator: BinaryOperator,
     left: Kind<'s>,
     right: Kind<'s>,
 ) -> Result<Option<Kind<'s>>, AllocError>
     ensures { IfOk result
-        (λ given. option_map kind_view given ≡ two operator (kind_view left.entry) (kind_view right.entry)) }
+        (λ given. option_map kind_view given ≡ binary_kind operator (kind_view left.entry) (kind_view right.entry)) }
 {
     match operator {
-        Binary::Index => item(alloc, left, &right),
-        Binary::Default => default(alloc, left, right),
-        Binary::IsIn => member(alloc, &left, &right),
-        Binary::Wholes(operator) => where_taken(
+        BinaryOperator::Index => item(alloc, left, &right),
+        BinaryOperator::Default => default(alloc, left, right),
+        BinaryOperator::IsIn => member(alloc, &left, &right),
+        BinaryOperator::Wholes(operator) => where_taken(
             alloc,
             are_scalars(Scalar::Whole, &left, &right),
             quotient(operator),
         ),
-        Binary::Decimals => where_taken(
+        BinaryOperator::Decimals(_) => where_taken(
             alloc,
             are_scalars(Scalar::Decimal, &left, &right),
             Shape::Decimal,
         ),
-        Binary::Compare(numbers) => {
+        BinaryOperator::Compare(numbers, _) => {
             where_taken(alloc, are_compared(numbers, &left, &right), Shape::Bool)
         }
-        Binary::Equal(family) => {
+        BinaryOperator::Equal(family) => {
             where_taken(alloc, are_in_family(family, &left, &right), Shape::Bool)
         }
     }

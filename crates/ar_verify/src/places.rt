@@ -106,9 +106,7 @@ fn names_well(ops: &[Op], place: usize, op: Op) -> Option<Reason>
     ensures { result ≡ names_well ops.now place op }
 {
     match op {
-        Op::AndJump(target) | Op::OrJump(target) | Op::BranchFalse(target) | Op::Jump(target) => {
-            forward(ops, place, target as usize)
-        }
+        Op::Jump(_, target) => { forward(ops, place, target as usize) }
         Op::Enter(predicate, step) => names_step(ops, place, predicate, step),
         Op::Step(predicate, enter) => names_enter(ops, place, predicate, enter),
         _ => None,

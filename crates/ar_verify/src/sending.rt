@@ -2,15 +2,14 @@
 
 ghost use Rattle.std.specs.Prelude.{◌≡◌, ◌+◌, ◌<◌, ◌≤◌, ◌∷◌, [], IfOk, MatchOption, OnOk, option_map};
 ghost use Rattle.ar_value.specs.View.{shape_view};
-ghost use Rattle.ar_verify.specs.Arrivals.{answer_kind, deepest, item_of, most_operands, operands};
+ghost use Rattle.ar_verify.specs.Arrivals.{answer_kind, deepest, item_of, lacks, most_operands, operands};
+ghost use Rattle.ar_verify.specs.Effects.{effect};
 ghost use Rattle.ar_verify.specs.Private.Failures.{Meets};
 ghost use Rattle.ar_verify.specs.Private.Held.{around_view, counted, from_innermost, operands_view};
 ghost use Rattle.ar_verify.specs.Private.Kinds.{any_view, kind_view, list_view};
-ghost use Rattle.ar_verify.specs.Private.Sending.{around, beginning, branched, kept_or_taken, lacks_by, list_taken, passed_by, returning, sends_by, sends_view, stepping, truth_taken};
+ghost use Rattle.ar_verify.specs.Private.Sending.{around, beginning, branched, going_on, jumping, kept_or_taken, list_taken, passed_by, returning, sends_by, sends_view, stepping, truth_taken};
 ghost use Rattle.ar_verify.specs.Private.Stacks.{from_top};
-ghost use Rattle.ar_verify.specs.declared.action.Action.TheVariants as actions;
 
-use crate::action::{Action, Effect, Source, taken};
 use crate::effect::apply;
 use crate::error::Reason;
 use crate::failure::Failure;
@@ -18,6 +17,7 @@ use crate::kind::{AnyShape, Kind, ListKind, into_list, is_scalar};
 use crate::operands::{Around, Operands};
 use crate::stack::{pop, push};
 use ar_op::code::Code;
+use ar_op::op::{Jump, Op, Source};
 use ar_value::operator::{Predicate, Scalar};
 use ar_value::shape::Shape;
 use std::alloc::{AllocError, Global};
@@ -156,6 +156,27 @@ fn branch<'s>(
     ))
 }
 
+/// Goes to the place of a jump, or on.
+fn jump<'s>(
+    alloc: Global,
+    jump: Jump,
+    next: usize,
+    target: u32,
+    had: Operands<'s>,
+) -> Result<Sends<'s>, Failure>
+    ensures { Meets sends_view result
+        (jumping jump next target (operands_view had.entry).kinds (operands_view had.entry).loops) }
+{
+    match jump {
+        Jump::And | Jump::Or => keep_or_take(alloc, next, target, had),
+        Jump::Branch => branch(alloc, next, target, had),
+        Jump::Always => Ok(Sends::One(Sent {
+            target: target as usize,
+            operands: had,
+        })),
+    }
+}
+
 /// Operands at the begin of the body of a loop over a list, where there are none above its floor.
 fn inside<'s>(
     alloc: Global,
@@ -244,14 +265,14 @@ fn go_on<'s>(
     code: &Code,
     measured: &'s Shape,
     next: usize,
-    effect: Effect,
+    op: Op,
     had: Operands<'s>,
 ) -> Result<Sends<'s>, Failure>
-    ensures { Meets sends_view result (passed_by code.now (shape_view measured.now) next (actions.Effect effect)
-        (operands_view had.entry).kinds (operands_view had.entry).loops) }
+    ensures { Meets sends_view result (going_on next (operands_view had.entry).loops
+        (effect code.now (shape_view measured.now) (item_of (operands_view had.entry).loops) op (operands_view had.entry).kinds)) }
 {
     let Operands { mut kinds, loops } = had;
-    let given = apply(alloc, code, measured, item_of(&loops), effect, &mut kinds)?;
+    let given = apply(alloc, code, measured, item_of(&loops), op, &mut kinds)?;
     push(&mut kinds, given.ok_or(Reason::IllKinded)?)?;
     Ok(Sends::One(Sent {
         target: next,
@@ -264,34 +285,31 @@ fn passed_on<'s>(
     code: &Code,
     measured: &'s Shape,
     next: usize,
-    action: Action,
+    op: Op,
     had: Operands<'s>,
 ) -> Result<Sends<'s>, Failure>
-    ensures { Meets sends_view result (passed_by code.now (shape_view measured.now) next action
+    ensures { Meets sends_view result (passed_by code.now (shape_view measured.now) next op
         (operands_view had.entry).kinds (operands_view had.entry).loops) }
 {
-    match action {
-        Action::Effect(effect) => go_on(alloc, code, measured, next, effect, had),
-        Action::KeepOrTake(target) => keep_or_take(alloc, next, target, had),
-        Action::Branch(target) => branch(alloc, next, target, had),
-        Action::Jump(target) => Ok(Sends::One(Sent {
-            target: target as usize,
-            operands: had,
-        })),
-        Action::Enter(predicate, end) => enter(alloc, predicate, next, end, had),
-        Action::Step(predicate) => step(alloc, predicate, next, had),
-        Action::Return => answer(had),
+    match op {
+        Op::Push(_) | Op::MakeList { .. } | Op::Field(_) | Op::Unary(_) | Op::Binary(_) => {
+            go_on(alloc, code, measured, next, op, had)
+        }
+        Op::Jump(kind, target) => jump(alloc, kind, next, target, had),
+        Op::Enter(predicate, end) => enter(alloc, predicate, next, end, had),
+        Op::Step(predicate, _) => step(alloc, predicate, next, had),
+        Op::Return => answer(had),
     }
 }
 
 /// Whether an operand is missing above the floor, or the item.
 #[tactic(auto, using(crate::proofs::Tops::so_many))]
-fn lacks(action: Action, had: &Operands<'_>) -> bool
-    ensures { result ≡ lacks_by action (operands_view had.now) }
+fn lacks(op: Op, had: &Operands<'_>) -> bool
+    ensures { result ≡ lacks op (operands_view had.now) }
 {
-    match action {
-        Action::Effect(Effect::Push(Source::Item)) => item_of(&had.loops).is_none(),
-        _ => had.kinds.len() < taken(action),
+    match op {
+        Op::Push(Source::Item) => item_of(&had.loops).is_none(),
+        _ => had.kinds.len() < op.takes(),
     }
 }
 
@@ -317,17 +335,17 @@ pub(crate) fn send_on<'s>(
     code: &Code,
     measured: &'s Shape,
     next: usize,
-    action: Action,
+    op: Op,
     had: Operands<'s>,
 ) -> Result<Sends<'s>, Failure>
     ensures exact { Meets sends_view result
-        (sends_by code.now (shape_view measured.now) next action (operands_view had.entry)) }
+        (sends_by code.now (shape_view measured.now) next op (operands_view had.entry)) }
     ensures shallow { IfOk result (λ sends. deepest (sends_view sends) ≤ most_operands) }
 {
-    if lacks(action, &had) {
+    if lacks(op, &had) {
         return Err(Failure::Fault(Reason::MissingOperand));
     }
-    let sends = passed_on(alloc, code, measured, next, action, had)?;
+    let sends = passed_on(alloc, code, measured, next, op, had)?;
     if sends.deepest() > MOST_OPERANDS {
         return Err(Failure::Fault(Reason::StackTooDeep));
     }

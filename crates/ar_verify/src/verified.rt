@@ -41,7 +41,8 @@ impl Verified {
     pub(crate) fn new(code: Code, shape: Shape, budget: u64, depth: usize) -> Verified
         requires code { IsCode code }
         requires verified { IsVerified code (shape_view shape) budget depth }
-        ensures { result ≡ verified_of code shape budget depth }
+        ensures is { result ≡ verified_of code shape budget depth }
+        ensures safe { RunsSafely result }
     {
         Verified {
             code,
@@ -55,7 +56,8 @@ impl Verified {
         ensures code { result.now ≡ self.now.code }
         // It was verified with these bounds.
         ensures verified { IsVerified self.now.code (shape_view self.now.shape) self.now.budget self.now.depth }
-        // On each value of the shape it runs to an answer within the budget, and is never stuck.
+        // On each value of the shape it runs to an answer within the budget, is never stuck, and has few
+        // operands and open loops.
         ensures safe { RunsSafely self.now }
     {
         &self.code

@@ -3,6 +3,7 @@
 ghost use Rattle.std.specs.Prelude.{◌≡◌, IfErr, IfOk};
 ghost use Rattle.ar_value.specs.View.{shape_view};
 ghost use Rattle.ar_op.specs.Code.{IsCode};
+ghost use Rattle.ar_verify.specs.Safety.{RunsSafely};
 ghost use Rattle.ar_verify.specs.Verdict.{IsCause, IsVerified};
 
 use crate::arrivals::find_arrivals;
@@ -50,6 +51,9 @@ fn check(alloc: Global, code: &Code, shape: &Shape) -> Result<Bounds, Cause>
 pub fn verify(alloc: Global, code: Code, shape: Shape) -> Result<Verified, Refused>
     ensures accepted { IfOk result (λ verified. (verified.code ≡ code) × (verified.shape ≡ shape)
         × IsVerified code (shape_view shape) verified.budget verified.depth) }
+    // On each value of the shape it runs to an answer within the budget, is never stuck, and has few
+    // operands and open loops.
+    ensures safe { IfOk result RunsSafely }
     ensures refused { IfErr result (λ refused. (refused.code ≡ code) × IsCause code (shape_view shape) refused.cause) }
 {
     match check(alloc, &code, &shape) {

@@ -1,5 +1,6 @@
 -- What operands, items and scopes in memory stand for, of which no public contract speaks.
 use Rattle.std.specs.Prelude.{ℕ, suc, Bool, false, ◌&&◌, if◌then◌else◌, List, Option, Some, option_map, Result, Ok, Err}
+use Rattle.ar_value.specs.declared.operator.UnaryOperator.TheVariants as unary
 use Rattle.ar_value.specs.Answer.{◌>>=◌}
 use Rattle.ar_value.specs.Kind.{Kind, common, is_decimal, plain}
 use Rattle.ar_value.specs.Kind as kind
@@ -70,4 +71,4 @@ turns (kind.shaped other) (kind.shaped shape) = is_decimal other && is_whole (pl
 turns other of = false
 
 abbrev pub turned_where : Bool → Typed → Typed
-turned_where is_turned tree = if is_turned then typed.as_decimal tree else tree
+turned_where is_turned tree = if is_turned then typed.unary unary.ToDecimal tree else tree

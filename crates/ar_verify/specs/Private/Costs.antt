@@ -3,8 +3,9 @@
 use Rattle.std.specs.Prelude.{◌≡◌, ℕ, suc, ◌+◌, ◌*◌, ◌<◌, ◌≤◌, min, max, List, length, Ok, slice_index_or}
 use Rattle.ar_value.specs.Shape.{Shape}
 use Rattle.ar_op.specs.Code.{Code}
+use Rattle.ar_op.specs.declared.op.Jump.TheVariants.{Always}
 use Rattle.ar_op.specs.declared.op.Op.{Op}
-use Rattle.ar_op.specs.declared.op.Op.TheVariants.{AndJump, OrJump, BranchFalse, Jump, Enter, Step, Return}
+use Rattle.ar_op.specs.declared.op.Op.TheVariants.{Jump, Enter, Step, Return}
 use Rattle.ar_verify.specs.Arrivals.{Sent}
 use Rattle.ar_verify.specs.Budget.{IsDearest, most_at, price}
 use Rattle.ar_verify.specs.Verdict.{passed}
@@ -32,10 +33,8 @@ abbrev pub cost_by_either : Op → (most next target : ℕ) → ℕ
 cost_by_either op most next target = max (cost_by_next op most next) (cost_by_jump target)
 
 abbrev pub cost_by : List ℕ → (place most : ℕ) → Op → ℕ
-cost_by costs place most (AndJump target) = cost_by_either (AndJump target) most (number_at costs (suc place)) (number_at costs target)
-cost_by costs place most (OrJump target) = cost_by_either (OrJump target) most (number_at costs (suc place)) (number_at costs target)
-cost_by costs place most (BranchFalse target) = cost_by_either (BranchFalse target) most (number_at costs (suc place)) (number_at costs target)
-cost_by costs place most (Jump target) = cost_by_jump (number_at costs target)
+cost_by costs place most (Jump Always target) = cost_by_jump (number_at costs target)
+cost_by costs place most (Jump jump target) = cost_by_either (Jump jump target) most (number_at costs (suc place)) (number_at costs target)
 cost_by costs place most (Enter predicate step) = cost_by_loop most (number_at costs (suc place)) (number_at costs (suc step))
 cost_by costs place most (Step predicate enter) = 1
 cost_by costs place most Return = 1
@@ -43,10 +42,8 @@ cost_by costs place most op = cost_by_next op most (number_at costs (suc place))
 
 -- where an operation at a place leads to places that there are so many of
 abbrev pub LeadsInside : (count place : ℕ) → Op → Type 0
-LeadsInside count place (AndJump target) = (suc place < count) × (target < count)
-LeadsInside count place (OrJump target) = (suc place < count) × (target < count)
-LeadsInside count place (BranchFalse target) = (suc place < count) × (target < count)
-LeadsInside count place (Jump target) = target < count
+LeadsInside count place (Jump Always target) = target < count
+LeadsInside count place (Jump jump target) = (suc place < count) × (target < count)
 LeadsInside count place (Enter predicate step) = (suc place < count) × (suc step < count)
 LeadsInside count place (Step predicate enter) = Unit {0}
 LeadsInside count place Return = Unit {0}

@@ -3,7 +3,7 @@
 use Rattle.std.specs.Prelude.{◌≡◌, ℕ, ◌+◌, ◌-◌, ◌==◌, ◌<◌, Bool, true, ◌&&◌, nat_le, nat_lt, List, [], ◌∷◌, ◌++◌, length, drop, take, Option, Some, None, slice_get, slice_index_or}
 use Rattle.ar_op.specs.Machine.{nth}
 use Rattle.ar_op.specs.declared.op.Op.{Op}
-use Rattle.ar_op.specs.declared.op.Op.TheVariants.{AndJump, OrJump, BranchFalse, Jump, Enter, Step, Return}
+use Rattle.ar_op.specs.declared.op.Op.TheVariants.{Jump, Enter, Step, Return}
 use Rattle.ar_verify.specs.Places.{all_pass, held, most_loops, nests_well, or_else, unless}
 use Rattle.ar_verify.specs.declared.error.Reason.{Reason}
 use Rattle.ar_verify.specs.declared.error.Reason.TheVariants.{CrossesLoop, LoopsTooDeep}
@@ -53,10 +53,7 @@ abbrev pub stays_by : List ℕ → Option ℕ → (place target : ℕ) → Optio
 stays_by around innermost place target = unless (is_inside innermost target && depth_at around place == depth_at around target) CrossesLoop
 
 abbrev pub nests_by : List ℕ → Option ℕ → (place : ℕ) → Op → Option Reason
-nests_by around innermost place (AndJump target) = stays_by around innermost place target
-nests_by around innermost place (OrJump target) = stays_by around innermost place target
-nests_by around innermost place (BranchFalse target) = stays_by around innermost place target
-nests_by around innermost place (Jump target) = stays_by around innermost place target
+nests_by around innermost place (Jump jump target) = stays_by around innermost place target
 nests_by around innermost place (Enter predicate step) = or_else (unless (nat_lt (depth_at around place) most_loops) LoopsTooDeep) (unless (is_inside innermost step) CrossesLoop)
 nests_by around innermost place Return = unless (depth_at around place == 0) CrossesLoop
 nests_by around innermost place op = None
@@ -70,8 +67,5 @@ IsNested ops place steps = (steps ≡ open_steps ops (held ops place))
 
 -- where jumps name places that are counted
 abbrev pub JumpsInside : (count : ℕ) → Op → Type 0
-JumpsInside count (AndJump target) = target < count
-JumpsInside count (OrJump target) = target < count
-JumpsInside count (BranchFalse target) = target < count
-JumpsInside count (Jump target) = target < count
+JumpsInside count (Jump jump target) = target < count
 JumpsInside count op = Unit {0}

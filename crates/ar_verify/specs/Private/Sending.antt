@@ -1,18 +1,18 @@
--- What operations send on as the code makes it, by what they do with kinds and the number of the next place.
-use Rattle.std.specs.Prelude.{ℕ, ◌+◌, Bool, if◌then◌else◌, nat_lt, List, [], ◌∷◌, is_none, length, Option, Some, None, Result, Ok, Err}
+-- What operations send on as the code makes it, by the number of the next place.
+use Rattle.std.specs.Prelude.{ℕ, ◌+◌, if◌then◌else◌, List, [], ◌∷◌, Option, Some, None, Result, Ok, Err}
 use Rattle.ar_value.specs.Answer.{◌>>=◌}
 use Rattle.ar_value.specs.Kind.{Kind, shaped}
 use Rattle.ar_value.specs.Shape.{Shape, bool}
 use Rattle.ar_value.specs.declared.operator.Predicate.{Predicate}
 use Rattle.ar_op.specs.Code.{Code}
-use Rattle.ar_verify.specs.Arrivals.{Around, Operands, Sent, answer_kind, item_of, sent, where_shallow}
-use Rattle.ar_verify.specs.Private.Action.{after_effect, taken}
+use Rattle.ar_op.specs.declared.op.Jump.{Jump}
+use Rattle.ar_op.specs.declared.op.Jump.TheVariants as jumps
+use Rattle.ar_op.specs.declared.op.Op.{Op}
+use Rattle.ar_op.specs.declared.op.Op.TheVariants as ops
+use Rattle.ar_verify.specs.Arrivals.{Around, Operands, Sent, answer_kind, item_of, lacks, sent, where_shallow}
+use Rattle.ar_verify.specs.Effects.{effect}
 use Rattle.ar_verify.specs.Private.Held.{operands_view}
 use Rattle.ar_verify.specs.Private.Kinds.{list_in}
-use Rattle.ar_verify.specs.declared.action.Action.{Action}
-use Rattle.ar_verify.specs.declared.action.Action.TheVariants as actions
-use Rattle.ar_verify.specs.declared.action.Effect.TheVariants as effects
-use Rattle.ar_verify.specs.declared.action.Source.TheVariants as sources
 use Rattle.ar_verify.specs.declared.error.Reason.{Reason}
 use Rattle.ar_verify.specs.declared.error.Reason.TheVariants.{BadMerge, IllKinded, MissingOperand}
 use Rattle.ar_verify.specs.declared.sending.Sends.{Sends}
@@ -71,18 +71,18 @@ stepping predicate next kinds loops = truth_taken kinds >>= λ taken. ending pre
 abbrev pub returning : List Kind → Result (List Sent) Reason
 returning kinds = truth_taken kinds >>= λ taken. Ok []
 
-abbrev pub passed_by : Code → Shape → (next : ℕ) → Action → List Kind → List Around → Result (List Sent) Reason
-passed_by code result next (actions.Effect effect) kinds loops = going_on next loops (after_effect code result (item_of loops) effect kinds)
-passed_by code result next (actions.KeepOrTake target) kinds loops = kept_or_taken next target kinds loops
-passed_by code result next (actions.Branch target) kinds loops = branched next target kinds loops
-passed_by code result next (actions.Jump target) kinds loops = Ok (sent target kinds loops ∷ [])
-passed_by code result next (actions.Enter predicate step) kinds loops = beginning predicate next (step + 1) kinds loops
-passed_by code result next (actions.Step predicate) kinds loops = stepping predicate next kinds loops
-passed_by code result next actions.Return kinds loops = returning kinds
+abbrev pub jumping : Jump → (next target : ℕ) → List Kind → List Around → Result (List Sent) Reason
+jumping jumps.And next target kinds loops = kept_or_taken next target kinds loops
+jumping jumps.Or next target kinds loops = kept_or_taken next target kinds loops
+jumping jumps.Branch next target kinds loops = branched next target kinds loops
+jumping jumps.Always next target kinds loops = Ok (sent target kinds loops ∷ [])
 
-abbrev pub lacks_by : Action → Operands → Bool
-lacks_by (actions.Effect (effects.Push sources.Item)) had = is_none (item_of had.loops)
-lacks_by action had = nat_lt (length had.kinds) (taken action)
+abbrev pub passed_by : Code → Shape → (next : ℕ) → Op → List Kind → List Around → Result (List Sent) Reason
+passed_by code result next (ops.Jump jump target) kinds loops = jumping jump next target kinds loops
+passed_by code result next (ops.Enter predicate step) kinds loops = beginning predicate next (step + 1) kinds loops
+passed_by code result next (ops.Step predicate enter) kinds loops = stepping predicate next kinds loops
+passed_by code result next ops.Return kinds loops = returning kinds
+passed_by code result next op kinds loops = going_on next loops (effect code result (item_of loops) op kinds)
 
-abbrev pub sends_by : Code → Shape → (next : ℕ) → Action → Operands → Result (List Sent) Reason
-sends_by code result next action had = if lacks_by action had then Err MissingOperand else passed_by code result next action had.kinds had.loops >>= where_shallow
+abbrev pub sends_by : Code → Shape → (next : ℕ) → Op → Operands → Result (List Sent) Reason
+sends_by code result next op had = if lacks op had then Err MissingOperand else passed_by code result next op had.kinds had.loops >>= where_shallow

@@ -4,13 +4,11 @@ use Rattle.ar_value.specs.Answer.{◌>>=◌}
 use Rattle.ar_value.specs.Shape.{Shape}
 use Rattle.ar_op.specs.Code.{Code}
 use Rattle.ar_op.specs.declared.op.Op.{Op}
+use Rattle.ar_op.specs.declared.op.Op.TheVariants as ops
 use Rattle.ar_verify.specs.Arrivals.{Operands, Sent, all_sent, arrival, arrived, deepest, merged, of_loops, sent_on, sent_to}
 use Rattle.ar_verify.specs.Budget.{most_items, most_on_top}
-use Rattle.ar_verify.specs.Private.Action.{action}
 use Rattle.ar_verify.specs.Private.Held.{arrival_view}
 use Rattle.ar_verify.specs.Private.Sending.{sends_by}
-use Rattle.ar_verify.specs.declared.action.Action.{Action}
-use Rattle.ar_verify.specs.declared.action.Action.TheVariants as actions
 use Rattle.ar_verify.specs.declared.arrivals.Arrivals as code
 use Rattle.ar_verify.specs.declared.arrivals.Pass as passes
 use Rattle.ar_verify.specs.declared.error.Cause.{Cause}
@@ -88,15 +86,13 @@ visited place s had sents = record {
 
 -- an operation at a place is looked at
 abbrev pub looked_at : Code → Shape → (place : ℕ) → Op → State → Result State Reason
-looked_at code shape place op s = entry s.table place >>= λ had. sends_by code shape (place + 1) (action op) had >>= λ sents. Ok (visited place s had sents)
+looked_at code shape place op s = entry s.table place >>= λ had. sends_by code shape (place + 1) op had >>= λ sents. Ok (visited place s had sents)
 
 -- so many places hold each one that an operation names
-abbrev pub StaysWithin : (places : ℕ) → Action → Type 0
-StaysWithin places (actions.KeepOrTake target) = target < places
-StaysWithin places (actions.Branch target) = target < places
-StaysWithin places (actions.Jump target) = target < places
-StaysWithin places (actions.Enter predicate step) = step + 1 < places
-StaysWithin places action = Unit {0}
+abbrev pub StaysWithin : (places : ℕ) → Op → Type 0
+StaysWithin places (ops.Jump jump target) = target < places
+StaysWithin places (ops.Enter predicate step) = step + 1 < places
+StaysWithin places op = Unit {0}
 
 -- the pass has come to a place without a fault
 pub record ComesTo (code : Code) (shape : Shape) (place : ℕ) (s : State) : Type 0 where

@@ -6,7 +6,7 @@ use Rattle.ar_code.specs.Decoding.{decoded, is_memory}
 use Rattle.ar_code.specs.Image.{image}
 use Rattle.ar_code.specs.declared.error.ImageError.{ImageError}
 use Rattle.ar_code.proofs.Again.{image_again}
-use Rattle.ar_code.proofs.Takes.{is_image}
+use Rattle.ar_code.proofs.Readings.{is_image}
 use Rattle.ar_code.proofs.image_reading.decode.Goals as goal
 
 accepted : (bytes : List ℕ) (result : Result Code ImageError) → Gives is_memory (λ code. code) result (decoded bytes) → IfOk result (λ code. bytes ≡ image code)

@@ -2,7 +2,7 @@ use Rattle.std.proofs.Common.{rules, ◌≡◌, Ok, length, map, string_bytes, r
 use Rattle.std.proofs.lemmas.List.{length-map}
 use Rattle.ar_op.specs.Code.{code_of_parts}
 use Rattle.ar_code.specs.Decoding.{parts_at, so_many_ops}
-use Rattle.ar_code.proofs.Parts.{parts_are_code}
+use Rattle.ar_code.proofs.Readings.{parts_are_code}
 use Rattle.ar_code.proofs.image_reading.parts_at.Goals as goal
 
 pub of_parts-requires : goal.of_parts-requires

@@ -32,11 +32,8 @@ decreases-put_list l = 4 * goal.size-put_list l + 2
 abbrev pub decreases-put_two : goal.decreases-put_two
 decreases-put_two l = 4 * max (size-Typed l.left.now) (size-Typed l.right.now) + 3
 
-abbrev pub decreases-put_and : goal.decreases-put_and
-decreases-put_and l = 4 * max (size-Typed l.left.now) (size-Typed l.right.now) + 3
-
-abbrev pub decreases-put_or : goal.decreases-put_or
-decreases-put_or l = 4 * max (size-Typed l.left.now) (size-Typed l.right.now) + 3
+abbrev pub decreases-put_sides : goal.decreases-put_sides
+decreases-put_sides l = 4 * max (size-Typed l.left.now) (size-Typed l.right.now) + 3
 
 abbrev pub decreases-put_loop : goal.decreases-put_loop
 decreases-put_loop l = 4 * max (size-Typed l.list.now) (size-Typed l.body.now) + 3

@@ -2,7 +2,8 @@ use Rattle.std.proofs.Common.{◌≡◌, ◌<◌, ℕ, false, List, [], ◌∷�
 use Rattle.std.specs.Prelude.{slice_index_or}
 use Rattle.ar_value.specs.View.{shape_view}
 use Rattle.ar_op.specs.declared.op.Op.{Op}
-use Rattle.ar_op.specs.declared.op.Op.TheVariants.{PushBool}
+use Rattle.ar_op.specs.declared.op.Op.TheVariants.{Push}
+use Rattle.ar_op.specs.declared.op.Source.TheVariants.{Bool}
 use Rattle.ar_verify.specs.Arrivals.{operands}
 use Rattle.ar_verify.specs.Private.Table.{pass_view}
 use Rattle.ar_verify.specs.declared.error.Reason.TheVariants.{Unreachable}
@@ -12,8 +13,8 @@ use Rattle.ar_verify.proofs.arrivals.find_arrivals.Goals as goal
 within : (ops all : List Op) (place : ℕ) → ops ≡ all → place < length ops → place < length all
 within ops all place same h = rw same at h
 
-there : (ops all : List Op) (place : ℕ) → ops ≡ all → slice_index_or ops place (PushBool false) ≡ slice_index_or all place (PushBool false)
-there ops all place same = ap (λ ops. slice_index_or ops place (PushBool false)) same
+there : (ops all : List Op) (place : ℕ) → ops ≡ all → slice_index_or ops place (Push (Bool false)) ≡ slice_index_or all place (Push (Bool false))
+there ops all place same = ap (λ ops. slice_index_or ops place (Push (Bool false))) same
 
 pub loop-place-init : goal.loop-place-init
 loop-place-init c =
@@ -22,15 +23,15 @@ loop-place-init c =
 
 pub look_at-requires-clause-targets : goal.look_at-requires-clause-targets
 look_at-requires-clause-targets c =
-    inside_table c.args.code.now (shape_view c.args.measured.now) c.requires c.loop-place.place (pass_view c.loop-place.pass) c.loop-place.invariant _ (PushBool false) c.loop-place.pass.arrived.items refl
+    inside_table c.args.code.now (shape_view c.args.measured.now) c.requires c.loop-place.place (pass_view c.loop-place.pass) c.loop-place.invariant _ (Push (Bool false)) c.loop-place.pass.arrived.items refl
     (within _ _ _ c.ops-ops.ensures.ops c.loop-place-test.true) (there _ _ _ c.ops-ops.ensures.ops)
 
 pub returns-in-Err : goal.returns-in-Err
 returns-in-Err c =
-    stopped c.args.code.now (shape_view c.args.measured.now) c.requires c.loop-place.place (pass_view c.loop-place.pass) c.loop-place.invariant _ (PushBool false)
+    stopped c.args.code.now (shape_view c.args.measured.now) c.requires c.loop-place.place (pass_view c.loop-place.pass) c.loop-place.invariant _ (Push (Bool false))
     (within _ _ _ c.ops-ops.ensures.ops c.loop-place-test.true) (there _ _ _ c.ops-ops.ensures.ops) c.in-Err.failure c.at.result (pass_view c.look_at.new.self) c.at.ensures c.in-Err.ensures
 
 pub loop-place-preserved : goal.loop-place-preserved
 loop-place-preserved c =
-    goes_on c.args.code.now (shape_view c.args.measured.now) c.requires c.loop-place.place (pass_view c.loop-place.pass) c.loop-place.invariant _ (PushBool false)
+    goes_on c.args.code.now (shape_view c.args.measured.now) c.requires c.loop-place.place (pass_view c.loop-place.pass) c.loop-place.invariant _ (Push (Bool false))
     (within _ _ _ c.ops-ops.ensures.ops c.loop-place-test.true) (there _ _ _ c.ops-ops.ensures.ops) (pass_view c.look_at.new.self) c.in_default.ensures
