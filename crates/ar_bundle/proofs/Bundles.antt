@@ -8,7 +8,7 @@ use Rattle.ar_value.specs.Shape.{Shape}
 use Rattle.ar_value.specs.Value.{Value}
 use Rattle.ar_value.specs.View.{shape_view}
 use Rattle.ar_judge.specs.Condition.{Condition}
-use Rattle.ar_judge.specs.Verdict.{FitsEach, Judge, RunsNothing, Sample, Suits, measured, misfit, provider, sample_view}
+use Rattle.ar_judge.specs.Verdict.{FitsEach, Judge, Sample, Suits, TakesNoMemory, measured, misfit, provider, sample_view}
 use Rattle.ar_judge.specs.declared.sample.Sample.{Sample as Declared}
 use Rattle.ar_bundle.specs.Bundle.{Bundle, CanHappen, IsBundle, IsEntry, IsOfShape, IsRun, JudgesEach, JudgesShape, SampleSuits, SuitsMetric, judge_at, run_of}
 use Rattle.ar_bundle.specs.declared.bundle.EventPart.{EventPart}
@@ -76,9 +76,9 @@ run_there bundle number entry is below read = (entry_is bundle number entry is b
 pub measure_suits : (bundle : Bundle) (number : ℕ) (entry : EventPart) (metric : ℕ) (sample : Declared) → IsBundle bundle → number < length bundle.entries → entry ≡ slice_index_or bundle.entries number entry → entry.what ≡ Measure metric sample → SuitsMetric bundle.metrics metric (sample_view sample)
 measure_suits bundle number entry metric sample is below read same = subst (λ what. CanHappen bundle.metrics what) same (entry_is bundle number entry is below read).what
 
--- the judge that was read runs no condition, where the sample needs no run
-pub reads_nothing : (bundle : Bundle) (run : ℕ) (part : RunPart) (metric : ℕ) (sample : Sample) (judge : Judge) → Reads bundle run part metric sample → judge ≡ slice_index_or part.judges metric judge → IfSome (judge_at bundle run metric) (λ judge. RunsNothing judge sample) → RunsNothing judge sample
-reads_nothing bundle run part metric sample judge reads read nothing = subst (λ found. IfSome found (λ judge. RunsNothing judge sample)) (reads.is judge read).0 nothing
+-- the judge that was read takes no memory, where judging takes none
+pub reads_nothing : (bundle : Bundle) (run : ℕ) (part : RunPart) (metric : ℕ) (sample : Sample) (judge : Judge) → Reads bundle run part metric sample → judge ≡ slice_index_or part.judges metric judge → IfSome (judge_at bundle run metric) (λ judge. TakesNoMemory judge sample) → TakesNoMemory judge sample
+reads_nothing bundle run part metric sample judge reads read nothing = subst (λ found. IfSome found (λ judge. TakesNoMemory judge sample)) (reads.is judge read).0 nothing
 
 pub entry_at : {A : Type 0} (xs : List A) (place : ℕ) → place < length xs → (x : A) × (slice_get xs place ≡ Some x)
 entry_at [] place inside = absurd (omega arith)

@@ -6,7 +6,7 @@ use Rattle.ar_value.specs.Shape.{Shape}
 use Rattle.ar_value.specs.View.{shape_view}
 use Rattle.ar_json.specs.declared.value_reading.ShapeFault.TheVariants as shape_fault
 use Rattle.ar_judge.specs.Condition.{Condition}
-use Rattle.ar_judge.specs.Verdict.{Judge, RunsNothing, Sample, measured, misfit, provider, sample_view, verdict}
+use Rattle.ar_judge.specs.Verdict.{Judge, Sample, TakesNoMemory, measured, misfit, provider, sample_view, verdict}
 use Rattle.ar_judge.specs.declared.verdict.Verdict.{Verdict}
 use Rattle.ar_judge.specs.declared.verdict.Verdict.TheVariants.{Successful, Failed, Inconclusive, Error}
 use Rattle.ar_limits.specs.Metric.{HasPositiveCounts}
@@ -102,14 +102,14 @@ found_of bundle run Stop = Some finding.Stop
 abbrev pub found : Bundle → (number : ℕ) → Option Finding
 found bundle number = option_and_then (λ entry. found_of bundle entry.run entry.what) (slice_get bundle.entries number)
 
--- no condition is run for what happens: it is a stop, or its judge runs none on its sample
-abbrev pub NeedsNoCondition : Bundle → (run : ℕ) → What → Type 0
-NeedsNoCondition bundle run (Measure metric sample) = IfSome (judge_at bundle run metric) (λ judge. RunsNothing judge (sample_view sample))
-NeedsNoCondition bundle run Stop = Unit {0}
+-- what happens is found without memory: it is a stop, or judging its sample takes none
+abbrev pub NeedsNoMemory : Bundle → (run : ℕ) → What → Type 0
+NeedsNoMemory bundle run (Measure metric sample) = IfSome (judge_at bundle run metric) (λ judge. TakesNoMemory judge (sample_view sample))
+NeedsNoMemory bundle run Stop = Unit {0}
 
--- nor for the finding of a number
-abbrev pub FoundWithoutCondition : Bundle → (number : ℕ) → Type 0
-FoundWithoutCondition bundle number = IfSome (slice_get bundle.entries number) (λ entry. NeedsNoCondition bundle entry.run entry.what)
+-- and so is a number
+abbrev pub FoundWithoutMemory : Bundle → (number : ℕ) → Type 0
+FoundWithoutMemory bundle number = IfSome (slice_get bundle.entries number) (λ entry. NeedsNoMemory bundle entry.run entry.what)
 
 -- ---- what happens to runs
 

@@ -2,7 +2,7 @@
 
 ghost use Rattle.std.specs.Prelude.{◌≡◌, ◌<◌, IfOk, IsOk, Some, length};
 ghost use Rattle.ar_limits.specs.Replay.{IsOfMetricBelow};
-ghost use Rattle.ar_bundle.specs.Bundle.{FoundWithoutCondition, IsBundle, NeedsNoCondition, SuitsMetric, bundle_of, found, found_of, happened, run_of, sizes_of};
+ghost use Rattle.ar_bundle.specs.Bundle.{FoundWithoutMemory, IsBundle, NeedsNoMemory, SuitsMetric, bundle_of, found, found_of, happened, run_of, sizes_of};
 ghost use Rattle.ar_bundle.specs.declared.bundle.What.TheVariants as What;
 ghost use Rattle.ar_judge.specs.Verdict.{sample_view};
 
@@ -214,13 +214,13 @@ impl Bundle {
     ///
     /// # Errors
     ///
-    /// Want of memory alone, which runs of conditions take for their operands.
+    /// Want of memory alone, which runs of conditions with a `filter` take.
     #[tactic(auto, using(crate::proofs::Bundles::entry_there, crate::proofs::Bundles::measure_suits, crate::proofs::Bundles::run_there))]
     pub fn finding(&self, alloc: Global, number: u64) -> Result<Finding, AllocError>
         requires { number < length self.now.entries }
         ensures exact { IfOk result (λ finding. found self.now number ≡ Some finding) }
-        // Where no condition is run, want of memory is never answered.
-        ensures without_memory { FoundWithoutCondition self.now number → IsOk result }
+        // Where no condition with a `filter` is run, want of memory is never answered.
+        ensures without_memory { FoundWithoutMemory self.now number → IsOk result }
     {
         let entry = &self.entries[number as usize];
         match &entry.what {
@@ -241,7 +241,7 @@ impl Bundle {
         requires run { run < length self.now.runs }
         requires suits { SuitsMetric self.now.metrics metric (sample_view sample.now) }
         ensures exact { IfOk result (λ finding. found_of self.now run (What.Measure metric sample.now) ≡ Some finding) }
-        ensures without_memory { NeedsNoCondition self.now run (What.Measure metric sample.now) → IsOk result }
+        ensures without_memory { NeedsNoMemory self.now run (What.Measure metric sample.now) → IsOk result }
     {
         let judges = self.runs[run].judges.as_slice();
         Ok(Finding::Judged(judges[metric].judge(alloc, sample)?))

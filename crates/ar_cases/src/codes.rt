@@ -1,8 +1,9 @@
 //! Calls on the code of the stack machine.
 
-ghost use Rattle.std.specs.Prelude.{◌≡◌, true};
+ghost use Rattle.std.specs.Prelude.{◌≡◌, None, is_some, true};
 ghost use Rattle.ar_value.specs.Fits.{fits};
 ghost use Rattle.ar_value.specs.View.{shape_view, value_view};
+ghost use Rattle.ar_cases.specs.Calls.{is_one_of, code_calls};
 
 use crate::fault::{CaseFault, Written};
 use crate::members;
@@ -19,13 +20,17 @@ use serde_json::Value as Json;
 use std::alloc::{AllocError, Global};
 use std::fmt::Write;
 
-pub(crate) fn put(alloc: Global, call: &str, case: &Json, out: &mut String) -> Written {
+/// Writes what a call on this subject answers; `None` for a call on another one.
+pub(crate) fn put(alloc: Global, call: &str, case: &Json, out: &mut String) -> Option<Written>
+    ensures known { is_some result ≡ is_one_of code_calls call.now }
+    ensures kept { result ≡ None → out.new ≡ out.old }
+{
     match call {
-        "decode" => put_decoded(alloc, case, out),
-        "compile" => put_compiled(alloc, case, out),
-        "verify" => put_verified(alloc, case, out),
-        "run_tested" => put_tested(alloc, case, out),
-        _ => Err(CaseFault::UnknownCall),
+        "decode" => Some(put_decoded(alloc, case, out)),
+        "compile" => Some(put_compiled(alloc, case, out)),
+        "verify" => Some(put_verified(alloc, case, out)),
+        "run_tested" => Some(put_tested(alloc, case, out)),
+        _ => None,
     }
 }
 

@@ -1,6 +1,9 @@
 //! Calls on conditions as texts: tokens, trees, and trees whose kinds are known.
 
-use crate::fault::{CaseFault, Written};
+ghost use Rattle.std.specs.Prelude.{◌≡◌, None, is_some};
+ghost use Rattle.ar_cases.specs.Calls.{is_one_of, condition_calls};
+
+use crate::fault::Written;
 use crate::members;
 use crate::printing::{put_between, put_decimal, put_pair, put_quoted, put_refusal};
 use crate::trees::put_tree;
@@ -12,12 +15,16 @@ use serde_json::Value as Json;
 use std::alloc::Global;
 use std::fmt::Write;
 
-pub(crate) fn put(alloc: Global, call: &str, case: &Json, out: &mut String) -> Written {
+/// Writes what a call on this subject answers; `None` for a call on another one.
+pub(crate) fn put(alloc: Global, call: &str, case: &Json, out: &mut String) -> Option<Written>
+    ensures known { is_some result ≡ is_one_of condition_calls call.now }
+    ensures kept { result ≡ None → out.new ≡ out.old }
+{
     match call {
-        "tokens" => put_tokens(alloc, case, out),
-        "parse" => put_parsed(alloc, case, out),
-        "check" => put_checked(alloc, case, out),
-        _ => Err(CaseFault::UnknownCall),
+        "tokens" => Some(put_tokens(alloc, case, out)),
+        "parse" => Some(put_parsed(alloc, case, out)),
+        "check" => Some(put_checked(alloc, case, out)),
+        _ => None,
     }
 }
 

@@ -1,14 +1,27 @@
 //! Answers to cases of the conformance suite, those on phases, judges and bundles aside.
 //!
-//! A case is a JSON object whose text `call` names a call, with the members that the call takes. [`put`]
-//! writes what the call answered.
+//! A case is a JSON object whose text `call` names a call, with the members that the call takes. [`answer`]
+//! gives what the call answers.
 //!
-//! - [`fault`]: why a case isn't answered
+//! - [`fault`]: why a case or a line isn't answered
 //! - [`members`]: the members of a case
 //! - [`printing`]: texts, numbers, shapes, values and refusals as they are printed
 //! - `numbers`, `shapes`, `templates`, `conditions`, `codes`: the calls, by their subjects
 //! - `trees`, `typed`: conditions as written and as typed, printed
+//!
+//! What is proved, of every case: which names are those of calls (`specs/Calls`); what a call on numbers
+//! or texts answers, `decimal` and `digits` aside (`specs/Numbers`); what the members of a case are, or
+//! that they are refused (`specs/Members`); how texts, numbers, values, shapes, lines and what a condition
+//! says are printed (`specs/Printing`); and the exit statuses (`specs/Faults`). What the other calls answer,
+//! and how trees, tokens, templates and code are printed, is only tested, by the suite.
 #![tactic(auto)]
+
+ghost use Rattle.std.specs.Prelude.{◌≡◌, IfSome, IsSomeAnd, is_some, string_bytes};
+ghost use Rattle.serde_json.specs.View.{view};
+ghost use Rattle.ar_value.specs.Answer.{Gives};
+ghost use Rattle.ar_cases.specs.Calls.{is_call};
+ghost use Rattle.ar_cases.specs.Members.{is_memory};
+ghost use Rattle.ar_cases.specs.Numbers.{Answers, number_answer};
 
 mod codes;
 mod conditions;
@@ -25,25 +38,37 @@ use crate::fault::{CaseFault, Written};
 use serde_json::Value as Json;
 use std::alloc::Global;
 
-/// Writes what a call answers. `UnknownCall` where it is one of another subject: nothing was written.
-pub fn put(alloc: Global, call: &str, case: &Json, out: &mut String) -> Written {
-    let mut written = numbers::put(alloc, call, case, out);
-    if is_other(written) {
-        written = shapes::put(alloc, call, case, out);
+/// What a call answers on a case. `None` where it is one of another subject, or none at all.
+#[tactic(auto, using(crate::proofs::Given::no_number))]
+pub fn answer(alloc: Global, call: &str, case: &Json) -> Option<Result<String, CaseFault>>
+    ensures known { is_some result ≡ is_call call.now }
+    ensures exact { IfSome (number_answer call.now (view case.now))
+        (λ answer. IsSomeAnd result (λ given. Gives is_memory string_bytes given answer)) }
+{
+    let mut out = String::new(alloc);
+    match put(alloc, call, case, &mut out)? {
+        Ok(()) => Some(Ok(out)),
+        Err(fault) => Some(Err(fault)),
     }
-    if is_other(written) {
-        written = templates::put(alloc, call, case, out);
-    }
-    if is_other(written) {
-        written = conditions::put(alloc, call, case, out);
-    }
-    if is_other(written) {
-        written = codes::put(alloc, call, case, out);
-    }
-    written
 }
 
-/// Whether the call is one of another subject, so that nothing was written.
-pub fn is_other(written: Written) -> bool {
-    matches!(written, Err(CaseFault::UnknownCall))
+#[tactic(auto, using(crate::proofs::Given::no_number))]
+fn put(alloc: Global, call: &str, case: &Json, out: &mut String) -> Option<Written>
+    ensures known { is_some result ≡ is_call call.now }
+    ensures exact { IfSome (number_answer call.now (view case.now)) (λ answer. IsSomeAnd result
+        (λ written. Answers written (string_bytes out.old) (string_bytes out.new) answer)) }
+{
+    if let Some(written) = numbers::put(alloc, call, case, out) {
+        return Some(written);
+    }
+    if let Some(written) = shapes::put(alloc, call, case, out) {
+        return Some(written);
+    }
+    if let Some(written) = templates::put(alloc, call, case, out) {
+        return Some(written);
+    }
+    if let Some(written) = conditions::put(alloc, call, case, out) {
+        return Some(written);
+    }
+    codes::put(alloc, call, case, out)
 }

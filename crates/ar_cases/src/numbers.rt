@@ -1,29 +1,45 @@
 //! Calls on numbers and texts.
 
-ghost use Rattle.std.specs.Prelude.{◌≡◌};
+ghost use Rattle.std.specs.Prelude.{◌≡◌, None, IfSome, IsSomeAnd, false, is_some, string_bytes};
 ghost use Rattle.std.specs.Char.{is_ascii_digit};
 ghost use Rattle.std.specs.List.{list_all};
+ghost use Rattle.ar_cases.specs.Calls.{is_one_of, number_calls};
+ghost use Rattle.serde_json.specs.View.{view};
+ghost use Rattle.ar_value.specs.Answer.{Gives};
+ghost use Rattle.ar_cases.specs.Numbers.{Answers, below_text, compare_answer, decimal_number, decimal_result, negate_answer, negated, number_answer, order_answer, ordering_text, outcome_text, result_answer, result_with, same_text_answer, text_answer, to_decimal_answer, whole_number, whole_result};
+ghost use Rattle.ar_cases.specs.Printing.{Appends};
 
 use crate::fault::{CaseFault, Written};
 use crate::members;
-use crate::printing::{put_decimal, put_number, put_quoted, put_refusal, put_str};
+use crate::printing::{
+    fault_name, put_decimal, put_number, put_quoted, put_refusal, put_str, put_truth,
+};
 use ar_value::{Decimal, Fault, Number, Text, compare, digits, whole};
 use serde_json::Value as Json;
 use std::alloc::Global;
 use std::cmp::Ordering;
 use std::fmt::Write;
 
-pub(crate) fn put(alloc: Global, call: &str, case: &Json, out: &mut String) -> Written {
+/// Writes what a call on this subject answers; `None` for a call on another one.
+pub(crate) fn put(alloc: Global, call: &str, case: &Json, out: &mut String) -> Option<Written>
+    ensures known { is_some result ≡ is_one_of number_calls call.now }
+    ensures kept { result ≡ None → out.new ≡ out.old }
+    ensures exact { IfSome (number_answer call.now (view case.now)) (λ answer. IsSomeAnd result
+        (λ written. Answers written (string_bytes out.old) (string_bytes out.new) answer)) }
+{
     match call {
-        "decimal" => put_decimal_of(alloc, case, out),
-        "digits" => put_digits(case, out),
-        "compare" => put_compare(case, out),
-        "order" => put_order(case, out),
-        "add" | "subtract" | "multiply" | "divide" | "remainder" => put_result(call, case, out),
-        "negate" | "to_decimal" => put_one(call, case, out),
-        "text" => put_text(alloc, case, out),
-        "same_text" => put_same_text(alloc, case, out),
-        _ => Err(CaseFault::UnknownCall),
+        "compare" => Some(put_compare(case, out)),
+        "order" => Some(put_order(case, out)),
+        "negate" => Some(put_negated(case, out)),
+        "to_decimal" => Some(put_to_decimal(case, out)),
+        "text" => Some(put_text(alloc, case, out)),
+        "same_text" => Some(put_same_text(alloc, case, out)),
+        "add" | "subtract" | "multiply" | "divide" | "remainder" => {
+            Some(put_result(call, case, out))
+        }
+        "decimal" => Some(put_decimal_of(alloc, case, out)),
+        "digits" => Some(put_digits(case, out)),
+        _ => None,
     }
 }
 
@@ -59,7 +75,9 @@ fn put_digits(case: &Json, out: &mut String) -> Written {
     Ok(())
 }
 
-fn put_ordering(out: &mut String, ordering: Ordering) -> Written {
+fn put_ordering(out: &mut String, ordering: Ordering) -> Written
+    ensures { Appends result (string_bytes out.old) (string_bytes out.new) (ordering_text ordering) }
+{
     match ordering {
         Ordering::Less => put_str(out, "less"),
         Ordering::Equal => put_str(out, "equal"),
@@ -67,85 +85,143 @@ fn put_ordering(out: &mut String, ordering: Ordering) -> Written {
     }
 }
 
-fn put_compare(case: &Json, out: &mut String) -> Written {
+fn put_compare(case: &Json, out: &mut String) -> Written
+    ensures { Answers result (string_bytes out.old) (string_bytes out.new) (compare_answer (view case.now)) }
+{
     let left = members::operand(case, "left")?;
     let right = members::operand(case, "right")?;
     put_ordering(out, compare(left, right))
 }
 
 /// How decimals are ordered, and whether the left one is below the right one.
-fn put_order(case: &Json, out: &mut String) -> Written {
+fn put_order(case: &Json, out: &mut String) -> Written
+    ensures { Answers result (string_bytes out.old) (string_bytes out.new) (order_answer (view case.now)) }
+{
     let left = members::decimal(case, "left")?;
     let right = members::decimal(case, "right")?;
     put_ordering(out, left.cmp(&right))?;
-    if left < right {
-        out.push_str(", below")?;
-    }
-    Ok(())
+    put_below(out, left < right)
 }
 
-fn put_outcome(out: &mut String, outcome: Result<Number, Fault>) -> Written {
+fn put_below(out: &mut String, is_below: bool) -> Written
+    ensures { Appends result (string_bytes out.old) (string_bytes out.new) (below_text is_below) }
+{
+    if is_below {
+        put_str(out, ", below")
+    } else {
+        Ok(())
+    }
+}
+
+fn put_outcome(out: &mut String, outcome: Result<Number, Fault>) -> Written
+    ensures { Appends result (string_bytes out.old) (string_bytes out.new) (outcome_text outcome) }
+{
     match outcome {
         Ok(number) => put_number(out, number),
-        Err(fault) => {
-            write!(out, "{fault}")?;
-            Ok(())
+        Err(fault) => put_str(out, fault_name(fault)),
+    }
+}
+
+fn put_result(call: &str, case: &Json, out: &mut String) -> Written
+    ensures { Answers result (string_bytes out.old) (string_bytes out.new)
+        (result_answer call.now (view case.now)) }
+{
+    let left = members::operand(case, "left")?;
+    put_outcome(out, result_with(call, left, case)?)
+}
+
+fn result_with(call: &str, left: Number, case: &Json) -> Result<Result<Number, Fault>, CaseFault>
+    ensures { Gives (λ _. false) (λ outcome. outcome) result (result_with call.now left (view case.now)) }
+{
+    match left {
+        Number::Whole(left) => Ok(of_wholes(call, left, members::whole(case, "right")?)),
+        Number::Decimal(left) => {
+            of_decimals(call, left, members::decimal(case, "right")?).ok_or(CaseFault::Member)
         }
     }
 }
 
-fn put_result(call: &str, case: &Json, out: &mut String) -> Written {
-    let outcome = match members::operand(case, "left")? {
-        Number::Whole(left) => of_wholes(call, left, members::whole(case, "right")?),
-        Number::Decimal(left) => of_decimals(call, left, members::decimal(case, "right")?),
-    };
-    put_outcome(out, outcome.ok_or(CaseFault::Member)?)
+/// Arithmetic of wholes, whose quotient is a decimal.
+fn of_wholes(call: &str, left: i64, right: i64) -> Result<Number, Fault>
+    ensures { result ≡ whole_result call.now left right }
+{
+    match call {
+        "add" => whole_number(whole::add(left, right)),
+        "subtract" => whole_number(whole::sub(left, right)),
+        "multiply" => whole_number(whole::mul(left, right)),
+        "divide" => decimal_number(Decimal::of_quotient(left, right)),
+        _ => whole_number(whole::rem(left, right)),
+    }
 }
 
-/// Arithmetic of wholes, whose quotient is a decimal.
-fn of_wholes(call: &str, left: i64, right: i64) -> Option<Result<Number, Fault>> {
-    match call {
-        "add" => Some(whole::add(left, right).map(Number::Whole)),
-        "subtract" => Some(whole::sub(left, right).map(Number::Whole)),
-        "multiply" => Some(whole::mul(left, right).map(Number::Whole)),
-        "divide" => Some(Decimal::of_quotient(left, right).map(Number::Decimal)),
-        _ => Some(whole::rem(left, right).map(Number::Whole)),
+fn whole_number(outcome: Result<i64, Fault>) -> Result<Number, Fault>
+    ensures { result ≡ whole_number outcome }
+{
+    match outcome {
+        Ok(whole) => Ok(Number::Whole(whole)),
+        Err(fault) => Err(fault),
+    }
+}
+
+fn decimal_number(outcome: Result<Decimal, Fault>) -> Result<Number, Fault>
+    ensures { result ≡ decimal_number outcome }
+{
+    match outcome {
+        Ok(decimal) => Ok(Number::Decimal(decimal)),
+        Err(fault) => Err(fault),
     }
 }
 
 /// Arithmetic of decimals, which have no remainder.
-fn of_decimals(call: &str, left: Decimal, right: Decimal) -> Option<Result<Number, Fault>> {
+fn of_decimals(call: &str, left: Decimal, right: Decimal) -> Option<Result<Number, Fault>>
+    ensures { result ≡ decimal_result call.now left right }
+{
     match call {
-        "add" => Some(left.add(right).map(Number::Decimal)),
-        "subtract" => Some(left.sub(right).map(Number::Decimal)),
-        "multiply" => Some(left.mul(right).map(Number::Decimal)),
-        "divide" => Some(left.div(right).map(Number::Decimal)),
+        "add" => Some(decimal_number(left.add(right))),
+        "subtract" => Some(decimal_number(left.sub(right))),
+        "multiply" => Some(decimal_number(left.mul(right))),
+        "divide" => Some(decimal_number(left.div(right))),
         _ => None,
     }
 }
 
-/// A negation, or a whole as a decimal.
-fn put_one(call: &str, case: &Json, out: &mut String) -> Written {
-    if call == "to_decimal" {
-        let whole = members::whole(case, "operand")?;
-        return put_outcome(out, Decimal::of_whole(whole).map(Number::Decimal));
-    }
-    match members::operand(case, "operand")? {
-        Number::Whole(operand) => put_outcome(out, whole::neg(operand).map(Number::Whole)),
-        Number::Decimal(operand) => put_outcome(out, operand.neg().map(Number::Decimal)),
+fn put_negated(case: &Json, out: &mut String) -> Written
+    ensures { Answers result (string_bytes out.old) (string_bytes out.new) (negate_answer (view case.now)) }
+{
+    let operand = members::operand(case, "operand")?;
+    put_outcome(out, negated(operand))
+}
+
+fn negated(operand: Number) -> Result<Number, Fault>
+    ensures { result ≡ negated operand }
+{
+    match operand {
+        Number::Whole(operand) => whole_number(whole::neg(operand)),
+        Number::Decimal(operand) => decimal_number(operand.neg()),
     }
 }
 
+/// A whole as a decimal.
+fn put_to_decimal(case: &Json, out: &mut String) -> Written
+    ensures { Answers result (string_bytes out.old) (string_bytes out.new) (to_decimal_answer (view case.now)) }
+{
+    let operand = members::whole(case, "operand")?;
+    put_outcome(out, decimal_number(Decimal::of_whole(operand)))
+}
+
 /// A text that was copied, given back and taken again.
-fn put_text(alloc: Global, case: &Json, out: &mut String) -> Written {
+fn put_text(alloc: Global, case: &Json, out: &mut String) -> Written
+    ensures { Answers result (string_bytes out.old) (string_bytes out.new) (text_answer (view case.now)) }
+{
     let copy = Text::of(alloc, members::text(case, "text")?)?;
     let again = Text::from(copy.into_string());
     put_quoted(out, again.as_str())
 }
 
-fn put_same_text(alloc: Global, case: &Json, out: &mut String) -> Written {
+fn put_same_text(alloc: Global, case: &Json, out: &mut String) -> Written
+    ensures { Answers result (string_bytes out.old) (string_bytes out.new) (same_text_answer (view case.now)) }
+{
     let left = Text::of(alloc, members::text(case, "left")?)?;
     let right = Text::of(alloc, members::text(case, "right")?)?;
-    write!(out, "{}", left == right)?;
-    Ok(())
+    put_truth(out, left == right)
 }

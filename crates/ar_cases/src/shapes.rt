@@ -1,5 +1,8 @@
 //! Calls on shapes, kinds and values.
 
+ghost use Rattle.std.specs.Prelude.{◌≡◌, None, is_some};
+ghost use Rattle.ar_cases.specs.Calls.{is_one_of, shape_calls};
+
 use crate::fault::{CaseFault, Written};
 use crate::members;
 use crate::printing::{put_refusal, put_shape, put_str, put_value};
@@ -10,16 +13,20 @@ use serde_json::Value as Json;
 use std::alloc::Global;
 use std::fmt::Write;
 
-pub(crate) fn put(alloc: Global, call: &str, case: &Json, out: &mut String) -> Written {
+/// Writes what a call on this subject answers; `None` for a call on another one.
+pub(crate) fn put(alloc: Global, call: &str, case: &Json, out: &mut String) -> Option<Written>
+    ensures known { is_some result ≡ is_one_of shape_calls call.now }
+    ensures kept { result ≡ None → out.new ≡ out.old }
+{
     match call {
-        "read_shape" => put_read_shape(alloc, case, out),
-        "plain" => put_plain(alloc, case, out),
-        "field_shape" => put_field_shape(alloc, case, out),
-        "merge" | "common" => put_joined(alloc, call, case, out),
-        "read_value" => put_read_value(alloc, case, out),
-        "field" => put_field(alloc, case, out),
-        "fits" => put_fits(alloc, case, out),
-        _ => Err(CaseFault::UnknownCall),
+        "read_shape" => Some(put_read_shape(alloc, case, out)),
+        "plain" => Some(put_plain(alloc, case, out)),
+        "field_shape" => Some(put_field_shape(alloc, case, out)),
+        "merge" | "common" => Some(put_joined(alloc, call, case, out)),
+        "read_value" => Some(put_read_value(alloc, case, out)),
+        "field" => Some(put_field(alloc, case, out)),
+        "fits" => Some(put_fits(alloc, case, out)),
+        _ => None,
     }
 }
 

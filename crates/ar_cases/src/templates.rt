@@ -1,5 +1,8 @@
 //! Calls on templates and their arguments.
 
+ghost use Rattle.std.specs.Prelude.{◌≡◌, None, is_some};
+ghost use Rattle.ar_cases.specs.Calls.{is_one_of, template_calls};
+
 use crate::fault::{CaseFault, Written};
 use crate::members;
 use crate::printing::{put_quoted, put_refusal, put_str};
@@ -9,11 +12,15 @@ use serde_json::Value as Json;
 use std::alloc::Global;
 use std::fmt::Write;
 
-pub(crate) fn put(alloc: Global, call: &str, case: &Json, out: &mut String) -> Written {
+/// Writes what a call on this subject answers; `None` for a call on another one.
+pub(crate) fn put(alloc: Global, call: &str, case: &Json, out: &mut String) -> Option<Written>
+    ensures known { is_some result ≡ is_one_of template_calls call.now }
+    ensures kept { result ≡ None → out.new ≡ out.old }
+{
     match call {
-        "bind" => put_bound(alloc, case, out),
-        "arguments" => put_arguments(alloc, case, out),
-        _ => Err(CaseFault::UnknownCall),
+        "bind" => Some(put_bound(alloc, case, out)),
+        "arguments" => Some(put_arguments(alloc, case, out)),
+        _ => None,
     }
 }
 

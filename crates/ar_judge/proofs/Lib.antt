@@ -1,3 +1,5 @@
 pub mod Running
 pub mod Refusing
 pub mod OneCause
+pub mod Headline
+pub mod Filters

@@ -13,6 +13,7 @@ use Rattle.ar_syntax.specs.Parse.{parse_of}
 use Rattle.ar_check.specs.Check.{checked}
 use Rattle.ar_op.specs.Code.{Code}
 use Rattle.ar_compile.proofs.Checked.{checked_in_limits}
+use Rattle.ar_compile.proofs.Lawful.{compiled_is_code}
 use Rattle.ar_compile.specs.Ends.{EndsWith}
 use Rattle.ar_machine.proofs.Ends.{one_end}
 use Rattle.ar_machine.specs.Run.{IsDone}
@@ -40,8 +41,8 @@ ready shape text tree condition verified parsed is runnable =
     }
 
 -- and is what the text is built to
-pub built : (shape : Shape) (text : List ℕ) (tree : Expression) (condition : Typed) (verified : Verified) → parse_of text ≡ Ok tree → checked shape tree ≡ Ok condition → IsRunnable shape condition verified → IsBuilt shape text (condition_of text verified)
-built shape text tree condition verified parsed is runnable =
+pub built : (shape : Shape) (text : List ℕ) (tree : Expression) (condition : Typed) (verified : Verified) → parse_of text ≡ Ok tree → WrittenInLimits tree → checked shape tree ≡ Ok condition → IsRunnable shape condition verified → IsBuilt shape text (condition_of text verified)
+built shape text tree condition verified parsed written is runnable =
     record {
       text_is = refl;
       shape_is = runnable.shape_is;
@@ -49,6 +50,7 @@ built shape text tree condition verified parsed is runnable =
       typed = typed_as shape text tree condition parsed is;
       short = runnable.short;
       code_is = runnable.code_is;
+      is_code = compiled_is_code condition (in_limits shape tree condition written is) runnable.short;
       accepted = runnable.accepted;
     }
 
@@ -56,7 +58,7 @@ same_answer : (first second : Outcome) → Done first ≡ Done second → first.
 same_answer first second h = let same : first ≡ second = cc in ap (λ (o : Outcome). o.answer) same
 
 -- a run of code has one answer
-one_answer : (code : Code) (value : Value) (fuel cost : ℕ) (answer meant : Result Bool Fault) → IsDone code value fuel answer cost → EndsWith code value meant → answer ≡ meant
+pub one_answer : (code : Code) (value : Value) (fuel cost : ℕ) (answer meant : Result Bool Fault) → IsDone code value fuel answer cost → EndsWith code value meant → answer ≡ meant
 one_answer code value fuel cost answer meant done ends =
     same_answer (record { answer = answer; cost = cost }) (record { answer = meant; cost = ends.cost })
     (one_end code value (cost + ends.cost) (Done (record { answer = answer; cost = cost })) (Done (record { answer = meant; cost = ends.cost })) (record { steps = done.steps; done = done.done; paid = omega arith })

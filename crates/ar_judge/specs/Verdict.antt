@@ -7,6 +7,7 @@ use Rattle.ar_value.specs.View.{shape_view, value_view}
 use Rattle.ar_value.specs.declared.fault.Fault.{Fault}
 use Rattle.ar_json.specs.declared.value_reading.ShapeFault.{ShapeFault}
 use Rattle.ar_json.specs.declared.value_reading.ShapeFault.TheVariants as shape_fault
+use Rattle.ar_machine.specs.Run.{HasNoFilter}
 use Rattle.ar_judge.specs.Condition.{Condition, IsBuilt, IsRefused, said}
 use Rattle.ar_judge.specs.declared.error.BuildCause.{BuildCause}
 use Rattle.ar_judge.specs.declared.error.BuildCause.TheVariants as causes
@@ -71,11 +72,16 @@ Suits judge provider = Unit {0}
 Suits judge (misfit fault) = fault ≢ shape_fault.OutOfMemory
 Suits judge (measured value) = FitsEach value judge.success × FitsEach value judge.failure
 
--- no condition is run on the sample: nothing was measured, or there is no condition
-abbrev pub RunsNothing : Judge → Sample → Type 0
-RunsNothing judge provider = Unit {0}
-RunsNothing judge (misfit fault) = Unit {0}
-RunsNothing judge (measured value) = (judge.success ≡ None) × (judge.failure ≡ None)
+-- a condition that is there has no `filter`
+abbrev pub HasNoFilterIfThere : Option Condition → Type 0
+HasNoFilterIfThere (Some condition) = HasNoFilter condition.verified.code
+HasNoFilterIfThere None = Unit {0}
+
+-- judging takes no memory: nothing was measured, or no condition has a `filter`
+abbrev pub TakesNoMemory : Judge → Sample → Type 0
+TakesNoMemory judge provider = Unit {0}
+TakesNoMemory judge (misfit fault) = Unit {0}
+TakesNoMemory judge (measured value) = HasNoFilterIfThere judge.success × HasNoFilterIfThere judge.failure
 
 -- ---- judges of texts
 

@@ -1,11 +1,13 @@
 //! A condition that can be run.
 
-ghost use Rattle.std.specs.Prelude.{◌≡◌, Some, true, IfOk};
+ghost use Rattle.std.specs.Prelude.{◌≡◌, Some, true, IfOk, IsOk};
 ghost use Rattle.ar_value.specs.Fits.{fits};
 ghost use Rattle.ar_value.specs.View.{shape_view, value_view};
 ghost use Rattle.ar_condition.specs.Limits.{InLimits};
 ghost use Rattle.ar_condition.specs.Views.{typed_view};
+ghost use Rattle.ar_machine.specs.Run.{HasNoFilter};
 ghost use Rattle.ar_judge.specs.Condition.{BuildsTo, said};
+ghost use Rattle.ar_judge.specs.Headline.{HeadlineHolds};
 ghost use Rattle.ar_judge.specs.Private.Readiness.{Readies};
 
 use crate::error::BuildCause;
@@ -50,9 +52,12 @@ impl Condition {
     /// # Errors
     ///
     /// The first fault of its grammar, of its kinds, or of its code.
-    #[tactic(auto, using(crate::proofs::Running::in_limits, crate::proofs::Running::ready, crate::proofs::Running::built))]
+    #[tactic(auto, using(crate::proofs::Running::in_limits, crate::proofs::Running::ready, crate::proofs::Running::built, crate::proofs::Headline::built_holds))]
     pub fn build(alloc: Global, text: &str, shape: Shape) -> Result<Condition, BuildCause>
-        ensures { BuildsTo (shape_view shape) text.now result }
+        ensures built { BuildsTo (shape_view shape) text.now result }
+        // On each value of the shape its code ends within its budget, is never stuck, and answers what the
+        // text means.
+        ensures headline { IfOk result (HeadlineHolds (shape_view shape) text.now) }
     {
         let tree = parse(alloc, text)?;
         let tree = check(alloc, tree, &shape)?;
@@ -78,12 +83,14 @@ impl Condition {
     ///
     /// # Errors
     ///
-    /// Want of memory alone, which a run takes for its operands.
+    /// Want of memory alone, which a run of a condition with a `filter` takes.
     #[tactic(auto, using(crate::proofs::Running::run_says))]
     pub fn answer(&self, alloc: Global, value: &Value) -> Result<Answer, AllocError>
         requires { fits (value_view value.now) (shape_view self.now.verified.shape) ≡ true }
-        ensures { IfOk result (λ answer.
+        ensures exact { IfOk result (λ answer.
             said (shape_view self.now.verified.shape) self.now.text (value_view value.now) ≡ Some answer) }
+        // A condition without `filter` is run whatever memory is left.
+        ensures without_memory { HasNoFilter self.now.verified.code → IsOk result }
     {
         Ok(run(alloc, &self.verified, value)?.answer)
     }

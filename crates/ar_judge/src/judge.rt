@@ -2,7 +2,8 @@
 
 ghost use Rattle.std.specs.Prelude.{◌≡◌, IfErr, IfOk, IsOk, None, option_and_then, option_map};
 ghost use Rattle.ar_value.specs.View.{shape_view, value_view};
-ghost use Rattle.ar_judge.specs.Verdict.{FitsEach, HasNoText, IsJudge, RefusesTexts, RunsNothing, Suits, said_of, sample_view, verdict, verdict_by};
+ghost use Rattle.ar_judge.specs.Headline.{JudgeHeadlineHolds};
+ghost use Rattle.ar_judge.specs.Verdict.{FitsEach, HasNoFilterIfThere, HasNoText, IsJudge, RefusesTexts, Suits, TakesNoMemory, said_of, sample_view, verdict, verdict_by};
 ghost use Rattle.ar_judge.specs.Private.Building.{BuildsEach, failure_refused, success_refused};
 
 use crate::condition::Condition;
@@ -49,6 +50,10 @@ impl Judge {
     pub fn build(alloc: Global, metric: &BoundMetric, shape: &Shape) -> Result<Judge, BuildError>
         ensures built { IfOk result
             (IsJudge (shape_view shape.now) metric.now.success_condition metric.now.failure_condition) }
+        // On each value of the shape the code of its conditions ends within its budget, is never stuck, and
+        // answers what the texts mean; the verdict is by these answers.
+        ensures headline { IfOk result
+            (JudgeHeadlineHolds (shape_view shape.now) metric.now.success_condition metric.now.failure_condition) }
         ensures refused { IfErr result
             (RefusesTexts (shape_view shape.now) metric.now.success_condition metric.now.failure_condition) }
         // Where there is no text, want of memory is never answered.
@@ -80,12 +85,12 @@ impl Judge {
     ///
     /// # Errors
     ///
-    /// Want of memory alone, which runs of conditions take for their operands.
+    /// Want of memory alone, which runs of conditions with a `filter` take.
     pub fn judge(&self, alloc: Global, sample: &Sample) -> Result<Verdict, AllocError>
         requires { Suits self.now (sample_view sample.now) }
         ensures exact { IfOk result (λ found. found ≡ verdict self.now (sample_view sample.now)) }
-        // Where no condition is run, want of memory is never answered.
-        ensures without_memory { RunsNothing self.now (sample_view sample.now) → IsOk result }
+        // Where no condition with a `filter` is run, want of memory is never answered.
+        ensures without_memory { TakesNoMemory self.now (sample_view sample.now) → IsOk result }
     {
         match sample {
             Sample::Provider => Ok(Verdict::Error(Cause::Provider)),
@@ -139,7 +144,7 @@ fn said(
 ) -> Result<Option<Answer>, AllocError>
     requires { FitsEach (value_view value.now) condition.now }
     ensures said { IfOk result (λ said. said ≡ option_and_then (said_of (value_view value.now)) condition.now) }
-    ensures without_memory { condition.now ≡ None → IsOk result }
+    ensures without_memory { HasNoFilterIfThere condition.now → IsOk result }
 {
     match condition {
         Some(condition) => Ok(Some(condition.answer(alloc, value)?)),

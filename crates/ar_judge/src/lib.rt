@@ -9,11 +9,13 @@
 //! - [`condition`]: one condition, ready to be run
 //! - [`judge`]: the conditions of a metric; [`sample`]: what it judges; [`verdict`]: what it finds
 //! - [`error`]: why a text is no condition that can be run
+//! - [`laws`]: what holds of each condition and judge that is built, on every value of the shape
 #![tactic(auto)]
 
 pub mod condition;
 pub mod error;
 pub mod judge;
+pub mod laws;
 pub mod sample;
 pub mod verdict;
 

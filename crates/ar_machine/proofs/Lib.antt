@@ -1,4 +1,5 @@
-pub mod Lending
+pub mod Lists
+pub mod Beside
 pub mod Well
 pub mod Kinded
 pub mod Entries

@@ -3,4 +3,6 @@ pub mod Memory
 pub mod Operand
 pub mod State
 pub mod Same
+pub mod Beside
+pub mod Countable
 pub mod Unchecked

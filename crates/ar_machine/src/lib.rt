@@ -8,9 +8,8 @@
 //! that code makes take. Texts and values are lent by the measured value and by the code.
 //!
 //! [`run`] runs verified code on a value of its shape, which ends with an answer within its budget. Code
-//! that makes no list, by a list literal or `filter`, is run without operand tests, on stacks in the
-//! run's own frame: it takes no memory, so [`run`] succeeds whatever memory is left. Other code is run
-//! as by [`run_tested`].
+//! without `filter` is run without operand tests, on stacks in the run's own frame: it takes no memory,
+//! so [`run`] succeeds whatever memory is left. Other code is run as by [`run_tested`].
 //!
 //! - [`outcome`]: how runs end
 //! - `runs`: runs, loops over states; `state`: those

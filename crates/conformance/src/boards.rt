@@ -15,10 +15,11 @@ use serde_json::Value as Json;
 use std::alloc::{AllocError, Global};
 use std::fmt::Write;
 
-pub(crate) fn put(alloc: Global, call: &str, case: &Json, out: &mut String) -> Written {
+/// Writes what a call on this subject answers; `None` for a call on another one.
+pub(crate) fn put(alloc: Global, call: &str, case: &Json, out: &mut String) -> Option<Written> {
     match call {
-        "core" => put_core(alloc, case, out),
-        _ => Err(CaseFault::UnknownCall),
+        "core" => Some(put_core(alloc, case, out)),
+        _ => None,
     }
 }
 

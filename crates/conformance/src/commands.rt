@@ -7,10 +7,11 @@ use serde_json::Value as Json;
 use std::alloc::Global;
 use std::fmt::Write;
 
-pub(crate) fn put(alloc: Global, call: &str, case: &Json, out: &mut String) -> Written {
+/// Writes what a call on this subject answers; `None` for a call on another one.
+pub(crate) fn put(alloc: Global, call: &str, case: &Json, out: &mut String) -> Option<Written> {
     match call {
-        "command_of" => put_command(alloc, case, out),
-        _ => Err(CaseFault::UnknownCall),
+        "command_of" => Some(put_command(alloc, case, out)),
+        _ => None,
     }
 }
 

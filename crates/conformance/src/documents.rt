@@ -14,13 +14,14 @@ use serde_json::Value as Json;
 use std::alloc::Global;
 use std::fmt::Write;
 
-pub(crate) fn put(alloc: Global, call: &str, case: &Json, out: &mut String) -> Written {
+/// Writes what a call on this subject answers; `None` for a call on another one.
+pub(crate) fn put(alloc: Global, call: &str, case: &Json, out: &mut String) -> Option<Written> {
     match call {
-        "read_json" => put_json(alloc, case, out),
+        "read_json" => Some(put_json(alloc, case, out)),
         "read_bundle" | "findings" | "limits" | "report" | "run_phases" | "bounds" | "list" => {
-            put_document(alloc, call, case, out)
+            Some(put_document(alloc, call, case, out))
         }
-        _ => Err(CaseFault::UnknownCall),
+        _ => None,
     }
 }
 

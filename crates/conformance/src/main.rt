@@ -17,8 +17,8 @@ mod documents;
 mod judges;
 mod phases;
 
-use ar_cases::fault::{CaseFault, Written};
-use ar_cases::{is_other, members};
+use ar_cases::fault::{CaseFault, LineFault, Written};
+use ar_cases::{answer, members};
 use serde_json::Value as Json;
 use std::alloc::Global;
 use std::io;
@@ -45,15 +45,15 @@ fn run<R: AllocGlobal + Input + Print + Eprint>(rt: &R) -> u8 {
 }
 
 /// A read or a write that failed, or want of memory.
-fn of_device(error: &io::Error) -> CaseFault {
+fn of_device(error: &io::Error) -> LineFault {
     if error.kind() == io::ErrorKind::OutOfMemory {
-        CaseFault::OutOfMemory
+        LineFault::Case(CaseFault::OutOfMemory)
     } else {
-        CaseFault::Device
+        LineFault::Device
     }
 }
 
-fn print_answer<R: AllocGlobal + Print>(rt: &R, line: &str) -> Written {
+fn print_answer<R: AllocGlobal + Print>(rt: &R, line: &str) -> Result<(), LineFault> {
     let answer = answer_of(rt.alloc(), line)?;
     match println!(rt; "{answer}") {
         Ok(()) => Ok(()),
@@ -62,35 +62,49 @@ fn print_answer<R: AllocGlobal + Print>(rt: &R, line: &str) -> Written {
 }
 
 /// The answer to a line.
-fn answer_of(alloc: Global, line: &str) -> Result<String, CaseFault> {
+fn answer_of(alloc: Global, line: &str) -> Result<String, LineFault> {
     let case = match Json::from_str(alloc, line) {
         Ok(case) => case,
-        Err(error) if error.is_memory() => return Err(CaseFault::OutOfMemory),
-        Err(_) => return Err(CaseFault::NoJson),
+        Err(error) if error.is_memory() => return Err(LineFault::Case(CaseFault::OutOfMemory)),
+        Err(_) => return Err(LineFault::NoJson),
     };
-    let mut out = String::new(alloc);
     let call = members::text(&case, "call")?;
-    put_answer(alloc, call, &case, &mut out)?;
-    Ok(out)
+    match answer_to(alloc, call, &case) {
+        Some(Ok(answer)) => Ok(answer),
+        Some(Err(fault)) => Err(LineFault::Case(fault)),
+        None => Err(LineFault::UnknownCall),
+    }
 }
 
-/// Writes what a call of any subject answers.
-fn put_answer(alloc: Global, call: &str, case: &Json, out: &mut String) -> Written {
-    let mut written = ar_cases::put(alloc, call, case, out);
-    if is_other(written) {
-        written = phases::put(alloc, call, case, out);
+/// What a call of any subject answers on a case; `None` where it is none.
+fn answer_to(alloc: Global, call: &str, case: &Json) -> Option<Result<String, CaseFault>> {
+    match answer(alloc, call, case) {
+        Some(answered) => Some(answered),
+        None => own_answer(alloc, call, case),
     }
-    if is_other(written) {
-        written = judges::put(alloc, call, case, out);
+}
+
+/// What a call of this program's own subjects answers.
+fn own_answer(alloc: Global, call: &str, case: &Json) -> Option<Result<String, CaseFault>> {
+    let mut out = String::new(alloc);
+    match put(alloc, call, case, &mut out)? {
+        Ok(()) => Some(Ok(out)),
+        Err(fault) => Some(Err(fault)),
     }
-    if is_other(written) {
-        written = documents::put(alloc, call, case, out);
+}
+
+fn put(alloc: Global, call: &str, case: &Json, out: &mut String) -> Option<Written> {
+    if let Some(written) = phases::put(alloc, call, case, out) {
+        return Some(written);
     }
-    if is_other(written) {
-        written = boards::put(alloc, call, case, out);
+    if let Some(written) = judges::put(alloc, call, case, out) {
+        return Some(written);
     }
-    if is_other(written) {
-        written = commands::put(alloc, call, case, out);
+    if let Some(written) = documents::put(alloc, call, case, out) {
+        return Some(written);
     }
-    written
+    if let Some(written) = boards::put(alloc, call, case, out) {
+        return Some(written);
+    }
+    commands::put(alloc, call, case, out)
 }

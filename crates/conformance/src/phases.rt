@@ -9,12 +9,13 @@ use serde_json::Value as Json;
 use std::alloc::Global;
 use std::fmt::Write;
 
-pub(crate) fn put(alloc: Global, call: &str, case: &Json, out: &mut String) -> Written {
+/// Writes what a call on this subject answers; `None` for a call on another one.
+pub(crate) fn put(alloc: Global, call: &str, case: &Json, out: &mut String) -> Option<Written> {
     match call {
-        "phase" => put_phase(case, out),
-        "positive_counts" => put_positive(alloc, case, out),
-        "phases" => put_phases(alloc, case, out),
-        _ => Err(CaseFault::UnknownCall),
+        "phase" => Some(put_phase(case, out)),
+        "positive_counts" => Some(put_positive(alloc, case, out)),
+        "phases" => Some(put_phases(alloc, case, out)),
+        _ => None,
     }
 }
 

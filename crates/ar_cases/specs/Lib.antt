@@ -1,0 +1,5 @@
+pub mod Faults
+pub mod Members
+pub mod Printing
+pub mod Calls
+pub mod Numbers

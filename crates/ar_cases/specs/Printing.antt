@@ -1,0 +1,152 @@
+-- How texts, numbers, values, answers, runs and shapes are printed: as bytes in UTF-8.
+use Rattle.std.specs.Prelude.{◌≡◌, ℕ, zero, suc, ◌*◌, ◌/◌, ◌%◌, ◌==◌, nat_lt, ℤ, unsigned_abs, Bool, true, false, if◌then◌else◌, List, [], ◌∷◌, ◌++◌, codes, decimal, flat_map, Result, Ok, Err, ⊤}
+use Rattle.std.specs.Char.{digit_char, encode_utf8}
+use Rattle.std.specs.Fmt.{signed_decimal}
+use Rattle.std.specs.Int.{is_negative}
+use Rattle.std.specs.Str.{chars}
+use Rattle.ar_machine.specs.declared.outcome.Ended.{Ended}
+use Rattle.ar_machine.specs.declared.outcome.Ended.TheVariants.{Done, Stuck, Spent}
+use Rattle.ar_machine.specs.declared.outcome.Outcome.{Outcome}
+use Rattle.ar_value.specs.Shape.{Shape, FieldShapes}
+use Rattle.ar_value.specs.Shape as shapes
+use Rattle.ar_value.specs.Value.{Value, Items, Fields}
+use Rattle.ar_value.specs.Value as values
+use Rattle.ar_value.specs.declared.decimal.Number.{Number}
+use Rattle.ar_value.specs.declared.decimal.Number.TheVariants.{Whole, Decimal}
+use Rattle.ar_cases.specs.declared.fault.CaseFault.{CaseFault}
+use Rattle.ar_cases.specs.declared.fault.CaseFault.TheVariants.{OutOfMemory}
+use Rattle.ar_value.specs.declared.fault.Fault.{Fault}
+use Rattle.ar_value.specs.declared.fault.Fault.TheVariants.{IndexOutOfRange, NilOperand, Overflow, DivisionByZero}
+
+-- what is written stands behind what was there, or memory is wanting
+abbrev pub Appends : Result ⊤ CaseFault → (earlier later text : List ℕ) → Type 0
+Appends (Ok written) earlier later text = later ≡ earlier ++ text
+Appends (Err fault) earlier later text = fault ≡ OutOfMemory
+
+-- ---- texts
+
+-- a control character by its code, below U+0020
+abbrev pub code_escape : (character : ℕ) → List ℕ
+code_escape character = codes "\\u00" ++ (digit_char (character / 16) ∷ digit_char (character % 16) ∷ [])
+
+-- a character in a JSON string (RFC 8259), escaped only where it has to be
+abbrev pub escaped : (character : ℕ) → List ℕ
+escaped character =
+    if character == 34 then codes "\\\""
+    else (if character == 92 then codes "\\\\"
+    else (if character == 10 then codes "\\n"
+    else (if character == 13 then codes "\\r"
+    else (if character == 9 then codes "\\t"
+    else (if nat_lt character 32 then code_escape character
+    else encode_utf8 character)))))
+
+-- a text as a JSON string
+unfoldable pub quoted : (text : List ℕ) → List ℕ
+quoted text = codes "\"" ++ (flat_map escaped (chars text) ++ codes "\"")
+
+-- what stands before each item of a list but the first
+abbrev pub between : (first : Bool) → (text : List ℕ) → List ℕ
+between first text = if first then [] else text
+
+-- Lines, one behind another: a line's end is a slash between blanks where something stands behind it.
+
+abbrev pub line_end : (behind : List ℕ) → List ℕ
+line_end [] = []
+line_end (character ∷ behind) = codes " / "
+
+abbrev pub in_one_line : (characters : List ℕ) → List ℕ
+in_one_line [] = []
+in_one_line (character ∷ behind) = (if character == 10 then line_end behind else encode_utf8 character) ++ in_one_line behind
+
+unfoldable pub lines_text : (text : List ℕ) → List ℕ
+lines_text text = in_one_line (chars text)
+
+-- ---- numbers
+
+-- The digits of so many millionths below one, `places` at most, and none behind the last that isn't zero: a digit, and
+-- the digits of ten times what is left.
+abbrev pub fraction_text : (places millionths : ℕ) → List ℕ
+fraction_text zero millionths = []
+fraction_text (suc places) millionths = decimal (millionths / 100000) ++ (if millionths % 100000 == 0 then [] else fraction_text places (millionths % 100000 * 10))
+
+abbrev pub sign_text : ℤ → List ℕ
+sign_text z = if is_negative z then codes "-" else []
+
+-- a decimal by its millionths, with at least one digit behind its point
+unfoldable pub decimal_text : (millionths : ℤ) → List ℕ
+decimal_text millionths = sign_text millionths ++ (decimal (unsigned_abs millionths / 1000000) ++ (codes "." ++ fraction_text 6 (unsigned_abs millionths % 1000000)))
+
+abbrev pub number_text : Number → List ℕ
+number_text (Whole whole) = signed_decimal whole
+number_text (Decimal millionths) = decimal_text millionths
+
+-- ---- values, as JSON without blanks, but for decimals, which are numbers with a point
+
+abbrev pub truth_text : Bool → List ℕ
+truth_text true = codes "true"
+truth_text false = codes "false"
+
+abbrev mutual
+  pub value_text : Value → List ℕ
+  value_text values.nil = codes "null"
+  value_text (values.bool truth) = truth_text truth
+  value_text (values.whole whole) = signed_decimal whole
+  value_text (values.decimal millionths) = decimal_text millionths
+  value_text (values.text text) = quoted text
+  value_text (values.list items) = codes "[" ++ (items_text true items ++ codes "]")
+  value_text (values.object fields) = codes "{" ++ (fields_text true fields ++ codes "}")
+
+  -- `first`: no item stands before these
+  pub items_text : (first : Bool) → Items → List ℕ
+  items_text first values.no_items = []
+  items_text first (values.item value others) = (between first (codes ",") ++ value_text value) ++ items_text false others
+
+  -- likewise
+  pub fields_text : (first : Bool) → Fields → List ℕ
+  fields_text first values.no_fields = []
+  fields_text first (values.field name value others) = (between first (codes ",") ++ (quoted name ++ (codes ":" ++ value_text value))) ++ fields_text false others
+
+-- ---- what a condition says
+
+abbrev pub fault_name : Fault → List ℕ
+fault_name IndexOutOfRange = codes "IndexOutOfRange"
+fault_name NilOperand = codes "NilOperand"
+fault_name Overflow = codes "Overflow"
+fault_name DivisionByZero = codes "DivisionByZero"
+
+abbrev pub answer_text : Result Bool Fault → List ℕ
+answer_text (Ok truth) = truth_text truth
+answer_text (Err fault) = codes "fault " ++ fault_name fault
+
+-- ---- how a run of code ends
+
+abbrev pub done_text : Outcome → List ℕ
+done_text outcome = answer_text outcome.answer ++ (codes " cost=" ++ decimal outcome.cost)
+
+abbrev pub ended_text : Ended → List ℕ
+ended_text (Done outcome) = done_text outcome
+ended_text (Stuck place) = codes "stuck " ++ decimal place
+ended_text Spent = codes "spent"
+
+-- ---- shapes, as the JSON that declares them, without blanks
+
+abbrev mutual
+  pub shape_text : Shape → List ℕ
+  shape_text shapes.bool = codes "\"bool\""
+  shape_text shapes.whole = codes "\"whole\""
+  shape_text shapes.decimal = codes "\"decimal\""
+  shape_text shapes.text = codes "\"text\""
+  shape_text (shapes.list item max) = codes "{\"list\":" ++ (shape_text item ++ (codes ",\"max\":" ++ (decimal max ++ codes "}")))
+  shape_text (shapes.object fields) = codes "{\"record\":{" ++ (field_shapes_text true fields ++ codes "}}")
+  shape_text (shapes.optional plain) = codes "{\"optional\":" ++ (shape_text plain ++ codes "}")
+
+  -- `first`: no field stands before these
+  pub field_shapes_text : (first : Bool) → FieldShapes → List ℕ
+  field_shapes_text first shapes.no_fields = []
+  field_shapes_text first (shapes.field name shape others) = (between first (codes ",") ++ (quoted name ++ (codes ":" ++ shape_text shape))) ++ field_shapes_text false others
+
+-- ---- refusals
+
+-- a text that has another in front
+abbrev pub Extends : (earlier later : List ℕ) → Type 0
+Extends earlier later = (added : List ℕ) × (later ≡ earlier ++ added)

@@ -1,0 +1,94 @@
+-- Code of conditions without `filter` has none.
+use Rattle.std.proofs.Common.{◌≡◌, ℕ, ◌+◌, Bool, true, false, ◌||◌, List, [], ◌∷◌, ◌++◌, Result, Ok, refl, sym, ap, subst, ◌∙◌}
+use Rattle.std.specs.List.{list_any}
+use Rattle.std.proofs.lemmas.List.Folds.{list_any-append}
+use Rattle.ar_value.specs.Shape.{Shape}
+use Rattle.ar_value.specs.declared.operator.Predicate.{Predicate}
+use Rattle.ar_value.specs.declared.operator.Predicate.TheVariants.{All, Any, Count, Filter}
+use Rattle.ar_condition.specs.Typed.{Typed, Typeds}
+use Rattle.ar_condition.specs.Typed as typed
+use Rattle.ar_condition.specs.declared.tree.Literal.{Literal}
+use Rattle.ar_condition.specs.declared.tree.Literal.TheVariants as literals
+use Rattle.ar_op.specs.declared.op.Op.{Op}
+use Rattle.ar_op.specs.declared.op.Op.TheVariants.{Return, Enter, Step}
+use Rattle.ar_compile.specs.Compiled.{Tables, code_at, compiled, items_at, literal_op, no_tables, tables_with}
+use Rattle.ar_compile.specs.Length.{operations}
+use Rattle.ar_machine.specs.Run.{HasNoFilter, is_of_filter}
+use Rattle.ar_judge.specs.Condition.{Condition, IsBuilt, typed_of}
+use Rattle.ar_judge.specs.declared.error.BuildCause.{BuildCause}
+use Rattle.ar_judge.specs.Filters.{FiltersAsWritten, has_filter, have_filter}
+
+abbrev NoneOf : List Op → Type 0
+NoneOf ops = list_any is_of_filter ops ≡ false
+
+none_first : (a b : Bool) → (a || b) ≡ false → (a ≡ false) × (b ≡ false)
+none_first false b e = (refl, e)
+none_first true b e = absurd cc
+
+neither : (a b : Bool) → a ≡ false → b ≡ false → (a || b) ≡ false
+neither a b one other = rw (one, other) refl
+
+none_of_both : (xs ys : List Op) → NoneOf xs → NoneOf ys → NoneOf (xs ++ ys)
+none_of_both xs ys one other = list_any-append is_of_filter xs ys ∙ neither (list_any is_of_filter xs) (list_any is_of_filter ys) one other
+
+literal_none : (literal : Literal) (tables : Tables) → NoneOf (literal_op literal tables ∷ [])
+literal_none literals.Nil tables = refl
+literal_none (literals.Bool truth) tables = refl
+literal_none (literals.Whole value) tables = refl
+literal_none (literals.Decimal millionths) tables = refl
+literal_none (literals.Text letters) tables = refl
+
+counted_predicate : (predicate : Predicate) (list body : Typed) → has_filter (typed.predicate predicate list body) ≡ false
+    → (has_filter list ≡ false) × (has_filter body ≡ false) × ((place : ℕ) → is_of_filter (Enter predicate place) ≡ false) × ((place : ℕ) → is_of_filter (Step predicate place) ≡ false)
+counted_predicate All list body e = let both = none_first (has_filter list) (has_filter body) e in (both.0, both.1, λ place. refl, λ place. refl)
+counted_predicate Any list body e = let both = none_first (has_filter list) (has_filter body) e in (both.0, both.1, λ place. refl, λ place. refl)
+counted_predicate Count list body e = let both = none_first (has_filter list) (has_filter body) e in (both.0, both.1, λ place. refl, λ place. refl)
+counted_predicate Filter list body e = absurd cc
+
+mutual
+  none_in : (place : ℕ) (tables : Tables) (tree : Typed) → has_filter tree ≡ false → NoneOf (code_at place tables tree)
+  none_in place tables typed.result e = refl
+  none_in place tables typed.item e = refl
+  none_in place tables (typed.literal literal) e = literal_none literal tables
+  none_in place tables (typed.field whole name) e = none_of_both (code_at place tables whole) _ (none_in place tables whole e) refl
+  none_in place tables (typed.unary operator operand) e = none_of_both (code_at place tables operand) _ (none_in place tables operand e) refl
+  none_in place tables (typed.binary operator left right) e =
+      let both = none_first (has_filter left) (has_filter right) e in
+      none_of_both (code_at place tables left) _ (none_in place tables left both.0) (none_of_both (code_at (place + operations left) (tables_with left tables) right) _ (none_in (place + operations left) (tables_with left tables) right both.1) refl)
+  none_in place tables (typed.both left right) e =
+      let both = none_first (has_filter left) (has_filter right) e in
+      none_of_both (code_at place tables left) _ (none_in place tables left both.0) (none_in (place + operations left + 1) (tables_with left tables) right both.1)
+  none_in place tables (typed.either left right) e =
+      let both = none_first (has_filter left) (has_filter right) e in
+      none_of_both (code_at place tables left) _ (none_in place tables left both.0) (none_in (place + operations left + 1) (tables_with left tables) right both.1)
+  none_in place tables (typed.choice condition met unmet) e =
+      let first = none_first (has_filter condition) (has_filter met || has_filter unmet) e in
+      let both = none_first (has_filter met) (has_filter unmet) first.1 in
+      none_of_both (code_at place tables condition) _ (none_in place tables condition first.0)
+      (none_of_both (code_at (place + operations condition + 1) (tables_with condition tables) met) _ (none_in (place + operations condition + 1) (tables_with condition tables) met both.0)
+      (none_in (place + operations condition + 1 + operations met + 1) (tables_with met (tables_with condition tables)) unmet both.1))
+  none_in place tables (typed.listed scalar items) e = none_of_both (items_at place tables items) _ (none_in_items place tables items e) refl
+  none_in place tables (typed.predicate predicate list body) e =
+      let parts = counted_predicate predicate list body e in
+      let within = none_of_both (code_at (place + operations list + 1) (tables_with list tables) body) (Step predicate (place + operations list) ∷ []) (none_in (place + operations list + 1) (tables_with list tables) body parts.1)
+      (neither (is_of_filter (Step predicate (place + operations list))) false (parts.3 (place + operations list)) refl) in
+      none_of_both (code_at place tables list) _ (none_in place tables list parts.0)
+      (neither (is_of_filter (Enter predicate (place + operations list + 1 + operations body))) _ (parts.2 (place + operations list + 1 + operations body)) within)
+
+  none_in_items : (place : ℕ) (tables : Tables) (items : Typeds) → have_filter items ≡ false → NoneOf (items_at place tables items)
+  none_in_items place tables typed.none e = refl
+  none_in_items place tables (typed.more first others) e =
+      let both = none_first (has_filter first) (have_filter others) e in
+      none_of_both (code_at place tables first) _ (none_in place tables first both.0) (none_in_items (place + operations first) (tables_with first tables) others both.1)
+
+compiled_none : (tree : Typed) → has_filter tree ≡ false → HasNoFilter (compiled tree)
+unfolding compiled
+compiled_none tree e = none_of_both (code_at 0 no_tables tree) (Return ∷ []) (none_in 0 no_tables tree e) refl
+
+same_tree : (found : Result Typed BuildCause) (one other : Typed) → found ≡ Ok one → found ≡ Ok other → one ≡ other
+same_tree found one other is same = cc
+
+pub filters_as_written : (shape : Shape) (text : List ℕ) (condition : Condition) → IsBuilt shape text condition → FiltersAsWritten shape text condition
+filters_as_written shape text condition built tree typed e =
+    let same : tree ≡ built.tree = same_tree (typed_of shape text) tree built.tree typed built.typed in
+    subst HasNoFilter (ap compiled same ∙ sym built.code_is) (compiled_none tree e)

@@ -1,0 +1,139 @@
+-- The first half of the headline.
+use Rattle.std.proofs.Common.{◌≡◌, ℕ, Bool, true, List, Option, Some, None, option_and_then, Result, Ok, Err, refl, sym, ap, subst, ◌∙◌}
+use Rattle.ar_value.specs.Fits.{fits}
+use Rattle.ar_value.specs.Shape.{Shape}
+use Rattle.ar_value.specs.Value.{Value}
+use Rattle.ar_value.specs.declared.fault.Fault.{Fault}
+use Rattle.ar_condition.specs.Expression.{Expression}
+use Rattle.ar_condition.specs.Limits.{WrittenInLimits}
+use Rattle.ar_condition.specs.Meaning.{answer_of, mean}
+use Rattle.ar_condition.specs.Typed.{Typed}
+use Rattle.ar_syntax.specs.Parse.{parse_of}
+use Rattle.ar_syntax.specs.declared.error.SyntaxError.{SyntaxError}
+use Rattle.ar_check.specs.Check.{checked}
+use Rattle.ar_check.specs.declared.error.TypeError.{TypeError}
+use Rattle.ar_compile.proofs.Conditions.{compiled_means}
+use Rattle.ar_compile.specs.Compiled.{compiled}
+use Rattle.ar_compile.specs.Ends.{EndsWith}
+use Rattle.ar_verify.proofs.Verdicts.{few_operands, verified_is_safe}
+use Rattle.ar_verify.specs.Safety.{IsSafe}
+use Rattle.ar_verify.specs.Verdict.{Verified}
+use Rattle.ar_judge.specs.Condition.{Condition, IsBuilt, condition_of, refused_as, said, typed_of}
+use Rattle.ar_judge.specs.Headline.{HeadlineHolds, HoldsWhereThere, JudgeHeadlineHolds, JudgesAsMeant, RunsAsMeant, run_answer}
+use Rattle.ar_judge.specs.Verdict.{AreBuilt, IsJudge, Judge, judge_of, said_of, verdict_by}
+use Rattle.ar_judge.specs.declared.error.BuildCause.TheVariants.{Kinds}
+use Rattle.ar_judge.specs.Private.Building.{BuildsEach}
+use Rattle.ar_judge.specs.Private.Readiness.{IsRunnable}
+use Rattle.ar_judge.proofs.Running.{built, one_answer}
+
+-- ---- conditions
+
+-- what a typed tree was checked from
+record IsChecked (shape : Shape) (tree : Typed) : Type 0 where
+  expression : Expression
+  is : checked shape expression ≡ Ok tree
+
+checked_by : (shape : Shape) (tree : Typed) (expression : Expression) (answer : Result Typed TypeError) → checked shape expression ≡ answer → refused_as Kinds answer ≡ Ok tree → IsChecked shape tree
+checked_by shape tree expression (Ok found) is same = let alike : found ≡ tree = cc in record { expression = expression; is = is ∙ ap (λ tree. Ok tree) alike }
+checked_by shape tree expression (Err error) is same = absurd cc
+
+checked_from : (shape : Shape) (text : List ℕ) (tree : Typed) (parsed : Result Expression SyntaxError) → parse_of text ≡ parsed → typed_of shape text ≡ Ok tree → IsChecked shape tree
+checked_from shape text tree (Ok expression) is typed =
+    let kinds : refused_as Kinds (checked shape expression) ≡ Ok tree = rw is at typed in checked_by shape tree expression (checked shape expression) refl kinds
+checked_from shape text tree (Err error) is typed = absurd cc
+
+module _ (shape : Shape) (text : List ℕ) (condition : Condition) (built : IsBuilt shape text condition) (value : Value) (fit : fits value shape ≡ true) where
+  -- the code is safe
+  safe : IsSafe condition.verified.code value condition.verified.budget condition.verified.depth
+  safe = subst (λ code. IsSafe code value condition.verified.budget condition.verified.depth) (sym built.code_is) (verified_is_safe (compiled built.tree) shape condition.verified.budget condition.verified.depth value built.is_code built.accepted fit)
+
+  -- and comes to what its tree means
+  ending : EndsWith condition.verified.code value (answer_of (mean value None built.tree))
+  ending =
+      let from = checked_from shape text built.tree (parse_of text) refl built.typed in
+      subst (λ code. EndsWith code value (answer_of (mean value None built.tree))) (sym built.code_is) (compiled_means shape from.expression built.tree value from.is fit)
+
+  same_answer : safe.answer ≡ answer_of (mean value None built.tree)
+  same_answer = one_answer condition.verified.code value condition.verified.budget safe.cost safe.answer (answer_of (mean value None built.tree)) (record { steps = condition.verified.budget; done = safe.ends; paid = safe.paid }) ending
+
+  runs : RunsAsMeant shape text condition.verified value
+  runs = record {
+    answer = safe.answer;
+    cost = safe.cost;
+    ended = safe.ends;
+    paid = safe.paid;
+    meant = rw (built.typed, same_answer) refl;
+    unstuck = safe.unstuck;
+    few = safe.few;
+    nested = safe.nested;
+  }
+
+  -- what is run is what is meant
+  run_is_meant : run_answer value condition ≡ said shape text value
+  run_is_meant = rw (runs.ended, runs.meant) refl
+
+  -- which is what the condition says
+  said_is_meant : said_of value condition ≡ said shape text value
+  said_is_meant = rw (built.shape_is, built.text_is) refl
+
+pub condition_holds : (shape : Shape) (text : List ℕ) (condition : Condition) → IsBuilt shape text condition → HeadlineHolds shape text condition
+condition_holds shape text condition built = record {
+  payable = built.accepted.payable;
+  shallow = few_operands (compiled built.tree) shape condition.verified.budget condition.verified.depth built.accepted;
+  runs = runs shape text condition built;
+}
+
+-- ---- judges
+
+pub each_holds : (shape : Shape) (text : Option (List ℕ)) (condition : Option Condition) → AreBuilt shape text condition → HoldsWhereThere shape text condition
+each_holds shape (Some text) (Some condition) built = condition_holds shape text condition built
+each_holds shape None None built = tt
+each_holds shape (Some text) None built = absurd built
+each_holds shape None (Some condition) built = absurd built
+
+each_said : (shape : Shape) (text : Option (List ℕ)) (condition : Option Condition) (value : Value) → fits value shape ≡ true → AreBuilt shape text condition → option_and_then (said_of value) condition ≡ option_and_then (λ text. said shape text value) text
+each_said shape (Some text) (Some condition) value fit built = said_is_meant shape text condition built value fit
+each_said shape None None value fit built = refl
+each_said shape (Some text) None value fit built = absurd built
+each_said shape None (Some condition) value fit built = absurd built
+
+each_run : (shape : Shape) (text : Option (List ℕ)) (condition : Option Condition) (value : Value) → fits value shape ≡ true → AreBuilt shape text condition → option_and_then (run_answer value) condition ≡ option_and_then (λ text. said shape text value) text
+each_run shape (Some text) (Some condition) value fit built = run_is_meant shape text condition built value fit
+each_run shape None None value fit built = refl
+each_run shape (Some text) None value fit built = absurd built
+each_run shape None (Some condition) value fit built = absurd built
+
+both : (one other same also : Option (Result Bool Fault)) → one ≡ same → other ≡ also → verdict_by one other ≡ verdict_by same also
+both one other same also is other_is = rw (is, other_is) refl
+
+module _ (shape : Shape) (success failure : Option (List ℕ)) (judge : Judge) (is : IsJudge shape success failure judge) where
+  judges : (value : Value) → fits value shape ≡ true → JudgesAsMeant shape success failure judge value
+  judges value fit =
+      let success_said = each_said shape success judge.success value fit is.success_is in
+      let failure_said = each_said shape failure judge.failure value fit is.failure_is in
+      let success_run = each_run shape success judge.success value fit is.success_is in
+      let failure_run = each_run shape failure judge.failure value fit is.failure_is in
+      let of_success = option_and_then (λ text. said shape text value) success in
+      let of_failure = option_and_then (λ text. said shape text value) failure in
+      let meant = both (option_and_then (said_of value) judge.success) (option_and_then (said_of value) judge.failure) of_success of_failure success_said failure_said in
+      let run = both (option_and_then (run_answer value) judge.success) (option_and_then (run_answer value) judge.failure) of_success of_failure success_run failure_run in
+      record { run = meant ∙ sym run; meant = meant }
+
+pub judge_holds : (shape : Shape) (success failure : Option (List ℕ)) (judge : Judge) → IsJudge shape success failure judge → JudgeHeadlineHolds shape success failure judge
+judge_holds shape success failure judge is = record {
+  success_holds = each_holds shape success judge.success is.success_is;
+  failure_holds = each_holds shape failure judge.failure is.failure_is;
+  verdicts = judges shape success failure judge is;
+}
+
+-- ---- what is built
+
+-- the condition of a text that was parsed and checked, with the verified code of its tree
+pub built_holds : (shape : Shape) (text kept : List ℕ) (tree : Expression) (condition : Typed) (verified : Verified) → kept ≡ text → parse_of text ≡ Ok tree → WrittenInLimits tree → checked shape tree ≡ Ok condition → IsRunnable shape condition verified
+    → HeadlineHolds shape text (condition_of kept verified)
+built_holds shape text kept tree condition verified same parsed written is runnable =
+    condition_holds shape text (condition_of kept verified) (subst (λ kept. IsBuilt shape text (condition_of kept verified)) (sym same) (built shape text tree condition verified parsed written is runnable))
+
+-- the judge of two texts
+pub both_hold : (shape : Shape) (success failure : Option (List ℕ)) (one other : Option Condition) → BuildsEach shape success (Ok one) → BuildsEach shape failure (Ok other) → JudgeHeadlineHolds shape success failure (judge_of one other)
+both_hold shape success failure one other success_is failure_is = judge_holds shape success failure (judge_of one other) (record { success_is = success_is; failure_is = failure_is })

@@ -1,0 +1,31 @@
+-- Which conditions have a `filter`.
+use Rattle.std.specs.Prelude.{◌≡◌, Bool, true, false, ◌||◌, List, ℕ, Ok}
+use Rattle.ar_value.specs.Shape.{Shape}
+use Rattle.ar_value.specs.declared.operator.Predicate.TheVariants.{Filter}
+use Rattle.ar_condition.specs.Typed.{Typed, Typeds}
+use Rattle.ar_condition.specs.Typed as typed
+use Rattle.ar_machine.specs.Run.{HasNoFilter}
+use Rattle.ar_judge.specs.Condition.{Condition, typed_of}
+
+abbrev mutual
+  pub has_filter : Typed → Bool
+  has_filter typed.result = false
+  has_filter typed.item = false
+  has_filter (typed.literal literal) = false
+  has_filter (typed.field whole name) = has_filter whole
+  has_filter (typed.unary operator operand) = has_filter operand
+  has_filter (typed.binary operator left right) = has_filter left || has_filter right
+  has_filter (typed.both left right) = has_filter left || has_filter right
+  has_filter (typed.either left right) = has_filter left || has_filter right
+  has_filter (typed.choice condition met unmet) = has_filter condition || (has_filter met || has_filter unmet)
+  has_filter (typed.listed scalar items) = have_filter items
+  has_filter (typed.predicate Filter list body) = true
+  has_filter (typed.predicate predicate list body) = has_filter list || has_filter body
+
+  pub have_filter : Typeds → Bool
+  have_filter typed.none = false
+  have_filter (typed.more first others) = has_filter first || have_filter others
+
+-- where a text's typed tree has no `filter`, the code of its condition has none
+abbrev pub FiltersAsWritten : Shape → (text : List ℕ) → Condition → Type 0
+FiltersAsWritten shape text condition = (tree : Typed) → typed_of shape text ≡ Ok tree → has_filter tree ≡ false → HasNoFilter condition.verified.code
