@@ -1,10 +1,10 @@
 -- Operands made plain, scalars and numbers among them, and parts of records and lists.
-use Rattle.std.proofs.Common.{◌≡◌, ℕ, ℤ, Bool, true, false, nat_le, List, Option, Some, None, IfOk, refl}
+use Rattle.std.proofs.Common.{◌≡◌, ℕ, ℤ, Bool, true, false, nat_le, List, Option, Some, None, IfOk, refl, sym}
 use Rattle.std.specs.Prelude.{◌&&◌, if◌then◌else◌, option_and_then}
 use Rattle.std.specs.Str.{bytes_eq}
 use Rattle.std.proofs.lemmas.Slice.Eq.{bytes_eq-Decides}
 use Rattle.ar_value.specs.Fits.{all_items, fields_fit, fits}
-use Rattle.ar_value.specs.Kind.{Kind, nil, shaped, plain}
+use Rattle.ar_value.specs.Kind.{Kind, common, nil, shaped, plain}
 use Rattle.ar_value.specs.Shape.{Shape, FieldShapes}
 use Rattle.ar_value.specs.Shape as shapes
 use Rattle.ar_value.specs.Value.{Value, Items, Fields, count, value_named}
@@ -17,6 +17,7 @@ use Rattle.ar_value.specs.Shape.{shape_named}
 use Rattle.ar_value.specs.Operators.{Failure, Meaning}
 use Rattle.ar_condition.specs.Meaning.{mean}
 use Rattle.ar_value.specs.Operators as operators
+use Rattle.ar_value.proofs.Merges.{common_with_itself}
 use Rattle.ar_check.specs.Operand.{Operand, made_plain, numbers, numbers_in, plain_of, plain_tree, scalar, scalar_of, is_bool, is_truth}
 use Rattle.ar_condition.specs.Typed.{Typed}
 use Rattle.ar_condition.specs.Typed as typed
@@ -24,6 +25,16 @@ use Rattle.ar_value.specs.declared.operator.Numbers.{Numbers}
 use Rattle.ar_value.specs.declared.operator.Scalar.{Scalar}
 use Rattle.ar_value.specs.declared.operator.Scalar.TheVariants as scalars
 use Rattle.ar_check.proofs.Means.{MeansKind, Sound, IsThere, means_then, both_hold, wanted}
+
+-- ---- kinds in common
+
+pub common_of_same : (left right : Kind) → left ≡ right → Some left ≡ common left right
+common_of_same left right same = rw same (sym (common_with_itself right))
+
+-- nil may stand on either side
+pub common_of_nil : (kind : Kind) → common nil kind ≡ common kind nil
+common_of_nil nil = refl
+common_of_nil (shaped shape) = refl
 
 -- ---- values of a shape
 

@@ -1,10 +1,9 @@
 //! Operands whose kinds are known.
 
-ghost use Rattle.std.specs.Prelude.{◌≡◌, false, IfOk, option_map};
+ghost use Rattle.std.specs.Prelude.{◌≡◌, Some, false, IfOk, MatchOption, option_map};
 ghost use Rattle.ar_value.specs.Answer.{Gives};
-ghost use Rattle.ar_value.specs.Kind.{common, shaped};
+ghost use Rattle.ar_value.specs.Kind.{common, nil, shaped};
 ghost use Rattle.ar_value.specs.Kind as shapes;
-ghost use Rattle.ar_value.specs.View as values;
 ghost use Rattle.ar_value.specs.View.{shape_view};
 ghost use Rattle.ar_check.specs.Check.{field_shape, item_shape, plain_kind};
 ghost use Rattle.ar_check.specs.Operand.{is_truth, made_plain, numbers, plain_of, plain_tree, scalar, scalar_of, turned};
@@ -17,6 +16,7 @@ use crate::error::TypeError;
 use ar_condition::typed::Typed;
 use ar_value::kind;
 use ar_value::operator::{Numbers, Scalar, UnaryOperator};
+use ar_value::sameness::are_same_shapes;
 use ar_value::shape::Shape;
 use std::alloc::{AllocError, Global};
 
@@ -221,30 +221,73 @@ pub(crate) fn plain_kind<'s>(alloc: Global, kind: &Kind<'s>) -> Result<Kind<'s>,
     }
 }
 
-/// The kind with its shape owned.
-fn owned(alloc: Global, kind: &Kind<'_>) -> Result<kind::Kind, AllocError>
-    ensures { IfOk result (λ owned. values.kind_view owned ≡ kind_view kind.now) }
+/// The same kind once more: only a made shape is copied.
+fn again<'s>(alloc: Global, kind: &Kind<'s>) -> Result<Kind<'s>, AllocError>
+    ensures { IfOk result (λ again. kind_view again ≡ kind_view kind.now) }
 {
     match kind {
-        Kind::Nil => Ok(kind::Kind::Nil),
-        Kind::Declared(shape) => Ok(kind::Kind::Shape(shape.copy(alloc)?)),
-        Kind::Made(shape) => Ok(kind::Kind::Shape(shape.copy(alloc)?)),
+        Kind::Nil => Ok(Kind::Nil),
+        Kind::Declared(shape) => Ok(Kind::Declared(shape)),
+        Kind::Made(shape) => Ok(Kind::Made(shape.copy(alloc)?)),
     }
 }
 
-/// The kind that two have in common.
+/// The kind of two that are the same, of which one may be lent.
+fn either<'s>(alloc: Global, left: &Kind<'s>, right: &Kind<'s>) -> Result<Kind<'s>, AllocError>
+    requires { kind_view left.now ≡ kind_view right.now }
+    ensures { IfOk result (λ kind. kind_view kind ≡ kind_view left.now) }
+{
+    match left {
+        Kind::Nil | Kind::Declared(_) => again(alloc, left),
+        Kind::Made(_) => again(alloc, right),
+    }
+}
+
+/// The kind of nil and of what has a kind.
+fn or_nil<'s>(alloc: Global, kind: &Kind<'s>) -> Result<Kind<'s>, AllocError>
+    ensures { IfOk result (λ either. Some (kind_view either) ≡ common nil (kind_view kind.now)) }
+{
+    match shape_of(kind) {
+        None => Ok(Kind::Nil),
+        Some(shape) if kind::is_optional(shape) => again(alloc, kind),
+        Some(shape) => Ok(Kind::Made(kind::or_nil(alloc, shape)?)),
+    }
+}
+
+/// The shape of a kind, if it isn't that of the literal `nil`.
+fn shape_of<'a>(kind: &'a Kind<'_>) -> Option<&'a Shape>
+    ensures { MatchOption result (kind_view kind.now ≡ nil)
+        (λ shape. kind_view kind.now ≡ shaped (shape_view shape.now)) }
+{
+    match kind {
+        Kind::Nil => None,
+        Kind::Declared(shape) => Some(shape),
+        Kind::Made(shape) => Some(shape),
+    }
+}
+
+/// The kind that two have in common. Of two that are the same no shape is copied that is lent.
+#[tactic(auto, using(crate::proofs::Operands::common_of_nil, crate::proofs::Operands::common_of_same))]
 pub(crate) fn common<'s>(
     alloc: Global,
-    left: &Kind<'_>,
-    right: &Kind<'_>,
+    left: &Kind<'s>,
+    right: &Kind<'s>,
 ) -> Result<Option<Kind<'s>>, AllocError>
     ensures { IfOk result (λ kind. option_map kind_view kind ≡ common (kind_view left.now) (kind_view right.now)) }
 {
-    let left = owned(alloc, left)?;
-    let right = owned(alloc, right)?;
-    match kind::common(alloc, &left, &right)? {
-        Some(kind::Kind::Nil) => Ok(Some(Kind::Nil)),
-        Some(kind::Kind::Shape(shape)) => Ok(Some(Kind::Made(shape))),
+    let (Some(one), Some(other)) = (shape_of(left), shape_of(right)) else {
+        let kind = if matches!(left, Kind::Nil) {
+            right
+        } else {
+            left
+        };
+        return Ok(Some(or_nil(alloc, kind)?));
+    };
+    if are_same_shapes(one, other) {
+        return Ok(Some(either(alloc, left, right)?));
+    }
+    match kind::common_shapes(alloc, one, other)? {
+        Some(shape) => Ok(Some(Kind::Made(shape))),
         None => Ok(None),
     }
 }

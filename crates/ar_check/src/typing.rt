@@ -413,8 +413,8 @@ fn choice_of<'s>(
     alloc: Global,
     at: usize,
     condition: (bool, Box<Typed>),
-    yes: Operand<'_>,
-    no: Operand<'_>,
+    yes: Operand<'s>,
+    no: Operand<'s>,
 ) -> Result<Operand<'s>, TypeError>
     ensures { Gives is_memory operand_view result
         (choice_between at condition.0 (typed_view condition.1.value) (operand_view yes.entry) (operand_view no.entry)) }
@@ -447,7 +447,7 @@ fn choice_tree(
 fn default_of<'s>(
     alloc: Global,
     at: usize,
-    first: Operand<'_>,
+    first: Operand<'s>,
     other: Operand<'s>,
 ) -> Result<Operand<'s>, TypeError>
     ensures { Gives is_memory operand_view result
@@ -486,7 +486,7 @@ fn default_tree(
 /// The kind of a default: the other's where the first is always nil.
 fn default_kind<'s>(
     alloc: Global,
-    plain: Kind<'_>,
+    plain: Kind<'s>,
     other: Kind<'s>,
 ) -> Result<Option<Kind<'s>>, AllocError>
     ensures { IfOk result

@@ -8,3 +8,4 @@ pub mod Marks
 pub mod WidestLemmas
 pub mod Merges
 pub mod Steps
+pub mod Same

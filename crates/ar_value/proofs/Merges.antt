@@ -1,11 +1,11 @@
 -- Laws of merged kinds.
-use Rattle.std.proofs.Common.{◌≡◌, ℕ, max, Bool, true, false, nat_le, if◌then◌else◌, List, Option, Some, None, option_map, IfSome, refl, sym, ◌∙◌, ap, arith}
+use Rattle.std.proofs.Common.{◌≡◌, ℕ, max, Bool, true, false, nat_le, if◌then◌else◌, List, Option, Some, None, option_map, IfSome, refl, sym, ◌∙◌, ap, ap₂, arith}
 use Rattle.std.specs.Prelude.{◌&&◌, ◌||◌}
 use Rattle.std.specs.Str.{bytes_eq}
 use Rattle.std.proofs.lemmas.Bool.Decides.{nat_tests}
 use Rattle.std.proofs.lemmas.Slice.Eq.{bytes_eq-Decides}
 use Rattle.ar_value.specs.Fits.{all_items, fields_fit, fits}
-use Rattle.ar_value.specs.Kind.{Kind, fits_kind, is_optional, joined_field, merge, merge_shapes, or_nil, plain, widest, widest_fields}
+use Rattle.ar_value.specs.Kind.{Kind, common, fits_kind, is_optional, joined_field, merge, merge_shapes, or_nil, plain, turned_beside, widest, widest_fields}
 use Rattle.ar_value.specs.Kind as kinds
 use Rattle.ar_value.specs.Shape.{Shape, FieldShapes, bool, whole, decimal, text, list, object, optional, no_fields, field}
 use Rattle.ar_value.specs.Value.{Value, Items, Fields, count}
@@ -43,6 +43,28 @@ merge_with_itself (kinds.shaped text) = refl
 merge_with_itself (kinds.shaped (list shape max)) = rw (widest_self shape, max_self max) refl
 merge_with_itself (kinds.shaped (object fields)) = rw (fields_self fields) refl
 merge_with_itself (kinds.shaped (optional shape)) = rw (widest_self shape) refl
+
+-- the kind that two shapes have in common, by the shapes that each is turned into beside the other
+pub common_of_shapes : (left right one other : Shape) → kinds.shaped one ≡ turned_beside (kinds.shaped right) (kinds.shaped left)
+    → kinds.shaped other ≡ turned_beside (kinds.shaped left) (kinds.shaped right)
+    → option_map kinds.shaped (merge_shapes one other) ≡ common (kinds.shaped left) (kinds.shaped right)
+common_of_shapes left right one other first second = ap₂ merge first second
+
+pub common_with_itself : (kind : Kind) → common kind kind ≡ Some kind
+common_with_itself kinds.nil = refl
+common_with_itself (kinds.shaped bool) = refl
+common_with_itself (kinds.shaped whole) = refl
+common_with_itself (kinds.shaped decimal) = refl
+common_with_itself (kinds.shaped text) = refl
+common_with_itself (kinds.shaped (list shape max)) = merge_with_itself (kinds.shaped (list shape max))
+common_with_itself (kinds.shaped (object fields)) = merge_with_itself (kinds.shaped (object fields))
+common_with_itself (kinds.shaped (optional bool)) = refl
+common_with_itself (kinds.shaped (optional whole)) = refl
+common_with_itself (kinds.shaped (optional decimal)) = refl
+common_with_itself (kinds.shaped (optional text)) = refl
+common_with_itself (kinds.shaped (optional (list shape max))) = merge_with_itself (kinds.shaped (optional (list shape max)))
+common_with_itself (kinds.shaped (optional (object fields))) = merge_with_itself (kinds.shaped (optional (object fields)))
+common_with_itself (kinds.shaped (optional (optional shape))) = merge_with_itself (kinds.shaped (optional (optional shape)))
 
 name_either : (b c : Bool) (n m : List ℕ) → bytes_eq n m ≡ b → bytes_eq m n ≡ c → (shape : Option Shape) (fields : Option FieldShapes)
     → joined_field b n shape fields ≡ joined_field c m shape fields

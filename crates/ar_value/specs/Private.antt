@@ -1,3 +1,4 @@
 -- Definitions of private contracts and of proofs alone, which follow the code: a reader need not believe them.
 pub mod Scaled
 pub mod OneField
+pub mod Same

@@ -1,7 +1,7 @@
 //! Kinds of expressions, and the kind that two of them have in common.
 
 ghost use Rattle.std.specs.Prelude.{◌≡◌, IfOk, option_map, unwrap_or};
-ghost use Rattle.ar_value.specs.Kind.{common, is_decimal, is_optional, merge, merge_shapes, or_nil, plain, turned_beside, whole_as_decimal};
+ghost use Rattle.ar_value.specs.Kind.{common, is_decimal, is_optional, merge, merge_shapes, or_nil, plain, shaped, turned_beside, whole_as_decimal};
 ghost use Rattle.ar_value.specs.View.{kind_view, shape_view};
 
 use crate::shape::Shape;
@@ -39,39 +39,53 @@ pub fn merge(alloc: Global, left: &Kind, right: &Kind) -> Result<Option<Kind>, A
 pub fn common(alloc: Global, left: &Kind, right: &Kind) -> Result<Option<Kind>, AllocError>
     ensures { IfOk result (λ kind. option_map kind_view kind ≡ common (kind_view left.now) (kind_view right.now)) }
 {
+    match (left, right) {
+        (Kind::Shape(left), Kind::Shape(right)) => match common_shapes(alloc, left, right)? {
+            Some(shape) => Ok(Some(Kind::Shape(shape))),
+            None => Ok(None),
+        },
+        _ => merge(alloc, left, right),
+    }
+}
+
+/// The shape of the kind that the kinds of two shapes have in common.
+#[tactic(auto, using(crate::proofs::Merges::common_of_shapes))]
+pub fn common_shapes(
+    alloc: Global,
+    left: &Shape,
+    right: &Shape,
+) -> Result<Option<Shape>, AllocError>
+    ensures { IfOk result (λ shape. option_map (λ shape. shaped (shape_view shape)) shape
+        ≡ common (shaped (shape_view left.now)) (shaped (shape_view right.now))) }
+{
     let turned_left = turned_beside(alloc, right, left)?;
     let turned_right = turned_beside(alloc, left, right)?;
-    merge(
+    merge_shapes(
         alloc,
         turned_or(&turned_left, left),
         turned_or(&turned_right, right),
     )
 }
 
-fn turned_or<'kind>(turned: &'kind Option<Kind>, kind: &'kind Kind) -> &'kind Kind
-    ensures { kind_view result.now ≡ unwrap_or (option_map kind_view turned.now) (kind_view kind.now) }
+fn turned_or<'shape>(turned: &'shape Option<Shape>, shape: &'shape Shape) -> &'shape Shape
+    ensures { shape_view result.now ≡ unwrap_or (option_map shape_view turned.now) (shape_view shape.now) }
 {
     match turned {
         Some(turned) => turned,
-        None => kind,
+        None => shape,
     }
 }
 
-/// What a kind is turned into beside another, where it is turned: a whole, also an optional one,
+/// What a shape is turned into beside another, where it is turned: a whole, also an optional one,
 /// into decimal beside a decimal.
-fn turned_beside(alloc: Global, other: &Kind, kind: &Kind) -> Result<Option<Kind>, AllocError>
-    ensures { IfOk result (λ turned. unwrap_or (option_map kind_view turned) (kind_view kind.now)
-        ≡ turned_beside (kind_view other.now) (kind_view kind.now)) }
+fn turned_beside(alloc: Global, other: &Shape, shape: &Shape) -> Result<Option<Shape>, AllocError>
+    ensures { IfOk result (λ turned. shaped (unwrap_or (option_map shape_view turned) (shape_view shape.now))
+        ≡ turned_beside (shaped (shape_view other.now)) (shaped (shape_view shape.now))) }
 {
-    let (Kind::Shape(other), Kind::Shape(shape)) = (other, kind) else {
-        return Ok(None);
-    };
-    if !is_decimal(other) {
-        return Ok(None);
-    }
-    match whole_as_decimal(alloc, shape)? {
-        Some(decimal) => Ok(Some(Kind::Shape(decimal))),
-        None => Ok(None),
+    if is_decimal(other) {
+        whole_as_decimal(alloc, shape)
+    } else {
+        Ok(None)
     }
 }
 
@@ -90,7 +104,8 @@ fn whole_as_decimal(alloc: Global, shape: &Shape) -> Result<Option<Shape>, Alloc
     }
 }
 
-fn merge_shapes(alloc: Global, left: &Shape, right: &Shape) -> Result<Option<Shape>, AllocError>
+/// The shape of what has the one shape or the other, where there is one: that of `merge`.
+pub fn merge_shapes(alloc: Global, left: &Shape, right: &Shape) -> Result<Option<Shape>, AllocError>
     ensures { IfOk result
         (λ shape. option_map shape_view shape ≡ merge_shapes (shape_view left.now) (shape_view right.now)) }
 {
@@ -104,7 +119,7 @@ fn merge_shapes(alloc: Global, left: &Shape, right: &Shape) -> Result<Option<Sha
 }
 
 /// The shape of nil and of what fits a shape.
-fn or_nil(alloc: Global, shape: &Shape) -> Result<Shape, AllocError>
+pub fn or_nil(alloc: Global, shape: &Shape) -> Result<Shape, AllocError>
     ensures { IfOk result (λ optional. shape_view optional ≡ or_nil (shape_view shape.now)) }
 {
     let plain = plain(shape).copy(alloc)?;

@@ -18,7 +18,8 @@
 //!   `specs/Operators` defines on values
 //! - [`text`], [`value`], [`shape`]: texts, values and shapes, which contracts see by `specs/View`
 //! - [`fitting`]: which values fit
-//! - [`kind`]: kinds of expressions; `widening` joins shapes
+//! - [`kind`]: kinds of expressions; `widening` joins shapes; [`sameness`]: which are the same;
+//!   [`shared_shape`]: shapes with several owners
 //! - [`laws`]: what holds of kinds
 #![tactic(auto)]
 
@@ -31,7 +32,9 @@ pub mod fitting;
 pub mod kind;
 pub mod laws;
 pub mod operator;
+pub mod sameness;
 pub mod shape;
+pub mod shared_shape;
 pub mod text;
 pub mod value;
 pub mod whole;
@@ -42,5 +45,6 @@ pub use fault::Fault;
 pub use fitting::fits;
 pub use kind::{Kind, common, merge};
 pub use shape::{FieldShape, FieldShapes, Shape};
+pub use shared_shape::SharedShape;
 pub use text::Text;
 pub use value::{Field, Fields, Value, Values};

@@ -4,7 +4,12 @@ use Rattle.std.specs.Prelude.{option_and_then, slice_index_or}
 use Rattle.std.proofs.Math.ListN.{drop_of_length-le}
 use Rattle.std.proofs.lemmas.List.{append-nil, drop-map, length-map, map-append, reverse-append}
 use Rattle.ar_value.specs.Kind.{Kind, merge}
+use Rattle.ar_value.proofs.Merges.{merge_with_itself}
 use Rattle.ar_verify.specs.Arrivals.{merged}
+
+-- a kind with itself
+pub merged_with_itself : (left right : Kind) → left ≡ right → Some left ≡ merge left right
+merged_with_itself left right same = rw same (sym (merge_with_itself right))
 
 -- what is left to merge, behind what was merged, is all
 abbrev pub Behind : List Kind → (lefts rights : List Kind) → Option (List Kind) → Type 0

@@ -10,7 +10,6 @@ pub mod Passing
 pub mod Reached
 pub mod Sound
 pub mod Parts
-pub mod Same
 pub mod Tops
 pub mod Names
 pub mod Heights

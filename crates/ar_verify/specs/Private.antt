@@ -1,6 +1,5 @@
 -- Definitions of private contracts and of proofs alone, which follow the code: a reader need not believe them.
 pub mod Kinds
-pub mod Same
 pub mod Failures
 pub mod Stacks
 pub mod Held

@@ -8,9 +8,9 @@ ghost use Rattle.ar_value.specs.View as values;
 ghost use Rattle.ar_verify.specs.Effects.{family_in, field_kind, family_of, is_scalar};
 ghost use Rattle.ar_verify.specs.Private.Kinds.{any_view, kind_view, list_in, list_parts, list_view, shape_in};
 
-use crate::sameness::are_same_shapes;
 use ar_value::kind;
 use ar_value::operator::{Family, Scalar};
+use ar_value::sameness::are_same_shapes;
 use ar_value::shape::Shape;
 use std::alloc::{AllocError, Global};
 use std::rc::Rc;
@@ -135,7 +135,7 @@ fn merge_different<'s>(
 
 /// The kind of what has the one kind or the other, where there is one: of a kind and itself that kind,
 /// which is shared.
-#[tactic(auto, using(crate::proofs::Same::merged_with_itself))]
+#[tactic(auto, using(crate::proofs::Joins::merged_with_itself))]
 pub(crate) fn merge<'s>(
     alloc: Global,
     left: &Kind<'s>,

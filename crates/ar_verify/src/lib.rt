@@ -10,8 +10,8 @@
 //! - `verifier`: the passes, one after the other; [`verified`]: what they accept
 //! - `places`: whether the places that operations name are as they should be; `loops`: whether loops
 //!   lie one in another
-//! - `kind`, `stack`: kinds of operands, which share the shapes that code makes; `sameness`: which
-//!   shapes are the same; `operators`, `effect`: what operations give of them
+//! - `kind`, `stack`: kinds of operands, which share the shapes that code makes; `operators`, `effect`:
+//!   what operations give of them
 //! - `operands`, `sending`, `arrivals`: what operations send on, and what arrives at each place
 //! - `budget`: what a run may cost at most
 //! - `failure`, [`error`]: why code isn't accepted
@@ -29,7 +29,6 @@ mod loops;
 mod operands;
 mod operators;
 mod places;
-mod sameness;
 mod sending;
 mod stack;
 pub mod verified;

@@ -9,6 +9,7 @@ ghost use Rattle.ar_verify.specs.Verdict.{greatest_budget, verified_of, IsVerifi
 
 use ar_op::code::Code;
 use ar_value::shape::Shape;
+use ar_value::shared_shape::SharedShape;
 use std::marker::Model;
 
 /// Code that was verified for a shape of the measured value, with what a run may cost at most and
@@ -16,7 +17,7 @@ use std::marker::Model;
 #[derive(Debug, Drop)]
 pub struct Verified {
     code: Code,
-    shape: Shape,
+    shape: SharedShape,
     budget: u64,
     depth: usize,
 }
@@ -38,7 +39,7 @@ impl Model for Verified {
 }
 
 impl Verified {
-    pub(crate) fn new(code: Code, shape: Shape, budget: u64, depth: usize) -> Verified
+    pub(crate) fn new(code: Code, shape: SharedShape, budget: u64, depth: usize) -> Verified
         requires code { IsCode code }
         requires verified { IsVerified code (shape_view shape) budget depth }
         ensures is { result ≡ verified_of code shape budget depth }
@@ -66,7 +67,7 @@ impl Verified {
     pub fn shape(&self) -> &Shape
         ensures { result.now ≡ self.now.shape }
     {
-        &self.shape
+        self.shape.get()
     }
 
     /// What a run costs at most.

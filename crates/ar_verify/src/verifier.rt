@@ -13,6 +13,7 @@ use crate::places::check_places;
 use crate::verified::Verified;
 use ar_op::code::Code;
 use ar_value::shape::Shape;
+use ar_value::shared_shape::SharedShape;
 use std::alloc::Global;
 
 /// What a run costs at most, and how many operands it has.
@@ -42,13 +43,13 @@ fn check(alloc: Global, code: &Code, shape: &Shape) -> Result<Bounds, Cause>
     })
 }
 
-/// Verifies code for a shape of the measured value. It is accepted if it has no fault, and refused
+/// Verifies code for a shape of the measured value, which verified code keeps. It is accepted if it has no fault, and refused
 /// for its first one otherwise.
 ///
 /// # Errors
 ///
 /// The code, with its fault or want of memory.
-pub fn verify(alloc: Global, code: Code, shape: Shape) -> Result<Verified, Refused>
+pub fn verify(alloc: Global, code: Code, shape: SharedShape) -> Result<Verified, Refused>
     ensures accepted { IfOk result (λ verified. (verified.code ≡ code) × (verified.shape ≡ shape)
         × IsVerified code (shape_view shape) verified.budget verified.depth) }
     // On each value of the shape it runs to an answer within the budget, is never stuck, and has few
@@ -56,7 +57,7 @@ pub fn verify(alloc: Global, code: Code, shape: Shape) -> Result<Verified, Refus
     ensures safe { IfOk result RunsSafely }
     ensures refused { IfErr result (λ refused. (refused.code ≡ code) × IsCause code (shape_view shape) refused.cause) }
 {
-    match check(alloc, &code, &shape) {
+    match check(alloc, &code, shape.get()) {
         Ok(bounds) => Ok(Verified::new(code, shape, bounds.budget, bounds.depth)),
         Err(cause) => Err(Refused { code, cause }),
     }

@@ -1,19 +1,17 @@
--- Shapes that are the same part by part are the same, and their kind is what they have in common.
-use Rattle.std.proofs.Common.{◌≡◌, ℕ, suc, ◌+◌, ◌<◌, ◌≤◌, Bool, true, false, List, [], ◌∷◌, length, map, drop, Box, Global, Some, refl, sym, ◌∙◌, ap, arith, drop-cons, add-one}
+-- Shapes that are the same part by part are the same.
+use Rattle.std.proofs.Common.{◌≡◌, ℕ, suc, ◌+◌, ◌<◌, ◌≤◌, Bool, true, false, List, [], ◌∷◌, length, map, drop, Box, Global, refl, sym, ◌∙◌, ap, arith, drop-cons, add-one}
 use Rattle.std.specs.Bool.{Decides}
 use Rattle.std.specs.Prelude.{◌&&◌, ◌==◌, slice_index_or}
 use Rattle.std.specs.Str.{bytes_eq}
 use Rattle.std.proofs.lemmas.Bool.Decides.{Decides-eqb}
 use Rattle.std.proofs.lemmas.Slice.Eq.{bytes_eq-Decides}
 use Rattle.std.proofs.Math.ListN.{drop_of_length-le}
-use Rattle.ar_value.specs.Kind.{Kind, merge}
 use Rattle.ar_value.specs.Shape.{Shape, FieldShapes, bool, whole, decimal, text, list, object, optional, no_fields, field, field_shapes_of}
 use Rattle.ar_value.specs.View.{field_shape_view, shape_view}
 use Rattle.ar_value.specs.declared.shape.FieldShape.{FieldShape}
 use Rattle.ar_value.specs.declared.shape.Shape.{Shape as Shape_, List as ListShape}
-use Rattle.ar_value.proofs.Merges.{merge_with_itself}
 use Rattle.ar_value.proofs.Views.{shape_view-list}
-use Rattle.ar_verify.specs.Private.Same.{same_field, same_fields, same_shape}
+use Rattle.ar_value.specs.Private.Same.{same_field, same_fields, same_shape}
 
 -- ---- the same part by part
 
@@ -64,10 +62,6 @@ mutual
 
 pub same_is : (left right : Shape) (is_same : Bool) → is_same ≡ same_shape left right → Decides is_same (left ≡ right)
 same_is left right is_same is = rw is (one_shape left right, λ same. rw same (itself right))
-
--- a kind with itself
-pub merged_with_itself : (left right : Kind) → left ≡ right → Some left ≡ merge left right
-merged_with_itself left right same = rw same (sym (merge_with_itself right))
 
 -- ---- field by field
 

@@ -1,6 +1,6 @@
 use Rattle.std.proofs.Common.{◌≡◌, drop}
-use Rattle.ar_verify.proofs.Same.{SameFields}
-use Rattle.ar_verify.proofs.sameness.+is_same.Given as goal
+use Rattle.ar_value.proofs.Same.{SameFields}
+use Rattle.ar_value.proofs.sameness.+is_same.Given as goal
 
 -- what is left decides
 abbrev pub invariant-are_fields_same-loop-index : goal.invariant-are_fields_same-loop-index

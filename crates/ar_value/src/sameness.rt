@@ -4,11 +4,11 @@ ghost use Rattle.std.specs.Bool.{Decides};
 ghost use Rattle.std.specs.Prelude.{◌≡◌, map};
 ghost use Rattle.ar_value.specs.Shape.{field_shapes_of};
 ghost use Rattle.ar_value.specs.View.{field_shape_view, shape_view};
-ghost use Rattle.ar_verify.specs.Private.Same.{same_field, same_fields, same_shape};
+ghost use Rattle.ar_value.specs.Private.Same.{same_field, same_fields, same_shape};
 
-use ar_value::shape::{FieldShape, Shape};
+use crate::shape::{FieldShape, Shape};
 
-pub(crate) fn are_same_shapes(left: &Shape, right: &Shape) -> bool
+pub fn are_same_shapes(left: &Shape, right: &Shape) -> bool
     ensures { Decides result (shape_view left.now ≡ shape_view right.now) }
 {
     is_same(left, right)

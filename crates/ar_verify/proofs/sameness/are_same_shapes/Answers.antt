@@ -1,5 +1,0 @@
-use Rattle.ar_verify.proofs.Same.{same_is}
-use Rattle.ar_verify.proofs.sameness.are_same_shapes.Goals as goal
-
-pub returns : goal.returns
-returns c = same_is _ _ c.is_same.result c.is_same.ensures
