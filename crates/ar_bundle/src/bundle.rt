@@ -9,7 +9,7 @@ ghost use Rattle.ar_judge.specs.Verdict.{sample_view};
 use crate::finding::{Finding, mark_of};
 use ar_judge::{Judge, Sample};
 use ar_limits::{Event, Limits};
-use ar_value::shape::Shape;
+use ar_value::shared_shape::SharedShape;
 use ar_value::text::Text;
 use std::alloc::{AllocError, Global};
 use std::marker::Model;
@@ -19,7 +19,7 @@ use std::marker::Model;
 pub struct MetricPart {
     pub name: Text,
     /// Of its measured values.
-    pub shape: Shape,
+    pub shape: SharedShape,
 }
 
 /// The judges of a run, one for each metric. Contracts see their list.

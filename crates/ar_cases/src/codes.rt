@@ -82,7 +82,7 @@ fn typed_of(alloc: Global, case: &Json) -> Result<Box<Typed>, CaseFault> {
     let Ok(tree) = parse(alloc, members::text(case, "condition")?) else {
         return Err(CaseFault::Member);
     };
-    match check(alloc, tree, &shape) {
+    match check(alloc, tree, shape.get()) {
         Ok(typed) => Ok(Box::new(alloc, typed)?),
         Err(_) => Err(CaseFault::Member),
     }
@@ -132,7 +132,7 @@ fn put_cause(out: &mut String, cause: Cause) -> Written {
 fn put_verified(alloc: Global, case: &Json, out: &mut String) -> Written {
     let code = code_of(alloc, case)?;
     let shape = members::shape(alloc, case, "shape")?;
-    match verify(alloc, code, Box::into_inner(shape)) {
+    match verify(alloc, code, shape) {
         Ok(verified) => put_accepted(alloc, case, &verified, out),
         Err(refused) => put_refused(alloc, case, &refused, out),
     }
@@ -158,7 +158,7 @@ fn put_refused(alloc: Global, case: &Json, refused: &Refused, out: &mut String) 
 fn put_tested(alloc: Global, case: &Json, out: &mut String) -> Written {
     let code = code_of(alloc, case)?;
     let shape = members::shape(alloc, case, "shape")?;
-    let value = members::value(alloc, case, &shape)?;
+    let value = members::value(alloc, case, shape.get())?;
     put_tested_run(alloc, case, &code, &value, out)
 }
 
@@ -197,7 +197,7 @@ fn takes_just(
 fn put_tested_runs(alloc: Global, case: &Json, code: &Code, out: &mut String) -> Written {
     let shape = members::shape(alloc, case, "shape")?;
     for json in members::list_or_none(case, "values")? {
-        let value = members::value_of(alloc, json, &shape)?;
+        let value = members::value_of(alloc, json, shape.get())?;
         out.push_str(" / ")?;
         put_tested_run(alloc, case, code, &value, out)?;
     }

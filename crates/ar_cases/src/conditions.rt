@@ -85,7 +85,7 @@ fn put_checked(alloc: Global, case: &Json, out: &mut String) -> Written {
 
 fn put_typed_of(alloc: Global, case: &Json, tree: Tree, out: &mut String) -> Written {
     let shape = members::shape(alloc, case, "shape")?;
-    match check(alloc, tree, &shape) {
+    match check(alloc, tree, shape.get()) {
         Ok(typed) => put_typed(out, &typed),
         Err(refusal) => put_refusal(alloc, case, out, &refusal),
     }

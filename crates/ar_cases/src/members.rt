@@ -15,7 +15,7 @@ ghost use Rattle.ar_cases.specs.Members.{bytes_member, decimal_member, is_memory
 use crate::fault::CaseFault;
 use ar_json::members::list_of;
 use ar_json::{ShapeError, ShapeFault, read_shape, read_value};
-use ar_value::{Decimal, Number, Shape, Value};
+use ar_value::{Decimal, Number, Shape, SharedShape, Value};
 use hex::FromHexError;
 use serde_json::Value as Json;
 use std::alloc::Global;
@@ -105,8 +105,8 @@ fn operand_of(json: &Json) -> Result<Number, CaseFault>
 }
 
 /// A shape that must be one.
-pub fn shape(alloc: Global, case: &Json, name: &str) -> Result<Box<Shape>, CaseFault>
-    ensures exact { Gives is_memory (λ shape. shape_view shape.value) result
+pub fn shape(alloc: Global, case: &Json, name: &str) -> Result<SharedShape, CaseFault>
+    ensures exact { Gives is_memory shape_view result
         (shape_member name.now (view case.now)) }
     ensures missing { get name.now (view case.now) ≡ None → result ≡ Err Member }
 {
@@ -114,11 +114,11 @@ pub fn shape(alloc: Global, case: &Json, name: &str) -> Result<Box<Shape>, CaseF
 }
 
 /// What must declare a shape.
-fn shape_of(alloc: Global, json: &Json) -> Result<Box<Shape>, CaseFault>
-    ensures { Gives is_memory (λ shape. shape_view shape.value) result (shape_in (view json.now)) }
+fn shape_of(alloc: Global, json: &Json) -> Result<SharedShape, CaseFault>
+    ensures { Gives is_memory shape_view result (shape_in (view json.now)) }
 {
     match read_shape(alloc, json) {
-        Ok(shape) => Ok(Box::new(alloc, shape)?),
+        Ok(shape) => Ok(SharedShape::new(alloc, shape)?),
         Err(ShapeError::OutOfMemory) => Err(CaseFault::OutOfMemory),
         Err(_) => Err(CaseFault::Member),
     }

@@ -41,14 +41,14 @@ fn put_read_shape(alloc: Global, case: &Json, out: &mut String) -> Written {
 /// The shape of what isn't nil, and whether nil fits.
 fn put_plain(alloc: Global, case: &Json, out: &mut String) -> Written {
     let shape = members::shape(alloc, case, "shape")?;
-    put_shape(out, plain(&shape))?;
-    write!(out, " optional={}", is_optional(&shape))?;
+    put_shape(out, plain(shape.get()))?;
+    write!(out, " optional={}", is_optional(shape.get()))?;
     Ok(())
 }
 
 fn put_field_shape(alloc: Global, case: &Json, out: &mut String) -> Written {
     let shape = members::shape(alloc, case, "shape")?;
-    match fields_of(&shape)?.get(members::text(case, "field")?) {
+    match fields_of(shape.get())?.get(members::text(case, "field")?) {
         Some(shape) => put_shape(out, shape),
         None => put_str(out, "none"),
     }
@@ -65,7 +65,7 @@ fn fields_of(shape: &Shape) -> Result<&FieldShapes, CaseFault> {
 fn kind_of(alloc: Global, case: &Json, name: &str) -> Result<Box<Kind>, CaseFault> {
     let kind = match members::json(case, name)? {
         Json::Null => Kind::Nil,
-        _ => Kind::Shape(Box::into_inner(members::shape(alloc, case, name)?)),
+        _ => Kind::Shape(members::shape(alloc, case, name)?.get().copy(alloc)?),
     };
     Ok(Box::new(alloc, kind)?)
 }
@@ -90,7 +90,7 @@ fn put_joined(alloc: Global, call: &str, case: &Json, out: &mut String) -> Writt
 
 fn put_read_value(alloc: Global, case: &Json, out: &mut String) -> Written {
     let shape = members::shape(alloc, case, "shape")?;
-    match read_value(alloc, members::json(case, "value")?, &shape) {
+    match read_value(alloc, members::json(case, "value")?, shape.get()) {
         Ok(value) => put_value(out, &value),
         Err(refusal) => put_refusal(alloc, case, out, &refusal),
     }
@@ -99,7 +99,7 @@ fn put_read_value(alloc: Global, case: &Json, out: &mut String) -> Written {
 /// A value of the shape that the case gives under a name.
 fn value_of(alloc: Global, case: &Json, shape: &str) -> Result<Box<Value>, CaseFault> {
     let shape = members::shape(alloc, case, shape)?;
-    members::value(alloc, case, &shape)
+    members::value(alloc, case, shape.get())
 }
 
 fn put_field(alloc: Global, case: &Json, out: &mut String) -> Written {
@@ -121,6 +121,6 @@ fn field_of<'a>(value: &'a Value, name: &str) -> Result<Option<&'a Value>, CaseF
 fn put_fits(alloc: Global, case: &Json, out: &mut String) -> Written {
     let value = value_of(alloc, case, "of")?;
     let shape = members::shape(alloc, case, "shape")?;
-    write!(out, "{}", fits(&value, &shape))?;
+    write!(out, "{}", fits(&value, shape.get()))?;
     Ok(())
 }

@@ -139,7 +139,7 @@ fn measured_of(
         .metrics
         .get(metric)
         .ok_or(BundleError::UnknownMetric(number))?;
-    let sample = sample_of(alloc, &part.shape, found)?;
+    let sample = sample_of(alloc, part.shape.get(), found)?;
     Ok(EventPart {
         run,
         what: What::Measure(metric, sample),

@@ -19,7 +19,7 @@ use crate::runs::{Run, read_runs};
 use ar_bundle::MetricPart;
 use ar_json::shape_reading::{ShapeError, read_shape};
 use ar_manifest::{ManifestError, Metric, Template};
-use ar_value::shape::Shape;
+use ar_value::shared_shape::SharedShape;
 use ar_value::text::Text;
 use serde_json::Value as Json;
 use std::alloc::{AllocError, Global};
@@ -57,11 +57,11 @@ fn template_of(alloc: Global, document: &Json) -> Result<Template, BundleError>
 }
 
 /// The shape that a JSON value declares for the metric with a number.
-fn shape_of(alloc: Global, declared: &Json, number: usize) -> Result<Shape, BundleError>
+fn shape_of(alloc: Global, declared: &Json, number: usize) -> Result<SharedShape, BundleError>
     ensures { Gives is_memory shape_view result (refused_as (Shapes number) (declared_shape (view declared.now))) }
 {
     match read_shape(alloc, declared) {
-        Ok(shape) => Ok(shape),
+        Ok(shape) => Ok(SharedShape::new(alloc, shape)?),
         Err(ShapeError::OutOfMemory) => Err(BundleError::OutOfMemory),
         Err(error) => Err(BundleError::Shapes(number, error)),
     }

@@ -18,7 +18,7 @@ use ar_json::{JsonError, read_json};
 use ar_judge::{BuildCause, Condition};
 use ar_machine::Answer;
 use ar_syntax::SyntaxError;
-use ar_value::shape::Shape;
+use ar_value::shared_shape::SharedShape;
 use ar_verify::Reason;
 use serde_json::Value as Json;
 use std::alloc::{AllocError, Global};
@@ -144,13 +144,18 @@ fn judge(alloc: Global, document: &Json) -> Result<Answer, EvalError>
     ensures { UnlessMemory result (Follows (prepared (view document.now))) }
 {
     let (text, declared, measured) = parts_of(document)?;
-    let shape = read_shape(alloc, declared)?;
+    let shape = SharedShape::new(alloc, read_shape(alloc, declared)?)?;
     judge_text(alloc, text, shape, measured)
 }
 
 /// What a condition's text says of what was measured.
 #[tactic(auto, using(crate::proofs::Judging::not_built))]
-fn judge_text(alloc: Global, text: &str, shape: Shape, measured: &Json) -> Result<Answer, EvalError>
+fn judge_text(
+    alloc: Global,
+    text: &str,
+    shape: SharedShape,
+    measured: &Json,
+) -> Result<Answer, EvalError>
     ensures { UnlessMemory result (Answers (prepared_of text.now (shape_view shape) (view measured.now))) }
 {
     let condition = Condition::build(alloc, text, shape)?;

@@ -5,14 +5,16 @@ use Rattle.ar_value.specs.Shape.{Shape}
 use Rattle.ar_value.specs.Value.{Value}
 use Rattle.ar_value.specs.declared.fault.Fault.{Fault}
 use Rattle.ar_condition.specs.Expression.{Expression}
-use Rattle.ar_condition.specs.Limits.{WrittenInLimits}
 use Rattle.ar_condition.specs.Meaning.{answer_of, mean}
 use Rattle.ar_condition.specs.Typed.{Typed}
+use Rattle.ar_syntax.proofs.Limits.{parsed_in_limits}
 use Rattle.ar_syntax.specs.Parse.{parse_of}
 use Rattle.ar_syntax.specs.declared.error.SyntaxError.{SyntaxError}
 use Rattle.ar_check.specs.Check.{checked}
 use Rattle.ar_check.specs.declared.error.TypeError.{TypeError}
+use Rattle.ar_op.specs.Code.{IsCode}
 use Rattle.ar_compile.proofs.Conditions.{compiled_means}
+use Rattle.ar_compile.proofs.Lawful.{compiled_is_code}
 use Rattle.ar_compile.specs.Compiled.{compiled}
 use Rattle.ar_compile.specs.Ends.{EndsWith}
 use Rattle.ar_verify.proofs.Verdicts.{few_operands, verified_is_safe}
@@ -24,33 +26,40 @@ use Rattle.ar_judge.specs.Verdict.{AreBuilt, IsJudge, Judge, judge_of, said_of, 
 use Rattle.ar_judge.specs.declared.error.BuildCause.TheVariants.{Kinds}
 use Rattle.ar_judge.specs.Private.Building.{BuildsEach}
 use Rattle.ar_judge.specs.Private.Readiness.{IsRunnable}
-use Rattle.ar_judge.proofs.Running.{built, one_answer}
+use Rattle.ar_judge.proofs.Running.{built, in_limits, one_answer}
 
 -- ---- conditions
 
 -- what a typed tree was checked from
-record IsChecked (shape : Shape) (tree : Typed) : Type 0 where
+record IsChecked (shape : Shape) (text : List ℕ) (tree : Typed) : Type 0 where
   expression : Expression
+  parsed : parse_of text ≡ Ok expression
   is : checked shape expression ≡ Ok tree
 
-checked_by : (shape : Shape) (tree : Typed) (expression : Expression) (answer : Result Typed TypeError) → checked shape expression ≡ answer → refused_as Kinds answer ≡ Ok tree → IsChecked shape tree
-checked_by shape tree expression (Ok found) is same = let alike : found ≡ tree = cc in record { expression = expression; is = is ∙ ap (λ tree. Ok tree) alike }
-checked_by shape tree expression (Err error) is same = absurd cc
+checked_by : (shape : Shape) (text : List ℕ) (tree : Typed) (expression : Expression) (answer : Result Typed TypeError) → parse_of text ≡ Ok expression → checked shape expression ≡ answer → refused_as Kinds answer ≡ Ok tree → IsChecked shape text tree
+checked_by shape text tree expression (Ok found) parsed is same = let alike : found ≡ tree = cc in record { expression = expression; parsed = parsed; is = is ∙ ap (λ tree. Ok tree) alike }
+checked_by shape text tree expression (Err error) parsed is same = absurd cc
 
-checked_from : (shape : Shape) (text : List ℕ) (tree : Typed) (parsed : Result Expression SyntaxError) → parse_of text ≡ parsed → typed_of shape text ≡ Ok tree → IsChecked shape tree
+checked_from : (shape : Shape) (text : List ℕ) (tree : Typed) (parsed : Result Expression SyntaxError) → parse_of text ≡ parsed → typed_of shape text ≡ Ok tree → IsChecked shape text tree
 checked_from shape text tree (Ok expression) is typed =
-    let kinds : refused_as Kinds (checked shape expression) ≡ Ok tree = rw is at typed in checked_by shape tree expression (checked shape expression) refl kinds
+    let kinds : refused_as Kinds (checked shape expression) ≡ Ok tree = rw is at typed in checked_by shape text tree expression (checked shape expression) is refl kinds
 checked_from shape text tree (Err error) is typed = absurd cc
 
 module _ (shape : Shape) (text : List ℕ) (condition : Condition) (built : IsBuilt shape text condition) (value : Value) (fit : fits value shape ≡ true) where
-  -- the code is safe
+  from : IsChecked shape text built.tree
+  from = checked_from shape text built.tree (parse_of text) refl built.typed
+
+  -- the code of a text is code
+  is_code : IsCode (compiled built.tree)
+  is_code = compiled_is_code built.tree (in_limits shape from.expression built.tree (parsed_in_limits text from.expression from.parsed) from.is) built.short
+
+  -- it is safe
   safe : IsSafe condition.verified.code value condition.verified.budget condition.verified.depth
-  safe = subst (λ code. IsSafe code value condition.verified.budget condition.verified.depth) (sym built.code_is) (verified_is_safe (compiled built.tree) shape condition.verified.budget condition.verified.depth value built.is_code built.accepted fit)
+  safe = subst (λ code. IsSafe code value condition.verified.budget condition.verified.depth) (sym built.code_is) (verified_is_safe (compiled built.tree) shape condition.verified.budget condition.verified.depth value is_code built.accepted fit)
 
   -- and comes to what its tree means
   ending : EndsWith condition.verified.code value (answer_of (mean value None built.tree))
   ending =
-      let from = checked_from shape text built.tree (parse_of text) refl built.typed in
       subst (λ code. EndsWith code value (answer_of (mean value None built.tree))) (sym built.code_is) (compiled_means shape from.expression built.tree value from.is fit)
 
   same_answer : safe.answer ≡ answer_of (mean value None built.tree)
@@ -129,10 +138,10 @@ judge_holds shape success failure judge is = record {
 -- ---- what is built
 
 -- the condition of a text that was parsed and checked, with the verified code of its tree
-pub built_holds : (shape : Shape) (text kept : List ℕ) (tree : Expression) (condition : Typed) (verified : Verified) → kept ≡ text → parse_of text ≡ Ok tree → WrittenInLimits tree → checked shape tree ≡ Ok condition → IsRunnable shape condition verified
+pub built_holds : (shape : Shape) (text kept : List ℕ) (tree : Expression) (condition : Typed) (verified : Verified) → kept ≡ text → parse_of text ≡ Ok tree → checked shape tree ≡ Ok condition → IsRunnable shape condition verified
     → HeadlineHolds shape text (condition_of kept verified)
-built_holds shape text kept tree condition verified same parsed written is runnable =
-    condition_holds shape text (condition_of kept verified) (subst (λ kept. IsBuilt shape text (condition_of kept verified)) (sym same) (built shape text tree condition verified parsed written is runnable))
+built_holds shape text kept tree condition verified same parsed is runnable =
+    condition_holds shape text (condition_of kept verified) (subst (λ kept. IsBuilt shape text (condition_of kept verified)) (sym same) (built shape text tree condition verified parsed is runnable))
 
 -- the judge of two texts
 pub both_hold : (shape : Shape) (success failure : Option (List ℕ)) (one other : Option Condition) → BuildsEach shape success (Ok one) → BuildsEach shape failure (Ok other) → JudgeHeadlineHolds shape success failure (judge_of one other)

@@ -13,7 +13,6 @@ use Rattle.ar_syntax.specs.Parse.{parse_of}
 use Rattle.ar_check.specs.Check.{checked}
 use Rattle.ar_op.specs.Code.{Code}
 use Rattle.ar_compile.proofs.Checked.{checked_in_limits}
-use Rattle.ar_compile.proofs.Lawful.{compiled_is_code}
 use Rattle.ar_compile.specs.Ends.{EndsWith}
 use Rattle.ar_machine.proofs.Ends.{one_end}
 use Rattle.ar_machine.specs.Run.{IsDone}
@@ -41,8 +40,8 @@ ready shape text tree condition verified parsed is runnable =
     }
 
 -- and is what the text is built to
-pub built : (shape : Shape) (text : List ℕ) (tree : Expression) (condition : Typed) (verified : Verified) → parse_of text ≡ Ok tree → WrittenInLimits tree → checked shape tree ≡ Ok condition → IsRunnable shape condition verified → IsBuilt shape text (condition_of text verified)
-built shape text tree condition verified parsed written is runnable =
+pub built : (shape : Shape) (text : List ℕ) (tree : Expression) (condition : Typed) (verified : Verified) → parse_of text ≡ Ok tree → checked shape tree ≡ Ok condition → IsRunnable shape condition verified → IsBuilt shape text (condition_of text verified)
+built shape text tree condition verified parsed is runnable =
     record {
       text_is = refl;
       shape_is = runnable.shape_is;
@@ -50,7 +49,6 @@ built shape text tree condition verified parsed written is runnable =
       typed = typed_as shape text tree condition parsed is;
       short = runnable.short;
       code_is = runnable.code_is;
-      is_code = compiled_is_code condition (in_limits shape tree condition written is) runnable.short;
       accepted = runnable.accepted;
     }
 

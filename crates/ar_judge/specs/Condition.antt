@@ -13,7 +13,7 @@ use Rattle.ar_syntax.specs.declared.error.SyntaxError.TheVariants as syntax
 use Rattle.ar_check.specs.Check.{checked}
 use Rattle.ar_check.specs.declared.error.TypeError.{TypeError}
 use Rattle.ar_check.specs.declared.error.TypeError.TheVariants as types
-use Rattle.ar_op.specs.Code.{IsCode, most_entries}
+use Rattle.ar_op.specs.Code.{most_entries}
 use Rattle.ar_compile.specs.Compiled.{compiled}
 use Rattle.ar_compile.specs.Length.{length_of}
 use Rattle.ar_compile.specs.declared.error.CompileError.{CompileError}
@@ -55,7 +55,7 @@ pub record Condition : Type 0 where
 abbrev pub condition_of : List ℕ → Verified → Condition
 condition_of text verified = record { text = text; verified = verified }
 
--- this is the condition of a text where `result` has a shape: the code of its typed tree is code, which the verifier accepts
+-- this is the condition of a text where `result` has a shape: the verifier accepts the code of its typed tree
 pub record IsBuilt (shape : Shape) (text : List ℕ) (condition : Condition) : Type 0 where
   pub text_is : condition.text ≡ text
   pub shape_is : shape_view condition.verified.shape ≡ shape
@@ -63,7 +63,6 @@ pub record IsBuilt (shape : Shape) (text : List ℕ) (condition : Condition) : T
   pub typed : typed_of shape text ≡ Ok tree
   pub short : length_of tree ≤ most_entries
   pub code_is : condition.verified.code ≡ compiled tree
-  pub is_code : IsCode (compiled tree)
   pub accepted : IsVerified (compiled tree) shape condition.verified.budget condition.verified.depth
 
 -- the code of a text's typed tree would have too many operations

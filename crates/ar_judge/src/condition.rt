@@ -16,7 +16,7 @@ use ar_compile::compile;
 use ar_condition::Typed;
 use ar_machine::{Answer, run};
 use ar_syntax::parse;
-use ar_value::shape::Shape;
+use ar_value::shared_shape::SharedShape;
 use ar_value::text::Text;
 use ar_value::value::Value;
 use ar_verify::{Verified, verify};
@@ -53,14 +53,14 @@ impl Condition {
     ///
     /// The first fault of its grammar, of its kinds, or of its code.
     #[tactic(auto, using(crate::proofs::Running::in_limits, crate::proofs::Running::ready, crate::proofs::Running::built, crate::proofs::Headline::built_holds))]
-    pub fn build(alloc: Global, text: &str, shape: Shape) -> Result<Condition, BuildCause>
+    pub fn build(alloc: Global, text: &str, shape: SharedShape) -> Result<Condition, BuildCause>
         ensures built { BuildsTo (shape_view shape) text.now result }
         // On each value of the shape its code ends within its budget, is never stuck, and answers what the
         // text means.
         ensures headline { IfOk result (HeadlineHolds (shape_view shape) text.now) }
     {
         let tree = parse(alloc, text)?;
-        let tree = check(alloc, tree, &shape)?;
+        let tree = check(alloc, tree, shape.get())?;
         let verified = runnable(alloc, &tree, shape)?;
         let text = Text::of(alloc, text)?;
         Ok(Condition { text, verified })
@@ -97,7 +97,7 @@ impl Condition {
 }
 
 /// The verified code of a condition that was checked for a shape.
-fn runnable(alloc: Global, tree: &Typed, shape: Shape) -> Result<Verified, BuildCause>
+fn runnable(alloc: Global, tree: &Typed, shape: SharedShape) -> Result<Verified, BuildCause>
     requires { InLimits (typed_view tree.now) }
     ensures { Readies (shape_view shape) (typed_view tree.now) result }
 {

@@ -13,7 +13,7 @@ use crate::verdict::{Cause, Verdict};
 use ar_machine::Answer;
 use ar_manifest::BoundMetric;
 use ar_value::Text;
-use ar_value::shape::Shape;
+use ar_value::shared_shape::SharedShape;
 use ar_value::value::Value;
 use ar_verify::Verified;
 use std::alloc::{AllocError, Global};
@@ -40,14 +40,18 @@ impl Model for Judge {
 }
 
 impl Judge {
-    /// The judge of a metric's conditions where a measured value has a shape.
+    /// The judge of a metric's conditions where a measured value has a shape, which they keep.
     ///
     /// # Errors
     ///
     /// The first text, the success condition's before the failure condition's, that is no condition
     /// that can be run, and why.
     #[tactic(auto, using(crate::proofs::Refusing::success_told, crate::proofs::Refusing::failure_told))]
-    pub fn build(alloc: Global, metric: &BoundMetric, shape: &Shape) -> Result<Judge, BuildError>
+    pub fn build(
+        alloc: Global,
+        metric: &BoundMetric,
+        shape: &SharedShape,
+    ) -> Result<Judge, BuildError>
         ensures built { IfOk result
             (IsJudge (shape_view shape.now) metric.now.success_condition metric.now.failure_condition) }
         // On each value of the shape the code of its conditions ends within its budget, is never stuck, and
@@ -108,12 +112,16 @@ impl Judge {
 }
 
 /// The condition of a text, where there is one.
-fn built(alloc: Global, text: &Option<Text>, shape: &Shape) -> Result<Option<Condition>, BuildCause>
+fn built(
+    alloc: Global,
+    text: &Option<Text>,
+    shape: &SharedShape,
+) -> Result<Option<Condition>, BuildCause>
     ensures built { BuildsEach (shape_view shape.now) text.now result }
     ensures without_memory { text.now ≡ None → IsOk result }
 {
     match text {
-        Some(text) => Ok(Some(Condition::build(alloc, text.as_str(), shape.copy(alloc)?)?)),
+        Some(text) => Ok(Some(Condition::build(alloc, text.as_str(), shape.share()?)?)),
         None => Ok(None),
     }
 }

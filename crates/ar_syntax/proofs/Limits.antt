@@ -236,6 +236,10 @@ mutual
 says_in_limits : (text : List ℕ) (tree : Expression) → SaysTree text tree → WrittenInLimits tree
 says_in_limits text tree says = (phrase_within says.derived (tokens_short text (condition_short text says.tokens says.cut) says.tokens (AreCut-from_tokens_of text says.tokens says.cut).spelled)).0
 
+-- the tree of a text is within limits
+pub parsed_in_limits : (text : List ℕ) (tree : Expression) → parse_of text ≡ Ok tree → WrittenInLimits tree
+parsed_in_limits text tree is = says_in_limits text tree (SaysTree-from_parse_of text tree is)
+
 -- what `parse` answers by its exact clause
 pub in_limits : (text : List ℕ) (answer : Result Tree SyntaxError) → Gives is_memory expression_of answer (parse_of text) → IfOk answer (λ tree. WrittenInLimits (expression_of tree))
 in_limits text (Ok tree) gives = says_in_limits text (expression_of tree) (SaysTree-from_parse_of text (expression_of tree) gives)

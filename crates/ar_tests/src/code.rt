@@ -2,7 +2,7 @@
 
 use ar_code::op::Source;
 use ar_code::{Code, ImageError, Op, decode, encode};
-use ar_value::Shape;
+use ar_value::{Shape, SharedShape};
 use ar_verify::{Cause, Reason, verify};
 use std::alloc::{AllocError, Global};
 use std::test::Fail;
@@ -20,9 +20,9 @@ fn without_return(alloc: Global) -> Result<Code, AllocError> {
 }
 
 /// Whether code is refused for want of a return, and is given back.
-fn is_given_back(alloc: Global, code: Code) -> bool {
+fn is_given_back(alloc: Global, code: Code, shape: SharedShape) -> bool {
     let reason = Reason::NoReturn;
-    match verify(alloc, code, Shape::Whole) {
+    match verify(alloc, code, shape) {
         Ok(_) => false,
         Err(refused) => {
             refused.cause == Cause::Fault { place: 0, reason }
@@ -38,7 +38,8 @@ fn refused_code(rt: HostRuntime) -> Result<(), Fail> {
     assert!(rt;
         encode(rt.alloc(), &code)?.as_slice() == b"ARCV\x01\x00\x00\x01\x02\x0e".as_slice()
     );
-    assert!(rt; is_given_back(rt.alloc(), code));
+    let shape = SharedShape::new(rt.alloc(), Shape::Whole)?;
+    assert!(rt; is_given_back(rt.alloc(), code, shape));
     Ok(())
 }
 

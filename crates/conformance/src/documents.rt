@@ -81,7 +81,7 @@ fn put_metrics(metrics: &[MetricPart], out: &mut String) -> Written {
         first = false;
         put_quoted(out, metric.name.as_str())?;
         out.push_str(":")?;
-        put_shape(out, &metric.shape)?;
+        put_shape(out, metric.shape.get())?;
     }
     Ok(())
 }

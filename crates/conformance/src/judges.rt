@@ -13,7 +13,7 @@ use ar_judge::{BuildCause, Cause, Condition, Judge, Sample, Verdict};
 use ar_machine::{Ended, run_tested};
 use ar_manifest::BoundMetric;
 use ar_report::fault_name;
-use ar_value::{Fault, Shape, Text};
+use ar_value::{Fault, Shape, SharedShape, Text};
 use ar_verify::Verified;
 use serde_json::Value as Json;
 use std::alloc::Global;
@@ -34,7 +34,7 @@ pub(crate) fn put(alloc: Global, call: &str, case: &Json, out: &mut String) -> O
 fn put_condition(alloc: Global, case: &Json, out: &mut String) -> Written {
     let shape = members::shape(alloc, case, "shape")?;
     let text = members::text(case, "condition")?;
-    match Condition::build(alloc, text, Box::into_inner(shape)) {
+    match Condition::build(alloc, text, shape) {
         Ok(condition) => put_answered(alloc, case, &condition, out),
         Err(refusal) => put_refusal(alloc, case, out, &refusal),
     }
@@ -51,7 +51,7 @@ fn put_answered(alloc: Global, case: &Json, condition: &Condition, out: &mut Str
 /// fuel; or which part of the case is refused, and why.
 fn put_run(alloc: Global, case: &Json, out: &mut String) -> Written {
     match read_shape(alloc, members::json(case, "shape")?) {
-        Ok(shape) => put_run_under(alloc, case, shape, out),
+        Ok(shape) => put_run_under(alloc, case, SharedShape::new(alloc, shape)?, out),
         Err(ShapeError::OutOfMemory) => Err(CaseFault::OutOfMemory),
         Err(refusal) => {
             write!(out, "shape: {refusal}")?;
@@ -60,7 +60,7 @@ fn put_run(alloc: Global, case: &Json, out: &mut String) -> Written {
     }
 }
 
-fn put_run_under(alloc: Global, case: &Json, shape: Shape, out: &mut String) -> Written {
+fn put_run_under(alloc: Global, case: &Json, shape: SharedShape, out: &mut String) -> Written {
     match Condition::build(alloc, members::text(case, "condition")?, shape) {
         Ok(condition) => put_run_of(alloc, case, condition.verified(), out),
         Err(BuildCause::OutOfMemory) => Err(CaseFault::OutOfMemory),
@@ -124,7 +124,7 @@ fn sample_of(alloc: Global, case: &Json, shape: &Shape) -> Result<Sample, CaseFa
 fn put_judged(alloc: Global, case: &Json, out: &mut String) -> Written {
     let shape = members::shape(alloc, case, "shape")?;
     match Judge::build(alloc, &metric_of(alloc, case)?, &shape) {
-        Ok(judge) => put_verdict_of(alloc, case, &shape, &judge, out),
+        Ok(judge) => put_verdict_of(alloc, case, shape.get(), &judge, out),
         Err(refusal) => put_refusal(alloc, case, out, &refusal),
     }
 }
