@@ -1,0 +1,82 @@
+"""AnalysisRuns of Argo Rollouts as documents of argo_judge."""
+from documents import API_VERSION, Refused, document, member, measured, objects, shapes_of
+
+DONE = {"Successful", "Failed", "Inconclusive", "Error"}
+
+
+def is_job(metric):
+    """Whether a metric is measured by a Job, whose measurements have a phase and no value."""
+    return member(metric, "provider", "job") is not None
+
+
+def by_condition(metric):
+    """A metric as the engine judges it. A Job without conditions is judged by its own end: its measurement is
+    true where it succeeded, and false where it failed."""
+    conditions = member(metric, "successCondition"), member(metric, "failureCondition")
+    return {**metric, "successCondition": "result"} if is_job(metric) and not any(conditions) else metric
+
+
+def template_of(run):
+    """The template that an AnalysisRun was made of: its own metrics and arguments."""
+    spec = {"metrics": [by_condition(metric) for metric in objects(member(run, "spec", "metrics"))]}
+    args = [{name: arg[name] for name in ("name", "value") if member(arg, name) is not None}
+            for arg in objects(member(run, "spec", "args"))]
+    if args:
+        spec["args"] = args
+    for name in ("dryRun", "measurementRetention"):
+        if member(run, "spec", name):
+            spec[name] = run["spec"][name]
+    metadata = {"name": member(run, "metadata", "name")}
+    if annotations := member(run, "metadata", "annotations"):
+        metadata["annotations"] = annotations
+    return {"apiVersion": API_VERSION, "kind": "AnalysisTemplate", "metadata": metadata, "spec": spec}
+
+
+def answer_of(measurement, metric):
+    """What a measurement's provider answered: an error, or a value."""
+    if measurement.get("phase") == "Error":
+        return {"error": member(measurement, "message", default="")}
+    if isinstance(measurement.get("value"), str):
+        return {"value": measured(measurement["value"])}
+    if is_job(metric):
+        return {"value": measurement.get("phase") == "Successful"}
+    return {"value": None}
+
+
+def measurements_of(run):
+    """The measurements that ended, each with its metric's name and its own object, in the order in which they
+    did."""
+    metrics = {member(metric, "name"): metric for metric in objects(member(run, "spec", "metrics"))}
+    found = []
+    for result in objects(member(run, "status", "metricResults")):
+        name = member(result, "name")
+        for measurement in objects(member(result, "measurements")):
+            if measurement.get("phase") in DONE:
+                found.append((name, measurement, answer_of(measurement, metrics.get(name))))
+    found.sort(key=lambda one: member(one[1], "finishedAt", default="") or member(one[1], "startedAt", default=""))
+    return found
+
+
+def checked_run(run):
+    if member(run, "kind") != "AnalysisRun":
+        raise Refused("input: expected an AnalysisRun, as `kubectl get analysisrun NAME -o json` prints it")
+    if not isinstance(member(run, "metadata", "name"), str):
+        raise Refused("input: expected an AnalysisRun with a name")
+    return run
+
+
+def document_of(run, shapes_path, template=None):
+    """The document of an AnalysisRun, by its own template or another, and its measurements in the order of the
+    document's entries."""
+    run = checked_run(run)
+    name = run["metadata"]["name"]
+    template = template or template_of(run)
+    args = {arg["name"]: arg["value"] for arg in objects(member(run, "spec", "args"))
+            if isinstance(member(arg, "name"), str) and isinstance(member(arg, "value"), str)}
+    found = measurements_of(run)
+    entries = [{"run": name, "metric": metric, **answer} for metric, _, answer in found]
+    if member(run, "spec", "terminate") is True:
+        entries.append({"run": name, "stop": True})
+    shapes = {metric["name"]: "bool" for metric in objects(member(template, "spec", "metrics")) if is_job(metric)}
+    given = shapes_of(template, shapes_path) if shapes_path or len(shapes) < len(template["spec"]["metrics"]) else {}
+    return document(template, {**shapes, **given}, name, args, entries), found
