@@ -52,7 +52,7 @@ impl Condition {
     /// # Errors
     ///
     /// The first fault of its grammar, of its kinds, or of its code.
-    #[tactic(auto, using(crate::proofs::Running::in_limits, crate::proofs::Running::ready, crate::proofs::Running::built, crate::proofs::Headline::built_holds))]
+    #[tactic(auto, using(crate::proofs::Running::in_limits, crate::proofs::Running::ready, crate::proofs::Running::built))]
     pub fn build(alloc: Global, text: &str, shape: SharedShape) -> Result<Condition, BuildCause>
         ensures built { BuildsTo (shape_view shape) text.now result }
         // On each value of the shape its code ends within its budget, is never stuck, and answers what the
