@@ -10,5 +10,4 @@ pub mod Ahead
 pub mod Simulation
 pub mod Reached
 pub mod Ends
-pub mod Verified
 pub mod Unstuck

@@ -7,9 +7,9 @@
 //! ends in one way only. Only want of memory can keep it from that, which operands, loops and the lists
 //! that code makes take. Texts and values are lent by the measured value and by the code.
 //!
-//! [`run`] runs verified code on a value of its shape, which ends with an answer within its budget. Code
-//! without `filter` is run without operand tests, on stacks in the run's own frame: it takes no memory,
-//! so [`run`] succeeds whatever memory is left. Other code is run as by [`run_tested`].
+//! [`run`] runs verified code on a value of its shape, which ends with an answer within its budget. It is
+//! run without operand tests, on stacks in the run's own frame. Only the lists that `filter` gives take
+//! memory, so [`run`] succeeds on code without `filter` whatever memory is left.
 //!
 //! - [`outcome`]: how runs end
 //! - `runs`: runs, loops over states; `state`: those
