@@ -10,6 +10,7 @@ pub mod Passing
 pub mod Reached
 pub mod Sound
 pub mod Parts
+pub mod Ways
 pub mod Tops
 pub mod Names
 pub mod Heights

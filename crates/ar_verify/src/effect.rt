@@ -5,11 +5,12 @@ ghost use Rattle.std.specs.Prelude.{◌≡◌, IfOk, map, option_map, string_byt
 ghost use Rattle.ar_value.specs.View.{shape_view};
 ghost use Rattle.ar_op.specs.Machine.{nth};
 ghost use Rattle.ar_verify.specs.Effects.{binary_kind, effect, field_by, list_made, on_one, on_two, pushed_kind, scalar_shape, unary_kind};
-ghost use Rattle.ar_verify.specs.Private.Kinds.{any_view, kind_view};
+ghost use Rattle.ar_verify.specs.Private.Kinds.{kind_view, list_view};
 ghost use Rattle.ar_verify.specs.Private.Stacks.{Leaves, TakesScalar, from_top};
 
-use crate::kind::{AnyShape, Kind, is_scalar};
+use crate::kind::{Kind, is_scalar};
 use crate::operators::{apply_binary, apply_unary, field_of};
+use crate::part::{AnyShape, INNER};
 use crate::stack::pop;
 use ar_op::code::Code;
 use ar_op::op::{Op, Source};
@@ -17,7 +18,7 @@ use ar_value::operator::{BinaryOperator, Scalar, UnaryOperator};
 use ar_value::shape::Shape;
 use std::alloc::{AllocError, Global};
 
-/// What is pushed, where the innermost loop, if there is one, has items of a shape.
+/// What is pushed, where the innermost loop, if there is one, is over a list.
 fn pushed<'s>(
     alloc: Global,
     measured: &'s Shape,
@@ -25,7 +26,7 @@ fn pushed<'s>(
     source: Source,
 ) -> Result<Option<Kind<'s>>, AllocError>
     ensures { IfOk result (λ given. option_map kind_view given
-        ≡ pushed_kind (shape_view measured.now) (option_map (λ shape. any_view shape.now) here.entry) source) }
+        ≡ pushed_kind (shape_view measured.now) (option_map (λ list. (list_view list.now).0) here.entry) source) }
 {
     Ok(Some(match source {
         Source::Bool(_) => Kind::made(alloc, Shape::Bool)?,
@@ -33,9 +34,9 @@ fn pushed<'s>(
         Source::Decimal(_) => Kind::made(alloc, Shape::Decimal)?,
         Source::Text(_) => Kind::made(alloc, Shape::Text)?,
         Source::Nil => Kind::Nil,
-        Source::Result => Kind::Shape(AnyShape::Declared(measured)),
+        Source::Result => Kind::Shape(AnyShape::declared(alloc, measured)?),
         Source::Item => match here {
-            Some(item) => Kind::Shape(item.share()?),
+            Some(list) => Kind::Shape(list.child(alloc, INNER)?),
             None => return Ok(None),
         },
     }))
@@ -160,7 +161,7 @@ pub(crate) fn apply<'s>(
     kinds: &mut Vec<Kind<'s>>,
 ) -> Result<Option<Kind<'s>>, AllocError>
     ensures { IfOk result (λ given. Leaves given kinds.new.items
-        (effect code.now (shape_view measured.now) (option_map (λ shape. any_view shape.now) here.entry) op (from_top kinds.old.items))) }
+        (effect code.now (shape_view measured.now) (option_map (λ list. (list_view list.now).0) here.entry) op (from_top kinds.old.items))) }
 {
     match op {
         Op::Push(source) => pushed(alloc, measured, here, source),

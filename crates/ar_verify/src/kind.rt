@@ -2,25 +2,20 @@
 
 ghost use Rattle.std.specs.Bool.{Decides};
 ghost use Rattle.std.specs.Prelude.{◌≡◌, IfOk, option_map};
-ghost use Rattle.ar_value.specs.Kind.{merge, plain, shaped};
+ghost use Rattle.ar_value.specs.Kind.{merge, shaped};
+ghost use Rattle.ar_value.specs.Shape.{list};
 ghost use Rattle.ar_value.specs.View.{shape_view};
 ghost use Rattle.ar_value.specs.View as values;
-ghost use Rattle.ar_verify.specs.Effects.{family_in, field_kind, family_of, is_scalar};
-ghost use Rattle.ar_verify.specs.Private.Kinds.{any_view, kind_view, list_in, list_parts, list_view, shape_in};
+ghost use Rattle.ar_verify.specs.Effects.{family_in, family_of, is_scalar};
+ghost use Rattle.ar_verify.specs.Private.Kinds.{is_list, kind_view, list_in, list_parts, list_view, parts_view, shape_in};
+ghost use Rattle.ar_verify.specs.Private.Parts.{any_view};
 
+use crate::part::{AnyShape, INNER, child};
 use ar_value::kind;
 use ar_value::operator::{Family, Scalar};
 use ar_value::sameness::are_same_shapes;
 use ar_value::shape::Shape;
 use std::alloc::{AllocError, Global};
-use std::rc::Rc;
-
-/// A shape, which is lent where it is a part of a declared one, and else shared by all that have it.
-#[derive(Drop)]
-pub(crate) enum AnyShape<'s> {
-    Declared(&'s Shape),
-    Made(Rc<Shape>),
-}
 
 /// The kind of an operand: that of the literal `nil`, or a shape.
 #[derive(Drop)]
@@ -29,41 +24,12 @@ pub(crate) enum Kind<'s> {
     Shape(AnyShape<'s>),
 }
 
-/// What is known of a list.
+/// What a list's shape says of it.
 #[derive(Drop)]
-pub(crate) struct ListKind<'s> {
-    pub item: AnyShape<'s>,
+pub(crate) struct ListParts<'a> {
+    pub item: &'a Shape,
     /// How many items it has at most.
     pub most: usize,
-}
-
-impl<'s> AnyShape<'s> {
-    pub(crate) fn get(&self) -> &Shape
-        ensures { shape_view result.now ≡ any_view self.now }
-    {
-        match self {
-            AnyShape::Declared(shape) => shape,
-            AnyShape::Made(shape) => shape,
-        }
-    }
-
-    /// A shape that stands alone.
-    pub(crate) fn made(alloc: Global, shape: Shape) -> Result<AnyShape<'s>, AllocError>
-        ensures { IfOk result (λ made. any_view made ≡ shape_view shape) }
-    {
-        Ok(AnyShape::Made(Rc::new(alloc, shape)?))
-    }
-
-    /// The same shape once more, which takes no memory: it is refused only where a made one has more
-    /// owners than can be counted.
-    pub(crate) fn share(&self) -> Result<AnyShape<'s>, AllocError>
-        ensures { IfOk result (λ shared. any_view shared ≡ any_view self.now) }
-    {
-        match self {
-            AnyShape::Declared(shape) => Ok(AnyShape::Declared(shape)),
-            AnyShape::Made(shape) => Ok(AnyShape::Made(shape.clone()?)),
-        }
-    }
 }
 
 impl<'s> Kind<'s> {
@@ -191,91 +157,74 @@ pub(crate) fn family_in(kind: &Kind<'_>) -> Option<Family>
     }
 }
 
-/// The kind of what isn't nil.
-#[tactic(auto, using(crate::proofs::Parts::plain_already))]
-pub(crate) fn plain<'s>(alloc: Global, shape: AnyShape<'s>) -> Result<AnyShape<'s>, AllocError>
-    ensures { IfOk result (λ inner. any_view inner ≡ plain (any_view shape.entry)) }
+fn list_parts(shape: &Shape) -> Option<ListParts<'_>>
+    ensures { option_map parts_view result ≡ list_parts (shape_view shape.now) }
 {
     match shape {
-        AnyShape::Declared(shape) => Ok(AnyShape::Declared(kind::plain(shape))),
-        AnyShape::Made(shape) => {
-            if kind::is_optional(&shape) {
-                AnyShape::made(alloc, kind::plain(&shape).copy(alloc)?)
+        Shape::List { item, max } => Some(ListParts { item, most: *max }),
+        Shape::Bool
+        | Shape::Whole
+        | Shape::Decimal
+        | Shape::Text
+        | Shape::Object(_)
+        | Shape::Optional(_) => None,
+    }
+}
+
+/// What the kind says of a list, where it is that of one.
+pub(crate) fn list_in<'a>(kind: &'a Kind<'_>) -> Option<ListParts<'a>>
+    ensures { option_map parts_view result ≡ list_in (kind_view kind.now) }
+{
+    list_parts(kind.shape()?)
+}
+
+fn is_list(shape: &Shape) -> bool
+    ensures { result ≡ is_list (shape_view shape.now) }
+{
+    match shape {
+        Shape::List { .. } => true,
+        Shape::Bool
+        | Shape::Whole
+        | Shape::Decimal
+        | Shape::Text
+        | Shape::Object(_)
+        | Shape::Optional(_) => false,
+    }
+}
+
+/// The shape of a list, where the kind is that of one.
+#[tactic(auto, using(crate::proofs::Parts::of_a_list, crate::proofs::Parts::of_no_list))]
+pub(crate) fn into_list<'s>(kind: Kind<'s>) -> Option<AnyShape<'s>>
+    ensures { option_map list_view result ≡ list_in (kind_view kind.entry) }
+{
+    match kind {
+        Kind::Nil => None,
+        Kind::Shape(list) => {
+            if is_list(list.get()) {
+                Some(list)
             } else {
-                Ok(AnyShape::Made(shape))
+                None
             }
         }
     }
 }
 
-fn lent_list(shape: &Shape) -> Option<ListKind<'_>>
-    ensures { option_map list_view result ≡ list_parts (shape_view shape.now) }
+/// The shape of a list of the same items, and of as many at most. That of a list is shared; no other
+/// is meant.
+#[tactic(auto, using(crate::proofs::Parts::list_itself, crate::proofs::Parts::made_like))]
+pub(crate) fn list_like<'s>(alloc: Global, of: &AnyShape<'s>) -> Result<AnyShape<'s>, AllocError>
+    ensures { IfOk result (λ like. any_view like ≡ list (list_view of.now).0 (list_view of.now).1) }
 {
-    match shape {
-        Shape::List { item, max } => Some(ListKind {
-            item: AnyShape::Declared(item),
-            most: *max,
-        }),
-        Shape::Bool
-        | Shape::Whole
-        | Shape::Decimal
-        | Shape::Text
-        | Shape::Object(_)
-        | Shape::Optional(_) => None,
+    let shape = of.get();
+    if is_list(shape) {
+        return of.share();
     }
-}
-
-/// What is known of a list that was made, with a copy of the shape of its items.
-fn made_list<'s>(alloc: Global, shape: &Shape) -> Result<Option<ListKind<'s>>, AllocError>
-    ensures { IfOk result (λ list. option_map list_view list ≡ list_parts (shape_view shape.now)) }
-{
-    match shape {
-        Shape::List { item, max } => Ok(Some(ListKind {
-            item: AnyShape::made(alloc, item.copy(alloc)?)?,
-            most: *max,
-        })),
-        Shape::Bool
-        | Shape::Whole
-        | Shape::Decimal
-        | Shape::Text
-        | Shape::Object(_)
-        | Shape::Optional(_) => Ok(None),
-    }
-}
-
-/// What is known of a list, where the kind is that of one.
-pub(crate) fn into_list<'s>(
-    alloc: Global,
-    kind: Kind<'s>,
-) -> Result<Option<ListKind<'s>>, AllocError>
-    ensures { IfOk result (λ list. option_map list_view list ≡ list_in (kind_view kind.entry)) }
-{
-    match kind {
-        Kind::Nil => Ok(None),
-        Kind::Shape(AnyShape::Declared(shape)) => Ok(lent_list(shape)),
-        Kind::Shape(AnyShape::Made(shape)) => made_list(alloc, &shape),
-    }
-}
-
-/// The shape of a list's items, where the kind is that of one, and how many there are at most.
-pub(crate) fn list_in<'a>(kind: &'a Kind<'_>) -> Option<ListKind<'a>>
-    ensures { option_map list_view result ≡ list_in (kind_view kind.now) }
-{
-    lent_list(kind.shape()?)
-}
-
-/// The shape of a record's field, where the shape is that of a record that has one of the name.
-pub(crate) fn field_in<'a>(name: &str, shape: &'a Shape) -> Option<&'a Shape>
-    ensures { option_map (λ field. shaped (shape_view field.now)) result
-        ≡ field_kind name.now (shaped (shape_view shape.now)) }
-{
-    match shape {
-        Shape::Object(fields) => fields.get(name),
-        Shape::Bool
-        | Shape::Whole
-        | Shape::Decimal
-        | Shape::Text
-        | Shape::List { .. }
-        | Shape::Optional(_) => None,
-    }
+    let item = child(shape, INNER).copy(alloc)?;
+    AnyShape::made(
+        alloc,
+        Shape::List {
+            item: Box::new(alloc, item)?,
+            max: 0,
+        },
+    )
 }

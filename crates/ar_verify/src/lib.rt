@@ -10,8 +10,8 @@
 //! - `verifier`: the passes, one after the other; [`verified`]: what they accept
 //! - `places`: whether the places that operations name are as they should be; `loops`: whether loops
 //!   lie one in another
-//! - `kind`, `stack`: kinds of operands, which share the shapes that code makes; `operators`, `effect`:
-//!   what operations give of them
+//! - `part`: parts of shapes, which share the whole; `kind`, `stack`: kinds of operands; `operators`,
+//!   `effect`: what operations give of them
 //! - `operands`, `sending`, `arrivals`: what operations send on, and what arrives at each place
 //! - `budget`: what a run may cost at most
 //! - `failure`, [`error`]: why code isn't accepted
@@ -28,6 +28,7 @@ pub mod laws;
 mod loops;
 mod operands;
 mod operators;
+mod part;
 mod places;
 mod sending;
 mod stack;

@@ -3,17 +3,18 @@
 ghost use Rattle.std.specs.Prelude.{◌≡◌, ◌∷◌, [], IfOk, MatchOption, OnOk, map, option_map};
 ghost use Rattle.ar_verify.specs.Arrivals.{floor, height, merged, of_loops, operands};
 ghost use Rattle.ar_verify.specs.Private.Held.{around_view, arrival_view, counted, from_innermost, operands_view};
-ghost use Rattle.ar_verify.specs.Private.Kinds.{any_view, kind_view};
+ghost use Rattle.ar_verify.specs.Private.Kinds.{kind_view};
 ghost use Rattle.ar_verify.specs.Private.Stacks.{from_top};
 
 use crate::error::Reason;
-use crate::kind::{AnyShape, Kind, ListKind, merge};
+use crate::kind::{Kind, merge};
+use crate::part::AnyShape;
 use std::alloc::{AllocError, Global};
 
 /// A loop around a place.
 #[derive(Drop)]
 pub(crate) struct Around<'s> {
-    pub list: ListKind<'s>,
+    pub list: AnyShape<'s>,
     /// The operands below its floor and above that of the loop around it, of which the last is on top.
     pub below: Vec<Kind<'s>>,
 }
@@ -40,15 +41,9 @@ impl<'s> Around<'s> {
     fn copy(&self, alloc: Global) -> Result<Around<'s>, AllocError>
         ensures { IfOk result (λ copy. around_view copy ≡ around_view self.now) }
     {
-        let item = self.list.item.share()?;
+        let list = self.list.share()?;
         let below = copy_kinds(alloc, &self.below)?;
-        Ok(Around {
-            list: ListKind {
-                item,
-                most: self.list.most,
-            },
-            below,
-        })
+        Ok(Around { list, below })
     }
 }
 

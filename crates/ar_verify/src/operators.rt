@@ -6,9 +6,8 @@ ghost use Rattle.ar_value.specs.View.{shape_view};
 ghost use Rattle.ar_verify.specs.Effects.{decimal_kind, decimal_shape, family_in, is_scalar, binary_kind, decimals_kind, default_kind, equal_kind, field_kind, is_compared, is_family, is_number, item_kind, length_kind, member_kind, needed_kind, negative_kind, of_one_family, opposite_kind, order_kind, quotient_kind, same_kind, truth, unary_kind, where_taken, wholes_kind};
 ghost use Rattle.ar_verify.specs.Private.Kinds.{kind_view};
 
-use crate::kind::{
-    AnyShape, Kind, family_in, family_of, field_in, into_list, is_scalar, list_in, merge, plain,
-};
+use crate::kind::{Kind, family_in, family_of, into_list, is_scalar, list_in, merge};
+use crate::part::{INNER, field_number};
 use ar_value::kind;
 use ar_value::operator::{
     Arithmetic, BinaryOperator, Compared, Family, Numbers, Scalar, UnaryOperator,
@@ -41,12 +40,8 @@ pub(crate) fn field_of<'s>(
 {
     match operand {
         Kind::Nil => Ok(None),
-        Kind::Shape(AnyShape::Declared(shape)) => match field_in(name, shape) {
-            Some(field) => Ok(Some(Kind::Shape(AnyShape::Declared(field)))),
-            None => Ok(None),
-        },
-        Kind::Shape(AnyShape::Made(shape)) => match field_in(name, &shape) {
-            Some(field) => Ok(Some(Kind::made(alloc, field.copy(alloc)?)?)),
+        Kind::Shape(record) => match field_number(name, record.get()) {
+            Some(number) => Ok(Some(Kind::Shape(record.child(alloc, number)?))),
             None => Ok(None),
         },
     }
@@ -60,8 +55,8 @@ fn item<'s>(alloc: Global, list: Kind<'s>, index: &Kind<'_>) -> Result<Option<Ki
     if !is_scalar(Scalar::Whole, index) {
         return Ok(None);
     }
-    match into_list(alloc, list)? {
-        Some(list) => Ok(Some(Kind::Shape(list.item))),
+    match into_list(list) {
+        Some(list) => Ok(Some(Kind::Shape(list.child(alloc, INNER)?))),
         None => Ok(None),
     }
 }
@@ -78,7 +73,7 @@ fn needed<'s>(alloc: Global, operand: Kind<'s>) -> Result<Option<Kind<'s>>, Allo
 {
     match operand {
         Kind::Nil => Ok(None),
-        Kind::Shape(shape) => Ok(Some(Kind::Shape(plain(alloc, shape)?))),
+        Kind::Shape(shape) => Ok(Some(Kind::Shape(shape.plain(alloc)?))),
     }
 }
 
@@ -93,7 +88,7 @@ fn default<'s>(
 {
     match operand {
         Kind::Nil => Ok(Some(other)),
-        Kind::Shape(shape) => merge(alloc, &Kind::Shape(plain(alloc, shape)?), &other),
+        Kind::Shape(shape) => merge(alloc, &Kind::Shape(shape.plain(alloc)?), &other),
     }
 }
 
@@ -155,7 +150,7 @@ fn member<'s>(
     let Some(list) = list_in(list) else {
         return Ok(None);
     };
-    let family = family_of(kind::plain(list.item.get()));
+    let family = family_of(kind::plain(list.item));
     where_taken(
         alloc,
         of_one_family(family_in(operand), family),

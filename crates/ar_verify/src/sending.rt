@@ -6,15 +6,16 @@ ghost use Rattle.ar_verify.specs.Arrivals.{answer_kind, deepest, item_of, lacks,
 ghost use Rattle.ar_verify.specs.Effects.{effect};
 ghost use Rattle.ar_verify.specs.Private.Failures.{Meets};
 ghost use Rattle.ar_verify.specs.Private.Held.{around_view, counted, from_innermost, operands_view};
-ghost use Rattle.ar_verify.specs.Private.Kinds.{any_view, kind_view, list_view};
+ghost use Rattle.ar_verify.specs.Private.Kinds.{kind_view, list_view};
 ghost use Rattle.ar_verify.specs.Private.Sending.{around, beginning, branched, going_on, jumping, kept_or_taken, list_taken, passed_by, returning, sends_by, sends_view, stepping, truth_taken};
 ghost use Rattle.ar_verify.specs.Private.Stacks.{from_top};
 
 use crate::effect::apply;
 use crate::error::Reason;
 use crate::failure::Failure;
-use crate::kind::{AnyShape, Kind, ListKind, into_list, is_scalar};
+use crate::kind::{Kind, into_list, is_scalar, list_like};
 use crate::operands::{Around, Operands};
+use crate::part::AnyShape;
 use crate::stack::{pop, push};
 use ar_op::code::Code;
 use ar_op::op::{Jump, Op, Source};
@@ -54,32 +55,27 @@ fn take_truth(kinds: &mut Vec<Kind<'_>>) -> Result<(), Failure>
 }
 
 /// Takes a list.
-fn take_list<'s>(alloc: Global, kinds: &mut Vec<Kind<'s>>) -> Result<ListKind<'s>, Failure>
+fn take_list<'s>(kinds: &mut Vec<Kind<'s>>) -> Result<AnyShape<'s>, Failure>
     ensures { Meets (λ list. (list_view list, from_top kinds.new.items)) result
         (list_taken (from_top kinds.old.items)) }
 {
     let operand = pop(kinds).ok_or(Reason::IllKinded)?;
-    Ok(into_list(alloc, operand)?.ok_or(Reason::IllKinded)?)
+    Ok(into_list(operand).ok_or(Reason::IllKinded)?)
 }
 
 /// What a loop gives over a list.
 fn answer_kind<'s>(
     alloc: Global,
     predicate: Predicate,
-    list: &ListKind<'_>,
+    list: &AnyShape<'s>,
 ) -> Result<Kind<'s>, AllocError>
-    ensures { IfOk result (λ answer. kind_view answer ≡ answer_kind predicate (any_view list.now.item) list.now.most) }
+    ensures { IfOk result
+        (λ answer. kind_view answer ≡ answer_kind predicate (list_view list.now).0 (list_view list.now).1) }
 {
     match predicate {
         Predicate::All | Predicate::Any => Kind::made(alloc, Shape::Bool),
         Predicate::Count => Kind::made(alloc, Shape::Whole),
-        Predicate::Filter => {
-            let list = Shape::List {
-                item: Box::new(alloc, list.item.get().copy(alloc)?)?,
-                max: list.most,
-            };
-            Kind::made(alloc, list)
-        }
+        Predicate::Filter => Ok(Kind::Shape(list_like(alloc, list)?)),
     }
 }
 
@@ -100,12 +96,12 @@ fn pop_loop<'s>(loops: &mut Vec<Around<'s>>) -> Option<Around<'s>>
     loops.pop()
 }
 
-/// The shape of the innermost loop's items.
+/// The shape of the innermost loop's list.
 #[tactic(auto, using(crate::proofs::Tops::last_item))]
-fn item_of<'a, 's>(loops: &'a [Around<'s>]) -> Option<&'a AnyShape<'s>>
-    ensures { option_map (λ item. any_view item.now) result ≡ item_of (from_innermost loops.now) }
+fn innermost<'a, 's>(loops: &'a [Around<'s>]) -> Option<&'a AnyShape<'s>>
+    ensures { option_map (λ list. (list_view list.now).0) result ≡ item_of (from_innermost loops.now) }
 {
-    Some(&loops.last()?.list.item)
+    Some(&loops.last()?.list)
 }
 
 /// Goes to a place with the truth value on top, or on without it.
@@ -180,7 +176,7 @@ fn jump<'s>(
 /// Operands at the begin of the body of a loop over a list, where there are none above its floor.
 fn inside<'s>(
     alloc: Global,
-    list: ListKind<'s>,
+    list: AnyShape<'s>,
     had: Operands<'s>,
 ) -> Result<Operands<'s>, AllocError>
     ensures { IfOk result (λ inside. operands_view inside
@@ -205,7 +201,7 @@ fn enter<'s>(
     ensures { Meets sends_view result
         (beginning predicate next (step + 1) (operands_view had.entry).kinds (operands_view had.entry).loops) }
 {
-    let list = take_list(alloc, &mut had.kinds)?;
+    let list = take_list(&mut had.kinds)?;
     let mut behind = had.copy(alloc)?;
     push(&mut behind.kinds, answer_kind(alloc, predicate, &list)?)?;
     let body = inside(alloc, list, had)?;
@@ -272,7 +268,7 @@ fn go_on<'s>(
         (effect code.now (shape_view measured.now) (item_of (operands_view had.entry).loops) op (operands_view had.entry).kinds)) }
 {
     let Operands { mut kinds, loops } = had;
-    let given = apply(alloc, code, measured, item_of(&loops), op, &mut kinds)?;
+    let given = apply(alloc, code, measured, innermost(&loops), op, &mut kinds)?;
     push(&mut kinds, given.ok_or(Reason::IllKinded)?)?;
     Ok(Sends::One(Sent {
         target: next,
@@ -308,7 +304,7 @@ fn lacks(op: Op, had: &Operands<'_>) -> bool
     ensures { result ≡ lacks op (operands_view had.now) }
 {
     match op {
-        Op::Push(Source::Item) => item_of(&had.loops).is_none(),
+        Op::Push(Source::Item) => innermost(&had.loops).is_none(),
         _ => had.kinds.len() < op.takes(),
     }
 }

@@ -1,14 +1,14 @@
 -- What operands and loops in memory stand for.
 use Rattle.std.specs.Prelude.{ℕ, ◌-◌, ◌^◌, min, List, map, reverse, Result, Ok, Err}
 use Rattle.ar_verify.specs.Arrivals.{Around, Operands, operands}
-use Rattle.ar_verify.specs.Private.Kinds.{any_view}
+use Rattle.ar_verify.specs.Private.Kinds.{list_view}
 use Rattle.ar_verify.specs.Private.Stacks.{from_top}
 use Rattle.ar_verify.specs.declared.error.Reason.{Reason}
 use Rattle.ar_verify.specs.declared.operands.Around as code
 use Rattle.ar_verify.specs.declared.operands.Operands as held
 
 abbrev pub around_view : code.Around → Around
-around_view a = record { item = any_view a.list.item; most = a.list.most; below = from_top a.below.items }
+around_view a = record { item = (list_view a.list).0; most = (list_view a.list).1; below = from_top a.below.items }
 
 -- loops of which the last is the innermost, from the innermost
 abbrev pub from_innermost : List code.Around → List Around

@@ -1,18 +1,13 @@
 -- What kinds in memory stand for, and kinds by their shapes.
-use Rattle.std.specs.Prelude.{ℕ, Option, Some, None}
+use Rattle.std.specs.Prelude.{ℕ, Bool, true, false, Option, Some, None}
 use Rattle.ar_value.specs.Kind.{Kind, nil, shaped}
 use Rattle.ar_value.specs.Shape.{Shape, list}
 use Rattle.ar_value.specs.View.{shape_view}
-use Rattle.ar_verify.specs.declared.kind.AnyShape.{AnyShape}
-use Rattle.ar_verify.specs.declared.kind.AnyShape.TheVariants as shapes
+use Rattle.ar_verify.specs.Private.Parts.{any_view, child}
 use Rattle.ar_verify.specs.declared.kind.Kind as code
 use Rattle.ar_verify.specs.declared.kind.Kind.TheVariants as kinds
-use Rattle.ar_verify.specs.declared.kind.ListKind.{ListKind}
-
--- a shape, wherever it lies
-abbrev pub any_view : AnyShape → Shape
-any_view (shapes.Declared shape) = shape_view shape.now
-any_view (shapes.Made shape) = shape_view shape.value
+use Rattle.ar_verify.specs.declared.kind.ListParts.{ListParts}
+use Rattle.ar_verify.specs.declared.part.AnyShape.{AnyShape}
 
 abbrev pub kind_view : code.Kind → Kind
 kind_view kinds.Nil = nil
@@ -32,5 +27,18 @@ abbrev pub list_in : Kind → Option (Shape × ℕ)
 list_in nil = None
 list_in (shaped shape) = list_parts shape
 
-abbrev pub list_view : ListKind → Shape × ℕ
-list_view l = (any_view l.item, l.most)
+abbrev pub parts_view : ListParts → Shape × ℕ
+parts_view l = (shape_view l.item.now, l.most)
+
+abbrev pub is_list : Shape → Bool
+is_list (list shape max) = true
+is_list shape = false
+
+-- how many items a list has at most, where the shape is that of one
+abbrev pub longest : Shape → ℕ
+longest (list shape max) = max
+longest shape = 0
+
+-- what is known of a list, by its shape
+abbrev pub list_view : AnyShape → Shape × ℕ
+list_view l = (child 0 (any_view l), longest (any_view l))

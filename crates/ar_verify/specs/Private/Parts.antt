@@ -1,0 +1,33 @@
+-- Parts of shapes, by the way to them, and what such parts in memory stand for.
+use Rattle.std.specs.Prelude.{ℕ, zero, suc, List, [], ◌∷◌, Option, Some, None, unwrap_or}
+use Rattle.ar_value.specs.Shape.{Shape, FieldShapes, list, object, optional, no_fields, field}
+use Rattle.ar_value.specs.View.{shape_view}
+use Rattle.ar_verify.specs.declared.part.AnyShape.{AnyShape}
+use Rattle.ar_verify.specs.declared.part.Root.{Root}
+use Rattle.ar_verify.specs.declared.part.Root.TheVariants as roots
+
+abbrev pub nth_field : ℕ → FieldShapes → Option Shape
+nth_field n no_fields = None
+nth_field zero (field name shape others) = Some shape
+nth_field (suc n) (field name shape others) = nth_field n others
+
+abbrev pub field_or : ℕ → FieldShapes → Shape → Shape
+field_or n fields other = unwrap_or (nth_field n fields) other
+
+-- a part by its number: what a list or an optional shape is of, or a field of a record; or the shape, where it has none
+abbrev pub child : ℕ → Shape → Shape
+child n (list item max) = item
+child n (object fields) = field_or n fields (object fields)
+child n (optional shape) = shape
+child n shape = shape
+
+abbrev pub part_at : (path : List ℕ) → Shape → Shape
+part_at [] shape = shape
+part_at (n ∷ path) shape = part_at path (child n shape)
+
+abbrev pub root_view : Root → Shape
+root_view (roots.Declared shape) = shape_view shape.now
+root_view (roots.Made shape) = shape_view shape.value
+
+abbrev pub any_view : AnyShape → Shape
+any_view s = part_at s.path.value.items (root_view s.root)
