@@ -18,7 +18,7 @@ use Rattle.ar_bundle.specs.contracts.bundle.RunLimits as RunLimits
 use Rattle.ar_bundle.specs.contracts.bundle.RunPart as RunPart
 use Rattle.ar_bundle.specs.contracts.bundle.What as What
 use Rattle.ar_limits.specs.contracts.limits.Limits as Limits
-use Rattle.ar_workers.proofs.Sharing.Shapes.{shape_sync, text_sync}
+use Rattle.ar_workers.proofs.Sharing.Shapes.{shared_shape_sync, text_sync}
 use Rattle.ar_workers.proofs.Sharing.Values.{value_sync}
 
 op_sync : IsSync Op.the_row
@@ -28,7 +28,7 @@ code_sync : IsSync Code.the_row
 code_sync = let op = op_sync in search (crosses, sendable) depth 20
 
 verified_sync : IsSync Verified.the_row
-verified_sync = let inside : IsSync VerifiedInside.the_row = declared_sync VerifiedInside.the_type (code_sync, (shape_sync, (search (crosses, sendable), (search (crosses, sendable), tt)))) in search sendable
+verified_sync = let inside : IsSync VerifiedInside.the_row = declared_sync VerifiedInside.the_type (code_sync, (shared_shape_sync, (search (crosses, sendable), (search (crosses, sendable), tt)))) in search sendable
 
 condition_sync : IsSync Condition.the_row
 condition_sync = let inside : IsSync ConditionInside.the_row = declared_sync ConditionInside.the_type (text_sync, (verified_sync, tt)) in search sendable
@@ -58,7 +58,7 @@ event_sync : IsSync EventPart.the_row
 event_sync = declared_sync EventPart.the_type (search (crosses, sendable) depth 20, (what_sync, tt))
 
 metric_sync : IsSync MetricPart.the_row
-metric_sync = declared_sync MetricPart.the_type (text_sync, (shape_sync, tt))
+metric_sync = declared_sync MetricPart.the_type (text_sync, (shared_shape_sync, tt))
 
 pub bundle_sync : IsSync Bundle.the_row
 bundle_sync =
