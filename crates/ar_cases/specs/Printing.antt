@@ -4,9 +4,9 @@ use Rattle.std.specs.Char.{digit_char, encode_utf8}
 use Rattle.std.specs.Fmt.{signed_decimal}
 use Rattle.std.specs.Int.{is_negative}
 use Rattle.std.specs.Str.{chars}
-use Rattle.ar_machine.specs.declared.outcome.Ended.{Ended}
-use Rattle.ar_machine.specs.declared.outcome.Ended.TheVariants.{Done, Stuck, Spent}
-use Rattle.ar_machine.specs.declared.outcome.Outcome.{Outcome}
+use Rattle.ar_tested.specs.declared.outcome.Ended.{Ended}
+use Rattle.ar_tested.specs.declared.outcome.Ended.TheVariants.{Done, Stuck, Spent}
+use Rattle.ar_operand.specs.declared.outcome.Outcome.{Outcome}
 use Rattle.ar_value.specs.Shape.{Shape, FieldShapes}
 use Rattle.ar_value.specs.Shape as shapes
 use Rattle.ar_value.specs.Value.{Value, Items, Fields}

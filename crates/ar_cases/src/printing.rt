@@ -15,7 +15,8 @@ ghost use Rattle.ar_cases.specs.Printing.{Appends, Extends, answer_text, between
 
 use crate::fault::{CaseFault, Written};
 use crate::members;
-use ar_machine::{Answer, Ended, Outcome};
+use ar_machine::{Answer, Outcome};
+use ar_tested::Ended;
 use ar_value::shape::FieldShape;
 use ar_value::value::Field;
 use ar_value::{Decimal, Fault, Number, Shape, Value};

@@ -13,7 +13,7 @@ use Rattle.ar_op.specs.declared.op.Op.{Op}
 use Rattle.ar_op.specs.declared.op.Op.TheVariants.{Return, Enter, Step}
 use Rattle.ar_compile.specs.Compiled.{Tables, code_at, compiled, items_at, literal_op, no_tables, tables_with}
 use Rattle.ar_compile.specs.Length.{operations}
-use Rattle.ar_machine.specs.Run.{HasNoFilter, is_of_filter}
+use Rattle.ar_machine.specs.Filter.{HasNoFilter, is_of_filter}
 use Rattle.ar_judge.specs.Condition.{Condition, IsBuilt, typed_of}
 use Rattle.ar_judge.specs.declared.error.BuildCause.{BuildCause}
 use Rattle.ar_judge.specs.Filters.{FiltersAsWritten, has_filter, have_filter}

@@ -14,10 +14,8 @@ use Rattle.ar_check.specs.Check.{checked}
 use Rattle.ar_op.specs.Code.{Code}
 use Rattle.ar_compile.proofs.Checked.{checked_in_limits}
 use Rattle.ar_compile.specs.Ends.{EndsWith}
-use Rattle.ar_machine.proofs.Ends.{one_end}
-use Rattle.ar_machine.specs.Run.{IsDone}
-use Rattle.ar_machine.specs.declared.outcome.Ended.TheVariants.{Done}
-use Rattle.ar_machine.specs.declared.outcome.Outcome.{Outcome}
+use Rattle.ar_operand.proofs.Ends as runs
+use Rattle.ar_operand.specs.Run.{IsDone}
 use Rattle.ar_verify.specs.Verdict.{Verified}
 use Rattle.ar_judge.specs.Condition.{IsBuilt, condition_of, said, typed_of}
 use Rattle.ar_judge.specs.Private.Readiness.{IsReady, IsRunnable, Means}
@@ -52,15 +50,11 @@ built shape text tree condition verified parsed is runnable =
       accepted = runnable.accepted;
     }
 
-same_answer : (first second : Outcome) → Done first ≡ Done second → first.answer ≡ second.answer
-same_answer first second h = let same : first ≡ second = cc in ap (λ (o : Outcome). o.answer) same
-
 -- a run of code has one answer
 pub one_answer : (code : Code) (value : Value) (fuel cost : ℕ) (answer meant : Result Bool Fault) → IsDone code value fuel answer cost → EndsWith code value meant → answer ≡ meant
 one_answer code value fuel cost answer meant done ends =
-    same_answer (record { answer = answer; cost = cost }) (record { answer = meant; cost = ends.cost })
-    (one_end code value (cost + ends.cost) (Done (record { answer = answer; cost = cost })) (Done (record { answer = meant; cost = ends.cost })) (record { steps = done.steps; done = done.done; paid = omega arith })
-    (record { steps = ends.steps; done = ends.is; paid = omega arith }))
+    runs.one_answer code value (cost + ends.cost) answer cost (record { steps = done.steps; done = done.done; paid = omega arith })
+    meant ends.cost (record { steps = ends.steps; done = ends.is; paid = omega arith })
 
 -- a run of a condition on a value of its shape says what its text says
 pub run_says : (text : List ℕ) (verified : Verified) (value : Value) (answer : Result Bool Fault) (cost : ℕ) → IsReady text verified → fits value (shape_view verified.shape) ≡ true → IsDone verified.code value verified.budget answer cost

@@ -4,7 +4,7 @@ use Rattle.ar_value.specs.Shape.{Shape}
 use Rattle.ar_value.specs.declared.operator.Predicate.TheVariants.{Filter}
 use Rattle.ar_condition.specs.Typed.{Typed, Typeds}
 use Rattle.ar_condition.specs.Typed as typed
-use Rattle.ar_machine.specs.Run.{HasNoFilter}
+use Rattle.ar_machine.specs.Filter.{HasNoFilter}
 use Rattle.ar_judge.specs.Condition.{Condition, typed_of}
 
 abbrev mutual

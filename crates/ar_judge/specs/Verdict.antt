@@ -7,7 +7,7 @@ use Rattle.ar_value.specs.View.{shape_view, value_view}
 use Rattle.ar_value.specs.declared.fault.Fault.{Fault}
 use Rattle.ar_json.specs.declared.value_reading.ShapeFault.{ShapeFault}
 use Rattle.ar_json.specs.declared.value_reading.ShapeFault.TheVariants as shape_fault
-use Rattle.ar_machine.specs.Run.{HasNoFilter}
+use Rattle.ar_machine.specs.Filter.{HasNoFilter}
 use Rattle.ar_judge.specs.Condition.{Condition, IsBuilt, IsRefused, said}
 use Rattle.ar_judge.specs.declared.error.BuildCause.{BuildCause}
 use Rattle.ar_judge.specs.declared.error.BuildCause.TheVariants as causes

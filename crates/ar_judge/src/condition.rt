@@ -5,7 +5,7 @@ ghost use Rattle.ar_value.specs.Fits.{fits};
 ghost use Rattle.ar_value.specs.View.{shape_view, value_view};
 ghost use Rattle.ar_condition.specs.Limits.{InLimits};
 ghost use Rattle.ar_condition.specs.Views.{typed_view};
-ghost use Rattle.ar_machine.specs.Run.{HasNoFilter};
+ghost use Rattle.ar_machine.specs.Filter.{HasNoFilter};
 ghost use Rattle.ar_judge.specs.Condition.{BuildsTo, said};
 ghost use Rattle.ar_judge.specs.Headline.{HeadlineHolds};
 ghost use Rattle.ar_judge.specs.Private.Readiness.{Readies};

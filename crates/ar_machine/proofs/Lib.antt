@@ -2,12 +2,5 @@ pub mod Lists
 pub mod Beside
 pub mod Well
 pub mod Kinded
-pub mod Entries
-pub mod Items
-pub mod Stacks
-pub mod Made
-pub mod Ahead
-pub mod Simulation
-pub mod Reached
-pub mod Ends
+pub mod Gathered
 pub mod Unstuck

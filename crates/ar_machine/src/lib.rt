@@ -1,43 +1,38 @@
-//! The machine: it runs code on a measured value.
+//! The machine that runs conditions: it runs verified code on a measured value, without operand tests.
 //!
-//! [`run_tested`] runs any code on any value, for no more than so much fuel, and tests every operand as
-//! it is taken: it answers true, false or a fault, with what the run cost, or tells that the machine is
-//! stuck at a place or that the next operation costs more than is left. That is how the run of the
-//! machine in `ar_op/specs/Machine` ends, by the definitions in `specs/Run`; [`laws`] says that a run
-//! ends in one way only. Only want of memory can keep it from that, which operands, loops and the lists
-//! that code makes take. Texts and values are lent by the measured value and by the code.
+//! [`run`] runs verified code on a value of its shape, which ends with an answer within its budget: that of
+//! the machine in `ar_op/specs/Machine`, which tests every operand, with what that run cost (`IsDone` of
+//! `ar_operand/specs/Run`). Only want of memory can keep it from that, which nothing but the lists that
+//! `filter` gives takes, so [`run`] succeeds on code without `filter` (`specs/Filter`) whatever memory is left.
 //!
-//! [`run`] runs verified code on a value of its shape, which ends with an answer within its budget. It is
-//! run without operand tests, on stacks in the run's own frame. Only the lists that `filter` gives take
-//! memory, so [`run`] succeeds on code without `filter` whatever memory is left.
+//! Verified code is never stuck, so each step finds the operands that it takes, of their kinds: what else
+//! there might be is `unreachable!()`, by proof. Values are lent by the measured value and the code; the
+//! stacks and the list literals lie in the run's own frame. A loop of a `filter` takes memory once, at its
+//! begin, for as many items as it may keep.
 //!
-//! - [`outcome`]: how runs end
-//! - `runs`: runs, loops over states; `state`: those
-//! - `machine`: operations on states; `effect`: those that take operands and give one; `loops`: the
-//!   begin and the step of a loop
-//! - `stack`, `operand`, `list`: operands, lent where the measured value or the code has them;
-//!   `operators`: signs, arithmetic, orders and equality of operands
-//! - `tables`: operations, texts and names of code by number
-//! - `unchecked`: the machine without operand tests
-//! - [`laws`]: what holds of all runs
+//! - `runs`: runs; `steps`: what each operation does
+//! - `effects`: operations that go on to the next place; `loops`: the begin and the step of a loop;
+//!   `filters`: the step of a `filter`
+//! - `operand`: operands; `operators`: operators on operands of the kinds that they take
+//! - `state`: states; `stack`, `open`: their stacks, of operands and of loops; `loop_entry`: a loop
+//! - `made`: lists that the code made, beside the stacks; `kept`: what filters have kept, beside the loops
 //!
-//! `specs/Private` says what states in memory stand for. Of the items that a loop found, memory keeps
-//! what its answer takes, so a state in memory stands for one of the machine by a relation.
+//! `specs/Private` says what states in memory stand for.
 #![tactic(auto)]
 
-mod effect;
-pub mod laws;
-mod list;
+mod effects;
+mod filters;
+mod kept;
+mod loop_entry;
 mod loops;
-mod machine;
+mod made;
+mod open;
 mod operand;
 mod operators;
-pub mod outcome;
 mod runs;
 mod stack;
 mod state;
-mod tables;
-mod unchecked;
+mod steps;
 
-pub use outcome::{Answer, Ended, Outcome};
-pub use runs::{run, run_tested};
+pub use ar_operand::outcome::{Answer, Outcome};
+pub use runs::run;

@@ -1,0 +1,7 @@
+pub mod Entries
+pub mod Items
+pub mod Stacks
+pub mod Made
+pub mod Simulation
+pub mod Reached
+pub mod Ends

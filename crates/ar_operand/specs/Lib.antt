@@ -1,0 +1,4 @@
+pub mod Run
+pub mod Operand
+pub mod Memory
+pub mod Same

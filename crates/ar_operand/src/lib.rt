@@ -1,0 +1,25 @@
+//! What runs of code in memory stand on: values as operands, lent by the measured value and the code, and
+//! the machine of `ar_op/specs/Machine` as memory keeps its states.
+//!
+//! `ar_machine` runs verified code without operand tests, `ar_tested` any code with them. What they have
+//! in common stands here, below both: each function says what it gives of the values that its arguments
+//! stand for (`specs/Operand`).
+//!
+//! - [`outcome`]: what a run answers and costs
+//! - [`operand`]: values that are lent; [`list`]: lists of them
+//! - [`compare`]: orders and equality of values
+//! - [`predicate`]: what an item comes to that a loop has looked at
+//! - [`tables`]: operations, texts and names of code by number
+//!
+//! `specs/Run` defines how runs end that may cost no more than their fuel, and `proofs/Ends` proves that a run
+//! ends in one way only. `specs/Memory` defines the machine as memory keeps its states, which have less of
+//! what loops found than the machine's own; `specs/Same` says when such a state stands for one of the
+//! machine. `proofs/Reached` proves that a run in memory is one of the machine.
+#![tactic(auto)]
+
+pub mod compare;
+pub mod list;
+pub mod operand;
+pub mod outcome;
+pub mod predicate;
+pub mod tables;

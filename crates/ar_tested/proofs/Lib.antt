@@ -1,0 +1,4 @@
+pub mod Ahead
+pub mod Made
+pub mod Turns
+pub mod Ends

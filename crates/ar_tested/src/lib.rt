@@ -1,0 +1,38 @@
+//! The machine with operand tests: it runs any code on any value.
+//!
+//! [`run_tested`] runs code on a value for no more than so much fuel, and tests every operand as it is
+//! taken: it answers true, false or a fault, with what the run cost, or tells that the machine is stuck at
+//! a place or that the next operation costs more than is left. That is how the run of the machine in
+//! `ar_op/specs/Machine` ends, by the definitions in `specs/Run`; [`laws`] says that a run ends in one way
+//! only. Only want of memory can keep it from that, which operands, loops and the lists that code makes
+//! take. Texts and values are lent by the measured value and by the code.
+//!
+//! Nothing that the program runs stands on it: judges run verified code by `ar_machine`.
+//!
+//! - [`outcome`]: how runs end
+//! - `runs`: runs, loops over states; `state`: those
+//! - `machine`: operations on states; `effect`: those that take operands and give one; `loops`: the
+//!   begin and the step of a loop
+//! - `stack`, `operand`, `list`: operands, lent where the measured value or the code has them;
+//!   `operators`: signs, arithmetic, orders and equality of operands
+//! - [`laws`]: what holds of all runs
+//!
+//! `specs/Private` says what states in memory stand for. Of the items that a loop found, memory keeps
+//! what its answer takes, so a state in memory stands for one of the machine by a relation
+//! (`ar_operand/specs/Same`).
+#![tactic(auto)]
+
+mod effect;
+pub mod laws;
+mod list;
+mod loops;
+mod machine;
+mod operand;
+mod operators;
+pub mod outcome;
+mod runs;
+mod stack;
+mod state;
+
+pub use outcome::Ended;
+pub use runs::run_tested;

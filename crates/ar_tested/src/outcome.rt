@@ -1,0 +1,14 @@
+//! How runs end.
+
+use ar_operand::outcome::Outcome;
+
+/// How a run ends.
+#[derive(Clone, Copy, Debug, PartialEq, Eq)]
+pub enum Ended {
+    Done(Outcome),
+    /// At the place of an operation whose operands are missing or of wrong kinds, or that stands in
+    /// no loop of its own, or at a place outside the code.
+    Stuck(usize),
+    /// The next operation costs more than is left of the fuel.
+    Spent,
+}
