@@ -1,6 +1,5 @@
 pub mod Lists
 pub mod Beside
 pub mod Well
-pub mod Kinded
 pub mod Gathered
 pub mod Unstuck

@@ -1,9 +1,10 @@
 //! The machine that runs conditions: it runs verified code on a measured value, without operand tests.
 //!
-//! [`run`] runs verified code on a value of its shape, which ends with an answer within its budget: that of
-//! the machine in `ar_op/specs/Machine`, which tests every operand, with what that run cost (`IsDone` of
-//! `ar_operand/specs/Run`). Only want of memory can keep it from that, which nothing but the lists that
-//! `filter` gives takes, so [`run`] succeeds on code without `filter` (`specs/Filter`) whatever memory is left.
+//! [`run`] runs verified code on a value of its shape. By its contract it ends with the answer of the
+//! machine in `ar_op/specs/Machine`, which tests every operand, and with what that run costs, within the
+//! code's budget (`IsDone` of `ar_operand/specs/Run`). Only want of memory can keep it from that. Nothing but
+//! the lists that `filter` gives takes memory, so [`run`] succeeds on code without `filter` (`specs/Filter`)
+//! whatever memory is left.
 //!
 //! Verified code is never stuck, so each step finds the operands that it takes, of their kinds: what else
 //! there might be is `unreachable!()`, by proof. Values are lent by the measured value and the code; the
@@ -13,11 +14,12 @@
 //! - `runs`: runs; `steps`: what each operation does
 //! - `effects`: operations that go on to the next place; `loops`: the begin and the step of a loop;
 //!   `filters`: the step of a `filter`
-//! - `operand`: operands; `operators`: operators on operands of the kinds that they take
 //! - `state`: states; `stack`, `open`: their stacks, of operands and of loops; `loop_entry`: a loop
 //! - `made`: lists that the code made, beside the stacks; `kept`: what filters have kept, beside the loops
 //!
-//! `specs/Private` says what states in memory stand for.
+//! Operands and the operators on them are those of `ar_operand`. `specs/Private` says what states in memory
+//! stand for; that a run in memory is one of the machine is proved in `ar_operand`, too. `ar_tested` runs code
+//! that nobody verified.
 #![tactic(auto)]
 
 mod effects;
@@ -27,8 +29,6 @@ mod loop_entry;
 mod loops;
 mod made;
 mod open;
-mod operand;
-mod operators;
 mod runs;
 mod stack;
 mod state;

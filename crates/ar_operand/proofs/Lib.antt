@@ -1,5 +1,6 @@
 pub mod Entries
 pub mod Items
+pub mod Kinded
 pub mod Stacks
 pub mod Made
 pub mod Simulation

@@ -1,4 +1,5 @@
 pub mod Run
 pub mod Operand
+pub mod Kinded
 pub mod Memory
 pub mod Same

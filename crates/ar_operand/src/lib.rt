@@ -1,13 +1,14 @@
 //! What runs of code in memory stand on: values as operands, lent by the measured value and the code, and
 //! the machine of `ar_op/specs/Machine` as memory keeps its states.
 //!
-//! `ar_machine` runs verified code without operand tests, `ar_tested` any code with them. What they have
-//! in common stands here, below both: each function says what it gives of the values that its arguments
-//! stand for (`specs/Operand`).
+//! `ar_machine` runs verified code without operand tests, `ar_tested` any code with them. Both stand on what
+//! is here: each function says what it gives by the values that its arguments stand for (`specs/Operand`).
+//! None takes memory.
 //!
 //! - [`outcome`]: what a run answers and costs
-//! - [`operand`]: values that are lent; [`list`]: lists of them
-//! - [`compare`]: orders and equality of values
+//! - [`lent`]: values that are lent; [`list`]: lists, lent or made; [`compare`]: orders and equality of values
+//! - [`operand`]: operands; [`operators`]: operators on operands of the kinds that they take (`specs/Kinded`).
+//!   `ar_machine` alone uses them, but they need no verified code
 //! - [`predicate`]: what an item comes to that a loop has looked at
 //! - [`tables`]: operations, texts and names of code by number
 //!
@@ -18,8 +19,10 @@
 #![tactic(auto)]
 
 pub mod compare;
+pub mod lent;
 pub mod list;
 pub mod operand;
+pub mod operators;
 pub mod outcome;
 pub mod predicate;
 pub mod tables;
