@@ -1,5 +1,5 @@
 -- A run has at most one phase, whichever reason to close is looked at first.
-use Rattle.std.proofs.Common.{◌≡◌, ◌≢◌, ℕ, ◌+◌, ◌<◌, ◌≤◌, zero, suc, Bool, true, false, cond, ◌||◌, Option, Some, None, is_some, List, [], ◌∷◌, ◌++◌, map, find, length, take, refl, ap, ◌∙◌, sym, arith, inl, inr, IfSome, get_or, add-one, subst}
+use Rattle.std.proofs.Common.{◌≡◌, ◌≢◌, ℕ, ◌+◌, ◌<◌, ◌≤◌, zero, suc, Bool, true, false, cond, ◌&&◌, ◌||◌, Option, Some, None, is_some, List, [], ◌∷◌, ◌++◌, map, find, length, take, refl, ap, ◌∙◌, sym, arith, inl, inr, IfSome, get_or, add-one, subst}
 use Rattle.std.specs.Prelude.{slice_get}
 use Rattle.std.specs.List.{list_any, list_all, enumerate_from}
 use Rattle.std.proofs.lemmas.List.{take_more}
@@ -13,10 +13,11 @@ use Rattle.ar_limits.specs.declared.phase.Phase.{Phase}
 use Rattle.ar_limits.specs.declared.phase.Phase.TheVariants as phase
 use Rattle.ar_limits.specs.Prefixes.{prefixes, deciding_prefix}
 use Rattle.ar_limits.specs.Metric.{phase_of_marks, is_complete, is_unsuccessful, succeeded, HasPositiveCounts}
-use Rattle.ar_limits.specs.Run.{mark_of, marks_of, phases_by_marks, is_stop, ends_with_stop, closing, run_phase}
-use Rattle.ar_limits.specs.Laws.{HasUnsuccessful, AllSuccessful, ClosesAs, ClosesWith, OneRunPhase, ClosedForAReason}
+use Rattle.ar_limits.specs.Run.{mark_of, marks_of, phases_by_marks, is_stop, ends_with_stop, counting, counting_phases, closing, run_phase}
+use Rattle.ar_limits.specs.Laws.{HasUnsuccessful, LeavesToSucceed, AllLeaveToSucceed, ClosesAs, ClosesWith, OneRunPhase, ClosedForAReason}
 use Rattle.ar_limits.proofs.PrefixLemmas.{value_of_some, find-passes, phase_by-decided, option_cases, is_complete-phase_by, deciding_prefix-decides}
 use Rattle.ar_limits.proofs.LawLemmas.{shortest_is}
+use Rattle.ar_limits.proofs.NumberedLemmas.{numbered_get}
 use Rattle.ar_limits.proofs.RunLemmas.{unsuccessful_is_complete, closing-complete, marks_of-push_other, mark_of-other, ends_with_stop-push, phases_by_marks-get}
 use Rattle.ar_limits.proofs.StepLemmas.{is_complete-phase_of_marks-nil, no_marks}
 
@@ -87,24 +88,90 @@ is_successful_phase phase.Failed h = cc
 is_successful_phase phase.Error h = cc
 is_successful_phase phase.Inconclusive h = cc
 
-metric_found : (limits : List Limits) (prefix : List Event) (q : Phase)
-    → find is_unsuccessful (phases_by_marks limits prefix) ≡ Some q → HasUnsuccessful limits prefix q
+-- a metric that counts as unsuccessful isn't dry
+unsuccessful_counts : (own : Limits) (p q : Phase) → counting own p ≡ q → is_unsuccessful q ≡ true → (p ≡ q) × (own.dry ≡ false)
+unsuccessful_counts own p q is unsuccessful = at own.dry p is where
+  at : (dry : Bool) (p : Phase) → cond (is_complete p && dry) phase.Successful p ≡ q → (p ≡ q) × (dry ≡ false)
+  at true phase.Pending h = absurd (false≢true (ap is_unsuccessful h ∙ unsuccessful))
+  at true phase.Running h = absurd (false≢true (ap is_unsuccessful h ∙ unsuccessful))
+  at true phase.Successful h = absurd (false≢true (ap is_unsuccessful h ∙ unsuccessful))
+  at true phase.Failed h = absurd (false≢true (ap is_unsuccessful h ∙ unsuccessful))
+  at true phase.Error h = absurd (false≢true (ap is_unsuccessful h ∙ unsuccessful))
+  at true phase.Inconclusive h = absurd (false≢true (ap is_unsuccessful h ∙ unsuccessful))
+  at false phase.Pending h = (h, refl)
+  at false phase.Running h = (h, refl)
+  at false phase.Successful h = (h, refl)
+  at false phase.Failed h = (h, refl)
+  at false phase.Error h = (h, refl)
+  at false phase.Inconclusive h = (h, refl)
+
+-- and one that isn't dry counts as what it is
+pub counting_decides : (own : Limits) (p : Phase) → own.dry ≡ false → counting own p ≡ p
+counting_decides own p decides = rw decides (at (is_complete p)) where
+  at : (b : Bool) → cond (b && false) phase.Successful p ≡ p
+  at true = refl
+  at false = refl
+
+success_left : (own : Limits) (p : Phase) → succeeded (counting own p) ≡ true → LeavesToSucceed own p
+success_left own p = at own.dry p where
+  at : (dry : Bool) (p : Phase) → succeeded (cond (is_complete p && dry) phase.Successful p) ≡ true → (is_complete p ≡ true) × (dry ≡ false → p ≡ phase.Successful)
+  at true phase.Pending h = cc
+  at true phase.Running h = cc
+  at true phase.Successful h = (refl, λ decides. refl)
+  at true phase.Failed h = (refl, λ decides. cc)
+  at true phase.Error h = (refl, λ decides. cc)
+  at true phase.Inconclusive h = (refl, λ decides. cc)
+  at false phase.Pending h = cc
+  at false phase.Running h = cc
+  at false phase.Successful h = (refl, λ decides. refl)
+  at false phase.Failed h = cc
+  at false phase.Error h = cc
+  at false phase.Inconclusive h = cc
+
+leaves_success : (own : Limits) (p : Phase) → LeavesToSucceed own p → succeeded (counting own p) ≡ true
+leaves_success own p leaves = rw leaves.0 (at own.dry leaves.1) where
+  at : (dry : Bool) → (dry ≡ false → p ≡ phase.Successful) → succeeded (cond dry phase.Successful p) ≡ true
+  at true h = refl
+  at false h = ap succeeded (h refl)
+
+-- ---- What the metrics count as
+
+abbrev counted_number : List Event → ℕ × Limits → Phase
+counted_number prefix x = counting x.1 (phase_of_marks x.1 (marks_of x.0 prefix))
+
+counting_numbered : (f : ℕ × Limits → Phase) (n : ℕ) (limits : List Limits)
+    → counting_phases limits (map f (enumerate_from n limits)) ≡ map (λ x. counting x.1 (f x)) (enumerate_from n limits)
+counting_numbered f n [] = refl
+counting_numbered f n (own ∷ limits) = rw (counting_numbered f (n + 1) limits) refl
+
+counting_is : (limits : List Limits) (prefix : List Event)
+    → counting_phases limits (phases_by_marks limits prefix) ≡ map (counted_number prefix) (enumerate_from 0 limits)
 unfolding phases_by_marks
+counting_is limits prefix = counting_numbered (λ x. phase_of_marks x.1 (marks_of x.0 prefix)) 0 limits
+
+pub counting-get : (limits : List Limits) (prefix : List Event) (i : ℕ) (own : Limits) → slice_get limits i ≡ Some own
+    → slice_get (counting_phases limits (phases_by_marks limits prefix)) i ≡ Some (counting own (phase_of_marks own (marks_of i prefix)))
+counting-get limits prefix i own at = ap (λ phases. slice_get phases i) (counting_is limits prefix) ∙ numbered_get (counted_number prefix) limits i own at
+
+metric_found : (limits : List Limits) (prefix : List Event) (q : Phase)
+    → find is_unsuccessful (counting_phases limits (phases_by_marks limits prefix)) ≡ Some q → HasUnsuccessful limits prefix q
 metric_found limits prefix q found =
-    let from = find_numbered is_unsuccessful (λ (x : ℕ × Limits). phase_of_marks x.1 (marks_of x.0 prefix)) 0 limits q found in
+    let from = find_numbered is_unsuccessful (counted_number prefix) 0 limits q (ap (find is_unsuccessful) (sym (counting_is limits prefix)) ∙ found) in
     let here : 0 + from.place ≡ from.place = omega arith in
-    record { number = from.place; own = from.item; there = from.there; phase_is = rw here at from.value; unsuccessful = find-passes is_unsuccessful (phases_by_marks limits prefix) q found }
+    let unsuccessful = find-passes is_unsuccessful (counting_phases limits (phases_by_marks limits prefix)) q found in
+    let counts = unsuccessful_counts from.item _ q (rw here at from.value) unsuccessful in
+    record { number = from.place; own = from.item; there = from.there; phase_is = counts.0; unsuccessful = unsuccessful; decides = counts.1 }
 
 all_found : (limits : List Limits) (prefix : List Event)
-    → list_all succeeded (phases_by_marks limits prefix) ≡ true → AllSuccessful limits prefix
-all_found limits prefix all number own there = is_successful_phase _ (list_all_get succeeded (phases_by_marks limits prefix) number _ all (phases_by_marks-get limits prefix number own there))
+    → list_all succeeded (counting_phases limits (phases_by_marks limits prefix)) ≡ true → AllLeaveToSucceed limits prefix
+all_found limits prefix all number own there =
+    success_left own _ (list_all_get succeeded (counting_phases limits (phases_by_marks limits prefix)) number _ all (counting-get limits prefix number own there))
 
-all_given : (limits : List Limits) (prefix : List Event) → AllSuccessful limits prefix
-    → list_all succeeded (phases_by_marks limits prefix) ≡ true
-unfolding phases_by_marks
+all_given : (limits : List Limits) (prefix : List Event) → AllLeaveToSucceed limits prefix
+    → list_all succeeded (counting_phases limits (phases_by_marks limits prefix)) ≡ true
 all_given limits prefix all =
-    all_numbered succeeded (λ (x : ℕ × Limits). phase_of_marks x.1 (marks_of x.0 prefix)) 0 limits
-    (λ i l at. let here : 0 + i ≡ i = omega arith in rw (here, all i l at) refl)
+    rw (counting_is limits prefix)
+    (all_numbered succeeded (counted_number prefix) 0 limits (λ i l at. let here : 0 + i ≡ i = omega arith in rw here (leaves_success l _ (all i l at))))
 
 -- the definition's phase has a reason
 reason_of_closing : (limits : List Limits) (prefix : List Event) (q : Phase) → closing limits prefix ≡ Some q
@@ -115,7 +182,7 @@ reason_of_closing limits (x ∷ rest) q h =
     by_parts (ends_with_stop (x ∷ rest)) (list_any is_unsuccessful phases) (list_all succeeded phases) refl refl refl h
   where
     phases : List Phase
-    phases = phases_by_marks limits (x ∷ rest)
+    phases = counting_phases limits (phases_by_marks limits (x ∷ rest))
 
     filled : (let es : List Event = x ∷ rest in es) ≢ []
     filled e = cc
@@ -147,7 +214,7 @@ closing_of_reason limits (x ∷ rest) q positive why =
     by_parts (ends_with_stop (x ∷ rest)) (list_any is_unsuccessful phases) (list_all succeeded phases) refl refl refl why
   where
     phases : List Phase
-    phases = phases_by_marks limits (x ∷ rest)
+    phases = counting_phases limits (phases_by_marks limits (x ∷ rest))
 
     by_parts : (stop any all : Bool) → ends_with_stop (x ∷ rest) ≡ stop
         → list_any is_unsuccessful phases ≡ any → list_all succeeded phases ≡ all
@@ -158,8 +225,9 @@ closing_of_reason limits (x ∷ rest) q positive why =
     by_parts false false true stops anys alls reason = refl
     by_parts false false false stops anys alls (inl stop) = absurd (false≢true (sym stops ∙ stop.0))
     by_parts false false false stops anys alls (inr (inl metric)) =
-        let there = phases_by_marks-get limits (x ∷ rest) metric.number metric.own metric.there in
-        absurd (false≢true (sym anys ∙ list_any_get is_unsuccessful phases metric.number _ there (ap is_unsuccessful metric.phase_is ∙ metric.unsuccessful)))
+        let there = counting-get limits (x ∷ rest) metric.number metric.own metric.there in
+        let counts = counting_decides metric.own (phase_of_marks metric.own (marks_of metric.number (x ∷ rest))) metric.decides in
+        absurd (false≢true (sym anys ∙ list_any_get is_unsuccessful phases metric.number _ there (ap is_unsuccessful (counts ∙ metric.phase_is) ∙ metric.unsuccessful)))
     by_parts false false false stops anys alls (inr (inr all)) = absurd (false≢true (sym alls ∙ all_given limits (x ∷ rest) all.1))
 
 -- ---- One reason more
@@ -168,7 +236,7 @@ closing_of_reason limits (x ∷ rest) q positive why =
 metric_before : (limits : List Limits) (events : List Event) (e : Event) (q : Phase) (metric : HasUnsuccessful limits (events ++ e ∷ []) q)
     → mark_of metric.number e ≡ None → HasUnsuccessful limits events q
 metric_before limits events e q metric other =
-    record { number = metric.number; own = metric.own; there = metric.there; phase_is = rw (marks_of-push_other metric.number events e other) at metric.phase_is; unsuccessful = metric.unsuccessful }
+    record { number = metric.number; own = metric.own; there = metric.there; phase_is = rw (marks_of-push_other metric.number events e other) at metric.phase_is; unsuccessful = metric.unsuccessful; decides = metric.decides }
 
 -- behind events that have no reason, an unsuccessful metric is the one that the last event marks
 last_metric : (limits : List Limits) (events : List Event) (e : Event) (q : Phase)
@@ -192,9 +260,9 @@ same_metric limits events e p q none first second =
     cc (first.phase_is, second.phase_is, number, own)
 
 not_all : (limits : List Limits) (prefix : List Event) (q : Phase) → HasUnsuccessful limits prefix q
-    → AllSuccessful limits prefix → ⊥
+    → AllLeaveToSucceed limits prefix → ⊥
 not_all limits prefix q metric all =
-    let same : q ≡ phase.Successful = sym metric.phase_is ∙ all metric.number metric.own metric.there in
+    let same : q ≡ phase.Successful = sym metric.phase_is ∙ (all metric.number metric.own metric.there).1 metric.decides in
     false≢true (sym (ap is_unsuccessful same) ∙ metric.unsuccessful)
 
 not_stop : (limits : List Limits) (events : List Event) (e : Event) (q : Phase)

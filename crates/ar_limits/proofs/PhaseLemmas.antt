@@ -8,7 +8,7 @@ use Rattle.std.proofs.lemmas.List.Sums.{sum_by-set, sum_by-cons, get_or-le-sum_b
 use Rattle.ar_limits.specs.declared.phase.Phase.{Phase}
 use Rattle.ar_limits.specs.declared.phase.Phase.TheVariants as phase
 use Rattle.ar_limits.specs.Metric.{is_complete, is_unsuccessful, succeeded}
-use Rattle.ar_limits.specs.Run.{closed_by_metrics, settled}
+use Rattle.ar_limits.specs.Run.{closed_by_metrics}
 use Rattle.ar_limits.specs.Private.Kept.{incomplete_count}
 
 pub list_any-set : {A : Type 0} (test : A → Bool) (xs : List A) (i : ℕ) (x : A) → i < length xs
@@ -57,18 +57,6 @@ none_left (phase.Successful ∷ rest) all = omega (arith, incomplete_count-cons 
 none_left (phase.Failed ∷ rest) all = cc
 none_left (phase.Error ∷ rest) all = cc
 none_left (phase.Inconclusive ∷ rest) all = cc
-
-weight-settled : (q : Phase) → weight (settled q) ≡ 0
-weight-settled phase.Pending = refl
-weight-settled phase.Running = refl
-weight-settled phase.Successful = refl
-weight-settled phase.Failed = refl
-weight-settled phase.Error = refl
-weight-settled phase.Inconclusive = refl
-
-pub incomplete_count-settled : (phases : List Phase) → incomplete_count (map settled phases) ≡ 0
-incomplete_count-settled [] = refl
-incomplete_count-settled (q ∷ rest) = omega (arith, incomplete_count-cons (settled q) (map settled rest), weight-settled q, incomplete_count-settled rest)
 
 -- the metrics that aren't complete, once one of them has a new phase
 pub incomplete_count-set : (phases : List Phase) (i : ℕ) (q d : Phase) → i < length phases

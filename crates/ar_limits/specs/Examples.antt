@@ -1,5 +1,5 @@
 -- Runs with their effects, phases and counts, worked out by hand from the rules.
-use Rattle.std.specs.Prelude.{ℕ, ◌≡◌, Option, Some, None, List, [], ◌∷◌, refl}
+use Rattle.std.specs.Prelude.{ℕ, ◌≡◌, true, false, Option, Some, None, List, [], ◌∷◌, refl}
 use Rattle.ar_limits.specs.declared.counts.Counts.{Counts}
 use Rattle.ar_limits.specs.declared.event.Event.{Event}
 use Rattle.ar_limits.specs.declared.event.Event.TheVariants as event
@@ -40,7 +40,11 @@ outcome limits events = record {
 -- the failures, inconclusive marks and errors in direct succession that are allowed, and the count
 abbrev limits_of : ℕ → ℕ → ℕ → Option ℕ → Limits
 limits_of failure inconclusive consecutive_error count =
-    record { failure = failure; inconclusive = inconclusive; consecutive_error = consecutive_error; count = count }
+    record { failure = failure; inconclusive = inconclusive; consecutive_error = consecutive_error; count = count; dry = false }
+
+-- the same of a metric that decides nothing
+abbrev dry : Limits → Limits
+dry limits = record limits { dry = true }
 
 -- the marks of the first metric
 abbrev success : Event
@@ -183,3 +187,39 @@ a_second_stop_is_late : outcome (limits_of 0 0 4 (Some 3) ∷ []) (event.Stop �
     }
 unfolding outcome
 a_second_stop_is_late = refl
+
+-- a dry metric fails and is complete, the other succeeds and closes, and what comes for the first one is late
+a_dry_failure_closes_nothing : outcome (dry (limits_of 0 0 4 (Some 1)) ∷ limits_of 0 0 4 (Some 1) ∷ [])
+    (failure ∷ event.Mark 1 mark.Successful ∷ success ∷ [])
+    ≡ record {
+      effects = effect.Applied ∷ effect.Closed phase.Successful ∷ effect.Late ∷ [];
+      phase = phase.Successful;
+      phases = phase.Failed ∷ phase.Successful ∷ [];
+      counts = counted 0 1 0 0 0 ∷ counted 1 0 0 0 0 ∷ [];
+    }
+unfolding outcome
+a_dry_failure_closes_nothing = refl
+
+-- the last open metric is a dry one, and its failure closes with success
+a_dry_failure_completes_the_last : outcome (dry (limits_of 0 0 4 (Some 1)) ∷ dry (limits_of 0 0 4 (Some 1)) ∷ [])
+    (failure ∷ event.Mark 1 mark.Failed ∷ [])
+    ≡ record {
+      effects = effect.Applied ∷ effect.Closed phase.Successful ∷ [];
+      phase = phase.Successful;
+      phases = phase.Failed ∷ phase.Failed ∷ [];
+      counts = counted 0 1 0 0 0 ∷ counted 0 1 0 0 0 ∷ [];
+    }
+unfolding outcome
+a_dry_failure_completes_the_last = refl
+
+-- a failure beside a dry error closes, and an open dry metric would become Successful
+another_failure_closes_beside_a_dry_error : outcome (dry (limits_of 0 0 0 None) ∷ limits_of 0 0 4 None ∷ [])
+    (error ∷ event.Mark 1 mark.Failed ∷ [])
+    ≡ record {
+      effects = effect.Applied ∷ effect.Closed phase.Failed ∷ [];
+      phase = phase.Failed;
+      phases = phase.Error ∷ phase.Failed ∷ [];
+      counts = counted 0 0 0 1 1 ∷ counted 0 1 0 0 0 ∷ [];
+    }
+unfolding outcome
+another_failure_closes_beside_a_dry_error = refl

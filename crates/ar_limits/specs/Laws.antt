@@ -1,12 +1,13 @@
 -- Laws of the definitions, each the contract of a function of `laws`.
-use Rattle.std.specs.Prelude.{ℕ, ◌≡◌, ◌≢◌, ◌⊎◌, ◌<◌, ◌≤◌, true, Some, None, List, [], ◌∷◌, ◌++◌, length, take, slice_get, All}
+use Rattle.std.specs.Prelude.{ℕ, ◌≡◌, ◌≢◌, ◌⊎◌, ◌<◌, ◌≤◌, true, false, Some, None, List, [], ◌∷◌, ◌++◌, length, map, take, slice_get, All, IfSome}
 use Rattle.ar_limits.specs.declared.event.Event.{Event}
+use Rattle.ar_limits.specs.declared.event.Event.TheVariants as event
 use Rattle.ar_limits.specs.declared.event.Mark.{Mark}
 use Rattle.ar_limits.specs.declared.limits.Limits.{Limits}
 use Rattle.ar_limits.specs.declared.phase.Phase.{Phase}
 use Rattle.ar_limits.specs.declared.phase.Phase.TheVariants as phase
 use Rattle.ar_limits.specs.Metric.{counts_of, counted, decision, phase_of_marks, is_complete, is_unsuccessful, HasPositiveCounts}
-use Rattle.ar_limits.specs.Run.{marks_of, ends_with_stop, run_phase, metric_phases, metric_counts, is_late, effect_of, effects, timely}
+use Rattle.ar_limits.specs.Run.{marks_of, phases_by_marks, ends_with_stop, closed_by_metrics, closing, run_phase, metric_phases, metric_counts, is_late, effect_of, effects, timely}
 use Rattle.ar_limits.specs.Replay.{IsOfMetricBelow}
 
 -- ---- At most one phase
@@ -23,27 +24,32 @@ abbrev pub OneMetricPhase : Type 0
 OneMetricPhase = (limits : Limits) (marks : List Mark) (phase : Phase) → CompletesWith limits marks phase
     → phase_of_marks limits marks ≡ phase
 
--- one of the metrics is complete without success, with this phase
+-- one of the metrics that aren't dry is complete without success, with this phase
 pub record HasUnsuccessful (limits : List Limits) (prefix : List Event) (phase : Phase) : Type 0 where
   pub number : ℕ
   pub own : Limits
   pub there : slice_get limits number ≡ Some own
   pub phase_is : phase_of_marks own (marks_of number prefix) ≡ phase
   pub unsuccessful : is_unsuccessful phase ≡ true
+  pub decides : own.dry ≡ false
 
--- all of the metrics are Successful
-abbrev pub AllSuccessful : List Limits → List Event → Type 0
-AllSuccessful limits prefix =
+-- a metric in this phase leaves its run to succeed: it is complete, and Successful unless it is dry
+abbrev pub LeavesToSucceed : Limits → Phase → Type 0
+LeavesToSucceed own reached = (is_complete reached ≡ true) × (own.dry ≡ false → reached ≡ phase.Successful)
+
+-- all of the metrics do
+abbrev pub AllLeaveToSucceed : List Limits → List Event → Type 0
+AllLeaveToSucceed limits prefix =
     (number : ℕ) (own : Limits) → slice_get limits number ≡ Some own
-    → phase_of_marks own (marks_of number prefix) ≡ phase.Successful
+    → LeavesToSucceed own (phase_of_marks own (marks_of number prefix))
 
--- a reason to close with this phase, in no order: a stop at the end, a metric without success, or all of
--- the metrics with success
+-- a reason to close with this phase, in no order: a stop at the end, a metric that isn't dry without success,
+-- or all of the metrics complete and those that aren't dry with success
 abbrev pub ClosesAs : List Limits → List Event → Phase → Type 0
 ClosesAs limits prefix closing =
     ((ends_with_stop prefix ≡ true) × (closing ≡ phase.Successful))
     ⊎ (HasUnsuccessful limits prefix closing
-    ⊎ ((prefix ≢ []) × AllSuccessful limits prefix × (closing ≡ phase.Successful)))
+    ⊎ ((prefix ≢ []) × AllLeaveToSucceed limits prefix × (closing ≡ phase.Successful)))
 
 -- this prefix has a reason to close with the phase, and no shorter one has any reason
 pub record ClosesWith (limits : List Limits) (events : List Event) (phase : Phase) : Type 0 where
@@ -61,6 +67,37 @@ OneRunPhase = (limits : List Limits) (events : List Event) (phase : Phase) → H
 abbrev pub ClosedForAReason : Type 0
 ClosedForAReason = (limits : List Limits) (events : List Event) → HasPositiveCounts limits
     → is_complete (run_phase limits events) ≡ true → ClosesWith limits events (run_phase limits events)
+
+-- ---- Dry metrics
+
+-- where no metric is dry, only the phases decide
+abbrev pub WithoutDryMetrics : Type 0
+WithoutDryMetrics = (limits : List Limits) (events : List Event) → All (λ own. own.dry ≡ false) limits
+    → events ≢ [] → ends_with_stop events ≡ false
+    → closing limits events ≡ closed_by_metrics (phases_by_marks limits events)
+
+-- the events are one, or marks of one dry metric
+abbrev pub AreOneButDry : List Limits → Event → Event → Type 0
+AreOneButDry limits (event.Mark number mark) (event.Mark number' mark') =
+    (number ≡ number') × ((mark ≡ mark') ⊎ IfSome (slice_get limits number) (λ own. own.dry ≡ true))
+AreOneButDry limits one other = one ≡ other
+
+-- the same metrics are complete by their marks
+abbrev pub AreAsComplete : List Limits → (events events' : List Event) → Type 0
+AreAsComplete limits events events' =
+    map is_complete (phases_by_marks limits events) ≡ map is_complete (phases_by_marks limits events')
+
+-- two lists that differ in the marks of dry metrics alone, which are complete behind as many events in both
+pub record DifferInDryMarks (limits : List Limits) (events events' : List Event) : Type 0 where
+  pub long : length events ≡ length events'
+  pub each : (k : ℕ) (event event' : Event) → slice_get events k ≡ Some event → slice_get events' k ≡ Some event'
+      → AreOneButDry limits event event'
+  pub complete : (k : ℕ) → AreAsComplete limits (take k events) (take k events')
+
+-- what a dry metric is judged as changes no run's phase
+abbrev pub DryMarksDecideNothing : Type 0
+DryMarksDecideNothing = (limits : List Limits) (events events' : List Event)
+    → DifferInDryMarks limits events events' → run_phase limits events ≡ run_phase limits events'
 
 -- ---- What is decided stays
 

@@ -2,8 +2,9 @@
 --
 -- A run is an AnalysisRun of Argo Rollouts (documentation, page "Analysis & Progressive Delivery"): it ends with
 -- the first metric that completes without success, with the last one that succeeds, or when it is stopped from
--- outside. Its metrics are numbered from 0.
-use Rattle.std.specs.Prelude.{ℕ, ◌==◌, ◌||◌, Bool, true, false, if◌then◌else◌, Option, Some, None, is_some, List, [], ◌∷◌, ◌++◌, map, find, slice_get}
+-- outside. A metric of `dryRun` is judged and counted as others, and decides nothing. The metrics are numbered
+-- from 0.
+use Rattle.std.specs.Prelude.{ℕ, ◌==◌, ◌||◌, ◌&&◌, Bool, true, false, if◌then◌else◌, Option, Some, None, is_some, List, [], ◌∷◌, ◌++◌, map, find, slice_get}
 use Rattle.std.specs.List.{list_any, list_all, filter_map, enumerate_from}
 use Rattle.std.specs.Option.{option_map_or}
 use Rattle.ar_limits.specs.declared.counts.Counts.{Counts}
@@ -46,8 +47,18 @@ ends_with_stop [] = false
 ends_with_stop (last ∷ []) = is_stop last
 ends_with_stop (first ∷ second ∷ rest) = ends_with_stop (second ∷ rest)
 
--- how metrics in these phases close their run: with the phase of one that is complete without success, or
--- Successful where all of them are
+-- what a metric's phase counts as where its run is closed: a dry metric that is complete, with whichever phase,
+-- counts as Successful
+abbrev pub counting : Limits → Phase → Phase
+counting own reached = if is_complete reached && own.dry then phase.Successful else reached
+
+-- of each metric
+abbrev pub counting_phases : List Limits → List Phase → List Phase
+counting_phases (own ∷ limits) (reached ∷ phases) = counting own reached ∷ counting_phases limits phases
+counting_phases limits phases = []
+
+-- how metrics whose phases count as these close their run: with the phase of one that is complete without
+-- success, or Successful where all of them are
 abbrev pub closed_by_metrics : List Phase → Option Phase
 closed_by_metrics phases =
     if list_any is_unsuccessful phases then find is_unsuccessful phases
@@ -60,7 +71,7 @@ unfoldable pub closing : List Limits → List Event → Option Phase
 closing limits [] = None
 closing limits (first ∷ rest) =
     if ends_with_stop (first ∷ rest) then Some phase.Successful
-    else closed_by_metrics (phases_by_marks limits (first ∷ rest))
+    else closed_by_metrics (counting_phases limits (phases_by_marks limits (first ∷ rest)))
 
 -- the shortest prefix that closes the run, if any does
 unfoldable pub closing_prefix : List Limits → List Event → Option (List Event)

@@ -18,17 +18,31 @@ pub struct Limits {
     /// How many measurements that aren't errors complete the metric, 1 or more; `None` where it has
     /// no end.
     pub count: Option<u32>,
+    /// Whether the metric is judged and counted, and never decides how its run ends.
+    pub dry: bool,
 }
 
 impl Limits {
     ghost use Rattle.ar_limits.specs.Private.Bounds.{AreAtMost};
     ghost use Rattle.ar_limits.specs.Metric.{decided_by, HasPositiveCounts};
+    ghost use Rattle.ar_limits.specs.Run.{counting};
 
     /// Whether each `count` that is there is 1 or more, as a run asks of its metrics.
     pub fn have_positive_counts(limits: &[Limits]) -> bool
         ensures { IsTrue result ↔ HasPositiveCounts limits.now }
     {
         limits.iter().all(|l| l.count != Some(0))
+    }
+
+    /// What a phase of the metric counts as where its run is closed.
+    pub(crate) fn counting(&self, phase: Phase) -> Phase
+        ensures { result ≡ counting self.now phase }
+    {
+        if phase.is_complete() && self.dry {
+            Phase::Successful
+        } else {
+            phase
+        }
     }
 
     /// What marks with these counts decide: the limits come first, and then the count.

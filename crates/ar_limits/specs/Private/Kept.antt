@@ -7,12 +7,17 @@ use Rattle.ar_limits.specs.declared.metric.Metric.{Metric}
 use Rattle.ar_limits.specs.declared.phase.Phase.{Phase}
 use Rattle.ar_limits.specs.Private.Bounds.{AreAtMost}
 use Rattle.ar_limits.specs.Metric.{is_complete, is_unsuccessful, HasPositiveCounts}
+use Rattle.ar_limits.specs.Run.{counting}
 use Rattle.ar_limits.specs.Replay.{Standing}
 use Rattle.ar_limits.specs.Private.Step.{next, answer}
 
 -- how many of the phases aren't complete
 abbrev pub incomplete_count : List Phase → ℕ
 incomplete_count phases = count_by (λ phase. not (is_complete phase)) phases
+
+-- what a metric's phase counts as where its run is closed
+abbrev pub counted : Metric → Phase
+counted metric = counting metric.limits metric.phase
 
 -- where a run with these metrics and this phase stands
 abbrev pub standing_of : List Metric → Phase → ℕ → Standing
@@ -26,9 +31,8 @@ standing_of metrics phase handed = record {
 
 -- what always holds of the metrics, of the run's phase, and of the number of metrics that aren't complete
 pub record AreConsistent (metrics : List Metric) (phase : Phase) (incomplete : ℕ) : Type 0 where
-  pub incomplete_is : incomplete ≡ incomplete_count (map (λ metric. metric.phase) metrics)
-  pub none_unsuccessful : is_complete phase ≡ false
-      → list_any is_unsuccessful (map (λ metric. metric.phase) metrics) ≡ false
+  pub incomplete_is : incomplete ≡ incomplete_count (map counted metrics)
+  pub none_unsuccessful : is_complete phase ≡ false → list_any is_unsuccessful (map counted metrics) ≡ false
   pub positive : HasPositiveCounts (map (λ metric. metric.limits) metrics)
 
 -- no count of any metric is above the bound

@@ -14,7 +14,7 @@ use Rattle.ar_limits.specs.declared.limits.Limits.{Limits}
 use Rattle.ar_limits.specs.declared.phase.Phase.{Phase}
 use Rattle.ar_limits.specs.declared.phase.Phase.TheVariants as phase
 use Rattle.ar_limits.specs.Metric.{decided_by, is_complete}
-use Rattle.ar_limits.specs.Run.{closed_by_metrics, settled}
+use Rattle.ar_limits.specs.Run.{closed_by_metrics, counting_phases, settled}
 use Rattle.ar_limits.specs.Replay.{Standing}
 
 -- the counts with one mark more
@@ -34,7 +34,7 @@ no_counts = record { successful = 0; failed = 0; inconclusive = 0; error = 0; su
 
 -- for a metric that isn't there
 abbrev pub no_limits : Limits
-no_limits = record { failure = 0; inconclusive = 0; consecutive_error = 0; count = None }
+no_limits = record { failure = 0; inconclusive = 0; consecutive_error = 0; count = None; dry = false }
 
 -- whether the event is late, a metric that isn't there being open
 abbrev pub comes_late : Standing → Event → Bool
@@ -54,7 +54,7 @@ with_event state event.Stop = state
 
 -- the phase with which the event closes the run, if it does
 abbrev pub closing_now : Standing → Event → Option Phase
-closing_now state (event.Mark number mark) = closed_by_metrics (with_event state (event.Mark number mark)).phases
+closing_now state (event.Mark number mark) = closed_by_metrics (counting_phases state.limits (with_event state (event.Mark number mark)).phases)
 closing_now state event.Stop = Some phase.Successful
 
 -- the run is closed with this phase
