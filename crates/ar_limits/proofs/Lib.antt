@@ -1,3 +1,4 @@
+pub mod DryLemmas
 pub mod KeptLemmas
 pub mod LawLemmas
 pub mod MetricLemmas

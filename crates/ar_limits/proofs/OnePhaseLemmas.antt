@@ -136,7 +136,7 @@ leaves_success own p leaves = rw leaves.0 (at own.dry leaves.1) where
 
 -- ---- What the metrics count as
 
-abbrev counted_number : List Event → ℕ × Limits → Phase
+abbrev pub counted_number : List Event → ℕ × Limits → Phase
 counted_number prefix x = counting x.1 (phase_of_marks x.1 (marks_of x.0 prefix))
 
 counting_numbered : (f : ℕ × Limits → Phase) (n : ℕ) (limits : List Limits)
@@ -144,7 +144,7 @@ counting_numbered : (f : ℕ × Limits → Phase) (n : ℕ) (limits : List Limit
 counting_numbered f n [] = refl
 counting_numbered f n (own ∷ limits) = rw (counting_numbered f (n + 1) limits) refl
 
-counting_is : (limits : List Limits) (prefix : List Event)
+pub counting_is : (limits : List Limits) (prefix : List Event)
     → counting_phases limits (phases_by_marks limits prefix) ≡ map (counted_number prefix) (enumerate_from 0 limits)
 unfolding phases_by_marks
 counting_is limits prefix = counting_numbered (λ x. phase_of_marks x.1 (marks_of x.0 prefix)) 0 limits

@@ -1,5 +1,5 @@
 //! Laws of the definitions. Each function does nothing: its contract is the law, which its proof shows.
-ghost use Rattle.ar_limits.specs.Laws.{OneMetricPhase, OneRunPhase, ClosedForAReason, MetricPhaseStays, RunPhaseStays, LateChangesNothing, OnlyTimelyMatters, ClosedMetricsAreComplete, FailuresFirst, InconclusiveSecond, ErrorsThird, CountLast, OneForEachMetric, EffectsInOrder};
+ghost use Rattle.ar_limits.specs.Laws.{OneMetricPhase, OneRunPhase, ClosedForAReason, WithoutDryMetrics, DryMarksDecideNothing, MetricPhaseStays, RunPhaseStays, LateChangesNothing, OnlyTimelyMatters, ClosedMetricsAreComplete, FailuresFirst, InconclusiveSecond, ErrorsThird, CountLast, OneForEachMetric, EffectsInOrder};
 
 /// A metric has at most one phase: the one that its shortest deciding prefix decides.
 pub fn at_most_one_metric_phase()
@@ -15,6 +15,17 @@ pub fn at_most_one_run_phase()
 /// A run is closed only for one of these reasons.
 pub fn closed_for_a_reason()
     ensures { ClosedForAReason }
+{}
+
+/// Where no metric is dry, a run that isn't stopped is closed by the phases of its metrics alone.
+pub fn without_dry_metrics()
+    ensures { WithoutDryMetrics }
+{}
+
+/// What a dry metric is judged as changes no run's phase: two lists of events that differ in the marks of
+/// dry metrics alone have the same phase, where these are complete behind as many events in both.
+pub fn dry_marks_decide_nothing()
+    ensures { DryMarksDecideNothing }
 {}
 
 /// A metric that is complete keeps its phase, whatever marks follow.
