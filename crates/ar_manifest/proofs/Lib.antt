@@ -1,5 +1,6 @@
 pub mod Bindings
 pub mod Cuts
+pub mod DryRun
 pub mod Entries
 mod Facts
 pub mod Filling

@@ -10,11 +10,12 @@ use Rattle.ar_manifest.specs.Arguments.{value_of}
 use Rattle.ar_manifest.specs.Binding.{RunArguments, argument_name, bound_text, filled, referred_value, trimmed}
 use Rattle.ar_manifest.specs.Bound.{bound_condition, bound_limit, bound_metric, bound_of, effective_count, is_limit_text, limit_of_number, limit_of_text, most, next_bound}
 use Rattle.ar_manifest.specs.Cut.{Parts, whole, unclosed, reference, parts_of}
-use Rattle.ar_json.specs.Members.{list_of, member, member_of_member, text_member, text_or}
+use Rattle.ar_json.specs.Members.{list_of, member, member_of_member, text_member, text_or, unless_empty}
+use Rattle.ar_manifest.specs.DryRun.{dry_name, dry_names, names_metric, with_dry_run}
 use Rattle.ar_manifest.specs.Private.Early.{first_counted}
-use Rattle.ar_manifest.specs.Template.{TemplateArguments, argument_of, arguments_of, counted, counted_metrics, has_text_or, head_of, is_named, is_text, limit_or, lists_nothing, metric_limits, metric_of, named_metric, new_name, template_name, template_of}
+use Rattle.ar_manifest.specs.Template.{TemplateArguments, argument_of, arguments_of, counted, counted_metrics, has_text_or, head_of, is_kind, is_named, is_text, limit_or, metric_limits, metric_of, named_metric, new_name, template_name, template_of}
 use Rattle.ar_manifest.specs.declared.error.ManifestError.{ManifestError}
-use Rattle.ar_manifest.specs.declared.error.ManifestError.TheVariants.{WrongVersion, WrongKind, NameMissing, BadArgs, NoMetrics, TooManyMetrics, MetricNameMissing, DoubleMetric, BadField, Unsupported, UnknownArg, NoValue, BadLimit, IntervalMissing, OutOfMemory}
+use Rattle.ar_manifest.specs.declared.error.ManifestError.TheVariants.{WrongVersion, WrongKind, NameMissing, BadArgs, NoMetrics, TooManyMetrics, MetricNameMissing, DoubleMetric, BadField, Unsupported, BadDryRun, UnknownDryRun, UnknownArg, NoValue, BadLimit, IntervalMissing, OutOfMemory}
 use Rattle.ar_manifest.specs.declared.template.Limit.{Limit}
 use Rattle.ar_manifest.specs.declared.template.Limit.TheVariants as limits
 use Rattle.ar_manifest.specs.declared.template.Metric.{Metric}
@@ -119,6 +120,21 @@ of_first : {A B : Type 0} (refusal : ManifestError) (first : Result A ManifestEr
 of_first refusal (Ok x) next never e = absurd (never x e)
 of_first refusal (Err other) next never e = let same : other ≡ refusal = cc in ap (λ fault. Err fault) same
 
+dry_name_judges : (metrics : List Metric) (earlier : List (List ℕ)) (d : Data) → Judges (dry_name metrics earlier d)
+unfolding dry_name
+dry_name_judges metrics earlier d =
+    let i = length earlier in
+    judges_then (there_or (BadDryRun i) (option_and_then unless_empty (text_member (codes "metricName") d))) _ (judges_there _ (option_and_then unless_empty (text_member (codes "metricName") d)) tt) (λ name.
+    judges_then (holds_or (UnknownDryRun i) (list_any (names_metric name) metrics)) _ (judges_holds _ (list_any (names_metric name) metrics) tt) (λ known. tt))
+
+dry_names_judge : (metrics : List Metric) (found : Option Data) → Judges (dry_names metrics found)
+dry_names_judge metrics None = tt
+dry_names_judge metrics (Some d) =
+    judges_then (there_or (BadDryRun 0) (list_of d)) _ (judges_there _ (list_of d) tt) (λ list. judges_each (dry_name metrics) (dry_name_judges metrics) [] list)
+
+dry_run_judges : (found : Option Data) (metrics : List Metric) → Judges (with_dry_run found metrics)
+dry_run_judges found metrics = judges_then (dry_names metrics found) _ (dry_names_judge metrics found) (λ names. tt)
+
 -- what stands at `spec.args` and `spec.metrics`
 abbrev spec_arguments : Data → Option Data
 spec_arguments d = member_of_member (codes "spec") (codes "args") d
@@ -130,8 +146,8 @@ spec_metrics d = member_of_member (codes "spec") (codes "metrics") d
 abbrev behind_items : Data → List ℕ → TemplateArguments → List Data → Result Template ManifestError
 behind_items d name arguments items = do
   metrics ← each_behind metric_of [] items
-  supported ← holds_or (Unsupported 0) (lists_nothing (member_of_member (codes "spec") (codes "dryRun") d))
-  Ok (record { name = name; arguments = arguments; metrics = metrics })
+  marked ← with_dry_run (member_of_member (codes "spec") (codes "dryRun") d) metrics
+  Ok (record { name = name; arguments = arguments; metrics = marked })
 
 module _ (refusal : ManifestError) (other : IsOfPart refusal → ⊥) where
   never : {A : Type 0} (answer : Result A ManifestError) → Judges answer → answer ≢ Err refusal
@@ -142,7 +158,7 @@ module _ (refusal : ManifestError) (other : IsOfPart refusal → ⊥) where
     behind_judges : (name : List ℕ) (arguments : TemplateArguments) (items : List Data) → Judges (behind_items d name arguments items)
     behind_judges name arguments items =
         judges_then (each_behind metric_of [] items) _ (judges_each metric_of metric_judges [] items) (λ metrics.
-        judges_then (holds_or (Unsupported 0) (lists_nothing (member_of_member (codes "spec") (codes "dryRun") d))) _ (judges_holds _ (lists_nothing (member_of_member (codes "spec") (codes "dryRun") d)) tt) (λ supported. tt))
+        judges_then (with_dry_run (member_of_member (codes "spec") (codes "dryRun") d) metrics) _ (dry_run_judges (member_of_member (codes "spec") (codes "dryRun") d) metrics) (λ marked. tt))
 
     by_arguments : (name : List ℕ) (found : Result TemplateArguments ManifestError) → Judges found
         → (found >>= λ arguments. counted_metrics (spec_metrics d) >>= behind_items d name arguments) ≡ Err refusal
@@ -200,7 +216,7 @@ module _ (d : Data) where
   many_early e = early TooManyMetrics (λ is. is) d e
 
   head_not_memory : head_of d ≢ Err OutOfMemory
-  head_not_memory e = by_version (is_text (codes "argoproj.io/v1alpha1") (text_member (codes "apiVersion") d)) (is_text (codes "AnalysisTemplate") (text_member (codes "kind") d)) (template_name d) e
+  head_not_memory e = by_version (is_text (codes "argoproj.io/v1alpha1") (text_member (codes "apiVersion") d)) (is_kind (text_member (codes "kind") d)) (template_name d) e
     where
       by_version : (version kind : Bool) (name : Option (List ℕ))
           → (holds_or WrongVersion version >>= λ of_version. holds_or WrongKind kind >>= λ of_kind. there_or NameMissing name) ≡ Err OutOfMemory → ⊥

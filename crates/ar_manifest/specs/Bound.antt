@@ -70,6 +70,7 @@ bound_metric arguments own i metric = do
     inconclusive_limit = unwrap_or inconclusive_limit 0;
     consecutive_error_limit = unwrap_or consecutive_error_limit 4;
     count = effective;
+    dry = metric.dry;
   })
 
 -- a metric behind those that are bound already

@@ -1,5 +1,6 @@
 pub mod Arguments
 pub mod Refusals
+pub mod DryRun
 pub mod Template
 pub mod Cut
 pub mod Binding

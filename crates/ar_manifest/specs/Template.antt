@@ -1,11 +1,12 @@
 -- What a JSON document is as an AnalysisTemplate of Argo Rollouts, or its first fault.
-use Rattle.std.specs.Prelude.{◌≡◌, ℕ, nat_lt, Bool, true, false, not, List, [], ◌∷◌, length, codes, Option, Some, None, is_some, is_none, option_and_then, Result, Ok, Err, if◌then◌else◌}
+use Rattle.std.specs.Prelude.{◌≡◌, ℕ, nat_lt, Bool, true, false, not, ◌||◌, List, [], ◌∷◌, length, codes, Option, Some, None, is_some, is_none, option_and_then, Result, Ok, Err, if◌then◌else◌}
 use Rattle.std.specs.List.{list_any}
 use Rattle.std.specs.Str.{bytes_eq}
 use Rattle.serde_json.specs.Data.{Data, number, string}
 use Rattle.serde_json.specs.Find.{as_str, as_u64}
 use Rattle.ar_value.specs.Answer.{◌>>=◌, there_or, holds_or, each_behind}
 use Rattle.ar_manifest.specs.Arguments.{value_of}
+use Rattle.ar_manifest.specs.DryRun.{with_dry_run}
 use Rattle.ar_json.specs.Members.{list_of, member, member_of_member, text_member, text_or, unless_empty}
 use Rattle.ar_manifest.specs.declared.error.ManifestError.{ManifestError}
 use Rattle.ar_manifest.specs.declared.error.ManifestError.TheVariants.{WrongVersion, WrongKind, NameMissing, BadArgs, NoMetrics, TooManyMetrics, MetricNameMissing, DoubleMetric, BadField, Unsupported}
@@ -64,7 +65,7 @@ named_metric i name d = do
   failure ← text_or (BadField i) (member (codes "failureCondition") d)
   has_interval ← has_text_or (BadField i) (member (codes "interval") d)
   limits ← metric_limits i d
-  Ok (record { name = name; success_condition = success; failure_condition = failure; has_interval = has_interval; limits = limits })
+  Ok (record { name = name; success_condition = success; failure_condition = failure; has_interval = has_interval; dry = false; limits = limits })
 
 -- whether a metric has the name
 abbrev pub is_named : List ℕ → Metric → Bool
@@ -108,6 +109,10 @@ abbrev pub is_text : List ℕ → Option (List ℕ) → Bool
 is_text wanted None = false
 is_text wanted (Some text) = bytes_eq text wanted
 
+-- a template is one of a namespace or of a cluster
+abbrev pub is_kind : Option (List ℕ) → Bool
+is_kind kind = is_text (codes "AnalysisTemplate") kind || is_text (codes "ClusterAnalysisTemplate") kind
+
 -- a template's name is a text that isn't empty
 abbrev pub template_name : Data → Option (List ℕ)
 template_name d = option_and_then unless_empty (option_and_then as_str (member_of_member (codes "metadata") (codes "name") d))
@@ -116,19 +121,18 @@ template_name d = option_and_then unless_empty (option_and_then as_str (member_o
 abbrev pub head_of : Data → Result (List ℕ) ManifestError
 head_of d = do
   version ← holds_or WrongVersion (is_text (codes "argoproj.io/v1alpha1") (text_member (codes "apiVersion") d))
-  kind ← holds_or WrongKind (is_text (codes "AnalysisTemplate") (text_member (codes "kind") d))
+  kind ← holds_or WrongKind (is_kind (text_member (codes "kind") d))
   there_or NameMissing (template_name d)
 
--- A template's version, kind and name are looked at first, then its arguments, its metrics, and `dryRun`, of which nothing
--- but an empty list is supported.
+-- A template's version, kind and name are looked at first, then its arguments, its metrics, and `dryRun`.
 unfoldable pub template_of : Data → Result Template ManifestError
 template_of d = do
   name ← head_of d
   arguments ← arguments_of (member_of_member (codes "spec") (codes "args") d)
   items ← counted_metrics (member_of_member (codes "spec") (codes "metrics") d)
   metrics ← each_behind metric_of [] items
-  supported ← holds_or (Unsupported 0) (lists_nothing (member_of_member (codes "spec") (codes "dryRun") d))
-  Ok (record { name = name; arguments = arguments; metrics = metrics })
+  marked ← with_dry_run (member_of_member (codes "spec") (codes "dryRun") d) metrics
+  Ok (record { name = name; arguments = arguments; metrics = marked })
 
 -- a document without arguments: its `spec.args` is missing or an empty list
 abbrev pub HasNoArguments : Data → Type 0

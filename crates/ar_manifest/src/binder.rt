@@ -87,6 +87,7 @@ fn metric(alloc: Global, scope: &Scope, metric: &Metric) -> Result<BoundMetric, 
         inconclusive_limit: inconclusive_limit.unwrap_or(INCONCLUSIVE),
         consecutive_error_limit: consecutive_error_limit.unwrap_or(CONSECUTIVE_ERRORS),
         count,
+        dry: metric.dry,
     })
 }
 

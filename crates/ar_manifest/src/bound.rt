@@ -19,6 +19,8 @@ pub struct BoundMetric {
     pub consecutive_error_limit: u32,
     /// How many measurements complete the metric; `None` where it has no end.
     pub count: Option<u32>,
+    /// Whether the metric is judged and counted, and decides nothing.
+    pub dry: bool,
 }
 
 /// The metrics of a template whose arguments are bound. Contracts see their list.

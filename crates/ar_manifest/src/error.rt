@@ -7,14 +7,14 @@ use std::alloc::{AllocError, AllocFailed};
 use thiserror::Error;
 
 /// Why a document is no AnalysisTemplate that can be judged, or why its texts can't be bound. A
-/// number is that of an argument or a metric, counted from 0.
+/// number is that of an argument, a metric or an item of `dryRun`, counted from 0.
 #[derive(Clone, Copy, Debug, PartialEq, Eq, Error)]
 pub enum ManifestError {
     /// `apiVersion` is another value.
     #[error("WrongVersion: expected `apiVersion` \"argoproj.io/v1alpha1\"")]
     WrongVersion,
     /// `kind` is another value.
-    #[error("WrongKind: expected `kind` \"AnalysisTemplate\"")]
+    #[error("WrongKind: expected `kind` \"AnalysisTemplate\" or \"ClusterAnalysisTemplate\"")]
     WrongKind,
     /// `metadata.name` is no text, or an empty one.
     #[error("NameMissing: expected a text `metadata.name` that isn't empty")]
@@ -38,10 +38,16 @@ pub enum ManifestError {
     /// A condition or `interval` is no text, or a limit is neither a number nor a text.
     #[error("metric {0}: BadField: expected texts for conditions and `interval`, numbers or texts for limits")]
     BadField(usize),
-    /// The metric has `consecutiveSuccessLimit`; or the template has `spec.dryRun` other than an
-    /// empty list, and the number is 0.
-    #[error("spec: Unsupported: expected no `consecutiveSuccessLimit` of metric {0}, and no `dryRun` but an empty list")]
+    /// The metric has `consecutiveSuccessLimit`.
+    #[error("metric {0}: Unsupported: expected no `consecutiveSuccessLimit`")]
     Unsupported(usize),
+    /// The item of `spec.dryRun` has no text `metricName`, or an empty one; or `spec.dryRun` is no
+    /// list, and the number is 0.
+    #[error("spec.dryRun: BadDryRun: expected a list, and of item {0} a text `metricName` that isn't empty")]
+    BadDryRun(usize),
+    /// The item of `spec.dryRun` names no metric.
+    #[error("spec.dryRun: UnknownDryRun: expected of item {0} as `metricName` the whole name of a metric, or `.*` for all, and no other regular expression")]
+    UnknownDryRun(usize),
     /// In a text of the metric, `{{` stands without a `}}` behind it.
     #[error("metric {0}: OpenBraces: expected }}}} behind {{{{")]
     OpenBraces(usize),

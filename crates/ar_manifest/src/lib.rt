@@ -1,5 +1,5 @@
-//! AnalysisTemplates of Argo Rollouts, as `kubectl get analysistemplate NAME -o json` prints them:
-//! read from JSON, and their arguments bound.
+//! AnalysisTemplates and ClusterAnalysisTemplates of Argo Rollouts, as `kubectl get analysistemplate
+//! NAME -o json` prints them: read from JSON, and their arguments bound.
 //!
 //! [`Template::read`] takes each template as it stands, with all fields that say nothing of how
 //! measurements are judged, and names the first fault of one that it refuses. [`Template::bind`]
@@ -19,10 +19,10 @@
 //! | `bound` | metrics whose arguments are bound |
 //! | `error` | why a template is refused |
 //! | [`laws`] | what holds of binding, for all texts |
-//! | `reader` | reading a JSON document as a template |
+//! | `reader`, `dry_run` | reading a JSON document as a template, and which metrics `dryRun` names |
 //! | `binding`, `limit`, `binder` | binding a text, a limit, and a template's metrics |
 //!
-//! In `specs`, `Template` defines reading, `Cut` where a text is cut at its braces,
+//! In `specs`, `Template` and `DryRun` define reading, `Cut` where a text is cut at its braces,
 //! `Binding` what becomes of a text, `Bound` limits, counts and the order of refusals. `Private`
 //! has what only the proofs use.
 #![tactic(auto)]
@@ -31,6 +31,7 @@ mod arguments;
 mod binder;
 mod binding;
 mod bound;
+mod dry_run;
 mod error;
 pub mod laws;
 mod limit;

@@ -8,9 +8,10 @@ ghost use Rattle.ar_value.specs.Answer.{Gives, Refuses, each_behind};
 ghost use Rattle.ar_manifest.specs.Refusals.{is_memory};
 ghost use Rattle.ar_manifest.specs.Arguments.{value_of};
 ghost use Rattle.ar_manifest.specs.Private.Early.{first_counted};
-ghost use Rattle.ar_manifest.specs.Template.{HasNoArguments, argument_of, arguments_of, counted_metrics, has_text_or, head_of, is_named, is_text, limit_or, lists_nothing, metric_limits, metric_of, named_metric, new_name, number_limit, template_name, template_of};
+ghost use Rattle.ar_manifest.specs.Template.{HasNoArguments, argument_of, arguments_of, counted_metrics, has_text_or, head_of, is_kind, is_named, is_text, limit_or, lists_nothing, metric_limits, metric_of, named_metric, new_name, number_limit, template_name, template_of};
 
 use crate::arguments::Arguments;
+use crate::dry_run::with_dry_run;
 use crate::error::ManifestError;
 use crate::template::{Limit, Metric, MetricLimits, Metrics, Template};
 use ar_json::members::{list_of, member, member_of_member, text_member, text_or};
@@ -21,7 +22,11 @@ use std::alloc::{AllocError, Global};
 /// The only `apiVersion` of an AnalysisTemplate.
 const VERSION: &str = "argoproj.io/v1alpha1";
 
-const KIND: &str = "AnalysisTemplate";
+/// The `kind` of a template of a namespace.
+const NAMESPACED: &str = "AnalysisTemplate";
+
+/// The `kind` of a template of a cluster.
+const OF_CLUSTER: &str = "ClusterAnalysisTemplate";
 
 /// How many metrics a template may have.
 const MOST_METRICS: usize = 64;
@@ -93,6 +98,7 @@ fn named_metric(alloc: Global, json: &Json, name: &str, i: usize) -> Result<Metr
         success_condition,
         failure_condition,
         has_interval,
+        dry: false,
         limits,
     })
 }
@@ -132,15 +138,15 @@ fn metric(alloc: Global, json: &Json, earlier: &[Metric]) -> Result<Metric, Mani
 
 /// The metrics of a JSON list.
 #[tactic(auto, using(crate::proofs::Steps::step_more, crate::proofs::Steps::step_fault, crate::proofs::Steps::step_end))]
-fn metrics(alloc: Global, list: &[Json]) -> Result<Metrics, ManifestError>
-    ensures { Gives is_memory (λ made. made) result (each_behind metric_of [] (map (λ json. view json) list.now)) }
+fn metrics(alloc: Global, list: &[Json]) -> Result<Vec<Metric>, ManifestError>
+    ensures { Gives is_memory (λ made. made.items) result (each_behind metric_of [] (map (λ json. view json) list.now)) }
 {
     let mut metrics = Vec::new(alloc);
     for json in list {
         let metric = metric(alloc, json, &metrics)?;
         metrics.push(metric)?;
     }
-    Ok(Metrics::from(metrics))
+    Ok(metrics)
 }
 
 /// The values at `spec.metrics`, 1 to 64 of them.
@@ -240,6 +246,12 @@ fn is_text(found: Option<&str>, wanted: &str) -> bool
     }
 }
 
+fn is_kind(found: Option<&str>) -> bool
+    ensures { result ≡ is_kind (option_map (λ text. text.now) found.entry) }
+{
+    is_text(found, NAMESPACED) || is_text(found, OF_CLUSTER)
+}
+
 /// The text at `metadata.name`, where it isn't empty.
 fn template_name(json: &Json) -> Option<&str>
     ensures { option_map (λ name. name.now) result ≡ template_name (view json.now) }
@@ -268,7 +280,7 @@ fn head(json: &Json) -> Result<&str, ManifestError>
     if !is_text(text_member(json, "apiVersion"), VERSION) {
         return Err(ManifestError::WrongVersion);
     }
-    if !is_text(text_member(json, "kind"), KIND) {
+    if !is_kind(text_member(json, "kind")) {
         return Err(ManifestError::WrongKind);
     }
     template_name(json).ok_or(ManifestError::NameMissing)
@@ -285,9 +297,8 @@ pub(crate) fn template(alloc: Global, json: &Json) -> Result<Template, ManifestE
     let arguments = arguments_of(alloc, member_of_member(json, "spec", "args"))?;
     let list = counted_metrics(member_of_member(json, "spec", "metrics"))?;
     let metrics = metrics(alloc, list)?;
-    if !lists_nothing(member_of_member(json, "spec", "dryRun")) {
-        return Err(ManifestError::Unsupported(0));
-    }
+    let found = member_of_member(json, "spec", "dryRun");
+    let metrics = with_dry_run(alloc, found, metrics)?;
     Ok(Template {
         name: Text::of(alloc, name)?,
         arguments,

@@ -45,6 +45,8 @@ pub struct Metric {
     pub failure_condition: Option<Text>,
     /// Whether the metric has an `interval` that isn't empty.
     pub has_interval: bool,
+    /// Whether the metric is judged and counted, and decides nothing.
+    pub dry: bool,
     pub limits: MetricLimits,
 }
 
@@ -96,16 +98,18 @@ pub struct Template {
 }
 
 impl Template {
-    /// The template that a JSON document is, as `kubectl get analysistemplate NAME -o json` prints
-    /// it. Of Argo Rollouts' AnalysisTemplate it reads `metadata.name`, `spec.args` and of each
-    /// metric of `spec.metrics` its name, conditions, limits and `interval`. Other fields are
-    /// ignored, null counts as missing, and what should be an object and isn't has no fields.
+    /// The template that a JSON document is, as `kubectl get analysistemplate NAME -o json` or
+    /// `kubectl get clusteranalysistemplate NAME -o json` prints it. Of Argo Rollouts' templates it
+    /// reads `metadata.name`, `spec.args`, of each metric of `spec.metrics` its name, conditions,
+    /// limits and `interval`, and `spec.dryRun`. Other fields are ignored, null counts as missing,
+    /// and what should be an object and isn't has no fields.
     ///
     /// # Errors
     ///
     /// The first that holds of `WrongVersion`, `WrongKind`, `NameMissing`, `BadArgs`, `NoMetrics`
     /// and `TooManyMetrics`; then, metric by metric, of `MetricNameMissing`, `DoubleMetric`,
-    /// `BadField` and `Unsupported`; then `Unsupported(0)` for a `spec.dryRun` that isn't empty.
+    /// `BadField` and `Unsupported`; then, item by item of `spec.dryRun`, of `BadDryRun` and
+    /// `UnknownDryRun`.
     /// `OutOfMemory` where a growth was refused: never in place of the first three, nor of
     /// `NoMetrics` and `TooManyMetrics` where there are no arguments.
     pub fn read(alloc: Global, json: &Json) -> Result<Template, ManifestError>
