@@ -7,6 +7,7 @@ use Rattle.std.proofs.lemmas.Option.{slice_get_read, slice_get_within}
 use Rattle.ar_limits.specs.Replay.{Replays, Standing}
 use Rattle.ar_limits.specs.Run.{effects, metric_counts, metric_phases, run_phase}
 use Rattle.ar_limits.specs.declared.counts.Counts.{Counts}
+use Rattle.ar_limits.specs.declared.limits.Limits.{Limits}
 use Rattle.ar_limits.specs.declared.phase.Phase.{Phase}
 use Rattle.ar_bundle.proofs.Bundles.{of_each}
 use Rattle.ar_bundle.specs.Bundle.{Bundle, events_of, found, found_of}
@@ -47,19 +48,20 @@ found_text_is bundle number entry said is read =
 
 -- ---- metrics
 
-pub next_metric : (metrics : List MetricPart) (phases : List Phase) (others : List Counts) (place : ℕ) (metric : MetricPart) (phase : Phase) (counts : Counts) (written total : List ℕ) → place < length metrics → metric ≡ slice_index_or metrics place metric → slice_get phases place ≡ Some phase → slice_get others place ≡ Some counts
-    → written ++ metric_lines (drop place metrics) (drop place phases) (drop place others) ≡ total → (written ++ metric_line metric phase counts) ++ metric_lines (drop (place + 1) metrics) (drop (place + 1) phases) (drop (place + 1) others) ≡ total
-next_metric metrics phases others place metric phase counts written total inside read phase_there counts_there so_far =
+pub next_metric : (metrics : List MetricPart) (limits : List Limits) (phases : List Phase) (others : List Counts) (place : ℕ) (metric : MetricPart) (own : Limits) (phase : Phase) (counts : Counts) (written total : List ℕ) → place < length metrics → metric ≡ slice_index_or metrics place metric → place < length limits → own ≡ slice_index_or limits place own → slice_get phases place ≡ Some phase → slice_get others place ≡ Some counts
+    → written ++ metric_lines (drop place metrics) (drop place limits) (drop place phases) (drop place others) ≡ total → (written ++ metric_line metric own phase counts) ++ metric_lines (drop (place + 1) metrics) (drop (place + 1) limits) (drop (place + 1) phases) (drop (place + 1) others) ≡ total
+next_metric metrics limits phases others place metric own phase counts written total inside read own_inside own_read phase_there counts_there so_far =
     let there = slice_get_read metrics (length metrics) place metric refl inside read in
-    let rest : metric_lines (drop place metrics) (drop place phases) (drop place others) ≡ metric_line metric phase counts ++ metric_lines (drop (suc place) metrics) (drop (suc place) phases) (drop (suc place) others) =
-    rw (rest_at metrics place metric there, rest_at phases place phase phase_there, rest_at others place counts counts_there) refl in
+    let own_there = slice_get_read limits (length limits) place own refl own_inside own_read in
+    let rest : metric_lines (drop place metrics) (drop place limits) (drop place phases) (drop place others) ≡ metric_line metric own phase counts ++ metric_lines (drop (suc place) metrics) (drop (suc place) limits) (drop (suc place) phases) (drop (suc place) others) =
+    rw (rest_at metrics place metric there, rest_at limits place own own_there, rest_at phases place phase phase_there, rest_at others place counts counts_there) refl in
     let next : place + 1 ≡ suc place = omega arith in
-    subst (λ after. (written ++ metric_line metric phase counts) ++ metric_lines (drop after metrics) (drop after phases) (drop after others) ≡ total) (sym next)
-    (append_assoc written (metric_line metric phase counts) (metric_lines (drop (suc place) metrics) (drop (suc place) phases) (drop (suc place) others)) ∙ (ap (λ lines. written ++ lines) (sym rest) ∙ so_far))
+    subst (λ after. (written ++ metric_line metric own phase counts) ++ metric_lines (drop after metrics) (drop after limits) (drop after phases) (drop after others) ≡ total) (sym next)
+    (append_assoc written (metric_line metric own phase counts) (metric_lines (drop (suc place) metrics) (drop (suc place) limits) (drop (suc place) phases) (drop (suc place) others)) ∙ (ap (λ lines. written ++ lines) (sym rest) ∙ so_far))
 
-pub no_metric : (metrics : List MetricPart) (phases : List Phase) (others : List Counts) (place : ℕ) (written total : List ℕ) → length metrics ≤ place → written ++ metric_lines (drop place metrics) (drop place phases) (drop place others) ≡ total → written ≡ total
-no_metric metrics phases others place written total past so_far =
-    let none : metric_lines (drop place metrics) (drop place phases) (drop place others) ≡ [] = rw (none_left metrics place past) refl in
+pub no_metric : (metrics : List MetricPart) (limits : List Limits) (phases : List Phase) (others : List Counts) (place : ℕ) (written total : List ℕ) → length metrics ≤ place → written ++ metric_lines (drop place metrics) (drop place limits) (drop place phases) (drop place others) ≡ total → written ≡ total
+no_metric metrics limits phases others place written total past so_far =
+    let none : metric_lines (drop place metrics) (drop place limits) (drop place phases) (drop place others) ≡ [] = rw (none_left metrics place past) refl in
     sym (append-nil written) ∙ (ap (λ lines. written ++ lines) (sym none) ∙ so_far)
 
 -- ---- events
@@ -88,16 +90,16 @@ lines_of bundle (entry ∷ entries) = ap (λ lines. event_line bundle entry.numb
 
 -- its lines are those of where it stands and of its entries
 pub run_is : (bundle : Bundle) (run : RunPart) (entries : List Entry) (state : Standing) (before lined counted all : List ℕ) → Replays run.limits (events_of bundle (numbers_of entries)) state → map (λ (entry : Entry). entry.effect) entries ≡ effects run.limits (events_of bundle (numbers_of entries))
-    → lined ≡ before ++ run_line run state.phase → counted ≡ lined ++ metric_lines bundle.metrics state.phases state.counts → all ≡ counted ++ entry_lines bundle entries → all ≡ before ++ run_text bundle run (numbers_of entries)
+    → lined ≡ before ++ run_line run state.phase → counted ≡ lined ++ metric_lines bundle.metrics run.limits state.phases state.counts → all ≡ counted ++ entry_lines bundle entries → all ≡ before ++ run_text bundle run (numbers_of entries)
 run_is bundle run entries state before lined counted all replays are line metrics events =
     let first : run_line run state.phase ≡ run_line run (run_phase run.limits (events_of bundle (numbers_of entries))) = ap (run_line run) replays.phase_is in
-    let second : metric_lines bundle.metrics state.phases state.counts ≡ metric_lines bundle.metrics (metric_phases run.limits (events_of bundle (numbers_of entries))) (metric_counts run.limits (events_of bundle (numbers_of entries))) =
-    ap (λ phases. metric_lines bundle.metrics phases state.counts) replays.phases_are ∙ ap (λ counts. metric_lines bundle.metrics (metric_phases run.limits (events_of bundle (numbers_of entries))) counts) replays.counts_are in
+    let second : metric_lines bundle.metrics run.limits state.phases state.counts ≡ metric_lines bundle.metrics run.limits (metric_phases run.limits (events_of bundle (numbers_of entries))) (metric_counts run.limits (events_of bundle (numbers_of entries))) =
+    ap (λ phases. metric_lines bundle.metrics run.limits phases state.counts) replays.phases_are ∙ ap (λ counts. metric_lines bundle.metrics run.limits (metric_phases run.limits (events_of bundle (numbers_of entries))) counts) replays.counts_are in
     let third : entry_lines bundle entries ≡ event_lines bundle (numbers_of entries) (effects run.limits (events_of bundle (numbers_of entries))) = lines_of bundle entries ∙ ap (event_lines bundle (numbers_of entries)) are in
-    let whole : (before ++ run_line run state.phase) ++ (metric_lines bundle.metrics state.phases state.counts ++ entry_lines bundle entries) ≡ before ++ run_text bundle run (numbers_of entries) =
-    append_assoc before (run_line run state.phase) (metric_lines bundle.metrics state.phases state.counts ++ entry_lines bundle entries) ∙ ap (λ text. before ++ text) (joined first second third) in
-    events ∙ (ap (λ text. text ++ entry_lines bundle entries) (metrics ∙ ap (λ text. text ++ metric_lines bundle.metrics state.phases state.counts) line)
-    ∙ (append_assoc (before ++ run_line run state.phase) (metric_lines bundle.metrics state.phases state.counts) (entry_lines bundle entries) ∙ whole))
+    let whole : (before ++ run_line run state.phase) ++ (metric_lines bundle.metrics run.limits state.phases state.counts ++ entry_lines bundle entries) ≡ before ++ run_text bundle run (numbers_of entries) =
+    append_assoc before (run_line run state.phase) (metric_lines bundle.metrics run.limits state.phases state.counts ++ entry_lines bundle entries) ∙ ap (λ text. before ++ text) (joined first second third) in
+    events ∙ (ap (λ text. text ++ entry_lines bundle entries) (metrics ∙ ap (λ text. text ++ metric_lines bundle.metrics run.limits state.phases state.counts) line)
+    ∙ (append_assoc (before ++ run_line run state.phase) (metric_lines bundle.metrics run.limits state.phases state.counts) (entry_lines bundle entries) ∙ whole))
   where
     joined : {a b c d e f : List ℕ} → a ≡ b → c ≡ d → e ≡ f → a ++ (c ++ e) ≡ b ++ (d ++ f)
     joined one two three = rw (one, two, three) refl

@@ -1,9 +1,10 @@
 -- The text of a report: a function of a bundle and of one list of its numbers for each run. Phases, counts and effects
 -- are those of the list of events that the numbers are.
-use Rattle.std.specs.Prelude.{ℕ, List, [], ◌∷◌, ◌++◌, codes, decimal, slice_get, option_and_then, option_map, unwrap_or}
+use Rattle.std.specs.Prelude.{ℕ, List, [], ◌∷◌, ◌++◌, codes, decimal, slice_get, option_and_then, option_map, unwrap_or, if◌then◌else◌}
 use Rattle.ar_limits.specs.Run.{effects, metric_counts, metric_phases, run_phase}
 use Rattle.ar_limits.specs.declared.counts.Counts.{Counts}
 use Rattle.ar_limits.specs.declared.event.Effect.{Effect}
+use Rattle.ar_limits.specs.declared.limits.Limits.{Limits}
 use Rattle.ar_limits.specs.declared.phase.Phase.{Phase}
 use Rattle.ar_bundle.specs.Bundle.{Bundle, events_of, found_of}
 use Rattle.ar_bundle.specs.declared.bundle.MetricPart.{MetricPart}
@@ -25,12 +26,16 @@ errors_text counts = counted (codes "error") counts.error ++ counted (codes "con
 abbrev pub counts_text : Counts → List ℕ
 counts_text counts = counted (codes "successful") counts.successful ++ (counted (codes "failed") counts.failed ++ (counted (codes "inconclusive") counts.inconclusive ++ errors_text counts))
 
-abbrev pub metric_line : MetricPart → Phase → Counts → List ℕ
-metric_line metric phase counts = codes "metric " ++ (metric.name ++ (codes " " ++ (phase_name phase ++ (counts_text counts ++ codes "\n"))))
+-- a dry metric is marked at the end
+abbrev pub dry_text : Limits → List ℕ
+dry_text own = if own.dry then codes " dryRun" else []
 
-abbrev pub metric_lines : List MetricPart → List Phase → List Counts → List ℕ
-metric_lines (metric ∷ metrics) (phase ∷ phases) (counts ∷ others) = metric_line metric phase counts ++ metric_lines metrics phases others
-metric_lines metrics phases counts = []
+abbrev pub metric_line : MetricPart → Limits → Phase → Counts → List ℕ
+metric_line metric own phase counts = codes "metric " ++ (metric.name ++ (codes " " ++ (phase_name phase ++ (counts_text counts ++ (dry_text own ++ codes "\n")))))
+
+abbrev pub metric_lines : List MetricPart → List Limits → List Phase → List Counts → List ℕ
+metric_lines (metric ∷ metrics) (own ∷ limits) (phase ∷ phases) (counts ∷ others) = metric_line metric own phase counts ++ metric_lines metrics limits phases others
+metric_lines metrics limits phases counts = []
 
 -- ---- an event's line
 
@@ -62,7 +67,7 @@ run_line run phase = codes "run " ++ (run.name ++ (codes " " ++ (phase_name phas
 abbrev pub run_text : Bundle → RunPart → (numbers : List ℕ) → List ℕ
 run_text bundle run numbers =
     run_line run (run_phase run.limits (events_of bundle numbers))
-    ++ (metric_lines bundle.metrics (metric_phases run.limits (events_of bundle numbers)) (metric_counts run.limits (events_of bundle numbers))
+    ++ (metric_lines bundle.metrics run.limits (metric_phases run.limits (events_of bundle numbers)) (metric_counts run.limits (events_of bundle numbers))
     ++ event_lines bundle numbers (effects run.limits (events_of bundle numbers)))
 
 abbrev pub run_texts : Bundle → List RunPart → List (List ℕ) → List ℕ

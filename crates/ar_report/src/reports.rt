@@ -7,11 +7,11 @@ ghost use Rattle.ar_limits.specs.Run.{effects};
 ghost use Rattle.ar_report.specs.Private.Entries.{AreFound, entry_lines};
 ghost use Rattle.ar_bundle.specs.Lawful.{AreHistoriesSoFar, numbers_of};
 ghost use Rattle.ar_report.specs.Names.{effect_text};
-ghost use Rattle.ar_report.specs.Report.{counted, counts_text, errors_text, event_line, finding_text, name_at, metric_line, metric_lines, report, run_line, run_phases, run_text};
+ghost use Rattle.ar_report.specs.Report.{counted, counts_text, dry_text, errors_text, event_line, finding_text, name_at, metric_line, metric_lines, report, run_line, run_phases, run_text};
 
 use crate::names::{phase_name, put_effect, put_verdict};
 use ar_bundle::{Bundle, Entry, Finding, Histories, MetricPart, RunPart, What};
-use ar_limits::{Counts, Effect, Phase, RunState};
+use ar_limits::{Counts, Effect, Limits, Phase, RunState};
 use itoa::Buffer;
 use std::alloc::{AllocError, Global};
 
@@ -48,19 +48,29 @@ fn put_counts(out: &mut String, counts: Counts) -> Result<(), AllocError>
     put_errors(out, counts)
 }
 
+/// That a metric is dry, where it is.
+fn put_dry(out: &mut String, own: &Limits) -> Result<(), AllocError>
+    ensures { OnOk result (string_bytes out.new ≡ string_bytes out.old ++ dry_text own.now) }
+{
+    out.push_str(if own.dry { " dryRun" } else { "" })
+}
+
 fn put_metric(
     out: &mut String,
     metric: &MetricPart,
+    own: &Limits,
     phase: Phase,
     counts: Counts,
 ) -> Result<(), AllocError>
-    ensures { OnOk result (string_bytes out.new ≡ string_bytes out.old ++ metric_line metric.now phase counts) }
+    ensures { OnOk result
+        (string_bytes out.new ≡ string_bytes out.old ++ metric_line metric.now own.now phase counts) }
 {
     out.push_str("metric ")?;
     out.push_str(metric.name.as_str())?;
     out.push_str(" ")?;
     out.push_str(phase_name(phase))?;
     put_counts(out, counts)?;
+    put_dry(out, own)?;
     out.push_str("\n")
 }
 
@@ -135,15 +145,22 @@ fn put_run_line(out: &mut String, run: &RunPart, phase: Phase) -> Result<(), All
 
 /// The lines of a run's metrics, as it stands.
 #[tactic(auto, using(crate::proofs::Lines::next_metric, crate::proofs::Lines::no_metric))]
-fn put_metrics(out: &mut String, metrics: &[MetricPart], state: &RunState) -> Result<(), AllocError>
-    requires { length state.now.limits ≡ length metrics.now }
-    ensures { OnOk result
-        (string_bytes out.new ≡ string_bytes out.old ++ metric_lines metrics.now state.now.phases state.now.counts) }
+fn put_metrics(
+    out: &mut String,
+    metrics: &[MetricPart],
+    limits: &[Limits],
+    state: &RunState,
+) -> Result<(), AllocError>
+    requires limits { length limits.now ≡ length metrics.now }
+    requires metrics { length state.now.limits ≡ length metrics.now }
+    ensures { OnOk result (string_bytes out.new
+        ≡ string_bytes out.old ++ metric_lines metrics.now limits.now state.now.phases state.now.counts) }
 {
     for (number, metric) in metrics.iter().enumerate() {
         put_metric(
             out,
             metric,
+            &limits[number],
             state.metric_phase(number),
             state.counts(number),
         )?;
@@ -202,7 +219,7 @@ fn put_run(
 {
     let state = replayed(alloc, bundle, run, entries)?;
     put_run_line(out, run, state.phase())?;
-    put_metrics(out, bundle.metrics(), &state)?;
+    put_metrics(out, bundle.metrics(), run.limits.as_slice(), &state)?;
     put_events(out, bundle, entries)
 }
 

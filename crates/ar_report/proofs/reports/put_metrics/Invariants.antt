@@ -4,4 +4,4 @@ use Rattle.ar_report.proofs.reports.put_metrics.Given as goal
 
 -- the lines so far stand before those of the metrics that are left
 abbrev pub invariant-loop-number : goal.invariant-loop-number
-invariant-loop-number l = string_bytes l.out ++ metric_lines (drop l.number l.metrics) (drop l.number l.state.phases) (drop l.number l.state.counts) ≡ string_bytes l.initial.out ++ metric_lines l.metrics l.state.phases l.state.counts
+invariant-loop-number l = string_bytes l.out ++ metric_lines (drop l.number l.metrics) (drop l.number l.limits) (drop l.number l.state.phases) (drop l.number l.state.counts) ≡ string_bytes l.initial.out ++ metric_lines l.metrics l.limits l.state.phases l.state.counts
