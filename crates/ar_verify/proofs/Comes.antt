@@ -31,6 +31,7 @@ use Rattle.ar_verify.proofs.Nesting.{passes_each}
 use Rattle.ar_verify.proofs.Passed.{sends_as}
 use Rattle.ar_verify.proofs.Passing.{Ahead, passed_ahead, sends_on}
 use Rattle.ar_verify.proofs.Targets.{sends_within, stays_within}
+use Rattle.ar_verify.specs.declared.whole.ShapeName as ShapeName
 
 -- ---- one more arrives
 
@@ -221,7 +222,7 @@ module _ (code : Code) (shape : Shape) (named : all_pass (names_well code.ops) 0
     stopped (failures.Fault reason) cause next is refuses = rw is (ap (λ all. all >>= λ sents. Ok (summary (length code.ops) sents)) (stops reason refuses))
     stopped failures.OutOfMemory cause next is refuses = rw is tt
 
-  pub inside_table : (op default : Op) (arrived : List (Result held.Operands Reason)) → table_view arrived ≡ s.table → place < length code.ops → op ≡ slice_index_or code.ops place default
+  pub inside_table : {M : Type 0} {name : ShapeName.Ghosts M} (op default : Op) (arrived : List (Result (held.Operands M name) Reason)) → table_view arrived ≡ s.table → place < length code.ops → op ≡ slice_index_or code.ops place default
       → StaysWithin (length arrived) op
   inside_table op default arrived is within at =
       let long : length arrived ≡ suc (length code.ops) = sym (length-map arrived arrival_view) ∙ ap length is ∙ comes.long in

@@ -1,7 +1,7 @@
 -- What operators give, told by the parts of a list's kind.
 use Rattle.std.proofs.Common.{◌≡◌, ℕ, Bool, true, false, Option, Some, None, option_map, Box, Global, refl, ap, ◌∙◌}
 use Rattle.std.specs.Prelude.{◌||◌, if◌then◌else◌, option_and_then}
-use Rattle.ar_value.specs.Kind.{Kind, nil, shaped, is_optional, plain}
+use Rattle.ar_value.specs.Kind.{Kind, nil, shaped, is_optional, or_nil, plain}
 use Rattle.ar_value.specs.Shape.{Shape, bool, whole, decimal, text, list, object, optional}
 use Rattle.ar_value.specs.View.{shape_view}
 use Rattle.ar_value.specs.declared.operator.Scalar.TheVariants as scalars
@@ -14,6 +14,10 @@ use Rattle.ar_verify.specs.Private.Parts.{child}
 pub plain_already : (shape : Shape) → is_optional shape ≡ false → plain shape ≡ shape
 plain_already (optional shape) h = absurd cc
 plain_already shape h = refl
+
+pub nil_already : (shape : Shape) → is_optional shape ≡ true → shaped shape ≡ shaped (or_nil shape)
+nil_already (optional shape) h = refl
+nil_already shape h = absurd cc
 
 -- ---- lists by their shapes
 

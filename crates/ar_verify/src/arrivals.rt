@@ -21,10 +21,12 @@ use crate::failure::Failure;
 use crate::kind::{Kind, list_in};
 use crate::operands::{Operands, join};
 use crate::sending::{Sends, Sent, send_on};
+use crate::whole::{ShapeName, Whole};
 use ar_op::code::Code;
 use ar_op::op::Op;
 use ar_value::shape::Shape;
 use std::alloc::{AllocError, Global};
+use std::marker::Brand;
 use std::mem;
 
 /// What is known of the operands of code.
@@ -38,15 +40,15 @@ pub(crate) struct Arrivals {
 
 /// The way through the operations.
 #[derive(Drop)]
-struct Pass<'s> {
+struct Pass<'s, M: ShapeName> {
     /// What arrived so far at each place further on, or why nothing can be performed there.
-    arrived: Vec<Result<Operands<'s>, Reason>>,
+    arrived: Vec<Result<Operands<'s, M>, Reason>>,
     found: Arrivals,
 }
 
 /// How many items the list on top may have.
 #[tactic(auto, using(crate::proofs::Tops::most_in_list))]
-fn most_on_top(kinds: &[Kind<'_>]) -> usize
+fn most_on_top<M: ShapeName>(kinds: &[Kind<'_, M>]) -> usize
     ensures { result ≡ most_on_top (from_top kinds.now) }
 {
     let Some(kind) = kinds.last() else {
@@ -59,7 +61,10 @@ fn most_on_top(kinds: &[Kind<'_>]) -> usize
 }
 
 /// A table of the places of so many operations, and of one behind them. A run begins at the first.
-fn table<'s>(alloc: Global, count: usize) -> Result<Vec<Result<Operands<'s>, Reason>>, AllocError>
+fn table<'s, M: ShapeName>(
+    alloc: Global,
+    count: usize,
+) -> Result<Vec<Result<Operands<'s, M>, Reason>>, AllocError>
     ensures { IfOk result
         (λ arrived. table_view arrived.items ≡ Ok (operands [] []) ∷ replicate count (Err Unreachable)) }
 {
@@ -73,10 +78,10 @@ fn table<'s>(alloc: Global, count: usize) -> Result<Vec<Result<Operands<'s>, Rea
 
 /// Takes what arrived at a place.
 #[tactic(auto, using(crate::proofs::Table::entry_is, crate::proofs::Table::taken_away))]
-fn take<'s>(
-    arrived: &mut [Result<Operands<'s>, Reason>],
+fn take<'s, M: ShapeName>(
+    arrived: &mut [Result<Operands<'s, M>, Reason>],
     place: usize,
-) -> Result<Operands<'s>, Reason>
+) -> Result<Operands<'s, M>, Reason>
     requires { place < length arrived.old }
     ensures taken { arrival_view result ≡ entry (table_view arrived.old) place }
     ensures left { table_view arrived.new ≡ without (table_view arrived.old) place }
@@ -85,11 +90,11 @@ fn take<'s>(
 }
 
 /// What arrived somewhere, and one more behind it.
-fn one_more<'s>(
+fn one_more<'s, M: ShapeName>(
     alloc: Global,
-    arrived: Result<Operands<'s>, Reason>,
-    next: Operands<'s>,
-) -> Result<Result<Operands<'s>, Reason>, AllocError>
+    arrived: Result<Operands<'s, M>, Reason>,
+    next: Operands<'s, M>,
+) -> Result<Result<Operands<'s, M>, Reason>, AllocError>
     ensures { IfOk result
         (λ joined. arrival_view joined ≡ one_more (arrival_view arrived.entry) (operands_view next.entry)) }
 {
@@ -101,11 +106,10 @@ fn one_more<'s>(
 }
 
 /// Adds operands to what arrived where they go.
-#[tactic(auto, using(crate::proofs::Table::put_there))]
-fn send<'s>(
+fn send<'s, M: ShapeName>(
     alloc: Global,
-    arrived: &mut [Result<Operands<'s>, Reason>],
-    sent: Sent<'s>,
+    arrived: &mut [Result<Operands<'s, M>, Reason>],
+    sent: Sent<'s, M>,
 ) -> Result<(), AllocError>
     requires { sent.target < length arrived.old }
     ensures { OnOk result (table_view arrived.new ≡ with_one (table_view arrived.old) (sent_view sent.entry)) }
@@ -117,10 +121,10 @@ fn send<'s>(
 }
 
 /// Adds all that an operation sends on.
-fn send_all<'s>(
+fn send_all<'s, M: ShapeName>(
     alloc: Global,
-    arrived: &mut [Result<Operands<'s>, Reason>],
-    sends: Sends<'s>,
+    arrived: &mut [Result<Operands<'s, M>, Reason>],
+    sends: Sends<'s, M>,
 ) -> Result<(), AllocError>
     requires { AllByRecursion (λ one. one.target < length arrived.old) (sends_view sends) }
     ensures { OnOk result (table_view arrived.new ≡ with_all (table_view arrived.old) (sends_view sends.entry)) }
@@ -146,20 +150,20 @@ impl Arrivals {
     }
 }
 
-impl<'s> Pass<'s> {
+impl<'s, M: ShapeName> Pass<'s, M> {
     /// Looks at the operation at a place, to which the pass has come.
     fn look_at(
         &mut self,
         alloc: Global,
         code: &Code,
-        measured: &'s Shape,
+        measured: &Whole<'s, M>,
         place: usize,
         op: Op,
     ) -> Result<(), Failure>
         requires inside { place + 1 < length self.old.arrived.items }
         requires targets { StaysWithin (length self.old.arrived.items) op }
         ensures { Meets (λ _. pass_view self.new) result
-            (looked_at code.now (shape_view measured.now) place op (pass_view self.old)) }
+            (looked_at code.now (shape_view M.shape) place op (pass_view self.old)) }
     {
         let had = take(&mut self.arrived, place)?;
         self.found.note_items(most_on_top(&had.kinds))?;
@@ -171,12 +175,14 @@ impl<'s> Pass<'s> {
 }
 
 /// Finds the first operation that what arrives at its place can't be given to, or what is known of
-/// the operands where there is none.
-pub(crate) fn find_arrivals(alloc: Global, code: &Code, measured: &Shape) -> Result<Arrivals, Cause>
-    requires { all_pass (names_well code.now.ops) 0 code.now.ops ≡ Ok tt }
-    ensures { Gives is_memory summary_view result (summed_up code.now (shape_view measured.now)) }
+/// the operands where there is none. The measured value's shape has a name.
+fn find_named<M: ShapeName>(alloc: Global, code: &Code, shape: &Shape) -> Result<Arrivals, Cause>
+    requires shape { shape.now ≡ M.shape }
+    requires places { all_pass (names_well code.now.ops) 0 code.now.ops ≡ Ok tt }
+    ensures { Gives is_memory summary_view result (summed_up code.now (shape_view M.shape)) }
 {
     let ops = code.ops();
+    let measured: Whole<'_, M> = Whole::new(shape);
     let found = Arrivals {
         depth: 0,
         most_items: Vec::with_capacity(alloc, ops.len())?,
@@ -186,9 +192,17 @@ pub(crate) fn find_arrivals(alloc: Global, code: &Code, measured: &Shape) -> Res
         found,
     };
     for (place, op) in ops.iter().enumerate() {
-        if let Err(failure) = pass.look_at(alloc, code, measured, place, *op) {
+        if let Err(failure) = pass.look_at(alloc, code, &measured, place, *op) {
             return Err(failure.at(place));
         }
     }
     Ok(pass.found)
+}
+
+/// Likewise for a shape of the measured value.
+pub(crate) fn find_arrivals(alloc: Global, code: &Code, shape: &Shape) -> Result<Arrivals, Cause>
+    requires { all_pass (names_well code.now.ops) 0 code.now.ops ≡ Ok tt }
+    ensures { Gives is_memory summary_view result (summed_up code.now (shape_view shape.now)) }
+{
+    find_named::<Brand>(alloc, code, shape)
 }

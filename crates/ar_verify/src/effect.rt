@@ -12,6 +12,7 @@ use crate::kind::{Kind, is_scalar};
 use crate::operators::{apply_binary, apply_unary, field_of};
 use crate::part::{AnyShape, INNER};
 use crate::stack::pop;
+use crate::whole::{ShapeName, Whole};
 use ar_op::code::Code;
 use ar_op::op::{Op, Source};
 use ar_value::operator::{BinaryOperator, Scalar, UnaryOperator};
@@ -19,14 +20,14 @@ use ar_value::shape::Shape;
 use std::alloc::{AllocError, Global};
 
 /// What is pushed, where the innermost loop, if there is one, is over a list.
-fn pushed<'s>(
+fn pushed<'s, M: ShapeName>(
     alloc: Global,
-    measured: &'s Shape,
-    here: Option<&AnyShape<'s>>,
+    measured: &Whole<'s, M>,
+    here: Option<&AnyShape<'s, M>>,
     source: Source,
-) -> Result<Option<Kind<'s>>, AllocError>
+) -> Result<Option<Kind<'s, M>>, AllocError>
     ensures { IfOk result (λ given. option_map kind_view given
-        ≡ pushed_kind (shape_view measured.now) (option_map (λ list. (list_view list.now).0) here.entry) source) }
+        ≡ pushed_kind (shape_view M.shape) (option_map (λ list. (list_view list.now).0) here.entry) source) }
 {
     Ok(Some(match source {
         Source::Bool(_) => Kind::made(alloc, Shape::Bool)?,
@@ -34,7 +35,7 @@ fn pushed<'s>(
         Source::Decimal(_) => Kind::made(alloc, Shape::Decimal)?,
         Source::Text(_) => Kind::made(alloc, Shape::Text)?,
         Source::Nil => Kind::Nil,
-        Source::Result => Kind::Shape(AnyShape::declared(alloc, measured)?),
+        Source::Result => Kind::Shape(AnyShape::measured(alloc, measured.again())?),
         Source::Item => match here {
             Some(list) => Kind::Shape(list.child(alloc, INNER)?),
             None => return Ok(None),
@@ -43,11 +44,11 @@ fn pushed<'s>(
 }
 
 /// Takes an operand.
-fn unary<'s>(
+fn unary<'s, M: ShapeName>(
     alloc: Global,
     operator: UnaryOperator,
-    kinds: &mut Vec<Kind<'s>>,
-) -> Result<Option<Kind<'s>>, AllocError>
+    kinds: &mut Vec<Kind<'s, M>>,
+) -> Result<Option<Kind<'s, M>>, AllocError>
     ensures { IfOk result
         (λ given. Leaves given kinds.new.items (on_one (unary_kind operator) (from_top kinds.old.items))) }
 {
@@ -58,11 +59,11 @@ fn unary<'s>(
 }
 
 /// Takes two operands, the right one from the top.
-fn binary<'s>(
+fn binary<'s, M: ShapeName>(
     alloc: Global,
     operator: BinaryOperator,
-    kinds: &mut Vec<Kind<'s>>,
-) -> Result<Option<Kind<'s>>, AllocError>
+    kinds: &mut Vec<Kind<'s, M>>,
+) -> Result<Option<Kind<'s, M>>, AllocError>
     ensures { IfOk result
         (λ given. Leaves given kinds.new.items (on_two (binary_kind operator) (from_top kinds.old.items))) }
 {
@@ -89,12 +90,12 @@ fn name_at(names: &[String], number: u32) -> Option<&str>
 }
 
 /// Takes a record and gives its field, by the number of the name.
-fn field<'s>(
+fn field<'s, M: ShapeName>(
     alloc: Global,
     code: &Code,
     number: u32,
-    kinds: &mut Vec<Kind<'s>>,
-) -> Result<Option<Kind<'s>>, AllocError>
+    kinds: &mut Vec<Kind<'s, M>>,
+) -> Result<Option<Kind<'s, M>>, AllocError>
     ensures { IfOk result
         (λ given. Leaves given kinds.new.items (field_by code.now number (from_top kinds.old.items))) }
 {
@@ -119,7 +120,7 @@ fn scalar_shape(scalar: Scalar) -> Shape
 }
 
 /// Takes an operand off the top and says whether it was a scalar of a kind.
-fn takes_scalar(scalar: Scalar, kinds: &mut Vec<Kind<'_>>) -> bool
+fn takes_scalar<M: ShapeName>(scalar: Scalar, kinds: &mut Vec<Kind<'_, M>>) -> bool
     ensures { TakesScalar scalar (from_top kinds.old.items) (from_top kinds.new.items) result }
 {
     match pop(kinds) {
@@ -130,12 +131,12 @@ fn takes_scalar(scalar: Scalar, kinds: &mut Vec<Kind<'_>>) -> bool
 
 /// Takes so many scalars of a kind and gives the list of them.
 #[tactic(auto, using(crate::proofs::Tops::scalar_taken, crate::proofs::Tops::scalar_refused, crate::proofs::Tops::all_taken))]
-fn make_list<'s>(
+fn make_list<'s, M: ShapeName>(
     alloc: Global,
     scalar: Scalar,
     count: u8,
-    kinds: &mut Vec<Kind<'s>>,
-) -> Result<Option<Kind<'s>>, AllocError>
+    kinds: &mut Vec<Kind<'s, M>>,
+) -> Result<Option<Kind<'s, M>>, AllocError>
     ensures { IfOk result
         (λ given. Leaves given kinds.new.items (list_made scalar count count (from_top kinds.old.items))) }
 {
@@ -152,16 +153,16 @@ fn make_list<'s>(
 }
 
 /// Takes the operands of an operation that goes on to the next place, and gives what it makes of them.
-pub(crate) fn apply<'s>(
+pub(crate) fn apply<'s, M: ShapeName>(
     alloc: Global,
     code: &Code,
-    measured: &'s Shape,
-    here: Option<&AnyShape<'s>>,
+    measured: &Whole<'s, M>,
+    here: Option<&AnyShape<'s, M>>,
     op: Op,
-    kinds: &mut Vec<Kind<'s>>,
-) -> Result<Option<Kind<'s>>, AllocError>
+    kinds: &mut Vec<Kind<'s, M>>,
+) -> Result<Option<Kind<'s, M>>, AllocError>
     ensures { IfOk result (λ given. Leaves given kinds.new.items
-        (effect code.now (shape_view measured.now) (option_map (λ list. (list_view list.now).0) here.entry) op (from_top kinds.old.items))) }
+        (effect code.now (shape_view M.shape) (option_map (λ list. (list_view list.now).0) here.entry) op (from_top kinds.old.items))) }
 {
     match op {
         Op::Push(source) => pushed(alloc, measured, here, source),

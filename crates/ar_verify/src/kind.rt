@@ -2,15 +2,15 @@
 
 ghost use Rattle.std.specs.Bool.{Decides};
 ghost use Rattle.std.specs.Prelude.{◌≡◌, IfOk, option_map};
-ghost use Rattle.ar_value.specs.Kind.{merge, shaped};
+ghost use Rattle.ar_value.specs.Kind.{merge, or_nil, shaped};
 ghost use Rattle.ar_value.specs.Shape.{list};
 ghost use Rattle.ar_value.specs.View.{shape_view};
-ghost use Rattle.ar_value.specs.View as values;
 ghost use Rattle.ar_verify.specs.Effects.{family_in, family_of, is_scalar};
 ghost use Rattle.ar_verify.specs.Private.Kinds.{is_list, kind_view, list_in, list_parts, list_view, parts_view, shape_in};
 ghost use Rattle.ar_verify.specs.Private.Parts.{any_view};
 
-use crate::part::{AnyShape, INNER, child};
+use crate::part::{AnyShape, INNER, are_one, child};
+use crate::whole::ShapeName;
 use ar_value::kind;
 use ar_value::operator::{Family, Scalar};
 use ar_value::sameness::are_same_shapes;
@@ -19,9 +19,9 @@ use std::alloc::{AllocError, Global};
 
 /// The kind of an operand: that of the literal `nil`, or a shape.
 #[derive(Drop)]
-pub(crate) enum Kind<'s> {
+pub(crate) enum Kind<'s, M: ShapeName> {
     Nil,
-    Shape(AnyShape<'s>),
+    Shape(AnyShape<'s, M>),
 }
 
 /// What a list's shape says of it.
@@ -32,9 +32,9 @@ pub(crate) struct ListParts<'a> {
     pub most: usize,
 }
 
-impl<'s> Kind<'s> {
+impl<'s, M: ShapeName> Kind<'s, M> {
     /// The kind of operands of a shape that stands alone.
-    pub(crate) fn made(alloc: Global, shape: Shape) -> Result<Kind<'s>, AllocError>
+    pub(crate) fn made(alloc: Global, shape: Shape) -> Result<Kind<'s, M>, AllocError>
         ensures { IfOk result (λ kind. kind_view kind ≡ shaped (shape_view shape)) }
     {
         Ok(Kind::Shape(AnyShape::made(alloc, shape)?))
@@ -50,7 +50,7 @@ impl<'s> Kind<'s> {
     }
 
     /// The same kind once more, its shape likewise.
-    pub(crate) fn share(&self) -> Result<Kind<'s>, AllocError>
+    pub(crate) fn share(&self) -> Result<Kind<'s, M>, AllocError>
         ensures { IfOk result (λ shared. kind_view shared ≡ kind_view self.now) }
     {
         match self {
@@ -58,55 +58,74 @@ impl<'s> Kind<'s> {
             Kind::Shape(shape) => Ok(Kind::Shape(shape.share()?)),
         }
     }
-
-    /// The kind with its shape owned.
-    fn owned(&self, alloc: Global) -> Result<kind::Kind, AllocError>
-        ensures { IfOk result (λ owned. values.kind_view owned ≡ kind_view self.now) }
-    {
-        match self {
-            Kind::Nil => Ok(kind::Kind::Nil),
-            Kind::Shape(shape) => Ok(kind::Kind::Shape(shape.get().copy(alloc)?)),
-        }
-    }
 }
 
-fn are_same(left: &Kind<'_>, right: &Kind<'_>) -> bool
+fn are_same<M: ShapeName>(left: &Kind<'_, M>, right: &Kind<'_, M>) -> bool
     ensures { Decides result (kind_view left.now ≡ kind_view right.now) }
 {
     match left {
         Kind::Nil => matches!(right, Kind::Nil),
         Kind::Shape(left) => match right {
             Kind::Nil => false,
-            Kind::Shape(right) => are_same_shapes(left.get(), right.get()),
+            Kind::Shape(right) => are_one(left, right) || are_same_shapes(left.get(), right.get()),
         },
     }
 }
 
-/// The merge of kinds that differ. Both are copied, since it is that of kinds which own their shapes.
-fn merge_different<'s>(
+/// The kind of nil and of what fits a shape.
+#[tactic(auto, using(crate::proofs::Parts::nil_already))]
+fn nil_or<'s, M: ShapeName>(
     alloc: Global,
-    left: &Kind<'_>,
-    right: &Kind<'_>,
-) -> Result<Option<Kind<'s>>, AllocError>
+    shape: &AnyShape<'s, M>,
+) -> Result<Kind<'s, M>, AllocError>
+    ensures { IfOk result (λ kind. kind_view kind ≡ shaped (or_nil (any_view shape.now))) }
+{
+    if kind::is_optional(shape.get()) {
+        return Ok(Kind::Shape(shape.share()?));
+    }
+    Kind::made(alloc, kind::or_nil(alloc, shape.get())?)
+}
+
+/// The merge of shapes, where there is one.
+fn merge_shapes<'s, M: ShapeName>(
+    alloc: Global,
+    left: &Shape,
+    right: &Shape,
+) -> Result<Option<Kind<'s, M>>, AllocError>
+    ensures { IfOk result (λ kind. option_map kind_view kind
+        ≡ merge (shaped (shape_view left.now)) (shaped (shape_view right.now))) }
+{
+    match kind::merge_shapes(alloc, left, right)? {
+        Some(shape) => Ok(Some(Kind::made(alloc, shape)?)),
+        None => Ok(None),
+    }
+}
+
+/// The merge of kinds that differ.
+fn merge_different<'s, M: ShapeName>(
+    alloc: Global,
+    left: &Kind<'s, M>,
+    right: &Kind<'s, M>,
+) -> Result<Option<Kind<'s, M>>, AllocError>
     ensures { IfOk result (λ kind. option_map kind_view kind ≡ merge (kind_view left.now) (kind_view right.now)) }
 {
-    let left = left.owned(alloc)?;
-    let right = right.owned(alloc)?;
-    match kind::merge(alloc, &left, &right)? {
-        Some(kind::Kind::Nil) => Ok(Some(Kind::Nil)),
-        Some(kind::Kind::Shape(shape)) => Ok(Some(Kind::made(alloc, shape)?)),
-        None => Ok(None),
+    match (left, right) {
+        (Kind::Nil, Kind::Nil) => Ok(Some(Kind::Nil)),
+        (Kind::Nil, Kind::Shape(shape)) | (Kind::Shape(shape), Kind::Nil) => {
+            Ok(Some(nil_or(alloc, shape)?))
+        }
+        (Kind::Shape(left), Kind::Shape(right)) => merge_shapes(alloc, left.get(), right.get()),
     }
 }
 
 /// The kind of what has the one kind or the other, where there is one: of a kind and itself that kind,
 /// which is shared.
 #[tactic(auto, using(crate::proofs::Joins::merged_with_itself))]
-pub(crate) fn merge<'s>(
+pub(crate) fn merge<'s, M: ShapeName>(
     alloc: Global,
-    left: &Kind<'s>,
-    right: &Kind<'_>,
-) -> Result<Option<Kind<'s>>, AllocError>
+    left: &Kind<'s, M>,
+    right: &Kind<'s, M>,
+) -> Result<Option<Kind<'s, M>>, AllocError>
     ensures { IfOk result (λ kind. option_map kind_view kind ≡ merge (kind_view left.now) (kind_view right.now)) }
 {
     if are_same(left, right) {
@@ -127,7 +146,7 @@ fn is_scalar_shape(scalar: Scalar, shape: &Shape) -> bool
     }
 }
 
-pub(crate) fn is_scalar(scalar: Scalar, kind: &Kind<'_>) -> bool
+pub(crate) fn is_scalar<M: ShapeName>(scalar: Scalar, kind: &Kind<'_, M>) -> bool
     ensures { result ≡ is_scalar scalar (kind_view kind.now) }
 {
     match kind {
@@ -148,7 +167,7 @@ pub(crate) fn family_of(shape: &Shape) -> Option<Family>
 }
 
 /// The family of a scalar that may be nil.
-pub(crate) fn family_in(kind: &Kind<'_>) -> Option<Family>
+pub(crate) fn family_in<M: ShapeName>(kind: &Kind<'_, M>) -> Option<Family>
     ensures { result ≡ family_in (kind_view kind.now) }
 {
     match kind {
@@ -172,7 +191,7 @@ fn list_parts(shape: &Shape) -> Option<ListParts<'_>>
 }
 
 /// What the kind says of a list, where it is that of one.
-pub(crate) fn list_in<'a>(kind: &'a Kind<'_>) -> Option<ListParts<'a>>
+pub(crate) fn list_in<'a, M: ShapeName>(kind: &'a Kind<'_, M>) -> Option<ListParts<'a>>
     ensures { option_map parts_view result ≡ list_in (kind_view kind.now) }
 {
     list_parts(kind.shape()?)
@@ -194,7 +213,7 @@ fn is_list(shape: &Shape) -> bool
 
 /// The shape of a list, where the kind is that of one.
 #[tactic(auto, using(crate::proofs::Parts::of_a_list, crate::proofs::Parts::of_no_list))]
-pub(crate) fn into_list<'s>(kind: Kind<'s>) -> Option<AnyShape<'s>>
+pub(crate) fn into_list<'s, M: ShapeName>(kind: Kind<'s, M>) -> Option<AnyShape<'s, M>>
     ensures { option_map list_view result ≡ list_in (kind_view kind.entry) }
 {
     match kind {
@@ -212,7 +231,10 @@ pub(crate) fn into_list<'s>(kind: Kind<'s>) -> Option<AnyShape<'s>>
 /// The shape of a list of the same items, and of as many at most. That of a list is shared; no other
 /// is meant.
 #[tactic(auto, using(crate::proofs::Parts::list_itself, crate::proofs::Parts::made_like))]
-pub(crate) fn list_like<'s>(alloc: Global, of: &AnyShape<'s>) -> Result<AnyShape<'s>, AllocError>
+pub(crate) fn list_like<'s, M: ShapeName>(
+    alloc: Global,
+    of: &AnyShape<'s, M>,
+) -> Result<AnyShape<'s, M>, AllocError>
     ensures { IfOk result (λ like. any_view like ≡ list (list_view of.now).0 (list_view of.now).1) }
 {
     let shape = of.get();

@@ -10,8 +10,8 @@
 //! - `verifier`: the passes, one after the other; [`verified`]: what they accept
 //! - `places`: whether the places that operations name are as they should be; `loops`: whether loops
 //!   lie one in another
-//! - `part`: parts of shapes, which share the whole; `kind`, `stack`: kinds of operands; `operators`,
-//!   `effect`: what operations give of them
+//! - `whole`: the shape of the measured value; `part`: parts of shapes, which share the whole; `kind`,
+//!   `stack`: kinds of operands; `operators`, `effect`: what operations give of them
 //! - `operands`, `sending`, `arrivals`: what operations send on, and what arrives at each place
 //! - `budget`: what a run may cost at most
 //! - `failure`, [`error`]: why code isn't accepted
@@ -34,6 +34,7 @@ mod sending;
 mod stack;
 pub mod verified;
 mod verifier;
+mod whole;
 
 pub use error::{Cause, Reason, Refused};
 pub use verified::Verified;

@@ -9,25 +9,29 @@ ghost use Rattle.ar_verify.specs.Private.Stacks.{from_top};
 use crate::error::Reason;
 use crate::kind::{Kind, merge};
 use crate::part::AnyShape;
+use crate::whole::ShapeName;
 use std::alloc::{AllocError, Global};
 
 /// A loop around a place.
 #[derive(Drop)]
-pub(crate) struct Around<'s> {
-    pub list: AnyShape<'s>,
+pub(crate) struct Around<'s, M: ShapeName> {
+    pub list: AnyShape<'s, M>,
     /// The operands below its floor and above that of the loop around it, of which the last is on top.
-    pub below: Vec<Kind<'s>>,
+    pub below: Vec<Kind<'s, M>>,
 }
 
 #[derive(Drop)]
-pub(crate) struct Operands<'s> {
+pub(crate) struct Operands<'s, M: ShapeName> {
     /// Those above the floor of the innermost loop, of which the last is on top.
-    pub kinds: Vec<Kind<'s>>,
+    pub kinds: Vec<Kind<'s, M>>,
     /// The last is the innermost.
-    pub loops: Vec<Around<'s>>,
+    pub loops: Vec<Around<'s, M>>,
 }
 
-fn copy_kinds<'s>(alloc: Global, kinds: &[Kind<'s>]) -> Result<Vec<Kind<'s>>, AllocError>
+fn copy_kinds<'s, M: ShapeName>(
+    alloc: Global,
+    kinds: &[Kind<'s, M>],
+) -> Result<Vec<Kind<'s, M>>, AllocError>
     ensures { IfOk result (λ copies. map kind_view copies.items ≡ map kind_view kinds.now) }
 {
     let mut copies = Vec::with_capacity(alloc, kinds.len())?;
@@ -37,8 +41,8 @@ fn copy_kinds<'s>(alloc: Global, kinds: &[Kind<'s>]) -> Result<Vec<Kind<'s>>, Al
     Ok(copies)
 }
 
-impl<'s> Around<'s> {
-    fn copy(&self, alloc: Global) -> Result<Around<'s>, AllocError>
+impl<'s, M: ShapeName> Around<'s, M> {
+    fn copy(&self, alloc: Global) -> Result<Around<'s, M>, AllocError>
         ensures { IfOk result (λ copy. around_view copy ≡ around_view self.now) }
     {
         let list = self.list.share()?;
@@ -47,7 +51,10 @@ impl<'s> Around<'s> {
     }
 }
 
-fn copy_loops<'s>(alloc: Global, loops: &[Around<'s>]) -> Result<Vec<Around<'s>>, AllocError>
+fn copy_loops<'s, M: ShapeName>(
+    alloc: Global,
+    loops: &[Around<'s, M>],
+) -> Result<Vec<Around<'s, M>>, AllocError>
     ensures { IfOk result (λ copies. map around_view copies.items ≡ map around_view loops.now) }
 {
     let mut copies = Vec::with_capacity(alloc, loops.len())?;
@@ -59,7 +66,7 @@ fn copy_loops<'s>(alloc: Global, loops: &[Around<'s>]) -> Result<Vec<Around<'s>>
 
 /// How many operands lie below the floor of the innermost loop.
 #[tactic(auto, using(crate::proofs::Heights::one_deeper, crate::proofs::Heights::all_taken))]
-fn floor(loops: &[Around<'_>]) -> usize
+fn floor<M: ShapeName>(loops: &[Around<'_, M>]) -> usize
     ensures { result ≡ counted (floor (from_innermost loops.now)) }
 {
     let mut floor: usize = 0;
@@ -69,9 +76,9 @@ fn floor(loops: &[Around<'_>]) -> usize
     floor
 }
 
-impl<'s> Operands<'s> {
+impl<'s, M: ShapeName> Operands<'s, M> {
     /// A run begins without operands.
-    pub(crate) fn none(alloc: Global) -> Operands<'s>
+    pub(crate) fn none(alloc: Global) -> Operands<'s, M>
         ensures { operands_view result ≡ operands [] [] }
     {
         Operands {
@@ -80,7 +87,7 @@ impl<'s> Operands<'s> {
         }
     }
 
-    pub(crate) fn copy(&self, alloc: Global) -> Result<Operands<'s>, AllocError>
+    pub(crate) fn copy(&self, alloc: Global) -> Result<Operands<'s, M>, AllocError>
         ensures { IfOk result (λ copy. operands_view copy ≡ operands_view self.now) }
     {
         let kinds = copy_kinds(alloc, &self.kinds)?;
@@ -99,11 +106,11 @@ impl<'s> Operands<'s> {
 
 /// What two stacks have in common, kind by kind, where they are as high.
 #[tactic(auto, using(crate::proofs::Joins::unlike_heights, crate::proofs::Joins::one_merged, crate::proofs::Joins::one_clashes, crate::proofs::Joins::all_merged))]
-fn merge_all<'s>(
+fn merge_all<'s, M: ShapeName>(
     alloc: Global,
-    lefts: &[Kind<'s>],
-    rights: &[Kind<'_>],
-) -> Result<Option<Vec<Kind<'s>>>, AllocError>
+    lefts: &[Kind<'s, M>],
+    rights: &[Kind<'s, M>],
+) -> Result<Option<Vec<Kind<'s, M>>>, AllocError>
     ensures { IfOk result (λ kinds. option_map (λ kinds. map kind_view kinds.items) kinds
         ≡ merged (map kind_view lefts.now) (map kind_view rights.now)) }
 {
@@ -123,11 +130,11 @@ fn merge_all<'s>(
 /// What arrives where some operands arrived already. They come from inside the same loops, so they
 /// differ above the floor alone.
 #[tactic(auto, using(crate::proofs::Joins::merged_from_top))]
-pub(crate) fn join<'s>(
+pub(crate) fn join<'s, M: ShapeName>(
     alloc: Global,
-    so_far: Operands<'s>,
-    next: &Operands<'_>,
-) -> Result<Result<Operands<'s>, Reason>, AllocError>
+    so_far: Operands<'s, M>,
+    next: &Operands<'s, M>,
+) -> Result<Result<Operands<'s, M>, Reason>, AllocError>
     ensures { IfOk result (λ joined. arrival_view joined ≡ of_loops (operands_view so_far.entry).loops
         (merged (operands_view so_far.entry).kinds (operands_view next.now).kinds)) }
 {

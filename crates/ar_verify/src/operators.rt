@@ -8,6 +8,7 @@ ghost use Rattle.ar_verify.specs.Private.Kinds.{kind_view};
 
 use crate::kind::{Kind, family_in, family_of, into_list, is_scalar, list_in, merge};
 use crate::part::{INNER, field_number};
+use crate::whole::ShapeName;
 use ar_value::kind;
 use ar_value::operator::{
     Arithmetic, BinaryOperator, Compared, Family, Numbers, Scalar, UnaryOperator,
@@ -16,11 +17,11 @@ use ar_value::shape::Shape;
 use std::alloc::{AllocError, Global};
 
 /// The kind of a shape, where the operands are taken.
-fn where_taken<'s>(
+fn where_taken<'s, M: ShapeName>(
     alloc: Global,
     is_taken: bool,
     shape: Shape,
-) -> Result<Option<Kind<'s>>, AllocError>
+) -> Result<Option<Kind<'s, M>>, AllocError>
     ensures { IfOk result (λ given. option_map kind_view given ≡ where_taken is_taken (shaped (shape_view shape))) }
 {
     if is_taken {
@@ -31,11 +32,11 @@ fn where_taken<'s>(
 }
 
 /// The field of a record, by its name.
-pub(crate) fn field_of<'s>(
+pub(crate) fn field_of<'s, M: ShapeName>(
     alloc: Global,
     name: &str,
-    operand: Kind<'s>,
-) -> Result<Option<Kind<'s>>, AllocError>
+    operand: Kind<'s, M>,
+) -> Result<Option<Kind<'s, M>>, AllocError>
     ensures { IfOk result (λ given. option_map kind_view given ≡ field_kind name.now (kind_view operand.entry)) }
 {
     match operand {
@@ -48,7 +49,11 @@ pub(crate) fn field_of<'s>(
 }
 
 #[tactic(auto, using(crate::proofs::Parts::item_by_list))]
-fn item<'s>(alloc: Global, list: Kind<'s>, index: &Kind<'_>) -> Result<Option<Kind<'s>>, AllocError>
+fn item<'s, M: ShapeName>(
+    alloc: Global,
+    list: Kind<'s, M>,
+    index: &Kind<'_, M>,
+) -> Result<Option<Kind<'s, M>>, AllocError>
     ensures { IfOk result
         (λ given. option_map kind_view given ≡ item_kind (kind_view list.entry) (kind_view index.now)) }
 {
@@ -62,13 +67,19 @@ fn item<'s>(alloc: Global, list: Kind<'s>, index: &Kind<'_>) -> Result<Option<Ki
 }
 
 #[tactic(auto, using(crate::proofs::Parts::length_of_list))]
-fn length<'s>(alloc: Global, list: &Kind<'_>) -> Result<Option<Kind<'s>>, AllocError>
+fn length<'s, M: ShapeName>(
+    alloc: Global,
+    list: &Kind<'_, M>,
+) -> Result<Option<Kind<'s, M>>, AllocError>
     ensures { IfOk result (λ given. option_map kind_view given ≡ length_kind (kind_view list.now)) }
 {
     where_taken(alloc, list_in(list).is_some(), Shape::Whole)
 }
 
-fn needed<'s>(alloc: Global, operand: Kind<'s>) -> Result<Option<Kind<'s>>, AllocError>
+fn needed<'s, M: ShapeName>(
+    alloc: Global,
+    operand: Kind<'s, M>,
+) -> Result<Option<Kind<'s, M>>, AllocError>
     ensures { IfOk result (λ given. option_map kind_view given ≡ needed_kind (kind_view operand.entry)) }
 {
     match operand {
@@ -78,11 +89,11 @@ fn needed<'s>(alloc: Global, operand: Kind<'s>) -> Result<Option<Kind<'s>>, Allo
 }
 
 /// The kind of what isn't nil, or of what stands for it.
-fn default<'s>(
+fn default<'s, M: ShapeName>(
     alloc: Global,
-    operand: Kind<'s>,
-    other: Kind<'s>,
-) -> Result<Option<Kind<'s>>, AllocError>
+    operand: Kind<'s, M>,
+    other: Kind<'s, M>,
+) -> Result<Option<Kind<'s, M>>, AllocError>
     ensures { IfOk result
         (λ given. option_map kind_view given ≡ default_kind (kind_view operand.entry) (kind_view other.entry)) }
 {
@@ -108,7 +119,10 @@ fn decimal_shape(alloc: Global, shape: &Shape) -> Result<Option<Shape>, AllocErr
     }
 }
 
-fn decimal<'s>(alloc: Global, operand: &Kind<'_>) -> Result<Option<Kind<'s>>, AllocError>
+fn decimal<'s, M: ShapeName>(
+    alloc: Global,
+    operand: &Kind<'_, M>,
+) -> Result<Option<Kind<'s, M>>, AllocError>
     ensures { IfOk result (λ given. option_map kind_view given ≡ decimal_kind (kind_view operand.now)) }
 {
     match operand.shape() {
@@ -139,11 +153,11 @@ fn of_one_family(family: Option<Family>, other: Option<Family>) -> bool
 }
 
 #[tactic(auto, using(crate::proofs::Parts::member_of_list))]
-fn member<'s>(
+fn member<'s, M: ShapeName>(
     alloc: Global,
-    operand: &Kind<'_>,
-    list: &Kind<'_>,
-) -> Result<Option<Kind<'s>>, AllocError>
+    operand: &Kind<'_, M>,
+    list: &Kind<'_, M>,
+) -> Result<Option<Kind<'s, M>>, AllocError>
     ensures { IfOk result
         (λ given. option_map kind_view given ≡ member_kind (kind_view operand.now) (kind_view list.now)) }
 {
@@ -169,7 +183,7 @@ fn quotient(operator: Arithmetic) -> Shape
     }
 }
 
-fn same<'s>(scalar: Scalar, operand: Kind<'s>) -> Option<Kind<'s>>
+fn same<'s, M: ShapeName>(scalar: Scalar, operand: Kind<'s, M>) -> Option<Kind<'s, M>>
     ensures { option_map kind_view result ≡ same_kind scalar (kind_view operand.entry) }
 {
     if is_scalar(scalar, &operand) {
@@ -179,7 +193,7 @@ fn same<'s>(scalar: Scalar, operand: Kind<'s>) -> Option<Kind<'s>>
     }
 }
 
-fn negative<'s>(numbers: Numbers, operand: Kind<'s>) -> Option<Kind<'s>>
+fn negative<'s, M: ShapeName>(numbers: Numbers, operand: Kind<'s, M>) -> Option<Kind<'s, M>>
     ensures { option_map kind_view result ≡ negative_kind numbers (kind_view operand.entry) }
 {
     match numbers {
@@ -189,7 +203,7 @@ fn negative<'s>(numbers: Numbers, operand: Kind<'s>) -> Option<Kind<'s>>
 }
 
 #[tactic(auto, using(crate::proofs::Parts::number_is_either))]
-fn is_compared(numbers: Compared, operand: &Kind<'_>) -> bool
+fn is_compared<M: ShapeName>(numbers: Compared, operand: &Kind<'_, M>) -> bool
     ensures { result ≡ is_compared numbers (kind_view operand.now) }
 {
     match numbers {
@@ -202,11 +216,11 @@ fn is_compared(numbers: Compared, operand: &Kind<'_>) -> bool
 }
 
 /// What an operator gives of one operand.
-pub(crate) fn apply_unary<'s>(
+pub(crate) fn apply_unary<'s, M: ShapeName>(
     alloc: Global,
     operator: UnaryOperator,
-    operand: Kind<'s>,
-) -> Result<Option<Kind<'s>>, AllocError>
+    operand: Kind<'s, M>,
+) -> Result<Option<Kind<'s, M>>, AllocError>
     ensures { IfOk result (λ given. option_map kind_view given ≡ unary_kind operator (kind_view operand.entry)) }
 {
     match operator {
@@ -219,19 +233,19 @@ pub(crate) fn apply_unary<'s>(
     }
 }
 
-fn are_scalars(scalar: Scalar, left: &Kind<'_>, right: &Kind<'_>) -> bool
+fn are_scalars<M: ShapeName>(scalar: Scalar, left: &Kind<'_, M>, right: &Kind<'_, M>) -> bool
     ensures { result ≡ (is_scalar scalar (kind_view left.now) && is_scalar scalar (kind_view right.now)) }
 {
     is_scalar(scalar, left) && is_scalar(scalar, right)
 }
 
-fn are_compared(numbers: Compared, left: &Kind<'_>, right: &Kind<'_>) -> bool
+fn are_compared<M: ShapeName>(numbers: Compared, left: &Kind<'_, M>, right: &Kind<'_, M>) -> bool
     ensures { result ≡ (is_compared numbers (kind_view left.now) && is_compared numbers (kind_view right.now)) }
 {
     is_compared(numbers, left) && is_compared(numbers, right)
 }
 
-fn are_in_family(family: Family, left: &Kind<'_>, right: &Kind<'_>) -> bool
+fn are_in_family<M: ShapeName>(family: Family, left: &Kind<'_, M>, right: &Kind<'_, M>) -> bool
     ensures { result ≡ (is_family family (family_in (kind_view left.now))
         && is_family family (family_in (kind_view right.now))) }
 {
@@ -239,12 +253,12 @@ fn are_in_family(family: Family, left: &Kind<'_>, right: &Kind<'_>) -> bool
 }
 
 /// What an operator gives of two operands.
-pub(crate) fn apply_binary<'s>(
+pub(crate) fn apply_binary<'s, M: ShapeName>(
     alloc: Global,
     operator: BinaryOperator,
-    left: Kind<'s>,
-    right: Kind<'s>,
-) -> Result<Option<Kind<'s>>, AllocError>
+    left: Kind<'s, M>,
+    right: Kind<'s, M>,
+) -> Result<Option<Kind<'s, M>>, AllocError>
     ensures { IfOk result
         (λ given. option_map kind_view given ≡ binary_kind operator (kind_view left.entry) (kind_view right.entry)) }
 {

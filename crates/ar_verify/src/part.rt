@@ -1,28 +1,29 @@
 //! Parts of shapes. They share the whole, and are known by the way to them, so none is copied.
 
-ghost use Rattle.std.specs.Prelude.{◌≡◌, ◌++◌, ◌∷◌, [], IfOk, Some, map, option_map};
+ghost use Rattle.std.specs.Prelude.{◌≡◌, ◌++◌, ◌∷◌, [], true, IfOk, Some, map, option_map};
 ghost use Rattle.ar_value.specs.Kind.{plain, shaped};
 ghost use Rattle.ar_value.specs.Shape.{field_shapes_of, shape_named};
 ghost use Rattle.ar_value.specs.View.{field_shape_view, shape_view};
 ghost use Rattle.ar_verify.specs.Effects.{field_kind};
 ghost use Rattle.ar_verify.specs.Private.Parts.{any_view, child, field_or, nth_field, part_at, root_view};
 
+use crate::whole::{ShapeName, Whole};
 use ar_value::kind;
 use ar_value::shape::{FieldShape, Shape};
 use std::alloc::{AllocError, Global};
 use std::rc::Rc;
 
-/// A whole shape: a declared one, which is lent, or one that is shared by all that are a part of it.
+/// A whole shape: that of the measured value, or one that is shared by all that are a part of it.
 #[derive(Drop)]
-pub(crate) enum Root<'s> {
-    Declared(&'s Shape),
+pub(crate) enum Root<'s, M: ShapeName> {
+    Measured(Whole<'s, M>),
     Made(Rc<Shape>),
 }
 
 /// A part of a shape, by the numbers of the parts on the way to it.
 #[derive(Drop)]
-pub(crate) struct AnyShape<'s> {
-    pub root: Root<'s>,
+pub(crate) struct AnyShape<'s, M: ShapeName> {
+    pub root: Root<'s, M>,
     pub path: Rc<Vec<usize>>,
 }
 
@@ -75,43 +76,47 @@ fn longer(alloc: Global, path: &[usize], number: usize) -> Result<Rc<Vec<usize>>
     Ok(Rc::new(alloc, longer)?)
 }
 
-impl<'s> Root<'s> {
+impl<'s, M: ShapeName> Root<'s, M> {
     fn get(&self) -> &Shape
         ensures { shape_view result.now ≡ root_view self.now }
     {
         match self {
-            Root::Declared(shape) => shape,
+            Root::Measured(whole) => whole.get(),
             Root::Made(shape) => shape,
         }
     }
 
     /// It is refused only where a made one has more owners than can be counted.
-    fn share(&self) -> Result<Root<'s>, AllocError>
+    fn share(&self) -> Result<Root<'s, M>, AllocError>
         ensures { IfOk result (λ shared. root_view shared ≡ root_view self.now) }
     {
         match self {
-            Root::Declared(shape) => Ok(Root::Declared(shape)),
+            Root::Measured(whole) => Ok(Root::Measured(whole.again())),
             Root::Made(shape) => Ok(Root::Made(shape.clone()?)),
         }
     }
 }
 
-impl<'s> AnyShape<'s> {
-    fn whole(alloc: Global, root: Root<'s>) -> Result<AnyShape<'s>, AllocError>
+impl<'s, M: ShapeName> AnyShape<'s, M> {
+    fn whole(alloc: Global, root: Root<'s, M>) -> Result<AnyShape<'s, M>, AllocError>
         ensures { IfOk result (λ whole. any_view whole ≡ root_view root.entry) }
     {
         let path = Rc::new(alloc, Vec::new(alloc))?;
         Ok(AnyShape { root, path })
     }
 
-    pub(crate) fn declared(alloc: Global, shape: &'s Shape) -> Result<AnyShape<'s>, AllocError>
-        ensures { IfOk result (λ declared. any_view declared ≡ shape_view shape.now) }
+    /// The shape of the measured value.
+    pub(crate) fn measured(
+        alloc: Global,
+        whole: Whole<'s, M>,
+    ) -> Result<AnyShape<'s, M>, AllocError>
+        ensures { IfOk result (λ measured. any_view measured ≡ shape_view M.shape) }
     {
-        AnyShape::whole(alloc, Root::Declared(shape))
+        AnyShape::whole(alloc, Root::Measured(whole))
     }
 
     /// A shape that stands alone.
-    pub(crate) fn made(alloc: Global, shape: Shape) -> Result<AnyShape<'s>, AllocError>
+    pub(crate) fn made(alloc: Global, shape: Shape) -> Result<AnyShape<'s, M>, AllocError>
         ensures { IfOk result (λ made. any_view made ≡ shape_view shape) }
     {
         AnyShape::whole(alloc, Root::Made(Rc::new(alloc, shape)?))
@@ -124,7 +129,7 @@ impl<'s> AnyShape<'s> {
     }
 
     /// The same shape once more, which takes no memory.
-    pub(crate) fn share(&self) -> Result<AnyShape<'s>, AllocError>
+    pub(crate) fn share(&self) -> Result<AnyShape<'s, M>, AllocError>
         ensures { IfOk result (λ shared. any_view shared ≡ any_view self.now) }
     {
         let root = self.root.share()?;
@@ -134,7 +139,7 @@ impl<'s> AnyShape<'s> {
 
     /// A part by its number.
     #[tactic(auto, using(crate::proofs::Ways::one_further))]
-    pub(crate) fn child(&self, alloc: Global, number: usize) -> Result<AnyShape<'s>, AllocError>
+    pub(crate) fn child(&self, alloc: Global, number: usize) -> Result<AnyShape<'s, M>, AllocError>
         ensures { IfOk result (λ part. any_view part ≡ child number (any_view self.now)) }
     {
         let root = self.root.share()?;
@@ -144,7 +149,7 @@ impl<'s> AnyShape<'s> {
 
     /// The shape of what isn't nil.
     #[tactic(auto, using(crate::proofs::Parts::plain_already, crate::proofs::Ways::plain_inside))]
-    pub(crate) fn plain(self, alloc: Global) -> Result<AnyShape<'s>, AllocError>
+    pub(crate) fn plain(self, alloc: Global) -> Result<AnyShape<'s, M>, AllocError>
         ensures { IfOk result (λ inner. any_view inner ≡ plain (any_view self.entry)) }
     {
         if kind::is_optional(self.get()) {
@@ -153,6 +158,21 @@ impl<'s> AnyShape<'s> {
             Ok(self)
         }
     }
+}
+
+fn is_measured<M: ShapeName>(root: &Root<'_, M>) -> bool
+    ensures { result ≡ true → root_view root.now ≡ shape_view M.shape }
+{
+    matches!(root, Root::Measured(_))
+}
+
+/// Whether it is known without a look at their shapes that two parts are one.
+pub(crate) fn are_one<M: ShapeName>(left: &AnyShape<'_, M>, right: &AnyShape<'_, M>) -> bool
+    ensures { result ≡ true → any_view left.now ≡ any_view right.now }
+{
+    is_measured(&left.root)
+        && is_measured(&right.root)
+        && left.path.as_slice() == right.path.as_slice()
 }
 
 #[tactic(auto, using(crate::proofs::Ways::named_here, crate::proofs::Ways::named_further, crate::proofs::Ways::none_named))]

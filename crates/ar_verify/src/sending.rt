@@ -17,6 +17,7 @@ use crate::kind::{Kind, into_list, is_scalar, list_like};
 use crate::operands::{Around, Operands};
 use crate::part::AnyShape;
 use crate::stack::{pop, push};
+use crate::whole::{ShapeName, Whole};
 use ar_op::code::Code;
 use ar_op::op::{Jump, Op, Source};
 use ar_value::operator::{Predicate, Scalar};
@@ -28,22 +29,22 @@ const MOST_OPERANDS: usize = 64;
 
 /// Operands on the way to a place.
 #[derive(Drop)]
-pub(crate) struct Sent<'s> {
+pub(crate) struct Sent<'s, M: ShapeName> {
     pub target: usize,
-    pub operands: Operands<'s>,
+    pub operands: Operands<'s, M>,
 }
 
 /// What an operation sends on, in the order in which it arrives.
 #[derive(Drop)]
-pub(crate) enum Sends<'s> {
+pub(crate) enum Sends<'s, M: ShapeName> {
     Nothing,
-    One(Sent<'s>),
-    Two(Sent<'s>, Sent<'s>),
+    One(Sent<'s, M>),
+    Two(Sent<'s, M>, Sent<'s, M>),
 }
 
 /// Takes a truth value.
 #[tactic(auto, using(crate::proofs::Passed::truth_on_top, crate::proofs::Passed::no_truth_on_top))]
-fn take_truth(kinds: &mut Vec<Kind<'_>>) -> Result<(), Failure>
+fn take_truth<M: ShapeName>(kinds: &mut Vec<Kind<'_, M>>) -> Result<(), Failure>
     ensures { Meets (λ _. from_top kinds.new.items) result (truth_taken (from_top kinds.old.items)) }
 {
     let operand = pop(kinds).ok_or(Reason::IllKinded)?;
@@ -55,7 +56,7 @@ fn take_truth(kinds: &mut Vec<Kind<'_>>) -> Result<(), Failure>
 }
 
 /// Takes a list.
-fn take_list<'s>(kinds: &mut Vec<Kind<'s>>) -> Result<AnyShape<'s>, Failure>
+fn take_list<'s, M: ShapeName>(kinds: &mut Vec<Kind<'s, M>>) -> Result<AnyShape<'s, M>, Failure>
     ensures { Meets (λ list. (list_view list, from_top kinds.new.items)) result
         (list_taken (from_top kinds.old.items)) }
 {
@@ -64,11 +65,11 @@ fn take_list<'s>(kinds: &mut Vec<Kind<'s>>) -> Result<AnyShape<'s>, Failure>
 }
 
 /// What a loop gives over a list.
-fn answer_kind<'s>(
+fn answer_kind<'s, M: ShapeName>(
     alloc: Global,
     predicate: Predicate,
-    list: &AnyShape<'s>,
-) -> Result<Kind<'s>, AllocError>
+    list: &AnyShape<'s, M>,
+) -> Result<Kind<'s, M>, AllocError>
     ensures { IfOk result
         (λ answer. kind_view answer ≡ answer_kind predicate (list_view list.now).0 (list_view list.now).1) }
 {
@@ -80,7 +81,10 @@ fn answer_kind<'s>(
 }
 
 #[tactic(auto, using(crate::proofs::Tops::on_top))]
-fn push_loop<'s>(loops: &mut Vec<Around<'s>>, innermost: Around<'s>) -> Result<(), AllocError>
+fn push_loop<'s, M: ShapeName>(
+    loops: &mut Vec<Around<'s, M>>,
+    innermost: Around<'s, M>,
+) -> Result<(), AllocError>
     ensures { OnOk result
         (from_innermost loops.new.items ≡ around_view innermost.entry ∷ from_innermost loops.old.items) }
 {
@@ -89,7 +93,7 @@ fn push_loop<'s>(loops: &mut Vec<Around<'s>>, innermost: Around<'s>) -> Result<(
 }
 
 #[tactic(auto, using(crate::proofs::Tops::on_top))]
-fn pop_loop<'s>(loops: &mut Vec<Around<'s>>) -> Option<Around<'s>>
+fn pop_loop<'s, M: ShapeName>(loops: &mut Vec<Around<'s, M>>) -> Option<Around<'s, M>>
     ensures { MatchOption result (from_innermost loops.old.items ≡ [])
         (λ popped. from_innermost loops.old.items ≡ around_view popped ∷ from_innermost loops.new.items) }
 {
@@ -98,19 +102,19 @@ fn pop_loop<'s>(loops: &mut Vec<Around<'s>>) -> Option<Around<'s>>
 
 /// The shape of the innermost loop's list.
 #[tactic(auto, using(crate::proofs::Tops::last_item))]
-fn innermost<'a, 's>(loops: &'a [Around<'s>]) -> Option<&'a AnyShape<'s>>
+fn innermost<'a, 's, M: ShapeName>(loops: &'a [Around<'s, M>]) -> Option<&'a AnyShape<'s, M>>
     ensures { option_map (λ list. (list_view list.now).0) result ≡ item_of (from_innermost loops.now) }
 {
     Some(&loops.last()?.list)
 }
 
 /// Goes to a place with the truth value on top, or on without it.
-fn keep_or_take<'s>(
+fn keep_or_take<'s, M: ShapeName>(
     alloc: Global,
     next: usize,
     target: u32,
-    mut had: Operands<'s>,
-) -> Result<Sends<'s>, Failure>
+    mut had: Operands<'s, M>,
+) -> Result<Sends<'s, M>, Failure>
     ensures { Meets sends_view result
         (kept_or_taken next target (operands_view had.entry).kinds (operands_view had.entry).loops) }
 {
@@ -129,12 +133,12 @@ fn keep_or_take<'s>(
 }
 
 /// Goes to a place or on, without the truth value on top.
-fn branch<'s>(
+fn branch<'s, M: ShapeName>(
     alloc: Global,
     next: usize,
     target: u32,
-    mut had: Operands<'s>,
-) -> Result<Sends<'s>, Failure>
+    mut had: Operands<'s, M>,
+) -> Result<Sends<'s, M>, Failure>
     ensures { Meets sends_view result
         (branched next target (operands_view had.entry).kinds (operands_view had.entry).loops) }
 {
@@ -153,13 +157,13 @@ fn branch<'s>(
 }
 
 /// Goes to the place of a jump, or on.
-fn jump<'s>(
+fn jump<'s, M: ShapeName>(
     alloc: Global,
     jump: Jump,
     next: usize,
     target: u32,
-    had: Operands<'s>,
-) -> Result<Sends<'s>, Failure>
+    had: Operands<'s, M>,
+) -> Result<Sends<'s, M>, Failure>
     ensures { Meets sends_view result
         (jumping jump next target (operands_view had.entry).kinds (operands_view had.entry).loops) }
 {
@@ -174,11 +178,11 @@ fn jump<'s>(
 }
 
 /// Operands at the begin of the body of a loop over a list, where there are none above its floor.
-fn inside<'s>(
+fn inside<'s, M: ShapeName>(
     alloc: Global,
-    list: AnyShape<'s>,
-    had: Operands<'s>,
-) -> Result<Operands<'s>, AllocError>
+    list: AnyShape<'s, M>,
+    had: Operands<'s, M>,
+) -> Result<Operands<'s, M>, AllocError>
     ensures { IfOk result (λ inside. operands_view inside
         ≡ operands [] (around (list_view list.entry, (operands_view had.entry).kinds) ∷ (operands_view had.entry).loops)) }
 {
@@ -191,13 +195,13 @@ fn inside<'s>(
 }
 
 /// Begins a loop over the list on top, or goes behind it with its answer.
-fn enter<'s>(
+fn enter<'s, M: ShapeName>(
     alloc: Global,
     predicate: Predicate,
     next: usize,
     step: u32,
-    mut had: Operands<'s>,
-) -> Result<Sends<'s>, Failure>
+    mut had: Operands<'s, M>,
+) -> Result<Sends<'s, M>, Failure>
     ensures { Meets sends_view result
         (beginning predicate next (step + 1) (operands_view had.entry).kinds (operands_view had.entry).loops) }
 {
@@ -218,12 +222,12 @@ fn enter<'s>(
 }
 
 /// Goes behind a loop, where nothing but the truth value of its body is above its floor.
-fn step<'s>(
+fn step<'s, M: ShapeName>(
     alloc: Global,
     predicate: Predicate,
     next: usize,
-    had: Operands<'s>,
-) -> Result<Sends<'s>, Failure>
+    had: Operands<'s, M>,
+) -> Result<Sends<'s, M>, Failure>
     ensures { Meets sends_view result
         (stepping predicate next (operands_view had.entry).kinds (operands_view had.entry).loops) }
 {
@@ -247,7 +251,7 @@ fn step<'s>(
 }
 
 /// Ends with the truth value on top.
-fn answer<'s>(had: Operands<'s>) -> Result<Sends<'s>, Failure>
+fn answer<'s, M: ShapeName>(had: Operands<'s, M>) -> Result<Sends<'s, M>, Failure>
     ensures { Meets sends_view result (returning (operands_view had.entry).kinds) }
 {
     let Operands { mut kinds, .. } = had;
@@ -256,16 +260,16 @@ fn answer<'s>(had: Operands<'s>) -> Result<Sends<'s>, Failure>
 }
 
 /// Goes to the next place.
-fn go_on<'s>(
+fn go_on<'s, M: ShapeName>(
     alloc: Global,
     code: &Code,
-    measured: &'s Shape,
+    measured: &Whole<'s, M>,
     next: usize,
     op: Op,
-    had: Operands<'s>,
-) -> Result<Sends<'s>, Failure>
+    had: Operands<'s, M>,
+) -> Result<Sends<'s, M>, Failure>
     ensures { Meets sends_view result (going_on next (operands_view had.entry).loops
-        (effect code.now (shape_view measured.now) (item_of (operands_view had.entry).loops) op (operands_view had.entry).kinds)) }
+        (effect code.now (shape_view M.shape) (item_of (operands_view had.entry).loops) op (operands_view had.entry).kinds)) }
 {
     let Operands { mut kinds, loops } = had;
     let given = apply(alloc, code, measured, innermost(&loops), op, &mut kinds)?;
@@ -276,15 +280,15 @@ fn go_on<'s>(
     }))
 }
 
-fn passed_on<'s>(
+fn passed_on<'s, M: ShapeName>(
     alloc: Global,
     code: &Code,
-    measured: &'s Shape,
+    measured: &Whole<'s, M>,
     next: usize,
     op: Op,
-    had: Operands<'s>,
-) -> Result<Sends<'s>, Failure>
-    ensures { Meets sends_view result (passed_by code.now (shape_view measured.now) next op
+    had: Operands<'s, M>,
+) -> Result<Sends<'s, M>, Failure>
+    ensures { Meets sends_view result (passed_by code.now (shape_view M.shape) next op
         (operands_view had.entry).kinds (operands_view had.entry).loops) }
 {
     match op {
@@ -300,7 +304,7 @@ fn passed_on<'s>(
 
 /// Whether an operand is missing above the floor, or the item.
 #[tactic(auto, using(crate::proofs::Tops::so_many))]
-fn lacks(op: Op, had: &Operands<'_>) -> bool
+fn lacks<M: ShapeName>(op: Op, had: &Operands<'_, M>) -> bool
     ensures { result ≡ lacks op (operands_view had.now) }
 {
     match op {
@@ -309,7 +313,7 @@ fn lacks(op: Op, had: &Operands<'_>) -> bool
     }
 }
 
-impl<'s> Sends<'s> {
+impl<'s, M: ShapeName> Sends<'s, M> {
     /// The greatest number of operands on the way.
     pub(crate) fn deepest(&self) -> usize
         ensures { result ≡ counted (deepest (sends_view self.now)) }
@@ -326,16 +330,16 @@ impl<'s> Sends<'s> {
 }
 
 /// What an operation sends on, of operands that arrived.
-pub(crate) fn send_on<'s>(
+pub(crate) fn send_on<'s, M: ShapeName>(
     alloc: Global,
     code: &Code,
-    measured: &'s Shape,
+    measured: &Whole<'s, M>,
     next: usize,
     op: Op,
-    had: Operands<'s>,
-) -> Result<Sends<'s>, Failure>
+    had: Operands<'s, M>,
+) -> Result<Sends<'s, M>, Failure>
     ensures exact { Meets sends_view result
-        (sends_by code.now (shape_view measured.now) next op (operands_view had.entry)) }
+        (sends_by code.now (shape_view M.shape) next op (operands_view had.entry)) }
     ensures shallow { IfOk result (λ sends. deepest (sends_view sends) ≤ most_operands) }
 {
     if lacks(op, &had) {

@@ -5,10 +5,14 @@ ghost use Rattle.ar_verify.specs.Private.Kinds.{kind_view};
 ghost use Rattle.ar_verify.specs.Private.Stacks.{from_top};
 
 use crate::kind::Kind;
+use crate::whole::ShapeName;
 use std::alloc::{AllocError, Global};
 
 #[tactic(auto, using(crate::proofs::Tops::on_top))]
-pub(crate) fn push<'s>(kinds: &mut Vec<Kind<'s>>, kind: Kind<'s>) -> Result<(), AllocError>
+pub(crate) fn push<'s, M: ShapeName>(
+    kinds: &mut Vec<Kind<'s, M>>,
+    kind: Kind<'s, M>,
+) -> Result<(), AllocError>
     ensures { OnOk result (from_top kinds.new.items ≡ kind_view kind.entry ∷ from_top kinds.old.items) }
 {
     kinds.push(kind)?;
@@ -16,7 +20,7 @@ pub(crate) fn push<'s>(kinds: &mut Vec<Kind<'s>>, kind: Kind<'s>) -> Result<(), 
 }
 
 #[tactic(auto, using(crate::proofs::Tops::on_top))]
-pub(crate) fn pop<'s>(kinds: &mut Vec<Kind<'s>>) -> Option<Kind<'s>>
+pub(crate) fn pop<'s, M: ShapeName>(kinds: &mut Vec<Kind<'s, M>>) -> Option<Kind<'s, M>>
     ensures { MatchOption result ((from_top kinds.old.items ≡ []) × (from_top kinds.new.items ≡ []))
         (λ kind. from_top kinds.old.items ≡ kind_view kind ∷ from_top kinds.new.items) }
 {

@@ -8,8 +8,9 @@ use Rattle.ar_verify.specs.declared.kind.Kind as code
 use Rattle.ar_verify.specs.declared.kind.Kind.TheVariants as kinds
 use Rattle.ar_verify.specs.declared.kind.ListParts.{ListParts}
 use Rattle.ar_verify.specs.declared.part.AnyShape.{AnyShape}
+use Rattle.ar_verify.specs.declared.whole.ShapeName as ShapeName
 
-abbrev pub kind_view : code.Kind → Kind
+abbrev pub kind_view : {M : Type 0} {name : ShapeName.Ghosts M} → code.Kind M name → Kind
 kind_view kinds.Nil = nil
 kind_view (kinds.Shape shape) = shaped (any_view shape)
 
@@ -40,5 +41,5 @@ longest (list shape max) = max
 longest shape = 0
 
 -- what is known of a list, by its shape
-abbrev pub list_view : AnyShape → Shape × ℕ
+abbrev pub list_view : {M : Type 0} {name : ShapeName.Ghosts M} → AnyShape M name → Shape × ℕ
 list_view l = (child 0 (any_view l), longest (any_view l))

@@ -5,6 +5,7 @@ use Rattle.ar_value.specs.View.{shape_view}
 use Rattle.ar_verify.specs.declared.part.AnyShape.{AnyShape}
 use Rattle.ar_verify.specs.declared.part.Root.{Root}
 use Rattle.ar_verify.specs.declared.part.Root.TheVariants as roots
+use Rattle.ar_verify.specs.declared.whole.ShapeName as ShapeName
 
 abbrev pub nth_field : ℕ → FieldShapes → Option Shape
 nth_field n no_fields = None
@@ -25,9 +26,10 @@ abbrev pub part_at : (path : List ℕ) → Shape → Shape
 part_at [] shape = shape
 part_at (n ∷ path) shape = part_at path (child n shape)
 
-abbrev pub root_view : Root → Shape
-root_view (roots.Declared shape) = shape_view shape.now
-root_view (roots.Made shape) = shape_view shape.value
+module _ {M : Type 0} {name : ShapeName.Ghosts M} where
+  abbrev pub root_view : Root M name → Shape
+  root_view (roots.Measured whole) = shape_view name.shape
+  root_view (roots.Made shape) = shape_view shape.value
 
-abbrev pub any_view : AnyShape → Shape
-any_view s = part_at s.path.value.items (root_view s.root)
+  abbrev pub any_view : AnyShape M name → Shape
+  any_view s = part_at s.path.value.items (root_view s.root)

@@ -15,6 +15,7 @@ use Rattle.ar_verify.specs.declared.error.Cause.{Cause}
 use Rattle.ar_verify.specs.declared.error.Reason.{Reason}
 use Rattle.ar_verify.specs.declared.error.Reason.TheVariants.{Unreachable}
 use Rattle.ar_verify.specs.declared.operands.Operands as held
+use Rattle.ar_verify.specs.declared.whole.ShapeName as ShapeName
 
 -- ---- what is known once the pass found no fault
 
@@ -49,7 +50,7 @@ one_more (Err reason) next = Err reason
 abbrev pub Table : Type 0
 Table = List (Result Operands Reason)
 
-abbrev pub table_view : List (Result held.Operands Reason) → Table
+abbrev pub table_view : {M : Type 0} {name : ShapeName.Ghosts M} → List (Result (held.Operands M name) Reason) → Table
 table_view arrived = map arrival_view arrived
 
 abbrev pub entry : Table → (place : ℕ) → Result Operands Reason
@@ -75,7 +76,7 @@ pub record State : Type 0 where
   pub table : Table
   pub found : Summary
 
-abbrev pub pass_view : passes.Pass → State
+abbrev pub pass_view : {M : Type 0} {name : ShapeName.Ghosts M} → passes.Pass M name → State
 pass_view p = record { table = table_view p.arrived.items; found = summary_view p.found }
 
 abbrev pub visited : (place : ℕ) → State → Operands → List Sent → State

@@ -5,4 +5,4 @@ use Rattle.ar_verify.specs.declared.error.Reason.TheVariants.{Unreachable}
 use Rattle.ar_verify.proofs.arrivals.table.Given as goal
 
 abbrev pub invariant-loop-place : goal.invariant-loop-place
-invariant-loop-place l = table_view l.arrived.items ≡ Ok (operands [] []) ∷ replicate l._place (Err Unreachable)
+invariant-loop-place g l = table_view l.arrived.items ≡ Ok (operands [] []) ∷ replicate l._place (Err Unreachable)

@@ -5,5 +5,5 @@ use Rattle.ar_verify.proofs.effect.make_list.Given as goal
 
 -- what is left to take decides
 abbrev pub invariant-loop-taken : goal.invariant-loop-taken
-invariant-loop-taken l =
+invariant-loop-taken g l =
     list_made l.scalar l.count l.count (from_top l.initial.kinds.items) ≡ list_made l.scalar l.count (l.count - l._taken) (from_top l.kinds.items)

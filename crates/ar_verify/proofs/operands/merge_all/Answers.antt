@@ -4,11 +4,11 @@ use Rattle.ar_verify.proofs.Joins.{one_clashes, one_merged}
 use Rattle.ar_verify.proofs.operands.merge_all.Goals as goal
 
 pub returns-in-None : goal.returns-in-None
-returns-in-None c =
+returns-in-None g c =
     sym (one_clashes kind_view kind_view kind_view c.args.lefts.now c.args.rights.now _ c.loop-index.index c.loop-index.kinds.items c.index-lefts-index.result c.index-rights-index.result
     c.loop-index-test.true (omega arith) c.index-lefts-index.is c.index-rights-index.is (sym (ap (option_map kind_view) c.in-None.is) ∙ c.in_ok-kind.ensures) c.loop-index.invariant)
 
 pub loop-index-preserved : goal.loop-index-preserved
-loop-index-preserved c =
+loop-index-preserved g c =
     one_merged kind_view kind_view kind_view c.args.lefts.now c.args.rights.now _ c.loop-index.index c.loop-index.kinds.items c.push.new.self.items c.index-lefts-index.result
     c.index-rights-index.result c.in-Some.kind c.loop-index-test.true (omega arith) c.index-lefts-index.is c.index-rights-index.is (sym (ap (option_map kind_view) c.in-Some.is) ∙ c.in_ok-kind.ensures) c.in_ok-push-in-Some.ensures.items c.loop-index.invariant

@@ -6,7 +6,7 @@ use Rattle.ar_verify.proofs.Targets.{sends_within}
 use Rattle.ar_verify.proofs.arrivals.Pass.look_at.Goals as goal
 
 pub send_all-requires : goal.send_all-requires
-send_all-requires c =
+send_all-requires g c =
     let long : length c.deref_mut-2.result.now ≡ length c.args.self.now.arrived.items = omega arith in
-    rw long (sends_within (length c.args.self.now.arrived.items) c.args.code.now (shape_view c.args.measured.now) (c.args.place + 1) c.requires.inside c.args.op
+    rw long (sends_within (length c.args.self.now.arrived.items) c.args.code.now (shape_view g.M.ShapeName.shape) (c.args.place + 1) c.requires.inside c.args.op
     (operands_view c.in_ok-had.had) (sends_view c.in_ok-sends.sends) c.requires.targets c.in_ok-sends.ensures.exact)

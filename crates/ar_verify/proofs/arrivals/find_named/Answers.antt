@@ -8,7 +8,7 @@ use Rattle.ar_verify.specs.Arrivals.{operands}
 use Rattle.ar_verify.specs.Private.Table.{pass_view}
 use Rattle.ar_verify.specs.declared.error.Reason.TheVariants.{Unreachable}
 use Rattle.ar_verify.proofs.Comes.{begins, goes_on, inside_table, stopped}
-use Rattle.ar_verify.proofs.arrivals.find_arrivals.Goals as goal
+use Rattle.ar_verify.proofs.arrivals.find_named.Goals as goal
 
 within : (ops all : List Op) (place : ℕ) → ops ≡ all → place < length ops → place < length all
 within ops all place same h = rw same at h
@@ -17,21 +17,21 @@ there : (ops all : List Op) (place : ℕ) → ops ≡ all → slice_index_or ops
 there ops all place same = ap (λ ops. slice_index_or ops place (Push (Bool false))) same
 
 pub loop-place-init : goal.loop-place-init
-loop-place-init c =
-    begins c.args.code.now (shape_view c.args.measured.now) _ (c.in_ok-table.ensures ∙ ap (λ ops. Ok (operands [] []) ∷ replicate (length ops) (Err Unreachable)) c.ops-ops.ensures.ops) refl
+loop-place-init g c =
+    begins c.args.code.now (shape_view g.M.ShapeName.shape) _ (c.in_ok-table.ensures ∙ ap (λ ops. Ok (operands [] []) ∷ replicate (length ops) (Err Unreachable)) c.ops-ops.ensures.ops) refl
     c.in_ok-with_capacity.ensures.items
 
 pub look_at-requires-clause-targets : goal.look_at-requires-clause-targets
-look_at-requires-clause-targets c =
-    inside_table c.args.code.now (shape_view c.args.measured.now) c.requires c.loop-place.place (pass_view c.loop-place.pass) c.loop-place.invariant _ (Push (Bool false)) c.loop-place.pass.arrived.items refl
+look_at-requires-clause-targets g c =
+    inside_table c.args.code.now (shape_view g.M.ShapeName.shape) c.requires.places c.loop-place.place (pass_view c.loop-place.pass) c.loop-place.invariant _ (Push (Bool false)) c.loop-place.pass.arrived.items refl
     (within _ _ _ c.ops-ops.ensures.ops c.loop-place-test.true) (there _ _ _ c.ops-ops.ensures.ops)
 
 pub returns-in-Err : goal.returns-in-Err
-returns-in-Err c =
-    stopped c.args.code.now (shape_view c.args.measured.now) c.requires c.loop-place.place (pass_view c.loop-place.pass) c.loop-place.invariant _ (Push (Bool false))
+returns-in-Err g c =
+    stopped c.args.code.now (shape_view g.M.ShapeName.shape) c.requires.places c.loop-place.place (pass_view c.loop-place.pass) c.loop-place.invariant _ (Push (Bool false))
     (within _ _ _ c.ops-ops.ensures.ops c.loop-place-test.true) (there _ _ _ c.ops-ops.ensures.ops) c.in-Err.failure c.at.result (pass_view c.look_at.new.self) c.at.ensures c.in-Err.ensures
 
 pub loop-place-preserved : goal.loop-place-preserved
-loop-place-preserved c =
-    goes_on c.args.code.now (shape_view c.args.measured.now) c.requires c.loop-place.place (pass_view c.loop-place.pass) c.loop-place.invariant _ (Push (Bool false))
+loop-place-preserved g c =
+    goes_on c.args.code.now (shape_view g.M.ShapeName.shape) c.requires.places c.loop-place.place (pass_view c.loop-place.pass) c.loop-place.invariant _ (Push (Bool false))
     (within _ _ _ c.ops-ops.ensures.ops c.loop-place-test.true) (there _ _ _ c.ops-ops.ensures.ops) (pass_view c.look_at.new.self) c.in_default.ensures
