@@ -1,24 +1,13 @@
 """AnalysisRuns of Argo Rollouts as documents of argo_judge."""
-from documents import API_VERSION, Refused, document, member, measured, objects, shapes_of
+from documents import Refused, measured, member, objects
+from templates import API_VERSION, document, is_job, shapes_of
 
 DONE = {"Successful", "Failed", "Inconclusive", "Error"}
 
 
-def is_job(metric):
-    """Whether a metric is measured by a Job, whose measurements have a phase and no value."""
-    return member(metric, "provider", "job") is not None
-
-
-def by_condition(metric):
-    """A metric as the engine judges it. A Job without conditions is judged by its own end: its measurement is
-    true where it succeeded, and false where it failed."""
-    conditions = member(metric, "successCondition"), member(metric, "failureCondition")
-    return {**metric, "successCondition": "result"} if is_job(metric) and not any(conditions) else metric
-
-
 def template_of(run):
     """The template that an AnalysisRun was made of: its own metrics and arguments."""
-    spec = {"metrics": [by_condition(metric) for metric in objects(member(run, "spec", "metrics"))]}
+    spec = {"metrics": objects(member(run, "spec", "metrics"))}
     args = [{name: arg[name] for name in ("name", "value") if member(arg, name) is not None}
             for arg in objects(member(run, "spec", "args"))]
     if args:
@@ -77,6 +66,4 @@ def document_of(run, shapes_path, template=None):
     entries = [{"run": name, "metric": metric, **answer} for metric, _, answer in found]
     if member(run, "spec", "terminate") is True:
         entries.append({"run": name, "stop": True})
-    shapes = {metric["name"]: "bool" for metric in objects(member(template, "spec", "metrics")) if is_job(metric)}
-    given = shapes_of(template, shapes_path) if shapes_path or len(shapes) < len(template["spec"]["metrics"]) else {}
-    return document(template, {**shapes, **given}, name, args, entries), found
+    return document(template, shapes_of(template, shapes_path, run), name, args, entries), found

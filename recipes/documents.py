@@ -1,18 +1,31 @@
-"""What the recipes share: JSON without rounding, documents of argo_judge, and refusals of one line.
+"""What the recipes share: JSON without rounding, command lines, and refusals of one line.
 
 A fraction is read as the text that stands there, since the engine takes decimals as texts; a whole number
 keeps its digits, however many there are.
 """
+import argparse
 import json
+import os
 import re
 import sys
 
-API_VERSION = "argoproj.io/v1alpha1"
-ANNOTATION = "argo-judge/shapes"
+ENGINE = os.path.join(os.path.dirname(os.path.dirname(os.path.realpath(__file__))), "bin", "argo_judge")
 
 
 class Refused(Exception):
     """Input that a recipe can't use: where it stands, and what was expected."""
+
+
+class CommandLine(argparse.ArgumentParser):
+    """Words of a command line; those that don't fit are refused in one line, too."""
+
+    def error(self, message):
+        raise Refused(f"command line: {message}")
+
+
+def command_line(text, **more):
+    """The command line of a recipe, whose help begins with this text."""
+    return CommandLine(description=text, formatter_class=argparse.RawDescriptionHelpFormatter, **more)
 
 
 def run_recipe(main):
@@ -97,36 +110,3 @@ def member(value, *names, default=None):
 def objects(value):
     """The objects of a list, of which none is missing where the list is."""
     return [item for item in value if isinstance(item, dict)] if isinstance(value, list) else []
-
-
-# ---- documents
-
-def shapes_of(template, path):
-    """The shapes of a template's metrics: those of a file, else those of its annotation."""
-    if path:
-        return read_json(path, "shapes")
-    noted = member(template, "metadata", "annotations", ANNOTATION)
-    if noted is None:
-        raise Refused(f"shapes: expected --shapes FILE, or the annotation {ANNOTATION} of the template")
-    return parsed(noted, f"annotation {ANNOTATION}")
-
-
-def metric_names(template):
-    return [metric["name"] for metric in objects(member(template, "spec", "metrics")) if "name" in metric]
-
-
-def document(template, shapes, run, args, measurements):
-    """A document of one run."""
-    entry = {"name": run, "args": args} if args else {"name": run}
-    return {"manifest": template, "shapes": shapes, "runs": [entry], "measurements": measurements}
-
-
-def chosen_metric(template, name):
-    """The metric of a name; without a name the only one that there is."""
-    names = metric_names(template)
-    if name is None and len(names) == 1:
-        return names[0]
-    if name not in names:
-        listed = ", ".join(f'"{one}"' for one in names) or "none"
-        raise Refused(f"--metric: expected one of the template's metrics: {listed}")
-    return name

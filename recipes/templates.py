@@ -1,0 +1,103 @@
+"""Templates and the shapes of their metrics, and documents of argo_judge made of them."""
+from documents import Refused, member, objects, parsed, read_json
+
+API_VERSION = "argoproj.io/v1alpha1"
+ANNOTATION = "argo-judge/shapes"
+
+
+# ---- metrics that a provider judges without conditions
+
+def is_job(metric):
+    """Whether a metric is measured by a Job, whose measurements have a phase and no value."""
+    return member(metric, "provider", "job") is not None
+
+
+def thresholds_of(metric):
+    """The thresholds of Kayenta, if it measures the metric."""
+    thresholds = member(metric, "provider", "kayenta", "threshold", default={})
+    return (thresholds["pass"], thresholds["marginal"]) if {"pass", "marginal"} <= thresholds.keys() else None
+
+
+def own_shape(metric):
+    """The shape of a metric that needs no entry in the shapes."""
+    return "bool" if is_job(metric) else "decimal" if thresholds_of(metric) else None
+
+
+def by_condition(metric):
+    """A metric as the engine judges it. A Job without conditions is judged by its own end: its measurement is
+    true where it succeeded, and false where it failed. Kayenta's score is judged by its thresholds."""
+    if any((member(metric, "successCondition"), member(metric, "failureCondition"))):
+        return metric
+    if is_job(metric):
+        return {**metric, "successCondition": "result"}
+    if thresholds := thresholds_of(metric):
+        success, failure = f"result >= {thresholds[0]}", f"result < {thresholds[1]}"
+        return {**metric, "successCondition": success, "failureCondition": failure}
+    return metric
+
+
+def metrics_of(template):
+    return objects(member(template, "spec", "metrics"))
+
+
+def with_conditions(template):
+    """A template whose metrics are judged by conditions."""
+    if not isinstance(member(template, "spec", "metrics"), list):
+        return template
+    metrics = [by_condition(metric) if isinstance(metric, dict) else metric for metric in template["spec"]["metrics"]]
+    return {**template, "spec": {**template["spec"], "metrics": metrics}}
+
+
+def chosen_metric(template, name):
+    """The metric of a name; without a name the only one that there is."""
+    names = [metric["name"] for metric in metrics_of(template) if "name" in metric]
+    if name is None and len(names) == 1:
+        return names[0]
+    if name not in names:
+        listed = ", ".join(f'"{one}"' for one in names) or "none"
+        raise Refused(f"--metric: expected one of the template's metrics: {listed}")
+    return name
+
+
+# ---- shapes
+
+def shapes_in(value, where):
+    if not isinstance(value, dict):
+        raise Refused(f"{where}: expected an object that has a shape for each metric, by its name")
+    return value
+
+
+def noted_shapes(owner):
+    """The shapes in the annotation of a template or a run, if it has one."""
+    noted = member(owner, "metadata", "annotations", ANNOTATION)
+    if noted is None:
+        return None
+    where = f"annotation {ANNOTATION}"
+    return shapes_in(parsed(noted, where) if isinstance(noted, str) else None, where)
+
+
+def shapes_of(template, path, run=None):
+    """The shapes of a template's metrics: those of a file, else those of its annotation, else those of a run's.
+    Where each metric has a shape of its own none of these is needed."""
+    own = {metric.get("name"): own_shape(metric) for metric in metrics_of(template)}
+    given = shapes_in(read_json(path, "shapes"), "shapes") if path else noted_shapes(template)
+    given = noted_shapes(run) if given is None else given
+    if given is None and not all(own.values()):
+        raise Refused(f"shapes: expected --shapes FILE, or the annotation {ANNOTATION} of the template")
+    return {**{name: shape for name, shape in own.items() if shape}, **(given or {})}
+
+
+# ---- documents
+
+def arguments_of(words):
+    """A run's arguments, given as texts NAME=VALUE."""
+    for word in words:
+        if "=" not in word:
+            raise Refused(f"--arg {word}: expected NAME=VALUE")
+    return dict(word.split("=", 1) for word in words)
+
+
+def document(template, shapes, run, args, measurements):
+    """A document of one run."""
+    entry = {"name": run, "args": args} if args else {"name": run}
+    return {"manifest": with_conditions(template), "shapes": shapes, "runs": [entry], "measurements": measurements}
