@@ -7,6 +7,7 @@ import argparse
 import json
 import os
 import re
+import subprocess
 import sys
 
 ENGINE = os.path.join(os.path.dirname(os.path.dirname(os.path.realpath(__file__))), "bin", "argo_judge")
@@ -96,6 +97,16 @@ def read_json(path, where):
 def write_json(value):
     json.dump(value, sys.stdout, ensure_ascii=False, indent=2)
     sys.stdout.write("\n")
+
+
+# ---- the engine
+
+def judged(engine, words, made, **more):
+    """A start of the engine on a document, with its status."""
+    try:
+        return subprocess.run([engine, *words], input=json.dumps(made), text=True, **more)
+    except OSError as fault:
+        raise Refused(f"{engine} can't be started: {fault.strerror}")
 
 
 # ---- objects
