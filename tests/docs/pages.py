@@ -1,0 +1,66 @@
+"""README.md and the pages of docs/: their fenced blocks, and their links."""
+import pathlib
+import re
+from dataclasses import dataclass, field
+
+ROOT = pathlib.Path(__file__).resolve().parent.parent.parent
+PAGES = [ROOT / "README.md", *sorted((ROOT / "docs").glob("*.md"))]
+NOTE = re.compile(r"<!-- (file|not run): (.*) -->")
+LINK = re.compile(r"\]\(([^)\s]+)\)")
+
+
+@dataclass
+class Block:
+    """A fenced block: where it begins, its language, its lines, and the notes in the comments right before it."""
+    page: str
+    number: int
+    language: str
+    lines: list = field(default_factory=list)
+    notes: dict = field(default_factory=dict)
+
+    @property
+    def where(self):
+        return f"{self.page}:{self.number}"
+
+
+def blocks_of(path):
+    blocks, open_block, notes = [], None, {}
+    for number, line in enumerate(path.read_text(encoding="utf-8").splitlines(), 1):
+        if open_block is not None:
+            if line == "```":
+                open_block = None
+            else:
+                open_block.lines.append(line)
+        elif line.startswith("```"):
+            open_block = Block(str(path.relative_to(ROOT)), number, line[3:].strip(), notes=notes)
+            blocks.append(open_block)
+            notes = {}
+        elif note := NOTE.fullmatch(line):
+            notes[note[1]] = note[2]
+        elif line.strip():
+            notes = {}
+    return blocks
+
+
+def without_code(text):
+    return re.sub(r"`[^`\n]*`", "", re.sub(r"^```.*?^```$", "", text, flags=re.MULTILINE | re.DOTALL))
+
+
+def anchors_of(path):
+    """The names that a page's headings have as targets of links."""
+    found = set()
+    for line in re.sub(r"^```.*?^```$", "", path.read_text(encoding="utf-8"), flags=re.MULTILINE | re.DOTALL).splitlines():
+        if heading := re.fullmatch(r"#+ (.*)", line):
+            found.add(re.sub(r"[^\w\- ]", "", heading[1].lower()).replace(" ", "-"))
+    return found
+
+
+def broken_links(path):
+    """The links of a page to files or headings that aren't there."""
+    for target in LINK.findall(without_code(path.read_text(encoding="utf-8"))):
+        if "://" in target:
+            continue
+        name, _, anchor = target.partition("#")
+        file = (path.parent / name).resolve() if name else path
+        if not file.exists() or anchor and anchor not in anchors_of(file):
+            yield target

@@ -1,0 +1,42 @@
+"""Whether each table of docs/SHAPES.md says what the document that it names has."""
+import json
+import re
+
+from pages import ROOT
+
+ROW = re.compile(r"\| `?(\w+)`? \| (?:`(.*)`|\[`([\w-]+)\.json`\]\(.*\)) \|")
+FOLDER = ROOT / "examples/providers"
+
+
+def tables_of(text):
+    """Each provider's table: what stands there by the name of the row; the row `judged` is the last."""
+    rows = {}
+    for name, code, document in (found.groups() for found in map(ROW.fullmatch, text.splitlines()) if found):
+        rows[name] = code or document
+        if name == "judged":
+            yield rows
+            rows = {}
+
+
+def differing(rows):
+    """The rows of a table that its document doesn't have."""
+    document = json.loads((FOLDER / f"{rows['judged']}.json").read_text(encoding="utf-8"))
+    metric = document["manifest"]["spec"]["metrics"][0]
+    said = {"result": document["measurements"][0]["value"], "shape": document["shapes"][metric["name"]]}
+    for name in ("result", "shape", "successCondition", "failureCondition"):
+        shown = rows.get(name)
+        if name in said:
+            shown = json.loads(shown)
+        if shown != said.get(name, metric.get(name)):
+            yield name
+
+
+def wrong_rows():
+    tables = list(tables_of((ROOT / "docs/SHAPES.md").read_text(encoding="utf-8")))
+    for rows in tables:
+        for name in differing(rows):
+            yield f"{rows['judged']}: {name} isn't that of its document"
+    shown = {rows["judged"] for rows in tables} | {"empty-answers"}
+    for file in sorted(FOLDER.glob("*.json")):
+        if file.stem not in shown:
+            yield f"{file.stem}: it has no table"
