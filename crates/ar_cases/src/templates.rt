@@ -76,6 +76,9 @@ fn put_limits(out: &mut String, metric: &BoundMetric) -> Written {
         Some(count) => write!(out, " count={count}")?,
         None => out.push_str(" count=none")?,
     }
+    if metric.dry {
+        out.push_str(" dry")?;
+    }
     Ok(())
 }
 

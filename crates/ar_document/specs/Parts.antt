@@ -16,7 +16,7 @@ use Rattle.ar_document.specs.declared.runs.Run.{Run}
 -- ---- a run's part of the bundle
 
 abbrev pub limits_of : BoundMetric → Limits
-limits_of metric = record { failure = metric.failure_limit; inconclusive = metric.inconclusive_limit; consecutive_error = metric.consecutive_error_limit; count = metric.count }
+limits_of metric = record { failure = metric.failure_limit; inconclusive = metric.inconclusive_limit; consecutive_error = metric.consecutive_error_limit; count = metric.count; dry = metric.dry }
 
 -- each metric has the judge of its bound conditions under its shape
 abbrev pub AreJudges : List Metric → List BoundMetric → List Judge → Type 0

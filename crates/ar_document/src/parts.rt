@@ -83,6 +83,7 @@ fn limits_of(metric: &BoundMetric) -> Limits
         inconclusive: metric.inconclusive_limit,
         consecutive_error: metric.consecutive_error_limit,
         count: metric.count,
+        dry: metric.dry,
     }
 }
 

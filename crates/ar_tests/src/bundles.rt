@@ -124,6 +124,7 @@ fn are_limits_given_back(alloc: Global) -> Result<bool, Fail> {
         inconclusive: 2,
         consecutive_error: 3,
         count: Some(4),
+        dry: true,
     };
     let list = RunLimits::from(vec![in alloc; limits]?).into_vec();
     Ok(list.as_slice() == [limits].as_slice())

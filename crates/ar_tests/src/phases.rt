@@ -9,6 +9,7 @@ const ENDLESS: Limits = Limits {
     inconclusive: 0,
     consecutive_error: 4,
     count: None,
+    dry: false,
 };
 
 /// Marks the first metric of a run that isn't at its end as successful.

@@ -157,6 +157,9 @@ fn put_run_limits(out: &mut String, limits: &[Limits]) -> Written {
             Some(count) => write!(out, "{count}")?,
             None => out.push_str("none")?,
         }
+        if limits.dry {
+            out.push_str(",dry")?;
+        }
     }
     Ok(())
 }

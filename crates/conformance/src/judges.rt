@@ -103,6 +103,7 @@ fn metric_of(alloc: Global, case: &Json) -> Result<BoundMetric, CaseFault> {
         inconclusive_limit: 0,
         consecutive_error_limit: 4,
         count: None,
+        dry: false,
     })
 }
 

@@ -54,8 +54,8 @@ fn limit_of(item: &Json, place: usize) -> Option<u32> {
     u32::try_from(item.get(place)?.as_u64()?).ok()
 }
 
-/// The limits of a metric: of failures, of inconclusive marks, of errors in succession, and the count or
-/// null.
+/// The limits of a metric: of failures, of inconclusive marks, of errors in succession, the count or null,
+/// and `"dry"` where it is.
 fn limits_of(item: &Json) -> Option<Limits> {
     let count = match item.get(3usize)? {
         Json::Null => None,
@@ -66,6 +66,7 @@ fn limits_of(item: &Json) -> Option<Limits> {
         inconclusive: limit_of(item, 1)?,
         consecutive_error: limit_of(item, 2)?,
         count,
+        dry: item.get(4usize).is_some(),
     })
 }
 
