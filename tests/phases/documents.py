@@ -1,5 +1,7 @@
 """Random documents, and what docs/PHASES.md says of their measurements."""
 
+from phases.rules import is_dry
+
 # Metrics by their conditions, all of whole numbers: what is measured, and what docs/PHASES.md says of it. The first is
 # measured more often than the others.
 PROVIDER = ({'error': 'no answer'}, 'Error')
@@ -17,7 +19,7 @@ KINDS = (
 
 
 def random_limits(source):
-    """The fields of a metric's limits, and the limits as rules.py takes them."""
+    """The fields of a metric's limits, and the limits as rules.py takes them. Of six metrics one is dry."""
     failure, inconclusive, errors = source.randrange(3), source.randrange(3), source.randrange(3)
     fields = {'failureLimit': failure, 'inconclusiveLimit': inconclusive, 'consecutiveErrorLimit': errors}
     count = source.choice((None, 1, 2, 3))
@@ -25,7 +27,7 @@ def random_limits(source):
         fields |= {'interval': '1m'}
     elif count > 1:
         fields |= {'interval': '1m', 'count': count}
-    return fields, [failure, inconclusive, errors, count]
+    return fields, [failure, inconclusive, errors, count] + ['dry'] * (source.randrange(6) == 0)
 
 
 def random_entry(source, runs, kinds, stops=0.06):
@@ -43,9 +45,12 @@ def document_of(runs, kinds, limits, entries):
     """A document with so many runs of metrics of these kinds, each with its limits."""
     metrics = [{'name': f'm{number}', **conditions, **fields}
                for number, ((conditions, _), (fields, _)) in enumerate(zip(kinds, limits))]
+    spec = {'metrics': metrics}
+    if dry := [{'metricName': metric['name']} for metric, (_, own) in zip(metrics, limits) if is_dry(own)]:
+        spec['dryRun'] = dry if len(dry) < len(metrics) else [{'metricName': '.*'}]
     return {
         'manifest': {'apiVersion': 'argoproj.io/v1alpha1', 'kind': 'AnalysisTemplate', 'metadata': {'name': 't'},
-                     'spec': {'metrics': metrics}},
+                     'spec': spec},
         'shapes': {metric['name']: 'whole' for metric in metrics},
         'runs': [{'name': f'r{run}'} for run in range(runs)],
         'measurements': [entry for entry, _ in entries],

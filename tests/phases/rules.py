@@ -1,7 +1,7 @@
 """The rules of docs/PHASES.md, read a second time: what events do to a run, and where it stands then.
 
-A limit is a list: failures, inconclusive marks, errors in succession, and the count or None. An event is 'stop',
-or a metric's number and a mark.
+A limit is a list: failures, inconclusive marks, errors in succession, the count or None, and 'dry' behind them where the
+metric is. An event is 'stop', or a metric's number and a mark.
 """
 
 COUNTED = ('Successful', 'Failed', 'Inconclusive')
@@ -19,7 +19,7 @@ def succession(marks):
 
 def metric_phase(limit, marks):
     """The phase of a metric after marks that weren't late, if no run closes it."""
-    failure, inconclusive, errors, count = limit
+    failure, inconclusive, errors, count = limit[:4]
     if not marks:
         return 'Pending'
     if marks.count('Failed') > failure:
@@ -37,14 +37,18 @@ def is_complete(phase):
     return phase not in ('Pending', 'Running')
 
 
-def closing(phases, event):
+def is_dry(limit):
+    return limit[4:] == ['dry']
+
+
+def closing(limits, phases, event):
     """The phase in which an event closes the run, or None."""
     if event == 'stop':
         return 'Successful'
     phase = phases[event[0]]
-    if phase in ('Failed', 'Error', 'Inconclusive'):
+    if phase in ('Failed', 'Error', 'Inconclusive') and not is_dry(limits[event[0]]):
         return phase
-    return 'Successful' if all(other == 'Successful' for other in phases) else None
+    return 'Successful' if all(is_complete(other) for other in phases) else None
 
 
 def outcome(limits, events):
@@ -60,7 +64,7 @@ def outcome(limits, events):
         if event != 'stop':
             marks[event[0]].append(event[1])
             phases[event[0]] = metric_phase(limits[event[0]], marks[event[0]])
-        closed = closing(phases, event)
+        closed = closing(limits, phases, event)
         run = closed or 'Running'
         effects.append(f'closed {closed}' if closed else 'applied')
         if closed:

@@ -46,7 +46,7 @@ pub enum ManifestError {
     #[error("spec.dryRun: BadDryRun: expected a list, and of item {0} a text `metricName` that isn't empty")]
     BadDryRun(usize),
     /// The item of `spec.dryRun` names no metric.
-    #[error("spec.dryRun: UnknownDryRun: expected of item {0} as `metricName` the whole name of a metric, or `.*` for all, and no other regular expression")]
+    #[error("spec.dryRun[{0}].metricName: UnknownDryRun: expected a metric's whole name, or `.*` for all, and no other regular expression; no metric has the name")]
     UnknownDryRun(usize),
     /// In a text of the metric, `{{` stands without a `}}` behind it.
     #[error("metric {0}: OpenBraces: expected }}}} behind {{{{")]

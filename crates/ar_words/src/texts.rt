@@ -101,13 +101,17 @@ fn template_text(
             ),
             None => Ok(text),
         },
-        ManifestError::Unsupported(number) => match item_in(metrics(document), number) {
-            Some(item) if has_success_limit(item) => {
-                with_item(alloc, &text, "spec", &Item::of("metric", number, item))
-            }
-            _ => Ok(text),
-        },
-        ManifestError::DoubleMetric(number)
+        ManifestError::UnknownDryRun(number) => {
+            unknown_text(
+                alloc,
+                text,
+                dry_name(document, number),
+                "metrics",
+                metrics(document),
+            )
+        }
+        ManifestError::Unsupported(number)
+        | ManifestError::DoubleMetric(number)
         | ManifestError::BadField(number)
         | ManifestError::OpenBraces(number)
         | ManifestError::UnknownArg(number)
@@ -115,14 +119,6 @@ fn template_text(
         | ManifestError::BadLimit(number)
         | ManifestError::IntervalMissing(number) => beside_metric(alloc, document, text, number),
         _ => Ok(text),
-    }
-}
-
-/// Whether a metric has a `consecutiveSuccessLimit`; a null counts as missing.
-fn has_success_limit(metric: &Json) -> bool {
-    match metric.get("consecutiveSuccessLimit") {
-        None | Some(Json::Null) => false,
-        Some(_) => true,
     }
 }
 
@@ -216,6 +212,12 @@ fn arguments(document: &Json) -> Option<&Json> {
 
 fn metrics(document: &Json) -> Option<&Json> {
     document.get("manifest")?.get("spec")?.get("metrics")
+}
+
+/// The name of an item of `dryRun`.
+fn dry_name(document: &Json, number: usize) -> Option<&str> {
+    let items = document.get("manifest")?.get("spec")?.get("dryRun")?;
+    items.get(number)?.get("metricName")?.as_str()
 }
 
 fn runs(document: &Json) -> Option<&Json> {
