@@ -14,8 +14,8 @@ def is_job(metric):
 
 def thresholds_of(metric):
     """The thresholds of Kayenta, if it measures the metric."""
-    thresholds = member(metric, "provider", "kayenta", "threshold", default={})
-    return (thresholds["pass"], thresholds["marginal"]) if {"pass", "marginal"} <= thresholds.keys() else None
+    thresholds = [member(metric, "provider", "kayenta", "threshold", name) for name in ("pass", "marginal")]
+    return None if None in thresholds else thresholds
 
 
 def own_shape(metric):
