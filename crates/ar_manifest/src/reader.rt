@@ -139,7 +139,8 @@ fn metric(alloc: Global, json: &Json, earlier: &[Metric]) -> Result<Metric, Mani
 /// The metrics of a JSON list.
 #[tactic(auto, using(crate::proofs::Steps::step_more, crate::proofs::Steps::step_fault, crate::proofs::Steps::step_end))]
 fn metrics(alloc: Global, list: &[Json]) -> Result<Vec<Metric>, ManifestError>
-    ensures { Gives is_memory (λ made. made.items) result (each_behind metric_of [] (map (λ json. view json) list.now)) }
+    ensures { Gives is_memory (λ made. made.items) result
+        (each_behind metric_of [] (map (λ json. view json) list.now)) }
 {
     let mut metrics = Vec::new(alloc);
     for json in list {
