@@ -1,6 +1,7 @@
--- What a dry metric is judged as changes no run's phase.
-use Rattle.std.proofs.Common.{◌≡◌, ◌≢◌, ℕ, ◌+◌, ◌<◌, ◌≤◌, zero, suc, Bool, true, false, cond, ◌&&◌, ◌||◌, ◌⊎◌, Option, Some, None, option_map, unwrap_or, List, [], ◌∷◌, ◌++◌, map, find, length, take, refl, ap, ◌∙◌, sym, arith, inl, inr, IfSome, get_or, All}
+-- Dry metrics decide nothing.
+use Rattle.std.proofs.Common.{◌≡◌, ◌≢◌, ℕ, ◌+◌, ◌<◌, ◌≤◌, zero, suc, Bool, true, false, cond, ◌&&◌, ◌||◌, ◌⊎◌, Option, Some, None, option_map, is_some, unwrap_or, List, [], ◌∷◌, ◌++◌, map, find, length, take, refl, ap, ◌∙◌, sym, arith, inl, inr, IfSome, get_or, All}
 use Rattle.std.specs.Prelude.{slice_get}
+use Rattle.std.specs.Option.{option_map_or}
 use Rattle.std.specs.List.{list_any, list_all, enumerate_from, cons_option, filter_map}
 use Rattle.std.proofs.lemmas.List.{take_more, take_all}
 use Rattle.std.proofs.lemmas.List.Elements.{filter_map-append}
@@ -8,32 +9,34 @@ use Rattle.std.proofs.lemmas.Bool.{cases_eq, cases_Bool, false≢true}
 use Rattle.std.proofs.lemmas.Option.{get_or_from_slice_get, slice_get-get_or, slice_get-map, slice_get_within}
 use Rattle.ar_limits.specs.declared.event.Event.{Event}
 use Rattle.ar_limits.specs.declared.event.Event.TheVariants as event
+use Rattle.ar_limits.specs.declared.event.Effect.TheVariants as effect
 use Rattle.ar_limits.specs.declared.event.Mark.{Mark}
 use Rattle.ar_limits.specs.declared.limits.Limits.{Limits}
 use Rattle.ar_limits.specs.declared.phase.Phase.{Phase}
 use Rattle.ar_limits.specs.declared.phase.Phase.TheVariants as phase
-use Rattle.ar_limits.specs.Metric.{phase_of_marks, is_complete, is_unsuccessful, succeeded}
-use Rattle.ar_limits.specs.Run.{mark_of, marks_of, phases_by_marks, is_stop, ends_with_stop, closed_by_metrics, counting, counting_phases, closing, closing_prefix, run_phase}
-use Rattle.ar_limits.specs.Laws.{WithoutDryMetrics, AreOneButDry, AreAsComplete, DifferInDryMarks, DryMarksDecideNothing}
-use Rattle.ar_limits.proofs.PrefixLemmas.{none_of}
+use Rattle.ar_limits.specs.Metric.{phase_of_marks, is_complete, is_unsuccessful, succeeded, HasPositiveCounts}
+use Rattle.ar_limits.specs.Run.{mark_of, marks_of, phases_by_marks, is_stop, ends_with_stop, closed_by_metrics, phase_for_run, phases_for_run, closing, closing_prefix, run_phase, metric_was_complete, is_late, effect_of, effects}
+use Rattle.ar_limits.specs.Laws.{HasUnsuccessful, AllLeaveToSucceed, ClosesAs, WithoutDryMetrics, AreOneButDry, AreAsComplete, DifferInDryMarks, DryMarksDecideNothing, DryMarksCloseWithSuccess, AllDrySucceeds}
+use Rattle.ar_limits.proofs.PrefixLemmas.{none_of, option_cases}
 use Rattle.ar_limits.proofs.NumberedLemmas.{numbered_same}
-use Rattle.ar_limits.proofs.RunLemmas.{mark_of-other, phases_by_marks-get, closing-push, is_complete-run_phase, run_phase-push_closed, run_phase-push_open}
-use Rattle.ar_limits.proofs.OnePhaseLemmas.{counted_number, counting_is, counting_decides}
+use Rattle.ar_limits.proofs.RunLemmas.{effects-push, ends_with_stop-push, mark_of-other, phases_by_marks-get, closing-push, is_complete-run_phase, run_phase-push_closed, run_phase-push_open}
+use Rattle.ar_limits.proofs.OnePhaseLemmas.{numbered_for_run, for_run_is, for_run_decides, closed_for_a_reason, closing_of_reason, metric_before, reason_of_closing}
+use Rattle.ar_limits.proofs.StepLemmas.{is_late-closed, whole_open}
 
 -- ---- Without dry metrics
 
-counting-plain : (limits : List Limits) (events : List Event) → All (λ own. own.dry ≡ false) limits
-    → counting_phases limits (phases_by_marks limits events) ≡ phases_by_marks limits events
+for_run-plain : (limits : List Limits) (events : List Event) → All (λ own. own.dry ≡ false) limits
+    → phases_for_run limits (phases_by_marks limits events) ≡ phases_by_marks limits events
 unfolding phases_by_marks
-counting-plain limits events plain =
-    counting_is limits events
-    ∙ numbered_same (λ (x : ℕ × Limits). phase_of_marks x.1 (marks_of x.0 events)) (counted_number events) limits
-    (λ i own at. counting_decides own _ (rw (get_or_from_slice_get limits i own own at) at (plain i own (slice_get_within limits i own at))))
+for_run-plain limits events plain =
+    for_run_is limits events
+    ∙ numbered_same (λ (x : ℕ × Limits). phase_of_marks x.1 (marks_of x.0 events)) (numbered_for_run events) limits
+    (λ i own at. for_run_decides own _ (rw (get_or_from_slice_get limits i own own at) at (plain i own (slice_get_within limits i own at))))
 
 pub without_dry_metrics : WithoutDryMetrics
 unfolding closing
 without_dry_metrics limits [] plain filled stop = absurd (filled refl)
-without_dry_metrics limits (first ∷ rest) plain filled stop = rw (stop, counting-plain limits (first ∷ rest) plain) refl
+without_dry_metrics limits (first ∷ rest) plain filled stop = rw (stop, for_run-plain limits (first ∷ rest) plain) refl
 
 -- ---- Phases that close alike
 
@@ -75,10 +78,10 @@ closed_alike : (phases others : List Phase) → CloseAlike phases others → clo
 closed_alike phases others alike = rw (alike.0, alike.1, alike.2) refl
 
 -- dry metrics that are as complete count alike
-counted_alike : (dry : Bool) (p q : Phase) → dry ≡ true → is_complete p ≡ is_complete q
+for_run_alike : (dry : Bool) (p q : Phase) → dry ≡ true → is_complete p ≡ is_complete q
     → AreAlike (cond (is_complete p && dry) phase.Successful p) (cond (is_complete q && dry) phase.Successful q)
-counted_alike false p q h same = absurd (false≢true h)
-counted_alike true p q h same =
+for_run_alike false p q h same = absurd (false≢true h)
+for_run_alike true p q h same =
     elim (cases_Bool (is_complete p)) [
       | inl complete ↦ rw (complete, sym same ∙ complete) (inl refl)
       | inr incomplete ↦ rw (incomplete, sym same ∙ incomplete) (inr (incomplete, sym same ∙ incomplete))
@@ -126,11 +129,11 @@ module _ (limits : List Limits) (events events' : List Event) (differ : DifferIn
       rw (on, more.2, more.3, marks_of-more i (take k events) more.0, marks_of-more i (take k events') more.1, marks_same i own at decides k (omega arith), mark_same limits i own more.0 more.1 at decides more.4) refl
 
   alike_at : (k : ℕ) → k ≤ length events → (i : ℕ) (own : Limits) → slice_get limits i ≡ Some own
-      → AreAlike (counted_number (take k events) (i, own)) (counted_number (take k events') (i, own))
+      → AreAlike (numbered_for_run (take k events) (i, own)) (numbered_for_run (take k events') (i, own))
   alike_at k within i own at =
       elim (cases_Bool own.dry) [
         | inl dry ↦ if_dry dry
-        | inr decides ↦ inl (ap (λ marks. counting own (phase_of_marks own marks)) (marks_same i own at decides k within))
+        | inr decides ↦ inl (ap (λ marks. phase_for_run own (phase_of_marks own marks)) (marks_same i own at decides k within))
       ]
     where
       as_complete : (p p' : Phase) → slice_get (phases_by_marks limits (take k events)) i ≡ Some p → slice_get (phases_by_marks limits (take k events')) i ≡ Some p'
@@ -142,18 +145,18 @@ module _ (limits : List Limits) (events events' : List Event) (differ : DifferIn
           ∙ slice_get-map is_complete (phases_by_marks limits (take k events')) i ∙ ap (option_map is_complete) is' in
           cc
 
-      if_dry : own.dry ≡ true → AreAlike (counted_number (take k events) (i, own)) (counted_number (take k events') (i, own))
+      if_dry : own.dry ≡ true → AreAlike (numbered_for_run (take k events) (i, own)) (numbered_for_run (take k events') (i, own))
       if_dry dry =
           let p = phase_of_marks own (marks_of i (take k events)) in
           let p' = phase_of_marks own (marks_of i (take k events')) in
           let same = as_complete p p' (phases_by_marks-get limits (take k events) i own at) (phases_by_marks-get limits (take k events') i own at) in
-          counted_alike own.dry p p' dry same
+          for_run_alike own.dry p p' dry same
 
   closed_same : (k : ℕ) → k ≤ length events
-      → closed_by_metrics (counting_phases limits (phases_by_marks limits (take k events))) ≡ closed_by_metrics (counting_phases limits (phases_by_marks limits (take k events')))
+      → closed_by_metrics (phases_for_run limits (phases_by_marks limits (take k events))) ≡ closed_by_metrics (phases_for_run limits (phases_by_marks limits (take k events')))
   closed_same k within =
-      rw (counting_is limits (take k events), counting_is limits (take k events'))
-      (closed_alike (map (counted_number (take k events)) (enumerate_from 0 limits)) (map (counted_number (take k events')) (enumerate_from 0 limits)) (close_alike (counted_number (take k events)) (counted_number (take k events')) 0 limits (λ i own at. let here : 0 + i ≡ i = omega arith in rw here (alike_at k within i own at))))
+      rw (for_run_is limits (take k events), for_run_is limits (take k events'))
+      (closed_alike (map (numbered_for_run (take k events)) (enumerate_from 0 limits)) (map (numbered_for_run (take k events')) (enumerate_from 0 limits)) (close_alike (numbered_for_run (take k events)) (numbered_for_run (take k events')) 0 limits (λ i own at. let here : 0 + i ≡ i = omega arith in rw here (alike_at k within i own at))))
 
   closing_same : (k : ℕ) → k < length events → closing limits (take (k + 1) events) ≡ closing limits (take (k + 1) events')
   closing_same k within =
@@ -188,8 +191,99 @@ module _ (limits : List Limits) (events events' : List Event) (differ : DifferIn
           let none' = none_of (closing_prefix limits (take k events')) (sym (is_complete-run_phase limits (take k events')) ∙ ap is_complete (sym same) ∙ open_yet) in
           run_phase-push_open limits (take k events) e none ∙ ap (λ closed. unwrap_or closed phase.Running) now ∙ sym (run_phase-push_open limits (take k events') e' none')
 
+  -- what each event does is the same
+  complete_same : (k j : ℕ) → option_map_or is_complete (slice_get (phases_by_marks limits (take k events)) j) false ≡ option_map_or is_complete (slice_get (phases_by_marks limits (take k events')) j) false
+  complete_same k j =
+      told (slice_get (phases_by_marks limits (take k events)) j)
+      ∙ ap (λ known. unwrap_or known false) (sym (slice_get-map is_complete (phases_by_marks limits (take k events)) j) ∙ ap (λ all. slice_get all j) (differ.complete k) ∙ slice_get-map is_complete (phases_by_marks limits (take k events')) j)
+      ∙ sym (told (slice_get (phases_by_marks limits (take k events')) j))
+    where
+      told : (found : Option Phase) → option_map_or is_complete found false ≡ unwrap_or (option_map is_complete found) false
+      told None = refl
+      told (Some q) = refl
+
+  was_complete_same : (k : ℕ) (e e' : Event) → AreOneButDry limits e e' → metric_was_complete limits (take k events) e ≡ metric_was_complete limits (take k events') e'
+  was_complete_same k event.Stop event.Stop one = refl
+  was_complete_same k event.Stop (event.Mark j m) one = cc
+  was_complete_same k (event.Mark j m) event.Stop one = cc
+  was_complete_same k (event.Mark j m) (event.Mark j' m') one = complete_same k j ∙ ap (λ j. option_map_or is_complete (slice_get (phases_by_marks limits (take k events')) j) false) one.0
+
+  late_same : (k : ℕ) → k ≤ length events → (e e' : Event) → AreOneButDry limits e e' → is_late limits (take k events) e ≡ is_late limits (take k events') e'
+  unfolding is_late
+  late_same k within e e' one =
+      let closed = sym (is_complete-run_phase limits (take k events)) ∙ ap is_complete (phase_same k within) ∙ is_complete-run_phase limits (take k events') in
+      rw (closed, was_complete_same k e e' one) refl
+
+  effect_same : (k : ℕ) → k < length events → (e e' : Event) → AreOneButDry limits e e'
+      → closing limits (take k events ++ e ∷ []) ≡ closing limits (take k events' ++ e' ∷ []) → effect_of limits (take k events) e ≡ effect_of limits (take k events') e'
+  unfolding effect_of
+  effect_same k within e e' one closing = rw (late_same k (omega arith) e e' one, closing) refl
+
+  effects_same : (k : ℕ) → k ≤ length events → effects limits (take k events) ≡ effects limits (take k events')
+  effects_same zero within = refl
+  effects_same (suc k) within =
+      let below : k < length events = omega arith in
+      let more = one_more k below in
+      let on : suc k ≡ k + 1 = omega arith in
+      let now = rw (more.2, more.3) at (closing_same k below) in
+      rw (on, more.2, more.3, effects-push limits (take k events) more.0, effects-push limits (take k events') more.1, effects_same k (omega arith), effect_same k below more.0 more.1 more.4 now) refl
+
 pub dry_marks_decide_nothing : DryMarksDecideNothing
 dry_marks_decide_nothing limits events events' differ =
     let all = take_all (length events) events (omega arith) in
-    let all' = take_all (length events) events' (omega (arith, differ.long)) in
-    ap (run_phase limits) (sym all) ∙ phase_same limits events events' differ (length events) (omega arith) ∙ ap (run_phase limits) all'
+    let all' = take_all (length events) events' (omega (arith, differ.long)) in (
+      ap (run_phase limits) (sym all) ∙ phase_same limits events events' differ (length events) (omega arith) ∙ ap (run_phase limits) all',
+      ap (effects limits) (sym all) ∙ effects_same limits events events' differ (length events) (omega arith) ∙ ap (effects limits) all',
+    )
+
+-- ---- How dry metrics close a run
+
+-- the events before had no metric without success
+none_before : (limits : List Limits) (events : List Event) (e : Event) (q : Phase) → HasPositiveCounts limits → is_late limits events e ≡ false
+    → HasUnsuccessful limits events q → ⊥
+unfolding is_late
+none_before limits events e q positive timely metric =
+    elim (option_cases (closing_prefix limits events)) [
+      | inl none ↦ false≢true (sym (ap is_some (whole_open limits events none)) ∙ closing_of_reason limits events q positive (inr (inl metric)))
+      | inr found ↦ false≢true (sym timely ∙ is_late-closed limits events found.0 e found.1)
+    ]
+
+-- what closes is no metric without success, where the last mark is of a dry one
+not_by_metric : (limits : List Limits) (events : List Event) (number : ℕ) (own : Limits) (m : Mark) (q : Phase) → HasPositiveCounts limits
+    → slice_get limits number ≡ Some own → own.dry ≡ true → is_late limits events (event.Mark number m) ≡ false
+    → HasUnsuccessful limits (events ++ event.Mark number m ∷ []) q → ⊥
+not_by_metric limits events number own m q positive there dry timely metric =
+    elim (cases_eq number metric.number) [
+      | inl same ↦ false≢true (sym metric.decides ∙ (let one : metric.own ≡ own = cc (metric.there, there, same) in ap (λ (l : Limits). l.dry) one ∙ dry))
+      | inr apart ↦ none_before limits events (event.Mark number m) q positive timely (metric_before limits events (event.Mark number m) q metric (mark_of-other number metric.number m (λ e. apart (sym e))))
+    ]
+
+closes_with_success : (limits : List Limits) (events : List Event) (number : ℕ) (own : Limits) (m : Mark) (q : Phase) → HasPositiveCounts limits
+    → slice_get limits number ≡ Some own → own.dry ≡ true → is_late limits events (event.Mark number m) ≡ false
+    → ClosesAs limits (events ++ event.Mark number m ∷ []) q → (q ≡ phase.Successful) × AllLeaveToSucceed limits (events ++ event.Mark number m ∷ [])
+closes_with_success limits events number own m q positive there dry timely (inl stop) = absurd (false≢true (sym (ends_with_stop-push events (event.Mark number m)) ∙ stop.0))
+closes_with_success limits events number own m q positive there dry timely (inr (inl metric)) = absurd (not_by_metric limits events number own m q positive there dry timely metric)
+closes_with_success limits events number own m q positive there dry timely (inr (inr all)) = (all.2, all.1)
+
+pub dry_marks_close_with_success : DryMarksCloseWithSuccess
+unfolding effect_of
+dry_marks_close_with_success limits events number own m q positive there dry closes =
+    by_effect (is_late limits events (event.Mark number m)) (closing limits (events ++ event.Mark number m ∷ [])) refl refl closes
+  where
+    by_effect : (late : Bool) (closed : Option Phase) → is_late limits events (event.Mark number m) ≡ late → closing limits (events ++ event.Mark number m ∷ []) ≡ closed
+        → cond late effect.Late (option_map_or effect.Closed closed effect.Applied) ≡ effect.Closed q
+        → (q ≡ phase.Successful) × AllLeaveToSucceed limits (events ++ event.Mark number m ∷ [])
+    by_effect true closed timely is e = cc
+    by_effect false None timely is e = cc
+    by_effect false (Some p) timely is e =
+        let same : p ≡ q = cc in
+        closes_with_success limits events number own m q positive there dry timely (reason_of_closing limits (events ++ event.Mark number m ∷ []) q (is ∙ ap (λ p. Some p) same))
+
+pub all_dry_succeeds : AllDrySucceeds
+all_dry_succeeds limits events positive dry complete = by_reason (closed_for_a_reason limits events positive complete).closes where
+  by_reason : {prefix : List Event} {q : Phase} → ClosesAs limits prefix q → q ≡ phase.Successful
+  by_reason (inl stop) = stop.1
+  by_reason (inr (inl metric)) =
+      let own : metric.own.dry ≡ true = rw (get_or_from_slice_get limits metric.number metric.own metric.own metric.there) at (dry metric.number metric.own (slice_get_within limits metric.number metric.own metric.there)) in
+      absurd (false≢true (sym metric.decides ∙ own))
+  by_reason (inr (inr all)) = all.2

@@ -16,11 +16,11 @@ use Rattle.ar_limits.specs.declared.phase.Phase.{Phase}
 use Rattle.ar_limits.specs.declared.phase.Phase.TheVariants as phase
 use Rattle.ar_limits.specs.Private.Bounds.{AreAtMost}
 use Rattle.ar_limits.specs.Metric.{is_complete, is_unsuccessful, HasPositiveCounts}
-use Rattle.ar_limits.specs.Run.{settled, closed_by_metrics, counting, counting_phases}
+use Rattle.ar_limits.specs.Run.{settled, closed_by_metrics, phase_for_run, phases_for_run}
 use Rattle.ar_limits.specs.Replay.{Standing}
 use Rattle.ar_limits.specs.Private.Step.{with_mark, no_counts, no_limits, comes_late, with_event, closed, next, answer}
 use Rattle.ar_limits.specs.Private.MetricStep.{with_mark_added, after_closing}
-use Rattle.ar_limits.specs.Private.Kept.{counted, incomplete_count, standing_of, AreConsistent, AreWithin, Takes}
+use Rattle.ar_limits.specs.Private.Kept.{for_run, incomplete_count, standing_of, AreConsistent, AreWithin, Takes}
 use Rattle.ar_limits.proofs.RunLemmas.{closed_by_metrics-complete}
 use Rattle.ar_limits.proofs.PhaseLemmas.{list_any-set, weight, incomplete_count-cons, incomplete_count-set, incomplete_count-some, closed_by_metrics-unsuccessful, closed_by_metrics-last, closed_by_metrics-none}
 
@@ -60,12 +60,12 @@ closed-standing_of metrics p q handed =
       phases_of-closed metrics,
     ) refl
 
-counting_phases-of : (metrics : List Metric) → counting_phases (limits_of metrics) (phases_of metrics) ≡ map counted metrics
-counting_phases-of [] = refl
-counting_phases-of (metric ∷ rest) = rw (counting_phases-of rest) refl
+phases_for_run-of : (metrics : List Metric) → phases_for_run (limits_of metrics) (phases_of metrics) ≡ map for_run metrics
+phases_for_run-of [] = refl
+phases_for_run-of (metric ∷ rest) = rw (phases_for_run-of rest) refl
 
-counting_open : (own : Limits) (q : Phase) → is_complete q ≡ false → counting own q ≡ q
-counting_open own q incomplete = rw incomplete refl
+for_run_open : (own : Limits) (q : Phase) → is_complete q ≡ false → phase_for_run own q ≡ q
+for_run_open own q incomplete = rw incomplete refl
 
 -- one metric of the run, as it is read
 pub record IsAt (metrics : List Metric) (i : ℕ) (metric : Metric) : Type 0 where
@@ -167,8 +167,8 @@ takes_at_complete metrics p incomplete i metric m at running complete consistent
 
 -- ---- Events that aren't late
 
-weight-counted_closed : (metric : Metric) → weight (counted (after_closing metric)) ≡ 0
-weight-counted_closed metric = at metric.limits.dry metric.phase where
+weight-for_run_closed : (metric : Metric) → weight (for_run (after_closing metric)) ≡ 0
+weight-for_run_closed metric = at metric.limits.dry metric.phase where
   at : (dry : Bool) (q : Phase) → weight (cond (is_complete (settled q) && dry) phase.Successful (settled q)) ≡ 0
   at true phase.Pending = refl
   at true phase.Running = refl
@@ -183,10 +183,10 @@ weight-counted_closed metric = at metric.limits.dry metric.phase where
   at false phase.Error = refl
   at false phase.Inconclusive = refl
 
-incomplete_count-closed : (metrics : List Metric) → incomplete_count (map counted (map after_closing metrics)) ≡ 0
+incomplete_count-closed : (metrics : List Metric) → incomplete_count (map for_run (map after_closing metrics)) ≡ 0
 incomplete_count-closed [] = refl
 incomplete_count-closed (metric ∷ rest) =
-    omega (arith, incomplete_count-cons (counted (after_closing metric)) (map counted (map after_closing rest)), weight-counted_closed metric, incomplete_count-closed rest)
+    omega (arith, incomplete_count-cons (for_run (after_closing metric)) (map for_run (map after_closing rest)), weight-for_run_closed metric, incomplete_count-closed rest)
 
 -- a closed run is consistent
 consistent_closed : (metrics : List Metric) (q : Phase) → is_complete q ≡ true
@@ -215,7 +215,7 @@ pub record IsMarked (metrics : List Metric) (p : Phase) (incomplete i : ℕ) (me
   pub running : is_complete p ≡ false
   pub open_metric : is_complete metric.phase ≡ false
   pub consistent : AreConsistent metrics p incomplete
-  pub left_is : left ≡ incomplete - cond (is_complete (counted (with_mark_added metric m))) 1 0
+  pub left_is : left ≡ incomplete - cond (is_complete (for_run (with_mark_added metric m))) 1 0
 
 limits_of-set : (metrics : List Metric) (i : ℕ) (metric : Metric) (m : Mark) → IsAt metrics i metric
     → limits_of (set metrics i (with_mark_added metric m)) ≡ limits_of metrics
@@ -226,53 +226,53 @@ pub some_incomplete : (metrics : List Metric) (p : Phase) (incomplete i : ℕ) (
     → IsAt metrics i metric → is_complete metric.phase ≡ false → AreConsistent metrics p incomplete
     → 1 ≤ incomplete
 some_incomplete metrics p incomplete i metric at open_metric consistent =
-    let there : i < length (map counted metrics) = omega (arith, length-map metrics counted, at.within) in
-    let own : is_complete (get_or (map counted metrics) i metric.phase) ≡ false = rw (read_at counted metrics i metric metric.phase at, counting_open metric.limits metric.phase open_metric) open_metric in
-    omega (arith, incomplete_count-some (map counted metrics) i metric.phase there own, consistent.incomplete_is)
+    let there : i < length (map for_run metrics) = omega (arith, length-map metrics for_run, at.within) in
+    let own : is_complete (get_or (map for_run metrics) i metric.phase) ≡ false = rw (read_at for_run metrics i metric metric.phase at, for_run_open metric.limits metric.phase open_metric) open_metric in
+    omega (arith, incomplete_count-some (map for_run metrics) i metric.phase there own, consistent.incomplete_is)
 
 left_count : (metrics : List Metric) (p : Phase) (incomplete i : ℕ) (metric : Metric) (m : Mark) (left : ℕ)
     → IsMarked metrics p incomplete i metric m left
-    → left ≡ incomplete_count (set (map counted metrics) i (counted (with_mark_added metric m)))
-left_count metrics p incomplete i metric m left marked = at_phase (is_complete (counted (with_mark_added metric m))) changed marked.left_is where
-  there : i < length (map counted metrics)
-  there = omega (arith, length-map metrics counted, marked.at.within)
+    → left ≡ incomplete_count (set (map for_run metrics) i (for_run (with_mark_added metric m)))
+left_count metrics p incomplete i metric m left marked = at_phase (is_complete (for_run (with_mark_added metric m))) changed marked.left_is where
+  there : i < length (map for_run metrics)
+  there = omega (arith, length-map metrics for_run, marked.at.within)
 
-  own : is_complete (get_or (map counted metrics) i metric.phase) ≡ false
-  own = rw (read_at counted metrics i metric metric.phase marked.at, counting_open metric.limits metric.phase marked.open_metric) marked.open_metric
+  own : is_complete (get_or (map for_run metrics) i metric.phase) ≡ false
+  own = rw (read_at for_run metrics i metric metric.phase marked.at, for_run_open metric.limits metric.phase marked.open_metric) marked.open_metric
 
-  changed : incomplete_count (set (map counted metrics) i (counted (with_mark_added metric m))) + 1 ≡ incomplete_count (map counted metrics) + cond (not (is_complete (counted (with_mark_added metric m)))) 1 0
-  changed = incomplete_count-set (map counted metrics) i (counted (with_mark_added metric m)) metric.phase there own
+  changed : incomplete_count (set (map for_run metrics) i (for_run (with_mark_added metric m))) + 1 ≡ incomplete_count (map for_run metrics) + cond (not (is_complete (for_run (with_mark_added metric m)))) 1 0
+  changed = incomplete_count-set (map for_run metrics) i (for_run (with_mark_added metric m)) metric.phase there own
 
   at_phase : (b : Bool)
-      → incomplete_count (set (map counted metrics) i (counted (with_mark_added metric m))) + 1 ≡ incomplete_count (map counted metrics) + cond (not b) 1 0
+      → incomplete_count (set (map for_run metrics) i (for_run (with_mark_added metric m))) + 1 ≡ incomplete_count (map for_run metrics) + cond (not b) 1 0
       → left ≡ incomplete - cond b 1 0
-      → left ≡ incomplete_count (set (map counted metrics) i (counted (with_mark_added metric m)))
+      → left ≡ incomplete_count (set (map for_run metrics) i (for_run (with_mark_added metric m)))
   at_phase true more is = omega (arith, marked.consistent.incomplete_is)
   at_phase false more is = omega (arith, marked.consistent.incomplete_is)
 
 -- the run goes on
 pub takes_mark_on : (metrics : List Metric) (p : Phase) (incomplete i : ℕ) (metric : Metric) (m : Mark) (left : ℕ)
     → IsMarked metrics p incomplete i metric m left
-    → is_unsuccessful (counted (with_mark_added metric m)) ≡ false → left ≢ 0
+    → is_unsuccessful (for_run (with_mark_added metric m)) ≡ false → left ≢ 0
     → Takes metrics p incomplete (event.Mark i m) effect.Applied (set metrics i (with_mark_added metric m)) phase.Running left
 unfolding next answer
 takes_mark_on metrics p incomplete i metric m left marked fine some_left =
     let more = with_mark_added metric m in
-    let there : i < length (map counted metrics) = omega (arith, length-map metrics counted, marked.at.within) in
+    let there : i < length (map for_run metrics) = omega (arith, length-map metrics for_run, marked.at.within) in
     let none = marked.consistent.none_unsuccessful marked.running in
-    let counted_are = map-set counted metrics i more in
+    let for_run_are = map-set for_run metrics i more in
     let left_is = left_count metrics p incomplete i metric m left marked in
-    let still : incomplete_count (set (map counted metrics) i (counted more)) ≢ 0 = λ zero_left. some_left (left_is ∙ zero_left) in
-    let now : closed_by_metrics (counting_phases (limits_of (set metrics i more)) (phases_of (set metrics i more))) ≡ None = rw (counting_phases-of (set metrics i more), counted_are) (closed_by_metrics-none (map counted metrics) i (counted more) there none fine still) in
+    let still : incomplete_count (set (map for_run metrics) i (for_run more)) ≢ 0 = λ zero_left. some_left (left_is ∙ zero_left) in
+    let now : closed_by_metrics (phases_for_run (limits_of (set metrics i more)) (phases_of (set metrics i more))) ≡ None = rw (phases_for_run-of (set metrics i more), for_run_are) (closed_by_metrics-none (map for_run metrics) i (for_run more) there none fine still) in
     let event_is = λ (handed : ℕ). with_event-standing_of metrics p i metric m handed marked.at in
     let comes = λ (handed : ℕ). comes_late-mark metrics p i metric m handed marked.at marked.running ∙ marked.open_metric in
-    let closing_is = λ (handed : ℕ). ap (λ s. closed_by_metrics (counting_phases s.limits s.phases)) (event_is handed) ∙ now in
+    let closing_is = λ (handed : ℕ). ap (λ s. closed_by_metrics (phases_for_run s.limits s.phases)) (event_is handed) ∙ now in
     record {
       stands = λ handed. rw (comes handed, closing_is handed) (ap (λ (s : Standing). record s { phase = phase.Running }) (sym (event_is handed)));
       answers = λ handed. rw (comes handed, closing_is handed) refl;
       consistent = record {
-        incomplete_is = rw counted_are left_is;
-        none_unsuccessful = λ running. rw counted_are (list_any-set is_unsuccessful (map counted metrics) i (counted more) there none ∙ fine);
+        incomplete_is = rw for_run_are left_is;
+        none_unsuccessful = λ running. rw for_run_are (list_any-set is_unsuccessful (map for_run metrics) i (for_run more) there none ∙ fine);
         positive = rw (limits_of-set metrics i metric m marked.at) marked.consistent.positive;
       };
       grown = λ bound within. AreWithin-set bound metrics i metric m marked.at within;
@@ -281,29 +281,29 @@ takes_mark_on metrics p incomplete i metric m left marked fine some_left =
 -- the run is closed
 pub takes_mark_closed : (metrics : List Metric) (p : Phase) (incomplete i : ℕ) (metric : Metric) (m : Mark) (left : ℕ)
     → IsMarked metrics p incomplete i metric m left
-    → (is_unsuccessful (counted (with_mark_added metric m)) ≡ true) ⊎ (left ≡ 0)
-    → Takes metrics p incomplete (event.Mark i m) (effect.Closed (counted (with_mark_added metric m))) (map after_closing (set metrics i (with_mark_added metric m))) (counted (with_mark_added metric m)) 0
+    → (is_unsuccessful (for_run (with_mark_added metric m)) ≡ true) ⊎ (left ≡ 0)
+    → Takes metrics p incomplete (event.Mark i m) (effect.Closed (for_run (with_mark_added metric m))) (map after_closing (set metrics i (with_mark_added metric m))) (for_run (with_mark_added metric m)) 0
 unfolding next answer
 takes_mark_closed metrics p incomplete i metric m left marked why =
     let more = with_mark_added metric m in
-    let there : i < length (map counted metrics) = omega (arith, length-map metrics counted, marked.at.within) in
+    let there : i < length (map for_run metrics) = omega (arith, length-map metrics for_run, marked.at.within) in
     let none = marked.consistent.none_unsuccessful marked.running in
     let left_is = left_count metrics p incomplete i metric m left marked in
-    let at_phases : closed_by_metrics (set (map counted metrics) i (counted more)) ≡ Some (counted more) =
-    elim (cases_Bool (is_unsuccessful (counted more))) [
-      | inl unsuccessful ↦ closed_by_metrics-unsuccessful (map counted metrics) i (counted more) there none unsuccessful
+    let at_phases : closed_by_metrics (set (map for_run metrics) i (for_run more)) ≡ Some (for_run more) =
+    elim (cases_Bool (is_unsuccessful (for_run more))) [
+      | inl unsuccessful ↦ closed_by_metrics-unsuccessful (map for_run metrics) i (for_run more) there none unsuccessful
       | inr fine ↦ elim why [
         | inl unsuccessful ↦ absurd (false≢true (sym fine ∙ unsuccessful))
-        | inr last ↦ closed_by_metrics-last (map counted metrics) i (counted more) there none fine (sym left_is ∙ last)
+        | inr last ↦ closed_by_metrics-last (map for_run metrics) i (for_run more) there none fine (sym left_is ∙ last)
       ]
     ] in
-    let now : closed_by_metrics (counting_phases (limits_of (set metrics i more)) (phases_of (set metrics i more))) ≡ Some (counted more) = rw (counting_phases-of (set metrics i more), map-set counted metrics i more) at_phases in
+    let now : closed_by_metrics (phases_for_run (limits_of (set metrics i more)) (phases_of (set metrics i more))) ≡ Some (for_run more) = rw (phases_for_run-of (set metrics i more), map-set for_run metrics i more) at_phases in
     let event_is = λ (handed : ℕ). with_event-standing_of metrics p i metric m handed marked.at in
     let comes = λ (handed : ℕ). comes_late-mark metrics p i metric m handed marked.at marked.running ∙ marked.open_metric in
-    let closing_is = λ (handed : ℕ). ap (λ s. closed_by_metrics (counting_phases s.limits s.phases)) (event_is handed) ∙ now in
+    let closing_is = λ (handed : ℕ). ap (λ s. closed_by_metrics (phases_for_run s.limits s.phases)) (event_is handed) ∙ now in
     record {
-      stands = λ handed. rw (comes handed, closing_is handed) (closed-standing_of (set metrics i more) p (counted more) handed ∙ ap (λ (s : Standing). closed s (counted more)) (sym (event_is handed)));
+      stands = λ handed. rw (comes handed, closing_is handed) (closed-standing_of (set metrics i more) p (for_run more) handed ∙ ap (λ (s : Standing). closed s (for_run more)) (sym (event_is handed)));
       answers = λ handed. rw (comes handed, closing_is handed) refl;
-      consistent = consistent_closed (set metrics i more) (counted more) (closed_by_metrics-complete (set (map counted metrics) i (counted more)) (counted more) at_phases) (rw (limits_of-set metrics i metric m marked.at) marked.consistent.positive);
+      consistent = consistent_closed (set metrics i more) (for_run more) (closed_by_metrics-complete (set (map for_run metrics) i (for_run more)) (for_run more) at_phases) (rw (limits_of-set metrics i metric m marked.at) marked.consistent.positive);
       grown = λ bound within. AreWithin-closed (bound + 1) (set metrics i more) (AreWithin-set bound metrics i metric m marked.at within);
     }

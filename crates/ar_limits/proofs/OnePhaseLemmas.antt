@@ -13,7 +13,7 @@ use Rattle.ar_limits.specs.declared.phase.Phase.{Phase}
 use Rattle.ar_limits.specs.declared.phase.Phase.TheVariants as phase
 use Rattle.ar_limits.specs.Prefixes.{prefixes, deciding_prefix}
 use Rattle.ar_limits.specs.Metric.{phase_of_marks, is_complete, is_unsuccessful, succeeded, HasPositiveCounts}
-use Rattle.ar_limits.specs.Run.{mark_of, marks_of, phases_by_marks, is_stop, ends_with_stop, counting, counting_phases, closing, run_phase}
+use Rattle.ar_limits.specs.Run.{mark_of, marks_of, phases_by_marks, is_stop, ends_with_stop, phase_for_run, phases_for_run, closing, run_phase}
 use Rattle.ar_limits.specs.Laws.{HasUnsuccessful, LeavesToSucceed, AllLeaveToSucceed, ClosesAs, ClosesWith, OneRunPhase, ClosedForAReason}
 use Rattle.ar_limits.proofs.PrefixLemmas.{value_of_some, find-passes, phase_by-decided, option_cases, is_complete-phase_by, deciding_prefix-decides}
 use Rattle.ar_limits.proofs.LawLemmas.{shortest_is}
@@ -89,8 +89,8 @@ is_successful_phase phase.Error h = cc
 is_successful_phase phase.Inconclusive h = cc
 
 -- a metric that counts as unsuccessful isn't dry
-unsuccessful_counts : (own : Limits) (p q : Phase) → counting own p ≡ q → is_unsuccessful q ≡ true → (p ≡ q) × (own.dry ≡ false)
-unsuccessful_counts own p q is unsuccessful = at own.dry p is where
+unsuccessful_for_run : (own : Limits) (p q : Phase) → phase_for_run own p ≡ q → is_unsuccessful q ≡ true → (p ≡ q) × (own.dry ≡ false)
+unsuccessful_for_run own p q is unsuccessful = at own.dry p is where
   at : (dry : Bool) (p : Phase) → cond (is_complete p && dry) phase.Successful p ≡ q → (p ≡ q) × (dry ≡ false)
   at true phase.Pending h = absurd (false≢true (ap is_unsuccessful h ∙ unsuccessful))
   at true phase.Running h = absurd (false≢true (ap is_unsuccessful h ∙ unsuccessful))
@@ -106,13 +106,13 @@ unsuccessful_counts own p q is unsuccessful = at own.dry p is where
   at false phase.Inconclusive h = (h, refl)
 
 -- and one that isn't dry counts as what it is
-pub counting_decides : (own : Limits) (p : Phase) → own.dry ≡ false → counting own p ≡ p
-counting_decides own p decides = rw decides (at (is_complete p)) where
+pub for_run_decides : (own : Limits) (p : Phase) → own.dry ≡ false → phase_for_run own p ≡ p
+for_run_decides own p decides = rw decides (at (is_complete p)) where
   at : (b : Bool) → cond (b && false) phase.Successful p ≡ p
   at true = refl
   at false = refl
 
-success_left : (own : Limits) (p : Phase) → succeeded (counting own p) ≡ true → LeavesToSucceed own p
+success_left : (own : Limits) (p : Phase) → succeeded (phase_for_run own p) ≡ true → LeavesToSucceed own p
 success_left own p = at own.dry p where
   at : (dry : Bool) (p : Phase) → succeeded (cond (is_complete p && dry) phase.Successful p) ≡ true → (is_complete p ≡ true) × (dry ≡ false → p ≡ phase.Successful)
   at true phase.Pending h = cc
@@ -128,7 +128,7 @@ success_left own p = at own.dry p where
   at false phase.Error h = cc
   at false phase.Inconclusive h = cc
 
-leaves_success : (own : Limits) (p : Phase) → LeavesToSucceed own p → succeeded (counting own p) ≡ true
+leaves_success : (own : Limits) (p : Phase) → LeavesToSucceed own p → succeeded (phase_for_run own p) ≡ true
 leaves_success own p leaves = rw leaves.0 (at own.dry leaves.1) where
   at : (dry : Bool) → (dry ≡ false → p ≡ phase.Successful) → succeeded (cond dry phase.Successful p) ≡ true
   at true h = refl
@@ -136,45 +136,45 @@ leaves_success own p leaves = rw leaves.0 (at own.dry leaves.1) where
 
 -- ---- What the metrics count as
 
-abbrev pub counted_number : List Event → ℕ × Limits → Phase
-counted_number prefix x = counting x.1 (phase_of_marks x.1 (marks_of x.0 prefix))
+abbrev pub numbered_for_run : List Event → ℕ × Limits → Phase
+numbered_for_run prefix x = phase_for_run x.1 (phase_of_marks x.1 (marks_of x.0 prefix))
 
-counting_numbered : (f : ℕ × Limits → Phase) (n : ℕ) (limits : List Limits)
-    → counting_phases limits (map f (enumerate_from n limits)) ≡ map (λ x. counting x.1 (f x)) (enumerate_from n limits)
-counting_numbered f n [] = refl
-counting_numbered f n (own ∷ limits) = rw (counting_numbered f (n + 1) limits) refl
+for_run_numbered : (f : ℕ × Limits → Phase) (n : ℕ) (limits : List Limits)
+    → phases_for_run limits (map f (enumerate_from n limits)) ≡ map (λ x. phase_for_run x.1 (f x)) (enumerate_from n limits)
+for_run_numbered f n [] = refl
+for_run_numbered f n (own ∷ limits) = rw (for_run_numbered f (n + 1) limits) refl
 
-pub counting_is : (limits : List Limits) (prefix : List Event)
-    → counting_phases limits (phases_by_marks limits prefix) ≡ map (counted_number prefix) (enumerate_from 0 limits)
+pub for_run_is : (limits : List Limits) (prefix : List Event)
+    → phases_for_run limits (phases_by_marks limits prefix) ≡ map (numbered_for_run prefix) (enumerate_from 0 limits)
 unfolding phases_by_marks
-counting_is limits prefix = counting_numbered (λ x. phase_of_marks x.1 (marks_of x.0 prefix)) 0 limits
+for_run_is limits prefix = for_run_numbered (λ x. phase_of_marks x.1 (marks_of x.0 prefix)) 0 limits
 
-pub counting-get : (limits : List Limits) (prefix : List Event) (i : ℕ) (own : Limits) → slice_get limits i ≡ Some own
-    → slice_get (counting_phases limits (phases_by_marks limits prefix)) i ≡ Some (counting own (phase_of_marks own (marks_of i prefix)))
-counting-get limits prefix i own at = ap (λ phases. slice_get phases i) (counting_is limits prefix) ∙ numbered_get (counted_number prefix) limits i own at
+pub for_run-get : (limits : List Limits) (prefix : List Event) (i : ℕ) (own : Limits) → slice_get limits i ≡ Some own
+    → slice_get (phases_for_run limits (phases_by_marks limits prefix)) i ≡ Some (phase_for_run own (phase_of_marks own (marks_of i prefix)))
+for_run-get limits prefix i own at = ap (λ phases. slice_get phases i) (for_run_is limits prefix) ∙ numbered_get (numbered_for_run prefix) limits i own at
 
 metric_found : (limits : List Limits) (prefix : List Event) (q : Phase)
-    → find is_unsuccessful (counting_phases limits (phases_by_marks limits prefix)) ≡ Some q → HasUnsuccessful limits prefix q
+    → find is_unsuccessful (phases_for_run limits (phases_by_marks limits prefix)) ≡ Some q → HasUnsuccessful limits prefix q
 metric_found limits prefix q found =
-    let from = find_numbered is_unsuccessful (counted_number prefix) 0 limits q (ap (find is_unsuccessful) (sym (counting_is limits prefix)) ∙ found) in
+    let from = find_numbered is_unsuccessful (numbered_for_run prefix) 0 limits q (ap (find is_unsuccessful) (sym (for_run_is limits prefix)) ∙ found) in
     let here : 0 + from.place ≡ from.place = omega arith in
-    let unsuccessful = find-passes is_unsuccessful (counting_phases limits (phases_by_marks limits prefix)) q found in
-    let counts = unsuccessful_counts from.item _ q (rw here at from.value) unsuccessful in
+    let unsuccessful = find-passes is_unsuccessful (phases_for_run limits (phases_by_marks limits prefix)) q found in
+    let counts = unsuccessful_for_run from.item _ q (rw here at from.value) unsuccessful in
     record { number = from.place; own = from.item; there = from.there; phase_is = counts.0; unsuccessful = unsuccessful; decides = counts.1 }
 
 all_found : (limits : List Limits) (prefix : List Event)
-    → list_all succeeded (counting_phases limits (phases_by_marks limits prefix)) ≡ true → AllLeaveToSucceed limits prefix
+    → list_all succeeded (phases_for_run limits (phases_by_marks limits prefix)) ≡ true → AllLeaveToSucceed limits prefix
 all_found limits prefix all number own there =
-    success_left own _ (list_all_get succeeded (counting_phases limits (phases_by_marks limits prefix)) number _ all (counting-get limits prefix number own there))
+    success_left own _ (list_all_get succeeded (phases_for_run limits (phases_by_marks limits prefix)) number _ all (for_run-get limits prefix number own there))
 
 all_given : (limits : List Limits) (prefix : List Event) → AllLeaveToSucceed limits prefix
-    → list_all succeeded (counting_phases limits (phases_by_marks limits prefix)) ≡ true
+    → list_all succeeded (phases_for_run limits (phases_by_marks limits prefix)) ≡ true
 all_given limits prefix all =
-    rw (counting_is limits prefix)
-    (all_numbered succeeded (counted_number prefix) 0 limits (λ i l at. let here : 0 + i ≡ i = omega arith in rw here (leaves_success l _ (all i l at))))
+    rw (for_run_is limits prefix)
+    (all_numbered succeeded (numbered_for_run prefix) 0 limits (λ i l at. let here : 0 + i ≡ i = omega arith in rw here (leaves_success l _ (all i l at))))
 
 -- the definition's phase has a reason
-reason_of_closing : (limits : List Limits) (prefix : List Event) (q : Phase) → closing limits prefix ≡ Some q
+pub reason_of_closing : (limits : List Limits) (prefix : List Event) (q : Phase) → closing limits prefix ≡ Some q
     → ClosesAs limits prefix q
 unfolding closing
 reason_of_closing limits [] q h = cc
@@ -182,7 +182,7 @@ reason_of_closing limits (x ∷ rest) q h =
     by_parts (ends_with_stop (x ∷ rest)) (list_any is_unsuccessful phases) (list_all succeeded phases) refl refl refl h
   where
     phases : List Phase
-    phases = counting_phases limits (phases_by_marks limits (x ∷ rest))
+    phases = phases_for_run limits (phases_by_marks limits (x ∷ rest))
 
     filled : (let es : List Event = x ∷ rest in es) ≢ []
     filled e = cc
@@ -204,7 +204,7 @@ no_marks_no_phase limits q positive metric =
     false≢true (sym incomplete ∙ unsuccessful_is_complete q metric.unsuccessful)
 
 -- where there is a reason, the definition closes
-closing_of_reason : (limits : List Limits) (prefix : List Event) (q : Phase) → HasPositiveCounts limits
+pub closing_of_reason : (limits : List Limits) (prefix : List Event) (q : Phase) → HasPositiveCounts limits
     → ClosesAs limits prefix q → is_some (closing limits prefix) ≡ true
 unfolding closing
 closing_of_reason limits [] q positive (inl stop) = cc
@@ -214,7 +214,7 @@ closing_of_reason limits (x ∷ rest) q positive why =
     by_parts (ends_with_stop (x ∷ rest)) (list_any is_unsuccessful phases) (list_all succeeded phases) refl refl refl why
   where
     phases : List Phase
-    phases = counting_phases limits (phases_by_marks limits (x ∷ rest))
+    phases = phases_for_run limits (phases_by_marks limits (x ∷ rest))
 
     by_parts : (stop any all : Bool) → ends_with_stop (x ∷ rest) ≡ stop
         → list_any is_unsuccessful phases ≡ any → list_all succeeded phases ≡ all
@@ -225,15 +225,15 @@ closing_of_reason limits (x ∷ rest) q positive why =
     by_parts false false true stops anys alls reason = refl
     by_parts false false false stops anys alls (inl stop) = absurd (false≢true (sym stops ∙ stop.0))
     by_parts false false false stops anys alls (inr (inl metric)) =
-        let there = counting-get limits (x ∷ rest) metric.number metric.own metric.there in
-        let counts = counting_decides metric.own (phase_of_marks metric.own (marks_of metric.number (x ∷ rest))) metric.decides in
+        let there = for_run-get limits (x ∷ rest) metric.number metric.own metric.there in
+        let counts = for_run_decides metric.own (phase_of_marks metric.own (marks_of metric.number (x ∷ rest))) metric.decides in
         absurd (false≢true (sym anys ∙ list_any_get is_unsuccessful phases metric.number _ there (ap is_unsuccessful (counts ∙ metric.phase_is) ∙ metric.unsuccessful)))
     by_parts false false false stops anys alls (inr (inr all)) = absurd (false≢true (sym alls ∙ all_given limits (x ∷ rest) all.1))
 
 -- ---- One reason more
 
 -- a metric that the last event is no mark of was in this phase before
-metric_before : (limits : List Limits) (events : List Event) (e : Event) (q : Phase) (metric : HasUnsuccessful limits (events ++ e ∷ []) q)
+pub metric_before : (limits : List Limits) (events : List Event) (e : Event) (q : Phase) (metric : HasUnsuccessful limits (events ++ e ∷ []) q)
     → mark_of metric.number e ≡ None → HasUnsuccessful limits events q
 metric_before limits events e q metric other =
     record { number = metric.number; own = metric.own; there = metric.there; phase_is = rw (marks_of-push_other metric.number events e other) at metric.phase_is; unsuccessful = metric.unsuccessful; decides = metric.decides }

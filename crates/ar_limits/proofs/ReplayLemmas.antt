@@ -19,7 +19,7 @@ use Rattle.ar_limits.specs.Run.{marks_of, phases_by_marks, closing, closing_pref
 use Rattle.ar_limits.specs.Replay.{Standing, Replays, IsOfMetricBelow}
 use Rattle.ar_limits.specs.Private.Step.{no_counts, comes_late, with_event, closing_now, closed, next, answer}
 use Rattle.ar_limits.specs.Private.MetricStep.{opening}
-use Rattle.ar_limits.specs.Private.Kept.{counted, incomplete_count, standing_of, AreConsistent, AreWithin}
+use Rattle.ar_limits.specs.Private.Kept.{for_run, incomplete_count, standing_of, AreConsistent, AreWithin}
 use Rattle.ar_limits.proofs.PrefixLemmas.{deciding_prefix-nil, phase_by-open}
 use Rattle.ar_limits.proofs.MetricLemmas.{decision-nil}
 use Rattle.ar_limits.proofs.NumberedLemmas.{numbered_plain}
@@ -126,7 +126,7 @@ none_unsuccessful_yet (l ∷ rest) = none_unsuccessful_yet rest
 pub consistent-nil : (limits : List Limits) → HasPositiveCounts limits
     → AreConsistent (map opening limits) phase.Pending (length limits)
 consistent-nil limits positive =
-    let phases = map-opening counted (λ l. phase.Pending) limits (λ l. refl) in
+    let phases = map-opening for_run (λ l. phase.Pending) limits (λ l. refl) in
     record {
       incomplete_is = rw phases (all_incomplete limits);
       none_unsuccessful = λ running. rw phases (none_unsuccessful_yet limits);

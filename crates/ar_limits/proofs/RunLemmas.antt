@@ -15,7 +15,7 @@ use Rattle.ar_limits.specs.declared.phase.Phase.{Phase}
 use Rattle.ar_limits.specs.declared.phase.Phase.TheVariants as phase
 use Rattle.ar_limits.specs.Prefixes.{open_phase, with_earlier}
 use Rattle.ar_limits.specs.Metric.{phase_of_marks, is_complete, is_unsuccessful, succeeded}
-use Rattle.ar_limits.specs.Run.{mark_of, marks_of, phases_by_marks, is_stop, ends_with_stop, closed_by_metrics, counting_phases, closing, closing_prefix, run_phase, settled, metric_phases, is_late, effect_of, effects, timely}
+use Rattle.ar_limits.specs.Run.{mark_of, marks_of, phases_by_marks, is_stop, ends_with_stop, closed_by_metrics, phases_for_run, closing, closing_prefix, run_phase, settled, metric_phases, is_late, effect_of, effects, timely}
 use Rattle.ar_limits.proofs.PrefixLemmas.{DecidesComplete, find-passes, phase_by-push_complete, phase_by-push_open, phase_by-open, is_complete-phase_by, deciding_prefix-push, with_earlier-push}
 use Rattle.ar_limits.proofs.NumberedLemmas.{numbered_same, numbered_set, numbered_get}
 
@@ -68,7 +68,7 @@ ends_with_stop-push (x ∷ []) e = refl
 ends_with_stop-push (x ∷ y ∷ rest) e = ends_with_stop-push (y ∷ rest) e
 
 pub closing-push : (limits : List Limits) (events : List Event) (e : Event)
-    → closing limits (events ++ e ∷ []) ≡ cond (is_stop e) (Some phase.Successful) (closed_by_metrics (counting_phases limits (phases_by_marks limits (events ++ e ∷ []))))
+    → closing limits (events ++ e ∷ []) ≡ cond (is_stop e) (Some phase.Successful) (closed_by_metrics (phases_for_run limits (phases_by_marks limits (events ++ e ∷ []))))
 unfolding closing
 closing-push limits [] e = refl
 closing-push limits (x ∷ rest) e = rw (ends_with_stop-push (x ∷ rest) e) refl
@@ -96,10 +96,10 @@ unfolding closing
 closing_is_complete limits [] q h = cc
 closing_is_complete limits (x ∷ rest) q h = at (ends_with_stop (x ∷ rest)) h where
   at : (b : Bool)
-      → cond b (Some phase.Successful) (closed_by_metrics (counting_phases limits (phases_by_marks limits (x ∷ rest)))) ≡ Some q
+      → cond b (Some phase.Successful) (closed_by_metrics (phases_for_run limits (phases_by_marks limits (x ∷ rest)))) ≡ Some q
       → is_complete q ≡ true
   at true h = let same : phase.Successful ≡ q = cc in rw (← same) refl
-  at false h = closed_by_metrics-complete (counting_phases limits (phases_by_marks limits (x ∷ rest))) q h
+  at false h = closed_by_metrics-complete (phases_for_run limits (phases_by_marks limits (x ∷ rest))) q h
 
 pub closing-complete : (limits : List Limits) → DecidesComplete (closing limits)
 closing-complete limits = record { complete = closing_is_complete limits }

@@ -15,7 +15,7 @@ use Rattle.ar_limits.specs.declared.phase.Phase.{Phase}
 use Rattle.ar_limits.specs.declared.phase.Phase.TheVariants as phase
 use Rattle.ar_limits.specs.Prefixes.{deciding_prefix, with_earlier}
 use Rattle.ar_limits.specs.Metric.{counts_of, decision, phase_of_marks, is_complete, HasPositiveCounts}
-use Rattle.ar_limits.specs.Run.{mark_of, marks_of, phases_by_marks, ends_with_stop, closed_by_metrics, counting_phases, closing, closing_prefix, run_phase, metric_phases, metric_was_complete, is_late, effect_of, timely, metric_counts}
+use Rattle.ar_limits.specs.Run.{mark_of, marks_of, phases_by_marks, ends_with_stop, closed_by_metrics, phases_for_run, closing, closing_prefix, run_phase, metric_phases, metric_was_complete, is_late, effect_of, timely, metric_counts}
 use Rattle.ar_limits.specs.Replay.{Standing, IsOfMetricBelow}
 use Rattle.ar_limits.specs.Private.Step.{with_mark, phase_by_counts, no_counts, no_limits, comes_late, with_event, closing_now, next, answer}
 use Rattle.ar_limits.proofs.PrefixLemmas.{option_cases, none_of, option_or-none, deciding_prefix-nil, deciding_prefix-whole, push_induction, phase_by-push_complete, phase_by-push_open, is_complete-phase_by}
@@ -57,7 +57,7 @@ is_late-open : (limits : List Limits) (events : List Event) (e : Event) → clos
 unfolding is_late
 is_late-open limits events e h = rw h refl
 
-is_late-closed : (limits : List Limits) (events prefix : List Event) (e : Event)
+pub is_late-closed : (limits : List Limits) (events prefix : List Event) (e : Event)
     → closing_prefix limits events ≡ Some prefix → is_late limits events e ≡ true
 unfolding is_late
 is_late-closed limits events prefix e h = rw h refl
@@ -254,20 +254,20 @@ agrees_open limits events i l m handed none at incomplete =
     let new_counts : set (metric_counts limits events) i (with_mark (get_or (metric_counts limits events) i no_counts) m) ≡ metric_counts limits (events ++ event.Mark i m ∷ []) =
     rw own_counts (sym (metric_counts-mark limits events i l m at late)) in
     agrees_applied limits events (event.Mark i m) handed none comes late (same_standing new_phases new_counts refl)
-    (ap (λ phases. closed_by_metrics (counting_phases limits phases)) new_phases ∙ sym (closing-push limits events (event.Mark i m)))
+    (ap (λ phases. closed_by_metrics (phases_for_run limits phases)) new_phases ∙ sym (closing-push limits events (event.Mark i m)))
 
 -- metrics that did not close the run before, in the same phases
 still_open : (limits : List Limits) (x : Event) (rest : List Event) → closing limits (x ∷ rest) ≡ None
-    → closed_by_metrics (counting_phases limits (phases_by_marks limits (x ∷ rest))) ≡ None
+    → closed_by_metrics (phases_for_run limits (phases_by_marks limits (x ∷ rest))) ≡ None
 unfolding closing
 still_open limits x rest h = from (ends_with_stop (x ∷ rest)) h where
   from : (b : Bool)
-      → cond b (Some phase.Successful) (closed_by_metrics (counting_phases limits (phases_by_marks limits (x ∷ rest)))) ≡ None
-      → closed_by_metrics (counting_phases limits (phases_by_marks limits (x ∷ rest))) ≡ None
+      → cond b (Some phase.Successful) (closed_by_metrics (phases_for_run limits (phases_by_marks limits (x ∷ rest)))) ≡ None
+      → closed_by_metrics (phases_for_run limits (phases_by_marks limits (x ∷ rest))) ≡ None
   from true e = cc
   from false e = e
 
-whole_open : (limits : List Limits) (events : List Event) → closing_prefix limits events ≡ None
+pub whole_open : (limits : List Limits) (events : List Event) → closing_prefix limits events ≡ None
     → closing limits events ≡ None
 unfolding closing_prefix
 whole_open limits events none = deciding_prefix-whole (closing limits) events none
@@ -295,7 +295,7 @@ agrees_complete limits (x ∷ rest) i l m handed positive none at complete =
     phases_by_marks-push_mark limits events i l m at
     ∙ ap (set (phases_by_marks limits events) i) (phase_of_marks-push_complete l (marks_of i events) m complete ∙ sym own)
     ∙ set-get_or (phases_by_marks limits events) i phase.Pending in
-    let undecided : closing limits (events ++ e ∷ []) ≡ None = closing-push limits events e ∙ ap (λ phases. closed_by_metrics (counting_phases limits phases)) same ∙ still_open limits x rest (whole_open limits events none) in
+    let undecided : closing limits (events ++ e ∷ []) ≡ None = closing-push limits events e ∙ ap (λ phases. closed_by_metrics (phases_for_run limits phases)) same ∙ still_open limits x rest (whole_open limits events none) in
     let still : closing_prefix limits (events ++ e ∷ []) ≡ None = rw (closing_prefix-push limits events e, none, undecided) refl in
     agrees_late limits events e handed comes late
     (same_standing (phases ∙ sym same ∙ sym (metric_phases-open limits (events ++ e ∷ []) still)) (sym (metric_counts-same limits events e late))

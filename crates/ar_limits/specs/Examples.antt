@@ -212,14 +212,14 @@ a_dry_failure_completes_the_last : outcome (dry (limits_of 0 0 4 (Some 1)) ∷ d
 unfolding outcome
 a_dry_failure_completes_the_last = refl
 
--- a failure beside a dry error closes, and an open dry metric would become Successful
-another_failure_closes_beside_a_dry_error : outcome (dry (limits_of 0 0 0 None) ∷ limits_of 0 0 4 None ∷ [])
+-- a failure beside a dry error closes, and the open dry metric becomes Successful
+another_failure_closes_beside_a_dry_error : outcome (dry (limits_of 0 0 0 None) ∷ limits_of 0 0 4 None ∷ dry (limits_of 0 0 4 None) ∷ [])
     (error ∷ event.Mark 1 mark.Failed ∷ [])
     ≡ record {
       effects = effect.Applied ∷ effect.Closed phase.Failed ∷ [];
       phase = phase.Failed;
-      phases = phase.Error ∷ phase.Failed ∷ [];
-      counts = counted 0 0 0 1 1 ∷ counted 0 1 0 0 0 ∷ [];
+      phases = phase.Error ∷ phase.Failed ∷ phase.Successful ∷ [];
+      counts = counted 0 0 0 1 1 ∷ counted 0 1 0 0 0 ∷ counted 0 0 0 0 0 ∷ [];
     }
 unfolding outcome
 another_failure_closes_beside_a_dry_error = refl

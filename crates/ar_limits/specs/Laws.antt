@@ -2,6 +2,7 @@
 use Rattle.std.specs.Prelude.{ℕ, ◌≡◌, ◌≢◌, ◌⊎◌, ◌<◌, ◌≤◌, true, false, Some, None, List, [], ◌∷◌, ◌++◌, length, map, take, slice_get, All, IfSome}
 use Rattle.ar_limits.specs.declared.event.Event.{Event}
 use Rattle.ar_limits.specs.declared.event.Event.TheVariants as event
+use Rattle.ar_limits.specs.declared.event.Effect.TheVariants as effect
 use Rattle.ar_limits.specs.declared.event.Mark.{Mark}
 use Rattle.ar_limits.specs.declared.limits.Limits.{Limits}
 use Rattle.ar_limits.specs.declared.phase.Phase.{Phase}
@@ -46,10 +47,10 @@ AllLeaveToSucceed limits prefix =
 -- a reason to close with this phase, in no order: a stop at the end, a metric that isn't dry without success,
 -- or all of the metrics complete and those that aren't dry with success
 abbrev pub ClosesAs : List Limits → List Event → Phase → Type 0
-ClosesAs limits prefix closing =
-    ((ends_with_stop prefix ≡ true) × (closing ≡ phase.Successful))
-    ⊎ (HasUnsuccessful limits prefix closing
-    ⊎ ((prefix ≢ []) × AllLeaveToSucceed limits prefix × (closing ≡ phase.Successful)))
+ClosesAs limits prefix reached =
+    ((ends_with_stop prefix ≡ true) × (reached ≡ phase.Successful))
+    ⊎ (HasUnsuccessful limits prefix reached
+    ⊎ ((prefix ≢ []) × AllLeaveToSucceed limits prefix × (reached ≡ phase.Successful)))
 
 -- this prefix has a reason to close with the phase, and no shorter one has any reason
 pub record ClosesWith (limits : List Limits) (events : List Event) (phase : Phase) : Type 0 where
@@ -70,7 +71,8 @@ ClosedForAReason = (limits : List Limits) (events : List Event) → HasPositiveC
 
 -- ---- Dry metrics
 
--- where no metric is dry, only the phases decide
+-- where no metric is dry, a list that isn't empty and doesn't end with a stop closes by its metrics' phases as
+-- they are
 abbrev pub WithoutDryMetrics : Type 0
 WithoutDryMetrics = (limits : List Limits) (events : List Event) → All (λ own. own.dry ≡ false) limits
     → events ≢ [] → ends_with_stop events ≡ false
@@ -94,10 +96,25 @@ pub record DifferInDryMarks (limits : List Limits) (events events' : List Event)
       → AreOneButDry limits event event'
   pub complete : (k : ℕ) → AreAsComplete limits (take k events) (take k events')
 
--- what a dry metric is judged as changes no run's phase
+-- what a dry metric is judged as changes no run's phase, nor what any event does, where it is complete behind as
+-- many events
 abbrev pub DryMarksDecideNothing : Type 0
 DryMarksDecideNothing = (limits : List Limits) (events events' : List Event)
-    → DifferInDryMarks limits events events' → run_phase limits events ≡ run_phase limits events'
+    → DifferInDryMarks limits events events'
+    → (run_phase limits events ≡ run_phase limits events') × (effects limits events ≡ effects limits events')
+
+-- a mark of a dry metric closes a run only as Successful, where it completes the last metric
+abbrev pub DryMarksCloseWithSuccess : Type 0
+DryMarksCloseWithSuccess = (limits : List Limits) (events : List Event) (number : ℕ) (own : Limits) (mark : Mark) (reached : Phase)
+    → HasPositiveCounts limits → slice_get limits number ≡ Some own → own.dry ≡ true
+    → effect_of limits events (event.Mark number mark) ≡ effect.Closed reached
+    → (reached ≡ phase.Successful) × AllLeaveToSucceed limits (events ++ event.Mark number mark ∷ [])
+
+-- a run whose metrics are all dry closes as Successful
+abbrev pub AllDrySucceeds : Type 0
+AllDrySucceeds = (limits : List Limits) (events : List Event) → HasPositiveCounts limits
+    → All (λ own. own.dry ≡ true) limits → is_complete (run_phase limits events) ≡ true
+    → run_phase limits events ≡ phase.Successful
 
 -- ---- What is decided stays
 

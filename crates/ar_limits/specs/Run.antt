@@ -1,9 +1,9 @@
 -- How a run of several metrics comes to its phase: a definition by the prefixes of its events.
 --
 -- A run is an AnalysisRun of Argo Rollouts (documentation, page "Analysis & Progressive Delivery"): it ends with
--- the first metric that completes without success, with the last one that succeeds, or when it is stopped from
--- outside. A metric of `dryRun` is judged and counted as others, and decides nothing. The metrics are numbered
--- from 0.
+-- the first metric that isn't dry and completes without success, with the last one that completes, or when it is
+-- stopped from outside. A dry metric, one that `dryRun` names, is judged and counted as any other. The metrics are
+-- numbered from 0.
 use Rattle.std.specs.Prelude.{ℕ, ◌==◌, ◌||◌, ◌&&◌, Bool, true, false, if◌then◌else◌, Option, Some, None, is_some, List, [], ◌∷◌, ◌++◌, map, find, slice_get}
 use Rattle.std.specs.List.{list_any, list_all, filter_map, enumerate_from}
 use Rattle.std.specs.Option.{option_map_or}
@@ -47,15 +47,15 @@ ends_with_stop [] = false
 ends_with_stop (last ∷ []) = is_stop last
 ends_with_stop (first ∷ second ∷ rest) = ends_with_stop (second ∷ rest)
 
--- what a metric's phase counts as where its run is closed: a dry metric that is complete, with whichever phase,
--- counts as Successful
-abbrev pub counting : Limits → Phase → Phase
-counting own reached = if is_complete reached && own.dry then phase.Successful else reached
+-- what a metric's phase counts as towards closing its run: that of a dry metric that is complete, whichever it
+-- is, counts as Successful
+abbrev pub phase_for_run : Limits → Phase → Phase
+phase_for_run own reached = if is_complete reached && own.dry then phase.Successful else reached
 
 -- of each metric
-abbrev pub counting_phases : List Limits → List Phase → List Phase
-counting_phases (own ∷ limits) (reached ∷ phases) = counting own reached ∷ counting_phases limits phases
-counting_phases limits phases = []
+abbrev pub phases_for_run : List Limits → List Phase → List Phase
+phases_for_run (own ∷ limits) (reached ∷ phases) = phase_for_run own reached ∷ phases_for_run limits phases
+phases_for_run limits phases = []
 
 -- how metrics whose phases count as these close their run: with the phase of one that is complete without
 -- success, or Successful where all of them are
@@ -71,7 +71,7 @@ unfoldable pub closing : List Limits → List Event → Option Phase
 closing limits [] = None
 closing limits (first ∷ rest) =
     if ends_with_stop (first ∷ rest) then Some phase.Successful
-    else closed_by_metrics (counting_phases limits (phases_by_marks limits (first ∷ rest)))
+    else closed_by_metrics (phases_for_run limits (phases_by_marks limits (first ∷ rest)))
 
 -- the shortest prefix that closes the run, if any does
 unfoldable pub closing_prefix : List Limits → List Event → Option (List Event)

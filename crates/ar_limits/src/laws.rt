@@ -1,5 +1,5 @@
 //! Laws of the definitions. Each function does nothing: its contract is the law, which its proof shows.
-ghost use Rattle.ar_limits.specs.Laws.{OneMetricPhase, OneRunPhase, ClosedForAReason, WithoutDryMetrics, DryMarksDecideNothing, MetricPhaseStays, RunPhaseStays, LateChangesNothing, OnlyTimelyMatters, ClosedMetricsAreComplete, FailuresFirst, InconclusiveSecond, ErrorsThird, CountLast, OneForEachMetric, EffectsInOrder};
+ghost use Rattle.ar_limits.specs.Laws.{OneMetricPhase, OneRunPhase, ClosedForAReason, WithoutDryMetrics, DryMarksDecideNothing, DryMarksCloseWithSuccess, AllDrySucceeds, MetricPhaseStays, RunPhaseStays, LateChangesNothing, OnlyTimelyMatters, ClosedMetricsAreComplete, FailuresFirst, InconclusiveSecond, ErrorsThird, CountLast, OneForEachMetric, EffectsInOrder};
 
 /// A metric has at most one phase: the one that its shortest deciding prefix decides.
 pub fn at_most_one_metric_phase()
@@ -22,10 +22,18 @@ pub fn without_dry_metrics()
     ensures { WithoutDryMetrics }
 {}
 
-/// What a dry metric is judged as changes no run's phase: two lists of events that differ in the marks of
-/// dry metrics alone have the same phase, where these are complete behind as many events in both.
+/// What a dry metric is judged as changes no run's phase, nor what any event does: two lists of events that
+/// differ in the marks of dry metrics alone have the same ones, where these are complete behind as many
+/// events in both.
 pub fn dry_marks_decide_nothing()
     ensures { DryMarksDecideNothing }
+{}
+
+/// A mark of a dry metric closes a run only as Successful, where it completes the last metric; and a run
+/// whose metrics are all dry closes as Successful.
+pub fn dry_metrics_close_with_success()
+    ensures marks { DryMarksCloseWithSuccess }
+    ensures all { AllDrySucceeds }
 {}
 
 /// A metric that is complete keeps its phase, whatever marks follow.

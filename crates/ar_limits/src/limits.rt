@@ -25,7 +25,7 @@ pub struct Limits {
 impl Limits {
     ghost use Rattle.ar_limits.specs.Private.Bounds.{AreAtMost};
     ghost use Rattle.ar_limits.specs.Metric.{decided_by, HasPositiveCounts};
-    ghost use Rattle.ar_limits.specs.Run.{counting};
+    ghost use Rattle.ar_limits.specs.Run.{phase_for_run};
 
     /// Whether each `count` that is there is 1 or more, as a run asks of its metrics.
     pub fn have_positive_counts(limits: &[Limits]) -> bool
@@ -34,9 +34,9 @@ impl Limits {
         limits.iter().all(|l| l.count != Some(0))
     }
 
-    /// What a phase of the metric counts as where its run is closed.
-    pub(crate) fn counting(&self, phase: Phase) -> Phase
-        ensures { result ≡ counting self.now phase }
+    /// What a phase of the metric counts as towards closing its run.
+    pub(crate) fn phase_for_run(&self, phase: Phase) -> Phase
+        ensures { result ≡ phase_for_run self.now phase }
     {
         if phase.is_complete() && self.dry {
             Phase::Successful

@@ -67,10 +67,10 @@ impl Progress {
             return Effect::Late;
         }
         metric.add(mark);
-        let counting = metric.limits.counting(metric.phase);
-        self.incomplete -= usize::from(counting.is_complete());
-        if counting.is_unsuccessful() || self.incomplete == 0 {
-            return self.close(counting);
+        let phase = metric.limits.phase_for_run(metric.phase);
+        self.incomplete -= usize::from(phase.is_complete());
+        if phase.is_unsuccessful() || self.incomplete == 0 {
+            return self.close(phase);
         }
         self.phase = Phase::Running;
         Effect::Applied

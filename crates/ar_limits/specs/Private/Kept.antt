@@ -7,7 +7,7 @@ use Rattle.ar_limits.specs.declared.metric.Metric.{Metric}
 use Rattle.ar_limits.specs.declared.phase.Phase.{Phase}
 use Rattle.ar_limits.specs.Private.Bounds.{AreAtMost}
 use Rattle.ar_limits.specs.Metric.{is_complete, is_unsuccessful, HasPositiveCounts}
-use Rattle.ar_limits.specs.Run.{counting}
+use Rattle.ar_limits.specs.Run.{phase_for_run}
 use Rattle.ar_limits.specs.Replay.{Standing}
 use Rattle.ar_limits.specs.Private.Step.{next, answer}
 
@@ -15,9 +15,9 @@ use Rattle.ar_limits.specs.Private.Step.{next, answer}
 abbrev pub incomplete_count : List Phase → ℕ
 incomplete_count phases = count_by (λ phase. not (is_complete phase)) phases
 
--- what a metric's phase counts as where its run is closed
-abbrev pub counted : Metric → Phase
-counted metric = counting metric.limits metric.phase
+-- what a metric's phase counts as towards closing its run
+abbrev pub for_run : Metric → Phase
+for_run metric = phase_for_run metric.limits metric.phase
 
 -- where a run with these metrics and this phase stands
 abbrev pub standing_of : List Metric → Phase → ℕ → Standing
@@ -31,8 +31,8 @@ standing_of metrics phase handed = record {
 
 -- what always holds of the metrics, of the run's phase, and of the number of metrics that aren't complete
 pub record AreConsistent (metrics : List Metric) (phase : Phase) (incomplete : ℕ) : Type 0 where
-  pub incomplete_is : incomplete ≡ incomplete_count (map counted metrics)
-  pub none_unsuccessful : is_complete phase ≡ false → list_any is_unsuccessful (map counted metrics) ≡ false
+  pub incomplete_is : incomplete ≡ incomplete_count (map for_run metrics)
+  pub none_unsuccessful : is_complete phase ≡ false → list_any is_unsuccessful (map for_run metrics) ≡ false
   pub positive : HasPositiveCounts (map (λ metric. metric.limits) metrics)
 
 -- no count of any metric is above the bound

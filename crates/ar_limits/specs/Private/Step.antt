@@ -14,7 +14,7 @@ use Rattle.ar_limits.specs.declared.limits.Limits.{Limits}
 use Rattle.ar_limits.specs.declared.phase.Phase.{Phase}
 use Rattle.ar_limits.specs.declared.phase.Phase.TheVariants as phase
 use Rattle.ar_limits.specs.Metric.{decided_by, is_complete}
-use Rattle.ar_limits.specs.Run.{closed_by_metrics, counting_phases, settled}
+use Rattle.ar_limits.specs.Run.{closed_by_metrics, phases_for_run, settled}
 use Rattle.ar_limits.specs.Replay.{Standing}
 
 -- the counts with one mark more
@@ -54,7 +54,7 @@ with_event state event.Stop = state
 
 -- the phase with which the event closes the run, if it does
 abbrev pub closing_now : Standing → Event → Option Phase
-closing_now state (event.Mark number mark) = closed_by_metrics (counting_phases state.limits (with_event state (event.Mark number mark)).phases)
+closing_now state (event.Mark number mark) = closed_by_metrics (phases_for_run state.limits (with_event state (event.Mark number mark)).phases)
 closing_now state event.Stop = Some phase.Successful
 
 -- the run is closed with this phase

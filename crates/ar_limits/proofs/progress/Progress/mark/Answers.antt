@@ -6,7 +6,7 @@ use Rattle.ar_limits.specs.declared.metric.Metric.{Metric}
 use Rattle.ar_limits.specs.declared.phase.Phase.{Phase}
 use Rattle.ar_limits.specs.Metric.{is_complete, is_unsuccessful}
 use Rattle.ar_limits.specs.Private.MetricStep.{with_mark_added}
-use Rattle.ar_limits.specs.Private.Kept.{AreConsistent, counted}
+use Rattle.ar_limits.specs.Private.Kept.{AreConsistent, for_run}
 use Rattle.ar_limits.proofs.KeptLemmas.{IsAt, IsMarked, some_incomplete, takes_at_complete, takes_mark_on, takes_mark_closed}
 use Rattle.ar_limits.proofs.progress.Progress.mark.Goals as goal
 use Rattle.ar_limits.proofs.progress.Progress.mark.Goals.{then-is_unsuccessful-via-then-is_unsuccessful, then-is_unsuccessful-via-else-is_unsuccessful+then-self-eq0}
@@ -32,7 +32,7 @@ returns-then-is_complete c =
 
 -- a metric with its mark, and the metrics that are left
 marked : (metrics : List Metric) (p : Phase) (incomplete i : ℕ) (metric : Metric) (m : Mark) (more : Metric) (b : Bool) (byte : ℕ) → IsAt metrics i metric → is_complete p ≡ false → is_complete metric.phase ≡ false
-    → AreConsistent metrics p incomplete → more ≡ with_mark_added metric m → b ≡ is_complete (counted more) → byte ≡ bool_byte b → IsMarked metrics p incomplete i metric m (incomplete - byte)
+    → AreConsistent metrics p incomplete → more ≡ with_mark_added metric m → b ≡ is_complete (for_run more) → byte ≡ bool_byte b → IsMarked metrics p incomplete i metric m (incomplete - byte)
 marked metrics p incomplete i metric m more b byte at running open_metric consistent is done size = record {
   at = at;
   running = running;
@@ -47,8 +47,8 @@ returns c =
     let metric = c.index_mut-metric.result.now in
     let is_marked = marked items c.args.self.now.phase c.args.self.now.incomplete c.args.number metric c.args.mark c.add.new.self c.is_complete-2.result c.from.result
     (record { within = c.requires.metric; read = c.index_mut-metric.ensures.value }) c.requires.running (sym c.is_complete.ensures ∙ c.if-is_complete.false) c.requires.consistent
-    c.add.ensures (c.is_complete-2.ensures ∙ ap is_complete c.counting-counting.ensures) c.from.ensures in
-    let fine : is_unsuccessful (counted (with_mark_added metric c.args.mark)) ≡ false = ap (λ (x : Metric). is_unsuccessful (counted x)) (sym c.add.ensures) ∙ ap is_unsuccessful (sym c.counting-counting.ensures) ∙ sym c.is_unsuccessful.ensures ∙ c.if-is_unsuccessful.false in
+    c.add.ensures (c.is_complete-2.ensures ∙ ap is_complete c.phase_for_run-phase.ensures) c.from.ensures in
+    let fine : is_unsuccessful (for_run (with_mark_added metric c.args.mark)) ≡ false = ap (λ (x : Metric). is_unsuccessful (for_run x)) (sym c.add.ensures) ∙ ap is_unsuccessful (sym c.phase_for_run-phase.ensures) ∙ sym c.is_unsuccessful.ensures ∙ c.if-is_unsuccessful.false in
     rw c.add.ensures (takes_mark_on items c.args.self.now.phase c.args.self.now.incomplete c.args.number metric c.args.mark _ is_marked fine c.if-self-eq0.false)
 
 pub returns-then-is_unsuccessful : goal.returns-then-is_unsuccessful
@@ -57,11 +57,11 @@ returns-then-is_unsuccessful c =
     let metric = c.index_mut-metric.result.now in
     let is_marked = marked items c.args.self.now.phase c.args.self.now.incomplete c.args.number metric c.args.mark c.add.new.self c.is_complete-2.result c.from.result
     (record { within = c.requires.metric; read = c.index_mut-metric.ensures.value }) c.requires.running (sym c.is_complete.ensures ∙ c.if-is_complete.false) c.requires.consistent
-    c.add.ensures (c.is_complete-2.ensures ∙ ap is_complete c.counting-counting.ensures) c.from.ensures in
-    let why : (is_unsuccessful (counted (with_mark_added metric c.args.mark)) ≡ true) ⊎ (c.args.self.now.incomplete - c.from.result ≡ 0) =
+    c.add.ensures (c.is_complete-2.ensures ∙ ap is_complete c.phase_for_run-phase.ensures) c.from.ensures in
+    let why : (is_unsuccessful (for_run (with_mark_added metric c.args.mark)) ≡ true) ⊎ (c.args.self.now.incomplete - c.from.result ≡ 0) =
     elim c.then-is_unsuccessful.branch [
-      | then-is_unsuccessful-via-then-is_unsuccessful w ↦ inl (ap (λ (x : Metric). is_unsuccessful (counted x)) (sym c.add.ensures) ∙ ap is_unsuccessful (sym c.counting-counting.ensures) ∙ sym c.is_unsuccessful.ensures ∙ w.if-is_unsuccessful.true)
+      | then-is_unsuccessful-via-then-is_unsuccessful w ↦ inl (ap (λ (x : Metric). is_unsuccessful (for_run x)) (sym c.add.ensures) ∙ ap is_unsuccessful (sym c.phase_for_run-phase.ensures) ∙ sym c.is_unsuccessful.ensures ∙ w.if-is_unsuccessful.true)
       | then-is_unsuccessful-via-else-is_unsuccessful+then-self-eq0 w ↦ inr w.if-self-eq0.true
     ] in
-    rw (c.close.ensures.metrics, c.close.ensures.incomplete, c.close.ensures.phase, c.close.ensures.closed, c.counting-counting.ensures, c.add.ensures)
+    rw (c.close.ensures.metrics, c.close.ensures.incomplete, c.close.ensures.phase, c.close.ensures.closed, c.phase_for_run-phase.ensures, c.add.ensures)
     (takes_mark_closed items c.args.self.now.phase c.args.self.now.incomplete c.args.number metric c.args.mark _ is_marked why)
