@@ -67,7 +67,7 @@ macro_rules! document_help {
     ]
   }
 
-  manifest      the AnalysisTemplate, as `kubectl get analysistemplate NAME -o json` prints it
+  manifest      the AnalysisTemplate or ClusterAnalysisTemplate, as `kubectl get .. NAME -o json` prints it
   shapes        for each metric, by its name, the shape of what is measured (argo_judge eval --help)
   runs          1 to 64 runs of the template, each with a name of its own; `args` go before the
                 template's arguments and may be missing

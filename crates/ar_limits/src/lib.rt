@@ -9,6 +9,9 @@
 //! such list. Making a state may fail for want of memory. After that nothing takes memory, and
 //! every call answers.
 //!
+//! A dry metric is counted as any other, and decides nothing: `phase_for_run` of `specs/Run.antt` says what
+//! its phase counts as.
+//!
 //! Limits and phases are those of Argo Rollouts: its documentation, page "Analysis & Progressive
 //! Delivery", and the AnalysisTemplate spec.
 //!

@@ -1,4 +1,4 @@
--- A template whose arguments are bound: conditions, limits and effective counts of its metrics.
+-- A template whose arguments are bound: conditions, limits, effective counts and dry marks of its metrics.
 use Rattle.std.specs.Prelude.{◌≡◌, ℕ, zero, suc, nat_le, nat_lt, Bool, ◌&&◌, not, if◌then◌else◌, List, [], ◌∷◌, length, Option, Some, None, unwrap_or, Result, Ok, Err, IsOk}
 use Rattle.std.specs.Char.{is_ascii_digit}
 use Rattle.std.specs.List.{list_all}

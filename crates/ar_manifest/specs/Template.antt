@@ -1,4 +1,4 @@
--- What a JSON document is as an AnalysisTemplate of Argo Rollouts, or its first fault.
+-- What a JSON document is as an AnalysisTemplate or a ClusterAnalysisTemplate of Argo Rollouts, or its first fault.
 use Rattle.std.specs.Prelude.{◌≡◌, ℕ, nat_lt, Bool, true, false, not, ◌||◌, List, [], ◌∷◌, length, codes, Option, Some, None, is_some, is_none, option_and_then, Result, Ok, Err, if◌then◌else◌}
 use Rattle.std.specs.List.{list_any}
 use Rattle.std.specs.Str.{bytes_eq}
@@ -58,7 +58,7 @@ metric_limits i d = do
 abbrev pub has_text_or : ManifestError → Option Data → Result Bool ManifestError
 has_text_or refusal found = text_or refusal found >>= λ text. Ok (is_some (option_and_then unless_empty text))
 
--- metric i of this name
+-- metric i of this name, which isn't dry until `dryRun` is read
 unfoldable pub named_metric : ℕ → List ℕ → Data → Result Metric ManifestError
 named_metric i name d = do
   success ← text_or (BadField i) (member (codes "successCondition") d)

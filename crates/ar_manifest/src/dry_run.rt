@@ -87,7 +87,7 @@ fn dry_names<'a>(
     }
 }
 
-fn is_named(names: &[&str], metric: &Metric) -> bool
+fn is_dry(names: &[&str], metric: &Metric) -> bool
     ensures { result ≡ list_any (λ name. names_metric name.now metric.now) names.now }
 {
     names.iter().any(|name| names_metric(name, metric))
@@ -99,7 +99,7 @@ fn make_dry(names: &[&str], metrics: &mut [Metric])
     ensures { metrics.new ≡ map (with_dry (map (λ name. name.now) names.now)) metrics.old }
 {
     for metric in metrics.iter_mut() {
-        metric.dry = is_named(names, metric);
+        metric.dry = is_dry(names, metric);
     }
 }
 

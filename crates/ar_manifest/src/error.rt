@@ -6,7 +6,7 @@ ghost use Rattle.ar_manifest.specs.declared.error.ManifestError.TheVariants.{Out
 use std::alloc::{AllocError, AllocFailed};
 use thiserror::Error;
 
-/// Why a document is no AnalysisTemplate that can be judged, or why its texts can't be bound. A
+/// Why a document is no template that can be judged, or why its texts can't be bound. A
 /// number is that of an argument, a metric or an item of `dryRun`, counted from 0.
 #[derive(Clone, Copy, Debug, PartialEq, Eq, Error)]
 pub enum ManifestError {

@@ -3,7 +3,7 @@
 //!
 //! [`Template::read`] takes each template as it stands, with all fields that say nothing of how
 //! measurements are judged, and names the first fault of one that it refuses. [`Template::bind`]
-//! puts a run's arguments in, and gives each metric's conditions, limits and effective count.
+//! puts a run's arguments in, and gives each metric's conditions, limits, effective count, and whether it is dry.
 //!
 //! What is proved: a document is read as the template that `specs/Template` defines, and bound as
 //! `specs/Bound` defines, or it is refused by the one name that stands first in the stated order.

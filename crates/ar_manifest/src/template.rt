@@ -88,7 +88,7 @@ impl From<Vec<Metric>> for Metrics {
     }
 }
 
-/// An AnalysisTemplate: what of it says how measurements are judged.
+/// An AnalysisTemplate or a ClusterAnalysisTemplate: what of it says how measurements are judged.
 #[derive(Debug, Drop)]
 pub struct Template {
     pub name: Text,

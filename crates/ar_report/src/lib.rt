@@ -1,7 +1,7 @@
 //! Reports for people and pipelines: of runs, and of what is known of conditions before any run.
 //!
 //! [`report`] prints the histories of a bundle's runs: the phase of each run, the phase and counts of
-//! each metric, and each event with its verdict and effect. The text is the function of the
+//! each metric and whether it is dry, and each event with its verdict and effect. The text is the function of the
 //! histories' numbers that `specs/Report` defines, whatever order these are in. [`run_phases`] answers
 //! the phases of the runs. [`check_text`] prints the bounds of each condition, and [`list_text`] its
 //! code (`specs/Check`).

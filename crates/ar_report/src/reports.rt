@@ -52,7 +52,10 @@ fn put_counts(out: &mut String, counts: Counts) -> Result<(), AllocError>
 fn put_dry(out: &mut String, own: &Limits) -> Result<(), AllocError>
     ensures { OnOk result (string_bytes out.new ≡ string_bytes out.old ++ dry_text own.now) }
 {
-    out.push_str(if own.dry { " dryRun" } else { "" })
+    if own.dry {
+        out.push_str(" dryRun")?;
+    }
+    Ok(())
 }
 
 fn put_metric(

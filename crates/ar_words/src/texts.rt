@@ -84,7 +84,7 @@ fn manifest_text(
     template_text(alloc, document, text, cause)
 }
 
-/// The text of a template's refusal, with the name of its argument or metric.
+/// The text of a template's refusal, with the name of its argument or metric, or of an item of `dryRun`.
 fn template_text(
     alloc: Global,
     document: &Json,
@@ -187,7 +187,7 @@ fn double_text(
     }
 }
 
-/// The text of an entry's refusal, with the name that it has and those that it might have.
+/// The text of the refusal of a name that isn't there, with that name and those that there are.
 fn unknown_text(
     alloc: Global,
     text: String,

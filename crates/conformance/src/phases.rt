@@ -49,9 +49,14 @@ fn put_phase(case: &Json, out: &mut String) -> Written {
     Ok(())
 }
 
-/// A limit of a list of four.
+/// A limit at a place of a metric's list.
 fn limit_of(item: &Json, place: usize) -> Option<u32> {
     u32::try_from(item.get(place)?.as_u64()?).ok()
+}
+
+/// Whether the text `dry` stands behind a metric's limits.
+fn is_dry(item: &Json) -> bool {
+    item.get(4usize).and_then(Json::as_str) == Some("dry")
 }
 
 /// The limits of a metric: of failures, of inconclusive marks, of errors in succession, the count or null,
@@ -66,7 +71,7 @@ fn limits_of(item: &Json) -> Option<Limits> {
         inconclusive: limit_of(item, 1)?,
         consecutive_error: limit_of(item, 2)?,
         count,
-        dry: item.get(4usize).is_some(),
+        dry: is_dry(item),
     })
 }
 

@@ -9,7 +9,7 @@ pub loop-metric-preserved : goal.loop-metric-preserved
 loop-metric-preserved c =
     let names = map (λ name. name.now) c.args.names.now in
     let metric = get_or c.loop-metric.metrics c.loop-metric.metric-index c.metric-item.result in
-    let named : c.is_named-metric.result ≡ list_any (λ name. names_metric name.now metric) c.args.names.now = c.is_named-metric.ensures in
+    let named : c.is_dry-metric.result ≡ list_any (λ name. names_metric name.now metric) c.args.names.now = c.is_dry-metric.ensures in
     rw (named ∙ list_any-of_map (λ name. name.now) (λ name. names_metric name metric) c.args.names.now)
     (map_over_more (with_dry names) c.args.metrics.now c.loop-metric.metrics c.loop-metric.metric-index metric c.loop-metric-test.true c.loop-metric.invariant
     (ap (get_or c.loop-metric.metrics c.loop-metric.metric-index) c.metric-item.is))
