@@ -48,9 +48,9 @@ found_text_is bundle number entry said is read =
 
 -- ---- metrics
 
-pub next_metric : (metrics : List MetricPart) (limits : List Limits) (phases : List Phase) (others : List Counts) (place : ℕ) (metric : MetricPart) (own : Limits) (phase : Phase) (counts : Counts) (written total : List ℕ) → place < length metrics → metric ≡ slice_index_or metrics place metric → place < length limits → own ≡ slice_index_or limits place own → slice_get phases place ≡ Some phase → slice_get others place ≡ Some counts
+pub next_metric : (metrics : List MetricPart) (limits : List Limits) (phases : List Phase) (others : List Counts) (place : ℕ) (metric : MetricPart) (phase : Phase) (counts : Counts) (written : List ℕ) (own : Limits) (total : List ℕ) → place < length metrics → metric ≡ slice_index_or metrics place metric → place < length limits → own ≡ slice_index_or limits place own → slice_get phases place ≡ Some phase → slice_get others place ≡ Some counts
     → written ++ metric_lines (drop place metrics) (drop place limits) (drop place phases) (drop place others) ≡ total → (written ++ metric_line metric own phase counts) ++ metric_lines (drop (place + 1) metrics) (drop (place + 1) limits) (drop (place + 1) phases) (drop (place + 1) others) ≡ total
-next_metric metrics limits phases others place metric own phase counts written total inside read own_inside own_read phase_there counts_there so_far =
+next_metric metrics limits phases others place metric phase counts written own total inside read own_inside own_read phase_there counts_there so_far =
     let there = slice_get_read metrics (length metrics) place metric refl inside read in
     let own_there = slice_get_read limits (length limits) place own refl own_inside own_read in
     let rest : metric_lines (drop place metrics) (drop place limits) (drop place phases) (drop place others) ≡ metric_line metric own phase counts ++ metric_lines (drop (suc place) metrics) (drop (suc place) limits) (drop (suc place) phases) (drop (suc place) others) =

@@ -49,8 +49,8 @@ fn put_counts(out: &mut String, counts: Counts) -> Result<(), AllocError>
 }
 
 /// That a metric is dry, where it is.
-fn put_dry(out: &mut String, own: &Limits) -> Result<(), AllocError>
-    ensures { OnOk result (string_bytes out.new ≡ string_bytes out.old ++ dry_text own.now) }
+fn put_dry(out: &mut String, own: Limits) -> Result<(), AllocError>
+    ensures { OnOk result (string_bytes out.new ≡ string_bytes out.old ++ dry_text own) }
 {
     if own.dry {
         out.push_str(" dryRun")?;
@@ -61,12 +61,12 @@ fn put_dry(out: &mut String, own: &Limits) -> Result<(), AllocError>
 fn put_metric(
     out: &mut String,
     metric: &MetricPart,
-    own: &Limits,
+    own: Limits,
     phase: Phase,
     counts: Counts,
 ) -> Result<(), AllocError>
     ensures { OnOk result
-        (string_bytes out.new ≡ string_bytes out.old ++ metric_line metric.now own.now phase counts) }
+        (string_bytes out.new ≡ string_bytes out.old ++ metric_line metric.now own phase counts) }
 {
     out.push_str("metric ")?;
     out.push_str(metric.name.as_str())?;
@@ -163,7 +163,7 @@ fn put_metrics(
         put_metric(
             out,
             metric,
-            &limits[number],
+            limits[number],
             state.metric_phase(number),
             state.counts(number),
         )?;
