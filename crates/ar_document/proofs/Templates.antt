@@ -1,9 +1,9 @@
 -- How many metrics a template has, and what is bound of them.
-use Rattle.std.proofs.Common.{◌≡◌, ◌≤◌, ◌+◌, ℕ, zero, suc, Bool, true, false, List, [], ◌∷◌, ◌++◌, length, Option, Some, None, Result, Ok, Err, refl, subst, ◌∙◌, ap, arith}
+use Rattle.std.proofs.Common.{◌≡◌, ◌≤◌, ◌+◌, ℕ, zero, suc, Bool, true, false, List, [], ◌∷◌, ◌++◌, length, map, Option, Some, None, Result, Ok, Err, refl, subst, ◌∙◌, ap, arith}
 use Rattle.std.specs.Prelude.{nat_lt, not, ◌&&◌, if◌then◌else◌, IfSome, option_and_then}
 use Rattle.std.specs.List.{AllByRecursion}
 use Rattle.std.proofs.lemmas.Bool.Decides.{nat_tests}
-use Rattle.std.proofs.lemmas.List.{length-append}
+use Rattle.std.proofs.lemmas.List.{length-append, length-map}
 use Rattle.serde_json.specs.Data.{Data}
 use Rattle.std.specs.Prelude.{codes, unwrap_or}
 use Rattle.serde_json.specs.Data.{null}
@@ -13,14 +13,15 @@ use Rattle.ar_document.specs.Opening.{template_in}
 use Rattle.ar_document.specs.declared.error.BundleError.TheVariants.{Bind, Manifest}
 use Rattle.ar_manifest.specs.Binding.{RunArguments}
 use Rattle.ar_manifest.specs.Bound.{bound_condition, bound_limit, bound_metric, bound_of, count_without, effective_count, next_bound}
-use Rattle.ar_manifest.specs.Template.{TemplateArguments, arguments_of, counted, counted_metrics, head_of, lists_nothing, metric_of, template_of}
+use Rattle.ar_manifest.specs.DryRun.{dry_names, with_dry, with_dry_run}
+use Rattle.ar_manifest.specs.Template.{TemplateArguments, arguments_of, counted, counted_metrics, head_of, metric_of, template_of}
 use Rattle.ar_manifest.specs.declared.template.Metric.{Metric}
 use Rattle.ar_document.proofs.Growing.{one_more}
 use Rattle.ar_manifest.specs.declared.bound.BoundMetric.{BoundMetric}
-use Rattle.ar_value.specs.Answer.{◌>>=◌, each_behind, holds_or, there_or}
+use Rattle.ar_value.specs.Answer.{◌>>=◌, each_behind, there_or}
 use Rattle.ar_json.specs.Members.{member_of_member, list_of}
 use Rattle.ar_manifest.specs.declared.error.ManifestError.{ManifestError}
-use Rattle.ar_manifest.specs.declared.error.ManifestError.TheVariants.{IntervalMissing, NoMetrics, Unsupported}
+use Rattle.ar_manifest.specs.declared.error.ManifestError.TheVariants.{IntervalMissing, NoMetrics}
 use Rattle.ar_manifest.specs.declared.template.Template.{Template}
 
 -- the first of two steps answers, where both do
@@ -48,6 +49,13 @@ few_items (item ∷ items) some is = by_test (nat_lt 64 (length (item ∷ items)
 same_metrics : (made template : Template) (answer : Result Template ManifestError) → answer ≡ Ok made → answer ≡ Ok template → made.metrics ≡ template.metrics
 same_metrics made template answer first is = let same : made ≡ template = cc in ap (λ (template : Template). template.metrics) same
 
+-- as many metrics stand behind `dryRun` as before it
+as_many_dry : (found : Option Data) (metrics marked : List Metric) → with_dry_run found metrics ≡ Ok marked → length marked ≡ length metrics
+as_many_dry found metrics marked is =
+    let named = first_answers (λ (names : List (List ℕ)). Ok (map (with_dry names) metrics)) marked (dry_names metrics found) is in
+    let same : map (with_dry named.0) metrics ≡ marked = let made = named.2 in cc in
+    rw (← same) (length-map metrics (with_dry named.0))
+
 -- a template has at most 64 metrics
 pub few_metrics : (document : Data) (template : Template) → template_of document ≡ Ok template → length template.metrics ≤ 64
 unfolding template_of
@@ -56,12 +64,13 @@ few_metrics document template is =
     let argued = first_answers _ template (arguments_of (member_of_member (codes "spec") (codes "args") document)) named.2 in
     let listed = first_answers _ template (counted_metrics (member_of_member (codes "spec") (codes "metrics") document)) argued.2 in
     let made = first_answers _ template (each_behind metric_of [] listed.0) listed.2 in
-    let supported = first_answers _ template (holds_or (Unsupported 0) (lists_nothing (member_of_member (codes "spec") (codes "dryRun") document))) made.2 in
+    let marked = first_answers _ template (with_dry_run (member_of_member (codes "spec") (codes "dryRun") document) made.0) made.2 in
     let items = first_answers counted listed.0 (there_or NoMetrics (option_and_then list_of (member_of_member (codes "spec") (codes "metrics") document))) listed.1 in
     let few = few_items items.0 listed.0 items.2 in
     let many = as_many metric_of [] listed.0 made.0 made.1 in
-    let same : made.0 ≡ template.metrics = same_metrics _ template _ refl supported.2 in
-    rw (← same) (omega (arith, many, few))
+    let dry = as_many_dry (member_of_member (codes "spec") (codes "dryRun") document) made.0 marked.0 marked.1 in
+    let same : marked.0 ≡ template.metrics = same_metrics _ template _ refl marked.2 in
+    rw (← same) (omega (arith, dry, many, few))
 
 answered : (answer : Result Template ManifestError) (template : Template) → refused_as Manifest answer ≡ Ok template → answer ≡ Ok template
 answered (Ok made) template is = let same : made ≡ template = cc in ap (λ (template : Template). Ok template) same
