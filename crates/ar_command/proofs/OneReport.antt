@@ -8,6 +8,7 @@ use Rattle.ar_value.specs.Value.{Value}
 use Rattle.ar_limits.specs.Run.{effects, metric_counts, metric_phases}
 use Rattle.ar_limits.specs.declared.counts.Counts.{Counts}
 use Rattle.ar_limits.specs.declared.event.Effect.{Effect}
+use Rattle.ar_limits.specs.declared.limits.Limits.{Limits}
 use Rattle.ar_limits.specs.declared.phase.Phase.{Phase}
 use Rattle.ar_judge.specs.Condition.{Condition}
 use Rattle.ar_judge.specs.Verdict.{Judge, Sample, measured, misfit, provider, said_of, sample_view, verdict}
@@ -176,23 +177,24 @@ module _ (one other : Bundle) (same : IsSameBundle one other) where
   same_event_lines (number ∷ numbers) [] = refl
   same_event_lines (number ∷ numbers) (effect ∷ some) = rw (same_found_text number) (rw (same_event_lines numbers some) refl)
 
-  same_metric_lines : (metrics its : List MetricPart) (phases : List Phase) (counts : List Counts) → map metric_view metrics ≡ map metric_view its → metric_lines metrics phases counts ≡ metric_lines its phases counts
-  same_metric_lines [] [] phases counts view = refl
-  same_metric_lines [] (own ∷ its) phases counts view = absurd cc
-  same_metric_lines (metric ∷ metrics) [] phases counts view = absurd cc
-  same_metric_lines (metric ∷ metrics) (own ∷ its) [] counts view = refl
-  same_metric_lines (metric ∷ metrics) (own ∷ its) (phase ∷ phases) [] view = refl
-  same_metric_lines (metric ∷ metrics) (own ∷ its) (phase ∷ phases) (count ∷ counts) view =
+  same_metric_lines : (metrics its : List MetricPart) (limits : List Limits) (phases : List Phase) (counts : List Counts) → map metric_view metrics ≡ map metric_view its → metric_lines metrics limits phases counts ≡ metric_lines its limits phases counts
+  same_metric_lines [] [] limits phases counts view = refl
+  same_metric_lines [] (own ∷ its) limits phases counts view = absurd cc
+  same_metric_lines (metric ∷ metrics) [] limits phases counts view = absurd cc
+  same_metric_lines (metric ∷ metrics) (own ∷ its) [] phases counts view = refl
+  same_metric_lines (metric ∷ metrics) (own ∷ its) (limit ∷ limits) [] counts view = refl
+  same_metric_lines (metric ∷ metrics) (own ∷ its) (limit ∷ limits) (phase ∷ phases) [] view = refl
+  same_metric_lines (metric ∷ metrics) (own ∷ its) (limit ∷ limits) (phase ∷ phases) (count ∷ counts) view =
       let head : metric_view metric ≡ metric_view own = cc in
       let name : metric.name ≡ own.name = ap (λ (m : Metric). m.name) head in
-      rw name (rw (same_metric_lines metrics its phases counts cc) refl)
+      rw name (rw (same_metric_lines metrics its limits phases counts cc) refl)
 
   same_run_text : (run its : RunPart) (numbers : List ℕ) → IsSameRun run its → run_text one run numbers ≡ run_text other its numbers
   same_run_text run its numbers is =
       let name = is.name in
       let limits = is.limits in
       let events = same_events numbers in
-      let metrics = same_metric_lines one.metrics other.metrics (metric_phases its.limits (events_of other numbers)) (metric_counts its.limits (events_of other numbers)) same.metrics in
+      let metrics = same_metric_lines one.metrics other.metrics its.limits (metric_phases its.limits (events_of other numbers)) (metric_counts its.limits (events_of other numbers)) same.metrics in
       let lines = same_event_lines numbers (effects its.limits (events_of other numbers)) in
       rw name (rw limits (rw events (rw metrics (rw lines refl))))
 
