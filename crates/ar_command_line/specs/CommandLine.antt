@@ -23,16 +23,12 @@ use Rattle.ar_command_line.specs.declared.command_line.UsageError.TheVariants.{W
 abbrev pub workers_option : Rule
 workers_option = record (new_rule (codes "workers")) { long = Some (codes "workers"); value_names = 1 }
 
--- `--plain`
-abbrev pub plain_flag : Rule
-plain_flag = record (new_rule (codes "plain")) { long = Some (codes "plain"); action = Some SetTrue }
-
--- `--ordered`
-abbrev pub ordered_flag : Rule
-ordered_flag = record (new_rule (codes "ordered")) { long = Some (codes "ordered"); action = Some SetTrue }
+-- `--` and a name, with no value
+abbrev pub flag_named : (name : Text) → Rule
+flag_named name = record (new_rule name) { long = Some name; action = Some SetTrue }
 
 abbrev pub run_app : App
-run_app = with_rule (with_rule (with_rule (new_app (codes "run")) workers_option) plain_flag) ordered_flag
+run_app = with_rule (with_rule (with_rule (new_app (codes "run")) workers_option) (flag_named (codes "plain"))) (flag_named (codes "ordered"))
 
 -- the program's own name and settings: a subcommand has to be named, and `help` is none
 abbrev pub program : App
@@ -44,10 +40,12 @@ program = record (new_app (codes "argo_judge")) {
   };
 }
 
+-- the subcommands that take no arguments
+abbrev pub without_run : App
+without_run = fold with_subcommand program (new_shape (codes "eval") ∷ new_shape (codes "check") ∷ new_shape (codes "list") ∷ [])
+
 unfoldable pub application : App
-application =
-    fold with_subcommand program
-    (new_shape (codes "eval") ∷ new_shape (codes "check") ∷ new_shape (codes "list") ∷ run_app.top ∷ [])
+application = with_subcommand without_run run_app.top
 
 -- ---- what is asked for
 

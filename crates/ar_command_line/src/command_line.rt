@@ -1,8 +1,8 @@
 //! The command line, read with `clap`.
 
-ghost use Rattle.std.specs.Prelude.{◌≡◌, ◌≢◌, ◌≤◌, ℕ, [], codes, is_some, Err, IfOk, IsErr, Ok};
-ghost use Rattle.clap.specs.Words.{app_of, fault_of, found_of, kind_of, new_app, rows_of, subcommand_of, subcommand_rows_of, with_rule};
-ghost use Rattle.ar_command_line.specs.CommandLine.{AsksForText, application, command_named, has_flag, is_request, most_workers, named, number_of_workers, program, run_app, run_command, texts_of, workers_of, workers_option};
+ghost use Rattle.std.specs.Prelude.{◌≡◌, ◌≢◌, ◌≤◌, ℕ, [], codes, false, is_some, Err, IfOk, IsErr, Ok};
+ghost use Rattle.clap.specs.Words.{app_of, fault_of, found_of, kind_of, new_app, rows_of, rule_of, subcommand_of, subcommand_rows_of, with_rule};
+ghost use Rattle.ar_command_line.specs.CommandLine.{AsksForText, application, command_named, flag_named, has_flag, is_request, most_workers, named, number_of_workers, program, run_app, run_command, texts_of, without_run, workers_of, workers_option};
 
 use crate::help::{CHECK_HELP, EVAL_HELP, HELP, LIST_HELP, RUN_HELP};
 use clap::error::ErrorKind;
@@ -209,6 +209,14 @@ fn has_flag(matches: &ArgMatches<'_>, name: &str) -> bool
 fn application<'a>(alloc: Global) -> Result<clap::Command<'a>, AllocError>
     ensures { IfOk result (λ command. app_of command ≡ application) }
 {
+    let run = run(alloc)?;
+    without_run(alloc)?.subcommand(run)
+}
+
+/// The command line but for its subcommand `run`.
+fn without_run<'a>(alloc: Global) -> Result<clap::Command<'a>, AllocError>
+    ensures { IfOk result (λ command. app_of command ≡ without_run) }
+{
     program(alloc)
         .subcommand(subcommand(alloc, "eval", "Judge one condition on one value", EVAL_HELP))?
         .subcommand(subcommand(
@@ -222,8 +230,7 @@ fn application<'a>(alloc: Global) -> Result<clap::Command<'a>, AllocError>
             "list",
             "Check a document, and list the code of its conditions",
             LIST_HELP,
-        ))?
-        .subcommand(run(alloc)?)
+        ))
 }
 
 /// The program's own part of the command line.
@@ -270,17 +277,26 @@ fn run_with_workers<'a>(alloc: Global) -> Result<clap::Command<'a>, AllocError>
 fn run<'a>(alloc: Global) -> Result<clap::Command<'a>, AllocError>
     ensures { IfOk result (λ command. app_of command ≡ run_app) }
 {
-    let plain = Arg::new(alloc, "plain")
-        .long("plain")
-        .action(ArgAction::SetTrue)
-        .help(
+    run_with_workers(alloc)?
+        .arg(flag(
+            alloc,
+            "plain",
             "Judge without workers, one measurement after another; --workers is then checked, but not used",
-        );
-    let ordered = Arg::new(alloc, "ordered")
-        .long("ordered")
-        .action(ArgAction::SetTrue)
-        .help(
+        ))?
+        .arg(flag(
+            alloc,
+            "ordered",
             "Judge with workers, and report what --plain does: the events of a run stand in the order of their numbers",
-        );
-    run_with_workers(alloc)?.arg(plain)?.arg(ordered)
+        ))
+}
+
+/// An option that takes no value, `--` and its name.
+fn flag<'a>(alloc: Global, name: &'a str, help: &'a str) -> Arg<'a>
+    ensures rule { rule_of result ≡ flag_named name.entry.now }
+    ensures local { result.global ≡ false }
+{
+    Arg::new(alloc, name)
+        .long(name)
+        .action(ArgAction::SetTrue)
+        .help(help)
 }

@@ -3,7 +3,7 @@
 use crate::phase::Phase;
 
 /// What one measurement of a metric was found to be.
-#[derive(Clone, Copy, Debug, PartialEq, Eq, Hash)]
+#[derive(Clone, Copy, Debug, PartialEq, Eq)]
 pub enum Mark {
     Successful,
     Failed,
@@ -12,7 +12,7 @@ pub enum Mark {
 }
 
 /// What happens to a run.
-#[derive(Clone, Copy, Debug, PartialEq, Eq, Hash)]
+#[derive(Clone, Copy, Debug, PartialEq, Eq)]
 pub enum Event {
     /// A mark of the metric with this number, counted from 0.
     Mark(usize, Mark),
@@ -21,7 +21,7 @@ pub enum Event {
 }
 
 /// What an event did to its run.
-#[derive(Clone, Copy, Debug, PartialEq, Eq, Hash)]
+#[derive(Clone, Copy, Debug, PartialEq, Eq)]
 pub enum Effect {
     /// It counts, and the run goes on.
     Applied,

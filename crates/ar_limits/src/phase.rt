@@ -1,7 +1,7 @@
 //! Phases, of metrics and of runs.
 
 /// How far a metric or a run has come, as Argo Rollouts names it.
-#[derive(Clone, Copy, Debug, PartialEq, Eq, Hash)]
+#[derive(Clone, Copy, Debug, PartialEq, Eq)]
 pub enum Phase {
     /// Nothing has been measured yet.
     Pending,

@@ -1,7 +1,8 @@
 //! What operations that go on to the next place give of the kinds on a stack, which they take. What
 //! they give isn't pushed here.
 
-ghost use Rattle.std.specs.Prelude.{◌≡◌, IfOk, map, option_map, string_bytes};
+ghost use Rattle.std.specs.Prelude.{◌≡◌, IfOk, Some, map, option_map, string_bytes};
+ghost use Rattle.ar_value.specs.Kind.{shaped};
 ghost use Rattle.ar_value.specs.View.{shape_view};
 ghost use Rattle.ar_op.specs.Machine.{nth};
 ghost use Rattle.ar_verify.specs.Effects.{binary_kind, effect, field_by, list_made, on_one, on_two, pushed_kind, scalar_shape, unary_kind};
@@ -19,6 +20,41 @@ use ar_value::operator::{BinaryOperator, Scalar, UnaryOperator};
 use ar_value::shape::Shape;
 use std::alloc::{AllocError, Global};
 
+/// The kind of a scalar.
+fn scalar<'s, M: ShapeName>(
+    alloc: Global,
+    scalar: Scalar,
+) -> Result<Option<Kind<'s, M>>, AllocError>
+    ensures { IfOk result (λ given. option_map kind_view given ≡ Some (shaped (scalar_shape scalar))) }
+{
+    Ok(Some(Kind::made(alloc, scalar_shape(scalar))?))
+}
+
+/// The kind of the measured value.
+fn measured_kind<'s, M: ShapeName>(
+    alloc: Global,
+    measured: &Whole<'s, M>,
+) -> Result<Option<Kind<'s, M>>, AllocError>
+    ensures { IfOk result (λ given. option_map kind_view given ≡ Some (shaped (shape_view M.shape))) }
+{
+    let shape = AnyShape::measured(alloc, measured.again())?;
+    Ok(Some(Kind::Shape(shape)))
+}
+
+/// The kind of the items of a list, if there is one.
+fn item_kind<'s, M: ShapeName>(
+    alloc: Global,
+    list: Option<&AnyShape<'s, M>>,
+) -> Result<Option<Kind<'s, M>>, AllocError>
+    ensures { IfOk result (λ given. option_map kind_view given
+        ≡ option_map (λ list. shaped (list_view list.now).0) list.entry) }
+{
+    match list {
+        Some(list) => Ok(Some(Kind::Shape(list.child(alloc, INNER)?))),
+        None => Ok(None),
+    }
+}
+
 /// What is pushed, where the innermost loop, if there is one, is over a list.
 fn pushed<'s, M: ShapeName>(
     alloc: Global,
@@ -29,18 +65,15 @@ fn pushed<'s, M: ShapeName>(
     ensures { IfOk result (λ given. option_map kind_view given
         ≡ pushed_kind (shape_view M.shape) (option_map (λ list. (list_view list.now).0) here.entry) source) }
 {
-    Ok(Some(match source {
-        Source::Bool(_) => Kind::made(alloc, Shape::Bool)?,
-        Source::Whole(_) => Kind::made(alloc, Shape::Whole)?,
-        Source::Decimal(_) => Kind::made(alloc, Shape::Decimal)?,
-        Source::Text(_) => Kind::made(alloc, Shape::Text)?,
-        Source::Nil => Kind::Nil,
-        Source::Result => Kind::Shape(AnyShape::measured(alloc, measured.again())?),
-        Source::Item => match here {
-            Some(list) => Kind::Shape(list.child(alloc, INNER)?),
-            None => return Ok(None),
-        },
-    }))
+    match source {
+        Source::Bool(_) => scalar(alloc, Scalar::Bool),
+        Source::Whole(_) => scalar(alloc, Scalar::Whole),
+        Source::Decimal(_) => scalar(alloc, Scalar::Decimal),
+        Source::Text(_) => scalar(alloc, Scalar::Text),
+        Source::Nil => Ok(Some(Kind::Nil)),
+        Source::Result => measured_kind(alloc, measured),
+        Source::Item => item_kind(alloc, here),
+    }
 }
 
 /// Takes an operand.
@@ -53,7 +86,7 @@ fn unary<'s, M: ShapeName>(
         (λ given. Leaves given kinds.new.items (on_one (unary_kind operator) (from_top kinds.old.items))) }
 {
     match pop(kinds) {
-        Some(operand) => apply_unary(alloc, operator, operand),
+        Some(operand) => apply_unary(alloc, operator, &operand),
         None => Ok(None),
     }
 }
@@ -73,7 +106,7 @@ fn binary<'s, M: ShapeName>(
     let Some(left) = pop(kinds) else {
         return Ok(None);
     };
-    apply_binary(alloc, operator, left, right)
+    apply_binary(alloc, operator, &left, &right)
 }
 
 /// The name of a number.
@@ -103,7 +136,7 @@ fn field<'s, M: ShapeName>(
         return Ok(None);
     };
     match pop(kinds) {
-        Some(operand) => field_of(alloc, name, operand),
+        Some(operand) => field_of(alloc, name, &operand),
         None => Ok(None),
     }
 }

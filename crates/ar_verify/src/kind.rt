@@ -213,8 +213,8 @@ fn is_list(shape: &Shape) -> bool
 
 /// The shape of a list, where the kind is that of one.
 #[tactic(auto, using(crate::proofs::Parts::of_a_list, crate::proofs::Parts::of_no_list))]
-pub(crate) fn into_list<'s, M: ShapeName>(kind: Kind<'s, M>) -> Option<AnyShape<'s, M>>
-    ensures { option_map list_view result ≡ list_in (kind_view kind.entry) }
+pub(crate) fn as_list<'a, 's, M: ShapeName>(kind: &'a Kind<'s, M>) -> Option<&'a AnyShape<'s, M>>
+    ensures { option_map (λ list. list_view list.now) result ≡ list_in (kind_view kind.now) }
 {
     match kind {
         Kind::Nil => None,

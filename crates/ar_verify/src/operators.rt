@@ -6,7 +6,7 @@ ghost use Rattle.ar_value.specs.View.{shape_view};
 ghost use Rattle.ar_verify.specs.Effects.{decimal_kind, decimal_shape, family_in, is_scalar, binary_kind, decimals_kind, default_kind, equal_kind, field_kind, is_compared, is_family, is_number, item_kind, length_kind, member_kind, needed_kind, negative_kind, of_one_family, opposite_kind, order_kind, quotient_kind, same_kind, truth, unary_kind, where_taken, wholes_kind};
 ghost use Rattle.ar_verify.specs.Private.Kinds.{kind_view};
 
-use crate::kind::{Kind, family_in, family_of, into_list, is_scalar, list_in, merge};
+use crate::kind::{Kind, family_in, family_of, as_list, is_scalar, list_in, merge};
 use crate::part::{INNER, field_number};
 use crate::whole::ShapeName;
 use ar_value::kind;
@@ -35,9 +35,9 @@ fn where_taken<'s, M: ShapeName>(
 pub(crate) fn field_of<'s, M: ShapeName>(
     alloc: Global,
     name: &str,
-    operand: Kind<'s, M>,
+    operand: &Kind<'s, M>,
 ) -> Result<Option<Kind<'s, M>>, AllocError>
-    ensures { IfOk result (λ given. option_map kind_view given ≡ field_kind name.now (kind_view operand.entry)) }
+    ensures { IfOk result (λ given. option_map kind_view given ≡ field_kind name.now (kind_view operand.now)) }
 {
     match operand {
         Kind::Nil => Ok(None),
@@ -51,16 +51,16 @@ pub(crate) fn field_of<'s, M: ShapeName>(
 #[tactic(auto, using(crate::proofs::Parts::item_by_list))]
 fn item<'s, M: ShapeName>(
     alloc: Global,
-    list: Kind<'s, M>,
+    list: &Kind<'s, M>,
     index: &Kind<'_, M>,
 ) -> Result<Option<Kind<'s, M>>, AllocError>
     ensures { IfOk result
-        (λ given. option_map kind_view given ≡ item_kind (kind_view list.entry) (kind_view index.now)) }
+        (λ given. option_map kind_view given ≡ item_kind (kind_view list.now) (kind_view index.now)) }
 {
     if !is_scalar(Scalar::Whole, index) {
         return Ok(None);
     }
-    match into_list(list) {
+    match as_list(list) {
         Some(list) => Ok(Some(Kind::Shape(list.child(alloc, INNER)?))),
         None => Ok(None),
     }
@@ -78,9 +78,9 @@ fn length<'s, M: ShapeName>(
 
 fn needed<'s, M: ShapeName>(
     alloc: Global,
-    operand: Kind<'s, M>,
+    operand: &Kind<'s, M>,
 ) -> Result<Option<Kind<'s, M>>, AllocError>
-    ensures { IfOk result (λ given. option_map kind_view given ≡ needed_kind (kind_view operand.entry)) }
+    ensures { IfOk result (λ given. option_map kind_view given ≡ needed_kind (kind_view operand.now)) }
 {
     match operand {
         Kind::Nil => Ok(None),
@@ -91,15 +91,15 @@ fn needed<'s, M: ShapeName>(
 /// The kind of what isn't nil, or of what stands for it.
 fn default<'s, M: ShapeName>(
     alloc: Global,
-    operand: Kind<'s, M>,
-    other: Kind<'s, M>,
+    operand: &Kind<'s, M>,
+    other: &Kind<'s, M>,
 ) -> Result<Option<Kind<'s, M>>, AllocError>
     ensures { IfOk result
-        (λ given. option_map kind_view given ≡ default_kind (kind_view operand.entry) (kind_view other.entry)) }
+        (λ given. option_map kind_view given ≡ default_kind (kind_view operand.now) (kind_view other.now)) }
 {
     match operand {
-        Kind::Nil => Ok(Some(other)),
-        Kind::Shape(shape) => merge(alloc, &Kind::Shape(shape.plain(alloc)?), &other),
+        Kind::Nil => Ok(Some(other.share()?)),
+        Kind::Shape(shape) => merge(alloc, &Kind::Shape(shape.plain(alloc)?), other),
     }
 }
 
@@ -183,18 +183,24 @@ fn quotient(operator: Arithmetic) -> Shape
     }
 }
 
-fn same<'s, M: ShapeName>(scalar: Scalar, operand: Kind<'s, M>) -> Option<Kind<'s, M>>
-    ensures { option_map kind_view result ≡ same_kind scalar (kind_view operand.entry) }
+fn same<'s, M: ShapeName>(
+    scalar: Scalar,
+    operand: &Kind<'s, M>,
+) -> Result<Option<Kind<'s, M>>, AllocError>
+    ensures { IfOk result (λ given. option_map kind_view given ≡ same_kind scalar (kind_view operand.now)) }
 {
-    if is_scalar(scalar, &operand) {
-        Some(operand)
+    if is_scalar(scalar, operand) {
+        Ok(Some(operand.share()?))
     } else {
-        None
+        Ok(None)
     }
 }
 
-fn negative<'s, M: ShapeName>(numbers: Numbers, operand: Kind<'s, M>) -> Option<Kind<'s, M>>
-    ensures { option_map kind_view result ≡ negative_kind numbers (kind_view operand.entry) }
+fn negative<'s, M: ShapeName>(
+    numbers: Numbers,
+    operand: &Kind<'s, M>,
+) -> Result<Option<Kind<'s, M>>, AllocError>
+    ensures { IfOk result (λ given. option_map kind_view given ≡ negative_kind numbers (kind_view operand.now)) }
 {
     match numbers {
         Numbers::Wholes => same(Scalar::Whole, operand),
@@ -219,17 +225,17 @@ fn is_compared<M: ShapeName>(numbers: Compared, operand: &Kind<'_, M>) -> bool
 pub(crate) fn apply_unary<'s, M: ShapeName>(
     alloc: Global,
     operator: UnaryOperator,
-    operand: Kind<'s, M>,
+    operand: &Kind<'s, M>,
 ) -> Result<Option<Kind<'s, M>>, AllocError>
-    ensures { IfOk result (λ given. option_map kind_view given ≡ unary_kind operator (kind_view operand.entry)) }
+    ensures { IfOk result (λ given. option_map kind_view given ≡ unary_kind operator (kind_view operand.now)) }
 {
     match operator {
-        UnaryOperator::Len => length(alloc, &operand),
+        UnaryOperator::Len => length(alloc, operand),
         UnaryOperator::Need => needed(alloc, operand),
-        UnaryOperator::IsNil => Ok(Some(Kind::made(alloc, Shape::Bool)?)),
-        UnaryOperator::ToDecimal => decimal(alloc, &operand),
-        UnaryOperator::Not => where_taken(alloc, is_scalar(Scalar::Bool, &operand), Shape::Bool),
-        UnaryOperator::Negate(numbers) => Ok(negative(numbers, operand)),
+        UnaryOperator::IsNil => where_taken(alloc, true, Shape::Bool),
+        UnaryOperator::ToDecimal => decimal(alloc, operand),
+        UnaryOperator::Not => where_taken(alloc, is_scalar(Scalar::Bool, operand), Shape::Bool),
+        UnaryOperator::Negate(numbers) => negative(numbers, operand),
     }
 }
 
@@ -256,31 +262,31 @@ fn are_in_family<M: ShapeName>(family: Family, left: &Kind<'_, M>, right: &Kind<
 pub(crate) fn apply_binary<'s, M: ShapeName>(
     alloc: Global,
     operator: BinaryOperator,
-    left: Kind<'s, M>,
-    right: Kind<'s, M>,
+    left: &Kind<'s, M>,
+    right: &Kind<'s, M>,
 ) -> Result<Option<Kind<'s, M>>, AllocError>
     ensures { IfOk result
-        (λ given. option_map kind_view given ≡ binary_kind operator (kind_view left.entry) (kind_view right.entry)) }
+        (λ given. option_map kind_view given ≡ binary_kind operator (kind_view left.now) (kind_view right.now)) }
 {
     match operator {
-        BinaryOperator::Index => item(alloc, left, &right),
+        BinaryOperator::Index => item(alloc, left, right),
         BinaryOperator::Default => default(alloc, left, right),
-        BinaryOperator::IsIn => member(alloc, &left, &right),
+        BinaryOperator::IsIn => member(alloc, left, right),
         BinaryOperator::Wholes(operator) => where_taken(
             alloc,
-            are_scalars(Scalar::Whole, &left, &right),
+            are_scalars(Scalar::Whole, left, right),
             quotient(operator),
         ),
         BinaryOperator::Decimals(_) => where_taken(
             alloc,
-            are_scalars(Scalar::Decimal, &left, &right),
+            are_scalars(Scalar::Decimal, left, right),
             Shape::Decimal,
         ),
         BinaryOperator::Compare(numbers, _) => {
-            where_taken(alloc, are_compared(numbers, &left, &right), Shape::Bool)
+            where_taken(alloc, are_compared(numbers, left, right), Shape::Bool)
         }
         BinaryOperator::Equal(family) => {
-            where_taken(alloc, are_in_family(family, &left, &right), Shape::Bool)
+            where_taken(alloc, are_in_family(family, left, right), Shape::Bool)
         }
     }
 }

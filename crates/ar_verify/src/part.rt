@@ -149,13 +149,13 @@ impl<'s, M: ShapeName> AnyShape<'s, M> {
 
     /// The shape of what isn't nil.
     #[tactic(auto, using(crate::proofs::Parts::plain_already, crate::proofs::Ways::plain_inside))]
-    pub(crate) fn plain(self, alloc: Global) -> Result<AnyShape<'s, M>, AllocError>
-        ensures { IfOk result (λ inner. any_view inner ≡ plain (any_view self.entry)) }
+    pub(crate) fn plain(&self, alloc: Global) -> Result<AnyShape<'s, M>, AllocError>
+        ensures { IfOk result (λ inner. any_view inner ≡ plain (any_view self.now)) }
     {
         if kind::is_optional(self.get()) {
             self.child(alloc, INNER)
         } else {
-            Ok(self)
+            self.share()
         }
     }
 }

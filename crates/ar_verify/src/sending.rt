@@ -7,13 +7,13 @@ ghost use Rattle.ar_verify.specs.Effects.{effect};
 ghost use Rattle.ar_verify.specs.Private.Failures.{Meets};
 ghost use Rattle.ar_verify.specs.Private.Held.{around_view, counted, from_innermost, operands_view};
 ghost use Rattle.ar_verify.specs.Private.Kinds.{kind_view, list_view};
-ghost use Rattle.ar_verify.specs.Private.Sending.{around, beginning, branched, going_on, jumping, kept_or_taken, list_taken, passed_by, returning, sends_by, sends_view, stepping, truth_taken};
+ghost use Rattle.ar_verify.specs.Private.Sending.{around, beginning, branched, given_on_top, going_on, jumping, kept_or_taken, list_taken, passed_by, returning, sends_by, sends_view, stepping, truth_taken};
 ghost use Rattle.ar_verify.specs.Private.Stacks.{from_top};
 
 use crate::effect::apply;
 use crate::error::Reason;
 use crate::failure::Failure;
-use crate::kind::{Kind, into_list, is_scalar, list_like};
+use crate::kind::{Kind, as_list, is_scalar, list_like};
 use crate::operands::{Around, Operands};
 use crate::part::AnyShape;
 use crate::stack::{pop, push};
@@ -61,7 +61,8 @@ fn take_list<'s, M: ShapeName>(kinds: &mut Vec<Kind<'s, M>>) -> Result<AnyShape<
         (list_taken (from_top kinds.old.items)) }
 {
     let operand = pop(kinds).ok_or(Reason::IllKinded)?;
-    Ok(into_list(operand).ok_or(Reason::IllKinded)?)
+    let list = as_list(&operand).ok_or(Reason::IllKinded)?;
+    Ok(list.share()?)
 }
 
 /// What a loop gives over a list.
@@ -259,6 +260,18 @@ fn answer<'s, M: ShapeName>(had: Operands<'s, M>) -> Result<Sends<'s, M>, Failur
     Ok(Sends::Nothing)
 }
 
+/// Pushes what an operation gives, unless it doesn't take its operands.
+fn push_given<'s, M: ShapeName>(
+    kinds: &mut Vec<Kind<'s, M>>,
+    given: Option<Kind<'s, M>>,
+) -> Result<(), Failure>
+    ensures { Meets (λ _. from_top kinds.new.items) result
+        (given_on_top (option_map kind_view given.entry) (from_top kinds.old.items)) }
+{
+    let given = given.ok_or(Reason::IllKinded)?;
+    Ok(push(kinds, given)?)
+}
+
 /// Goes to the next place.
 fn go_on<'s, M: ShapeName>(
     alloc: Global,
@@ -273,7 +286,7 @@ fn go_on<'s, M: ShapeName>(
 {
     let Operands { mut kinds, loops } = had;
     let given = apply(alloc, code, measured, innermost(&loops), op, &mut kinds)?;
-    push(&mut kinds, given.ok_or(Reason::IllKinded)?)?;
+    push_given(&mut kinds, given)?;
     Ok(Sends::One(Sent {
         target: next,
         operands: Operands { kinds, loops },

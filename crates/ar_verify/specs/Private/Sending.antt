@@ -43,6 +43,11 @@ abbrev pub list_taken : List Kind → Result ((Shape × ℕ) × List Kind) Reaso
 list_taken [] = Err IllKinded
 list_taken (kind ∷ kinds) = parts_taken (list_in kind) kinds
 
+-- what an operation gives stands on top
+abbrev pub given_on_top : Option Kind → List Kind → Result (List Kind) Reason
+given_on_top (Some kind) kinds = Ok (kind ∷ kinds)
+given_on_top None kinds = Err IllKinded
+
 -- ---- what is sent on, where the next place has a number
 
 abbrev pub going_on : (next : ℕ) → List Around → Option (List Kind) → Result (List Sent) Reason

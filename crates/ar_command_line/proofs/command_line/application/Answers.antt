@@ -1,15 +1,10 @@
 use Rattle.std.proofs.Common.{refl}
 use Rattle.std.proofs.lemmas.Result.{IfOk-weaker}
-use Rattle.clap.specs.Words.{new_app}
-use Rattle.std.specs.Prelude.{codes}
-use Rattle.ar_command_line.specs.CommandLine.{application, program, run_app}
+use Rattle.ar_command_line.specs.CommandLine.{application, run_app}
 use Rattle.ar_command_line.proofs.Building.{added}
 use Rattle.ar_command_line.proofs.command_line.application.Goals as goal
 
 pub returns : goal.returns
 unfolding application
 returns c =
-    let with_eval = added _ _ _ program (new_app (codes "eval")) c.program.ensures c.subcommand.ensures refl c.in_ok-subcommand.ensures in
-    let with_check = added _ _ _ _ (new_app (codes "check")) with_eval c.subcommand-3.ensures refl c.in_ok-subcommand-2.ensures in
-    let with_list = added _ _ _ _ (new_app (codes "list")) with_check c.subcommand-5.ensures refl c.in_ok-subcommand-3.ensures in
-    IfOk-weaker c.subcommand-7.result _ _ (λ command last. added _ _ command _ run_app with_list c.in_ok-run.ensures refl last) c.subcommand-7.ensures
+    IfOk-weaker c.subcommand.result _ _ (λ command last. added _ _ command _ run_app c.in_ok-without_run.ensures c.in_ok-run.ensures refl last) c.subcommand.ensures
