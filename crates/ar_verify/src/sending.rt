@@ -1,13 +1,13 @@
 //! What operations send on.
 
-ghost use Rattle.std.specs.Prelude.{◌≡◌, ◌+◌, ◌<◌, ◌≤◌, ◌∷◌, [], IfOk, MatchOption, OnOk, option_map};
+ghost use Rattle.std.specs.Prelude.{◌≡◌, ◌+◌, ◌<◌, ◌≤◌, ◌∷◌, [], IfOk, MatchOption, Ok, OnOk, option_map};
 ghost use Rattle.ar_value.specs.View.{shape_view};
 ghost use Rattle.ar_verify.specs.Arrivals.{answer_kind, deepest, item_of, lacks, most_operands, operands};
 ghost use Rattle.ar_verify.specs.Effects.{effect};
 ghost use Rattle.ar_verify.specs.Private.Failures.{Meets};
 ghost use Rattle.ar_verify.specs.Private.Held.{around_view, counted, from_innermost, operands_view};
 ghost use Rattle.ar_verify.specs.Private.Kinds.{kind_view, list_view};
-ghost use Rattle.ar_verify.specs.Private.Sending.{around, beginning, branched, given_on_top, going_on, jumping, kept_or_taken, list_taken, passed_by, returning, sends_by, sends_view, stepping, truth_taken};
+ghost use Rattle.ar_verify.specs.Private.Sending.{around, beginning, branched, given_on_top, going_on, jumping, kept_or_taken, list_taken, only_truth, passed_by, returning, sends_by, sends_view, stepping, truth_taken};
 ghost use Rattle.ar_verify.specs.Private.Stacks.{from_top};
 
 use crate::effect::apply;
@@ -195,6 +195,21 @@ fn inside<'s, M: ShapeName>(
     })
 }
 
+/// Operands behind a loop over a list, with its answer on top.
+fn behind<'s, M: ShapeName>(
+    alloc: Global,
+    predicate: Predicate,
+    list: &AnyShape<'s, M>,
+    mut below: Vec<Kind<'s, M>>,
+) -> Result<Vec<Kind<'s, M>>, AllocError>
+    ensures { IfOk result (λ kinds. from_top kinds.items
+        ≡ answer_kind predicate (list_view list.now).0 (list_view list.now).1 ∷ from_top below.entry.items) }
+{
+    let answer = answer_kind(alloc, predicate, list)?;
+    push(&mut below, answer)?;
+    Ok(below)
+}
+
 /// Begins a loop over the list on top, or goes behind it with its answer.
 fn enter<'s, M: ShapeName>(
     alloc: Global,
@@ -207,8 +222,9 @@ fn enter<'s, M: ShapeName>(
         (beginning predicate next (step + 1) (operands_view had.entry).kinds (operands_view had.entry).loops) }
 {
     let list = take_list(&mut had.kinds)?;
-    let mut behind = had.copy(alloc)?;
-    push(&mut behind.kinds, answer_kind(alloc, predicate, &list)?)?;
+    let Operands { kinds, loops } = had.copy(alloc)?;
+    let kinds = behind(alloc, predicate, &list, kinds)?;
+    let behind = Operands { kinds, loops };
     let body = inside(alloc, list, had)?;
     Ok(Sends::Two(
         Sent {
@@ -222,6 +238,19 @@ fn enter<'s, M: ShapeName>(
     ))
 }
 
+/// Takes the truth value of a loop's body, above which and below which there is nothing.
+fn take_answer<M: ShapeName>(mut kinds: Vec<Kind<'_, M>>) -> Result<(), Failure>
+    ensures exact { Meets (λ _. []) result (only_truth (from_top kinds.entry.items)) }
+    ensures taken { OnOk result (truth_taken (from_top kinds.entry.items) ≡ Ok []) }
+{
+    take_truth(&mut kinds)?;
+    if kinds.is_empty() {
+        Ok(())
+    } else {
+        Err(Failure::Fault(Reason::BadMerge))
+    }
+}
+
 /// Goes behind a loop, where nothing but the truth value of its body is above its floor.
 fn step<'s, M: ShapeName>(
     alloc: Global,
@@ -232,22 +261,13 @@ fn step<'s, M: ShapeName>(
     ensures { Meets sends_view result
         (stepping predicate next (operands_view had.entry).kinds (operands_view had.entry).loops) }
 {
-    let Operands {
-        mut kinds,
-        mut loops,
-    } = had;
-    take_truth(&mut kinds)?;
-    if !kinds.is_empty() {
-        return Err(Failure::Fault(Reason::BadMerge));
-    }
-    let Around { list, mut below } = pop_loop(&mut loops).ok_or(Reason::BadMerge)?;
-    push(&mut below, answer_kind(alloc, predicate, &list)?)?;
+    let Operands { kinds, mut loops } = had;
+    take_answer(kinds)?;
+    let Around { list, below } = pop_loop(&mut loops).ok_or(Reason::BadMerge)?;
+    let kinds = behind(alloc, predicate, &list, below)?;
     Ok(Sends::One(Sent {
         target: next,
-        operands: Operands {
-            kinds: below,
-            loops,
-        },
+        operands: Operands { kinds, loops },
     }))
 }
 

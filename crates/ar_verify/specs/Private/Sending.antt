@@ -34,6 +34,14 @@ abbrev pub truth_taken : List Kind → Result (List Kind) Reason
 truth_taken (shaped bool ∷ kinds) = Ok kinds
 truth_taken kinds = Err IllKinded
 
+abbrev pub where_empty : List Kind → Result (List Kind) Reason
+where_empty [] = Ok []
+where_empty (kind ∷ kinds) = Err BadMerge
+
+-- a truth value with nothing below it
+abbrev pub only_truth : List Kind → Result (List Kind) Reason
+only_truth kinds = truth_taken kinds >>= λ taken. where_empty taken
+
 abbrev pub parts_taken : Option (Shape × ℕ) → List Kind → Result ((Shape × ℕ) × List Kind) Reason
 parts_taken (Some parts) kinds = Ok (parts, kinds)
 parts_taken None kinds = Err IllKinded
