@@ -21,16 +21,16 @@ use Rattle.ar_op.specs.declared.op.Op.{Op}
 use Rattle.ar_op.specs.declared.op.Jump.TheVariants as jumps
 use Rattle.ar_op.specs.declared.op.Op.TheVariants.{Push, MakeList, Field, Unary, Binary, Jump, Enter, Step}
 use Rattle.ar_op.specs.declared.op.Source.TheVariants as sources
-use Rattle.ar_verify.specs.Arrivals.{Around, answer_kind, item_of, lacks, operands}
-use Rattle.ar_verify.specs.Effects.{decimal_kind, decimal_shape, effect, is_family, is_scalar, list_made, of_one_family, truth}
-use Rattle.ar_verify.specs.Effects as effects
-use Rattle.ar_verify.specs.Places.{most_loops}
-use Rattle.ar_verify.specs.Arrivals.{Sent, all_sent}
-use Rattle.ar_verify.specs.declared.error.Cause.{Cause}
-use Rattle.ar_verify.specs.declared.error.Cause.TheVariants.{Fault}
-use Rattle.ar_verify.specs.declared.error.Reason.{Reason}
-use Rattle.ar_verify.specs.declared.error.Reason.TheVariants.{BudgetTooLarge, StackTooDeep}
-use Rattle.ar_verify.specs.Verdict.{IsFault}
+use Rattle.ar_verified.specs.Arrivals.{Around, answer_kind, item_of, lacks, operands}
+use Rattle.ar_verified.specs.Effects.{decimal_kind, decimal_shape, effect, is_family, is_scalar, list_made, of_one_family, truth}
+use Rattle.ar_verified.specs.Effects as effects
+use Rattle.ar_verified.specs.Places.{most_loops}
+use Rattle.ar_verified.specs.Arrivals.{Sent, all_sent}
+use Rattle.ar_verified.specs.declared.error.Cause.{Cause}
+use Rattle.ar_verified.specs.declared.error.Cause.TheVariants.{Fault}
+use Rattle.ar_verified.specs.declared.error.Reason.{Reason}
+use Rattle.ar_verified.specs.declared.error.Reason.TheVariants.{BudgetTooLarge, StackTooDeep}
+use Rattle.ar_verified.specs.Verdict.{IsFault}
 use Rattle.ar_compile.specs.Acceptance.{OnlyTooLarge}
 use Rattle.ar_compile.specs.Compiled.{compiled}
 use Rattle.ar_compile.specs.Length.{operations, operations_of_items}

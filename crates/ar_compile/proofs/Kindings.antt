@@ -37,8 +37,8 @@ use Rattle.ar_check.specs.declared.error.TypeError.TheVariants.{NotTruth, Predic
 use Rattle.ar_check.proofs.Lists.{all_suit, common_suits, suits}
 use Rattle.ar_check.proofs.Means.{answers, both_hold}
 use Rattle.ar_check.proofs.Parts.{ListOf, is_list, one_family}
-use Rattle.ar_verify.specs.Effects.{binary_kind, family_of, is_family, unary_kind}
-use Rattle.ar_verify.specs.Effects as effects
+use Rattle.ar_verified.specs.Effects.{binary_kind, family_of, is_family, unary_kind}
+use Rattle.ar_verified.specs.Effects as effects
 use Rattle.ar_compile.specs.Private.Kinded.{Kinded, AllKinded, measured, innermost, literally, of_field, of_unary, of_binary, of_both, of_either, of_choice, of_list, of_predicate, none, one_more}
 
 module _ (wanted : Shape) (inner : Option Shape) (around : ℕ) where

@@ -23,9 +23,9 @@ use Rattle.ar_check.proofs.OperatorKinds.{both_means, one_means}
 use Rattle.ar_check.proofs.Operands.{literal_sound, there_fits}
 use Rattle.ar_check.proofs.Parts.{field_means}
 use Rattle.ar_check.proofs.Predicates.{predicate_means}
-use Rattle.ar_verify.specs.Effects.{binary_kind, unary_kind}
-use Rattle.ar_verify.proofs.Effects.{binary_sound, unary_sound}
-use Rattle.ar_verify.proofs.Values.{MeansKind as MeansFitting}
+use Rattle.ar_verified.specs.Effects.{binary_kind, unary_kind}
+use Rattle.ar_verified.proofs.Effects.{binary_sound, unary_sound}
+use Rattle.ar_verified.proofs.Values.{MeansKind as MeansFitting}
 use Rattle.ar_compile.specs.Private.Kinded.{Kinded, AllKinded, measured, innermost, literally, of_field, of_unary, of_binary, of_both, of_either, of_choice, of_list, of_predicate, none, one_more}
 
 -- ---- operators

@@ -19,7 +19,7 @@ use ar_judge::{BuildCause, Condition};
 use ar_machine::Answer;
 use ar_syntax::SyntaxError;
 use ar_value::shared_shape::SharedShape;
-use ar_verify::Reason;
+use ar_verified::Reason;
 use serde_json::Value as Json;
 use std::alloc::{AllocError, Global};
 use thiserror::Error;

@@ -17,9 +17,9 @@ use Rattle.ar_compile.proofs.Conditions.{compiled_means}
 use Rattle.ar_compile.proofs.Lawful.{compiled_is_code}
 use Rattle.ar_compile.specs.Compiled.{compiled}
 use Rattle.ar_compile.specs.Ends.{EndsWith}
-use Rattle.ar_verify.proofs.Verdicts.{few_operands, verified_is_safe}
-use Rattle.ar_verify.specs.Safety.{IsSafe}
-use Rattle.ar_verify.specs.Verdict.{Verified}
+use Rattle.ar_verified.proofs.Safe.{few_operands, verified_is_safe}
+use Rattle.ar_verified.specs.Safety.{IsSafe}
+use Rattle.ar_verified.specs.Verdict.{Verified}
 use Rattle.ar_judge.specs.Condition.{Condition, IsBuilt, condition_of, refused_as, said, typed_of}
 use Rattle.ar_judge.specs.Headline.{HeadlineHolds, HoldsWhereThere, JudgeHeadlineHolds, JudgesAsMeant, RunsAsMeant, run_answer}
 use Rattle.ar_judge.specs.Verdict.{AreBuilt, IsJudge, Judge, judge_of, said_of, verdict_by}

@@ -16,7 +16,7 @@ use Rattle.ar_compile.proofs.Checked.{checked_in_limits}
 use Rattle.ar_compile.specs.Ends.{EndsWith}
 use Rattle.ar_operand.proofs.Ends as runs
 use Rattle.ar_operand.specs.Run.{IsDone}
-use Rattle.ar_verify.specs.Verdict.{Verified}
+use Rattle.ar_verified.specs.Verdict.{Verified}
 use Rattle.ar_judge.specs.Condition.{IsBuilt, condition_of, said, typed_of}
 use Rattle.ar_judge.specs.Private.Readiness.{IsReady, IsRunnable, Means}
 

@@ -19,10 +19,10 @@ use Rattle.ar_compile.specs.Length.{length_of}
 use Rattle.ar_compile.specs.declared.error.CompileError.{CompileError}
 use Rattle.ar_compile.specs.declared.error.CompileError.TheVariants.{TooManyOps}
 use Rattle.ar_compile.specs.declared.error.CompileError.TheVariants as compile_error
-use Rattle.ar_verify.specs.Verdict.{IsFault, IsVerified, Verified}
-use Rattle.ar_verify.specs.declared.error.Cause.{Cause}
-use Rattle.ar_verify.specs.declared.error.Cause.TheVariants as causes
-use Rattle.ar_verify.specs.declared.error.Reason.{Reason}
+use Rattle.ar_verified.specs.Verdict.{IsFault, IsVerified, Verified}
+use Rattle.ar_verified.specs.declared.error.Cause.{Cause}
+use Rattle.ar_verified.specs.declared.error.Cause.TheVariants as causes
+use Rattle.ar_verified.specs.declared.error.Reason.{Reason}
 use Rattle.ar_judge.specs.declared.error.BuildCause.{BuildCause}
 use Rattle.ar_judge.specs.declared.error.BuildCause.TheVariants.{Grammar, Kinds, Compiler, Verifier, OutOfMemory}
 

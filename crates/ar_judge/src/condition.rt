@@ -19,7 +19,8 @@ use ar_syntax::parse;
 use ar_value::shared_shape::SharedShape;
 use ar_value::text::Text;
 use ar_value::value::Value;
-use ar_verify::{Verified, verify};
+use ar_verified::Verified;
+use ar_verify::verify;
 use std::alloc::{AllocError, Global};
 use std::marker::Model;
 

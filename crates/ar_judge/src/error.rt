@@ -3,7 +3,7 @@
 use ar_check::TypeError;
 use ar_compile::CompileError;
 use ar_syntax::SyntaxError;
-use ar_verify::Reason;
+use ar_verified::Reason;
 use std::alloc::AllocError;
 use thiserror::Error;
 
@@ -80,16 +80,16 @@ impl From<CompileError> for BuildCause {
     }
 }
 
-impl From<ar_verify::Cause> for BuildCause {
+impl From<ar_verified::Cause> for BuildCause {
     ghost use Rattle.std.specs.Prelude.{◌≡◌};
     ghost use Rattle.ar_judge.specs.Condition.{of_verifier};
 
     ghost from_gives = { λ cause e. e ≡ of_verifier cause };
 
-    fn from(cause: ar_verify::Cause) -> BuildCause {
+    fn from(cause: ar_verified::Cause) -> BuildCause {
         match cause {
-            ar_verify::Cause::OutOfMemory => BuildCause::OutOfMemory,
-            ar_verify::Cause::Fault { place, reason } => BuildCause::Verifier(place, reason),
+            ar_verified::Cause::OutOfMemory => BuildCause::OutOfMemory,
+            ar_verified::Cause::Fault { place, reason } => BuildCause::Verifier(place, reason),
         }
     }
 }

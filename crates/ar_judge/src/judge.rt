@@ -15,7 +15,7 @@ use ar_manifest::BoundMetric;
 use ar_value::Text;
 use ar_value::shared_shape::SharedShape;
 use ar_value::value::Value;
-use ar_verify::Verified;
+use ar_verified::Verified;
 use std::alloc::{AllocError, Global};
 use std::marker::Model;
 

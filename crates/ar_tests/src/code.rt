@@ -3,7 +3,8 @@
 use ar_code::op::Source;
 use ar_code::{Code, ImageError, Op, decode, encode};
 use ar_value::{Shape, SharedShape};
-use ar_verify::{Cause, Reason, verify};
+use ar_verified::{Cause, Reason};
+use ar_verify::verify;
 use std::alloc::{AllocError, Global};
 use std::test::Fail;
 

@@ -1,14 +1,5 @@
 pub mod Depths
-pub mod Entries
-pub mod Nesting
-pub mod Nested
 pub mod Passes
-pub mod Values
-pub mod Effects
-pub mod Arriving
-pub mod Passing
-pub mod Reached
-pub mod Sound
 pub mod Parts
 pub mod Ways
 pub mod Tops
@@ -17,10 +8,7 @@ pub mod Heights
 pub mod Joins
 pub mod Passed
 pub mod Table
-pub mod Runs
 pub mod Costs
-pub mod Dearest
-pub mod OneVerdict
 pub mod Verdicts
 pub mod Comes
 pub mod Targets

@@ -4,8 +4,8 @@ use Rattle.std.specs.Prelude.{slice_index_or, slice_set}
 use Rattle.std.proofs.lemmas.List.{get_or-map, map-set, set-set}
 use Rattle.ar_verify.specs.Private.Held.{arrival_view}
 use Rattle.ar_verify.specs.Private.Table.{entry, table_view, without}
-use Rattle.ar_verify.specs.declared.error.Reason.{Reason}
-use Rattle.ar_verify.specs.declared.error.Reason.TheVariants.{Unreachable}
+use Rattle.ar_verified.specs.declared.error.Reason.{Reason}
+use Rattle.ar_verified.specs.declared.error.Reason.TheVariants.{Unreachable}
 use Rattle.ar_verify.specs.declared.operands.Operands as held
 use Rattle.ar_verify.specs.declared.whole.ShapeName as ShapeName
 

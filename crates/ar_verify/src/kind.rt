@@ -5,7 +5,7 @@ ghost use Rattle.std.specs.Prelude.{◌≡◌, IfOk, option_map};
 ghost use Rattle.ar_value.specs.Kind.{merge, or_nil, shaped};
 ghost use Rattle.ar_value.specs.Shape.{list};
 ghost use Rattle.ar_value.specs.View.{shape_view};
-ghost use Rattle.ar_verify.specs.Effects.{family_in, family_of, is_scalar};
+ghost use Rattle.ar_verified.specs.Effects.{family_in, family_of, is_scalar};
 ghost use Rattle.ar_verify.specs.Private.Kinds.{is_list, kind_view, list_in, list_parts, list_view, parts_view, shape_in};
 ghost use Rattle.ar_verify.specs.Private.Parts.{any_view};
 

@@ -3,10 +3,10 @@
 ghost use Rattle.std.specs.Prelude.{◌≡◌, ◌&&◌, IfOk, option_map};
 ghost use Rattle.ar_value.specs.Kind.{shaped};
 ghost use Rattle.ar_value.specs.View.{shape_view};
-ghost use Rattle.ar_verify.specs.Effects.{decimal_kind, decimal_shape, family_in, is_scalar, binary_kind, decimals_kind, default_kind, equal_kind, field_kind, is_compared, is_family, is_number, item_kind, length_kind, member_kind, needed_kind, negative_kind, of_one_family, opposite_kind, order_kind, quotient_kind, same_kind, truth, unary_kind, where_taken, wholes_kind};
+ghost use Rattle.ar_verified.specs.Effects.{decimal_kind, decimal_shape, family_in, is_scalar, binary_kind, decimals_kind, default_kind, equal_kind, field_kind, is_compared, is_family, is_number, item_kind, length_kind, member_kind, needed_kind, negative_kind, of_one_family, opposite_kind, order_kind, quotient_kind, same_kind, truth, unary_kind, where_taken, wholes_kind};
 ghost use Rattle.ar_verify.specs.Private.Kinds.{kind_view};
 
-use crate::kind::{Kind, family_in, family_of, as_list, is_scalar, list_in, merge};
+use crate::kind::{Kind, as_list, family_in, family_of, is_scalar, list_in, merge};
 use crate::part::{INNER, field_number};
 use crate::whole::ShapeName;
 use ar_value::kind;

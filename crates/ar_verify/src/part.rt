@@ -4,7 +4,7 @@ ghost use Rattle.std.specs.Prelude.{◌≡◌, ◌++◌, ◌∷◌, [], true, If
 ghost use Rattle.ar_value.specs.Kind.{plain, shaped};
 ghost use Rattle.ar_value.specs.Shape.{field_shapes_of, shape_named};
 ghost use Rattle.ar_value.specs.View.{field_shape_view, shape_view};
-ghost use Rattle.ar_verify.specs.Effects.{field_kind};
+ghost use Rattle.ar_verified.specs.Effects.{field_kind};
 ghost use Rattle.ar_verify.specs.Private.Parts.{any_view, child, field_or, nth_field, part_at, root_view};
 
 use crate::whole::{ShapeName, Whole};

@@ -2,8 +2,8 @@
 
 ghost use Rattle.std.specs.Prelude.{◌≡◌, ◌+◌, ◌<◌, ◌≤◌, ◌∷◌, [], IfOk, MatchOption, Ok, OnOk, option_map};
 ghost use Rattle.ar_value.specs.View.{shape_view};
-ghost use Rattle.ar_verify.specs.Arrivals.{answer_kind, deepest, item_of, lacks, most_operands, operands};
-ghost use Rattle.ar_verify.specs.Effects.{effect};
+ghost use Rattle.ar_verified.specs.Arrivals.{answer_kind, deepest, item_of, lacks, most_operands, operands};
+ghost use Rattle.ar_verified.specs.Effects.{effect};
 ghost use Rattle.ar_verify.specs.Private.Failures.{Meets};
 ghost use Rattle.ar_verify.specs.Private.Held.{around_view, counted, from_innermost, operands_view};
 ghost use Rattle.ar_verify.specs.Private.Kinds.{kind_view, list_view};
@@ -11,7 +11,6 @@ ghost use Rattle.ar_verify.specs.Private.Sending.{around, beginning, branched, g
 ghost use Rattle.ar_verify.specs.Private.Stacks.{from_top};
 
 use crate::effect::apply;
-use crate::error::Reason;
 use crate::failure::Failure;
 use crate::kind::{Kind, as_list, is_scalar, list_like};
 use crate::operands::{Around, Operands};
@@ -22,6 +21,7 @@ use ar_op::code::Code;
 use ar_op::op::{Jump, Op, Source};
 use ar_value::operator::{Predicate, Scalar};
 use ar_value::shape::Shape;
+use ar_verified::Reason;
 use std::alloc::{AllocError, Global};
 
 /// How many operands there may be, those below the floor too.

@@ -3,17 +3,16 @@
 ghost use Rattle.std.specs.Prelude.{◌≡◌, IfErr, IfOk};
 ghost use Rattle.ar_value.specs.View.{shape_view};
 ghost use Rattle.ar_op.specs.Code.{IsCode};
-ghost use Rattle.ar_verify.specs.Safety.{RunsSafely};
-ghost use Rattle.ar_verify.specs.Verdict.{IsCause, IsVerified};
+ghost use Rattle.ar_verified.specs.Safety.{RunsSafely};
+ghost use Rattle.ar_verified.specs.Verdict.{IsCause, IsVerified};
 
 use crate::arrivals::find_arrivals;
 use crate::budget::{budget, is_payable};
-use crate::error::{Cause, Reason, Refused};
 use crate::places::check_places;
-use crate::verified::Verified;
 use ar_op::code::Code;
 use ar_value::shape::Shape;
 use ar_value::shared_shape::SharedShape;
+use ar_verified::{Cause, Reason, Refused, Verified};
 use std::alloc::Global;
 
 /// What a run costs at most, and how many operands it has.

@@ -14,7 +14,7 @@ use ar_manifest::BoundMetric;
 use ar_report::fault_name;
 use ar_tested::{Ended, run_tested};
 use ar_value::{Fault, Shape, SharedShape, Text};
-use ar_verify::Verified;
+use ar_verified::Verified;
 use serde_json::Value as Json;
 use std::alloc::Global;
 use std::fmt::Write;

@@ -11,7 +11,7 @@ use Rattle.ar_condition.specs.Typed as typed
 use Rattle.ar_condition.specs.declared.tree.Literal.{Literal}
 use Rattle.ar_check.specs.Basics.{literal_kind, most_predicates}
 use Rattle.ar_check.specs.Check.{predicate_kind, scalar_shape, truth_kind}
-use Rattle.ar_verify.specs.Effects.{binary_kind, unary_kind}
+use Rattle.ar_verified.specs.Effects.{binary_kind, unary_kind}
 
 mutual
   -- where `result` has a shape, and so has the innermost item, inside so many predicates

@@ -13,7 +13,7 @@ use Rattle.ar_compile.specs.Compiled.{compiled}
 use Rattle.ar_compile.specs.Ends.{EndsWith}
 use Rattle.ar_compile.specs.Length.{length_of}
 use Rattle.ar_compile.specs.declared.error.CompileError.TheVariants.{TooManyOps}
-use Rattle.ar_verify.specs.Verdict.{IsFault, IsVerified, Verified}
+use Rattle.ar_verified.specs.Verdict.{IsFault, IsVerified, Verified}
 use Rattle.ar_judge.specs.Condition.{typed_of}
 use Rattle.ar_judge.specs.declared.error.BuildCause.{BuildCause}
 use Rattle.ar_judge.specs.declared.error.BuildCause.TheVariants.{Compiler, Verifier, OutOfMemory}

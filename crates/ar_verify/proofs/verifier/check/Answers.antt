@@ -1,6 +1,6 @@
 use Rattle.std.proofs.Common.{length, ap, sym, subst, ◌∙◌}
 use Rattle.ar_value.specs.View.{shape_view}
-use Rattle.ar_verify.specs.Places.{places_pass}
+use Rattle.ar_verified.specs.Places.{places_pass}
 use Rattle.ar_verify.specs.Private.Costs.{IsCost}
 use Rattle.ar_verify.specs.Private.Table.{summary_view}
 use Rattle.ar_verify.proofs.Verdicts.{has_passed, is_too_dear, is_verified, so_many}

@@ -1,0 +1,13 @@
+pub mod Entries
+pub mod Nesting
+pub mod Nested
+pub mod Values
+pub mod Effects
+pub mod Arriving
+pub mod Passing
+pub mod Reached
+pub mod Sound
+pub mod Runs
+pub mod Dearest
+pub mod OneVerdict
+pub mod Safe
