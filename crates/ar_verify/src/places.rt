@@ -16,7 +16,7 @@ use ar_verified::{Cause, Reason};
 use std::alloc::Global;
 
 /// The operation at a place.
-#[tactic(auto, using(crate::proofs::Entries::nth_within, crate::proofs::Entries::nth_past))]
+#[tactic(auto, using(ar_verified::proofs::Entries::nth_within, ar_verified::proofs::Entries::nth_past))]
 fn op_at(ops: &[Op], place: usize) -> Option<Op>
     ensures { result ≡ nth ops.now place }
 {
