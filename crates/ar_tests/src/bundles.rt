@@ -4,7 +4,7 @@ use ar_bundle::{Entry, Finding, Histories, History, Judges, RunLimits};
 use ar_document::read_bundle;
 use ar_judge::Verdict;
 use ar_limits::{Effect, Limits, Phase};
-use ar_workers::run_plain;
+use ar_plain::run_plain;
 use std::alloc::{AllocError, Global};
 use std::test::Fail;
 

@@ -1,7 +1,7 @@
 //! The verifier: code that it accepts runs safely, and within a budget that is known before.
 //!
 //! [`verify`] takes code and the shape of the values that it is to judge, and answers
-//! [`Verified`](ar_verified::Verified) code or its first fault, as `ar_verified/specs/Verdict` defines
+//! [`Verified`] code or its first fault, as `ar_verified/specs/Verdict` defines
 //! them. Each pass is one way through the operations. Only want of memory can keep the verifier from its
 //! answer.
 //!
@@ -30,4 +30,5 @@ mod stack;
 mod verifier;
 mod whole;
 
+pub use ar_verified::{Cause, Reason, Refused, Verified};
 pub use verifier::verify;

@@ -1,4 +1,3 @@
 -- Definitions of private contracts, which follow the code: a reader need not believe them.
-pub mod Growing
 pub mod Gathered
 pub mod Judging

@@ -5,10 +5,10 @@
 //! (`ar_bundle/specs/Lawful`); where a number is lost, [`WorkError::Lost`] hands out what shows it
 //! (`specs/Joined`). The workers of [`run_ordered`] keep what they judged, and the calling thread applies
 //! it in the order of the numbers, which then rise in each history; no number can be lost. [`run_plain`]
-//! does so in one thread. A caller sees and may hold what workers do by a [`Gate`].
+//! of `ar_plain` does so in one thread. A caller sees and may hold what workers do by a [`Gate`].
 //!
 //! - `running`: the queue is made, workers post, the board is closed; `ordered`: workers judge, and their
-//!   findings are put in order; `plain`: the plain run; `runs`: applying numbers in their order
+//!   findings are put in order
 //! - `side_by_side`: starting, feeding and joining workers; `worker`: what one worker does; `feed`: numbers
 //!   and end marks
 //! - `desk`: what a worker does with a number; `posting`: it posts it; `judging`: it keeps it
@@ -22,15 +22,13 @@ mod gate;
 mod judging;
 pub mod laws;
 mod ordered;
-mod plain;
 mod posting;
 mod running;
-mod runs;
 mod side_by_side;
 mod worker;
 
+pub use ar_plain::run_plain;
 pub use error::WorkError;
 pub use gate::{FreeGate, Gate};
 pub use ordered::run_ordered;
-pub use plain::run_plain;
 pub use running::run_all;

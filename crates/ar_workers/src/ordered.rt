@@ -10,12 +10,12 @@ ghost use Rattle.ar_workers.specs.Private.Judging.{IsKnown};
 use crate::error::{Unfinished, WorkError};
 use crate::gate::Gate;
 use crate::judging::{Judging, by_number, empty_desks};
-use crate::runs::Runs;
 use crate::side_by_side::{Gathered, in_threads};
 use crate::worker::QueueName;
 use ar_board::MOST_WORKERS;
 use ar_bundle::{Bundle, Finding, Histories};
 use ar_cell::BundleName;
+use ar_plain::Runs;
 use ar_queue::{Item, Queue, View, learn, open};
 use crossbeam_queue::Pass;
 use std::alloc::{AllocError, Global};
@@ -102,7 +102,7 @@ where
 }
 
 /// The histories of a bundle's runs, where it is known what each number comes to.
-#[tactic(auto, using(crate::proofs::Lawful::all_rise, crate::proofs::Judged::known_inside))]
+#[tactic(auto, using(ar_plain::proofs::Lawful::all_rise, crate::proofs::Judged::known_inside))]
 fn applied(
     alloc: Global,
     bundle: &Bundle,

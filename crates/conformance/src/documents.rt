@@ -8,8 +8,8 @@ use ar_cases::printing::{put_between, put_lines, put_quoted, put_refusal, put_sh
 use ar_document::read_bundle;
 use ar_json::read_json;
 use ar_limits::{Event, Limits, Mark};
+use ar_plain::run_plain;
 use ar_report::{check_text, list_text, phase_name, report, run_phases};
-use ar_workers::run_plain;
 use serde_json::Value as Json;
 use std::alloc::Global;
 use std::fmt::Write;

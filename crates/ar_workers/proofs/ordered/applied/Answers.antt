@@ -1,7 +1,7 @@
 use Rattle.std.proofs.Common.{None, subst, sym, ◌∙◌, arith}
 use Rattle.ar_bundle.specs.Lawful.{AreLawful}
 use Rattle.ar_workers.proofs.Judged.{known_inside, known_read}
-use Rattle.ar_workers.proofs.Lawful.{lawful_behind}
+use Rattle.ar_plain.proofs.Lawful.{lawful_behind}
 use Rattle.ar_workers.proofs.ordered.applied.Goals as goal
 
 pub bounds : goal.bounds

@@ -1,7 +1,7 @@
 use Rattle.std.proofs.Common.{subst, sym, arith}
 use Rattle.ar_bundle.specs.Lawful.{AreLawful}
-use Rattle.ar_workers.proofs.Lawful.{lawful_behind}
-use Rattle.ar_workers.proofs.plain.run_plain.Goals as goal
+use Rattle.ar_plain.proofs.Lawful.{lawful_behind}
+use Rattle.ar_plain.proofs.plain.run_plain.Goals as goal
 
 pub returns-clause-lawful : goal.returns-clause-lawful
 returns-clause-lawful c =

@@ -1,6 +1,6 @@
 use Rattle.std.proofs.Common.{take}
-use Rattle.ar_workers.specs.Private.Growing.{AreGrown}
-use Rattle.ar_workers.proofs.runs.Runs.open.Given as goal
+use Rattle.ar_plain.specs.Growing.{AreGrown}
+use Rattle.ar_plain.proofs.runs.Runs.open.Given as goal
 
 -- the runs so far
 abbrev pub invariant-loop-part : goal.invariant-loop-part

@@ -5,7 +5,7 @@ use Rattle.std.proofs.lemmas.Bool.Decides.{nat_tests}
 use Rattle.ar_bundle.specs.Bundle.{Bundle, run_of}
 use Rattle.ar_bundle.specs.Lawful.{Rise, times_in}
 use Rattle.ar_bundle.proofs.HistoryLemmas.{all_push, times_by, times_push}
-use Rattle.ar_workers.specs.Private.Growing.{below, where_own}
+use Rattle.ar_plain.specs.Growing.{below, where_own}
 
 -- ---- one number more
 

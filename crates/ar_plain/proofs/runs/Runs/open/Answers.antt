@@ -1,6 +1,6 @@
 use Rattle.std.proofs.Common.{rules}
-use Rattle.ar_workers.proofs.Grown.{opened_next}
-use Rattle.ar_workers.proofs.runs.Runs.open.Goals as goal
+use Rattle.ar_plain.proofs.Grown.{opened_next}
+use Rattle.ar_plain.proofs.runs.Runs.open.Goals as goal
 
 pub loop-part-preserved : goal.loop-part-preserved
 loop-part-preserved c =

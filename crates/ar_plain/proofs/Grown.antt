@@ -18,9 +18,9 @@ use Rattle.ar_bundle.specs.Lawful.{IsFound, numbers_of}
 use Rattle.ar_bundle.specs.declared.bundle.RunPart.{RunPart}
 use Rattle.ar_bundle.specs.declared.finding.Finding.{Finding}
 use Rattle.ar_bundle.specs.declared.history.Entry.{Entry}
-use Rattle.ar_workers.specs.Private.Growing.{AreGrown, IsGrown, below}
+use Rattle.ar_plain.specs.Growing.{AreGrown, IsGrown, below}
 use Rattle.ar_bundle.proofs.HistoryLemmas.{all_push, events_push, few_happen}
-use Rattle.ar_workers.proofs.Below.{few, other_is, own_is}
+use Rattle.ar_plain.proofs.Below.{few, other_is, own_is}
 
 entry_of : ℕ → Finding → Effect → Entry
 entry_of number finding effect = record { number = number; finding = finding; effect = effect }

@@ -1,6 +1,6 @@
 use Rattle.std.proofs.Common.{rules, arith}
-use Rattle.ar_workers.proofs.Grown.{applied, next_of}
-use Rattle.ar_workers.proofs.runs.Runs.apply.Goals as goal
+use Rattle.ar_plain.proofs.Grown.{applied, next_of}
+use Rattle.ar_plain.proofs.runs.Runs.apply.Goals as goal
 
 pub index_mut-requires : goal.index_mut-requires
 index_mut-requires c =

@@ -2,7 +2,7 @@
 
 ghost use Rattle.std.specs.Prelude.{◌≡◌, ◌<◌, ◌+◌, IfOk, OnOk, Some, length};
 ghost use Rattle.ar_bundle.specs.Bundle.{IsBundle, found};
-ghost use Rattle.ar_workers.specs.Private.Growing.{AreGrown};
+ghost use Rattle.ar_plain.specs.Growing.{AreGrown};
 
 use ar_bundle::{Bundle, Entry, Finding, History};
 use ar_limits::RunState;
@@ -10,15 +10,15 @@ use std::alloc::{AllocError, Global};
 
 /// The runs of a bundle, as their numbers are applied: where each stands, and its history.
 #[derive(Drop)]
-pub(crate) struct Runs {
-    pub(crate) states: Vec<RunState>,
-    pub(crate) histories: Vec<History>,
+pub struct Runs {
+    pub states: Vec<RunState>,
+    pub histories: Vec<History>,
 }
 
 impl Runs {
     /// Those to which nothing has happened.
     #[tactic(auto, using(crate::proofs::Grown::positive))]
-    pub(crate) fn open(alloc: Global, bundle: &Bundle) -> Result<Runs, AllocError>
+    pub fn open(alloc: Global, bundle: &Bundle) -> Result<Runs, AllocError>
         requires { IsBundle bundle.now }
         ensures { IfOk result (λ runs. AreGrown bundle.now 0 0 bundle.now.runs runs.states.items runs.histories.items) }
     {
@@ -33,7 +33,7 @@ impl Runs {
     }
 
     /// Applies the next number to its run.
-    pub(crate) fn apply(
+    pub fn apply(
         &mut self,
         bundle: &Bundle,
         number: u64,

@@ -6,8 +6,8 @@ use Rattle.ar_bundle.specs.Lawful.{AllRise, AreHistories, AreLawful, Rise, times
 use Rattle.ar_bundle.specs.declared.bundle.RunPart.{RunPart}
 use Rattle.ar_bundle.specs.declared.history.Entry.{Entry}
 use Rattle.ar_bundle.proofs.Bundles.{run_of_number}
-use Rattle.ar_workers.specs.Private.Growing.{AreGrown}
-use Rattle.ar_workers.proofs.Below.{of_another, of_run, rises}
+use Rattle.ar_plain.specs.Growing.{AreGrown}
+use Rattle.ar_plain.proofs.Below.{of_another, of_run, rises}
 
 histories_are : (bundle : Bundle) (upto from : ℕ) (runs : List RunPart) (states : List Standing) (histories : List (List Entry)) → AreGrown bundle upto from runs states histories → AreHistories bundle from runs histories
 histories_are bundle upto from [] [] [] grown = tt
