@@ -1,0 +1,4 @@
+pub mod Escapes
+pub mod Found
+pub mod Listed
+pub mod Still
