@@ -1,3 +1,4 @@
+pub mod Ended
 pub mod Escapes
 pub mod Found
 pub mod Listed

@@ -88,7 +88,7 @@ still_itself character is stays = record {
   still = (stays, tt);
 }
 
-code_below : (character : ℕ) → moves character ≡ true → character < 65536
+pub code_below : (character : ℕ) → moves character ≡ true → character < 65536
 code_below character moves = grind (arith, nat_tests)
 
 still_escaped : (character : ℕ) → scalar character ≡ true → IsStill (escaped character)
