@@ -17,6 +17,7 @@ is_mark character = is_in_range 0x200E 0x200F character || (is_in_range 0x2028 0
 abbrev pub moves : (character : ℕ) → Bool
 moves character = is_control character || is_mark character
 
+-- a byte in two hexadecimal digits
 abbrev pub byte_digits : (byte : ℕ) → List ℕ
 byte_digits byte = digit_char (byte / 16) ∷ digit_char (byte % 16) ∷ []
 
@@ -55,9 +56,11 @@ name_of item = text_member (codes "name") item
 
 -- ---- items
 
+-- as `metric 3`
 abbrev pub numbered : (kind : List ℕ) → (number : ℕ) → List ℕ
 numbered kind number = kind ++ (codes " " ++ decimal number)
 
+-- a name behind a blank, if there is one
 abbrev pub behind_blank : Option (List ℕ) → List ℕ
 behind_blank None = []
 behind_blank (Some name) = codes " " ++ quoted name
@@ -72,9 +75,11 @@ item_text kind number item = numbered kind number ++ behind_blank (name_of item)
 abbrev pub most_items : ℕ
 most_items = 8
 
+-- the names of the items that have one, each but the first behind a comma
 abbrev pub names_listed : List Data → List ℕ
 names_listed items = join_by quoted (codes ", ") (filter_map name_of items)
 
+-- how many items stand behind those that are listed
 abbrev pub others_counted : (count : ℕ) → List ℕ
 others_counted count = if nat_lt most_items count then codes " and " ++ (decimal (count - most_items) ++ codes " more") else []
 

@@ -15,9 +15,11 @@ use Rattle.ar_words.specs.Names.{item_text, names_text, numbered, quoted}
 
 -- ---- where the document has names
 
+-- a member that is a list
 abbrev pub list_in : (name : List ℕ) → Data → Option (List Data)
 list_in name d = option_and_then list_of (member name d)
 
+-- a list of the template's `spec`
 abbrev pub template_list : (name : List ℕ) → Data → Option (List Data)
 template_list name document = option_and_then (list_in name) (member_of_member (codes "manifest") (codes "spec") document)
 
@@ -104,6 +106,7 @@ bundle_words document error text = text
 
 -- ---- refusals of what `eval` reads
 
+-- a condition has braces, as references to arguments have in a template
 abbrev pub has_braces : (condition : Option (List ℕ)) → Bool
 has_braces None = false
 has_braces (Some text) = is_some (cut_at (codes "{{") text)
