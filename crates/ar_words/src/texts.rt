@@ -1,88 +1,177 @@
 //! The texts of refusals, with names of the document.
 
-use crate::names::{Item, Names, Quoted, name_of};
+ghost use Rattle.std.specs.Prelude.{◌≡◌, ◌<◌, ◌++◌, IfOk, codes, length, map, option_map, string_bytes};
+ghost use Rattle.serde_json.specs.View.{view};
+ghost use Rattle.ar_manifest.specs.Cut.{cut_at};
+ghost use Rattle.ar_words.specs.Names.{item_text, quoted};
+ghost use Rattle.ar_words.specs.Words.{beside_item, beside_metric, beside_run, bundle_words, eval_words, has_braces, in_place, item_at, manifest_words, template_words, with_argument, with_double_name, with_names};
+
+use crate::lists::{entry_text, item_at, metrics, runs, template_list, text_at};
+use crate::names::{item_text, push_names, push_quoted};
 use ar_document::BundleError;
 use ar_eval::EvalError;
+use ar_json::members::text_member;
 use ar_manifest::ManifestError;
 use serde_json::Value as Json;
 use std::alloc::{AllocError, Global};
+use std::fmt::Write;
 
 const ARGUMENTS_HINT: &str =
     "; arguments as {{args.NAME}} are bound in a template, by check, list and run";
 
 const MANIFEST_HINT: &str = "; the document has no member `manifest`, into which the template goes";
 
-/// The text of a refusal of what `eval` reads.
-pub fn eval_text(alloc: Global, document: &Json, error: EvalError) -> Result<String, AllocError> {
-    let hint = match error {
-        EvalError::Grammar(_) if has_braces(document) => ARGUMENTS_HINT,
-        _ => "",
-    };
-    format!(in alloc; "{error}{hint}")
+// ---- names in a text
+
+/// What stands before the first place of some words, and what behind it.
+fn cut_at<'a>(text: &'a str, words: &str) -> Option<(&'a str, &'a str)>
+    requires { 0 < length words.now }
+    ensures { option_map (λ cut. (cut.0.now, cut.1.now)) result ≡ cut_at words.now text.now }
+{
+    text.split_once(words)
 }
 
-fn has_braces(document: &Json) -> bool {
-    match document.get("condition").and_then(Json::as_str) {
-        Some(condition) => condition.contains("{{"),
-        None => false,
-    }
-}
-
-/// The text of a refusal of a bundle's document.
-pub fn bundle_text(
+/// The text with what is shown, if anything is, in the place of the first of some words.
+#[tactic(auto, unfolding(crate::specs::Words::in_place))]
+fn in_place(
     alloc: Global,
-    document: &Json,
-    error: BundleError,
-) -> Result<String, AllocError> {
-    let text = format!(in alloc; "{error}")?;
-    match error {
-        BundleError::Manifest(cause) => manifest_text(alloc, document, text, cause),
-        BundleError::ShapeMissing(metric) | BundleError::Shapes(metric, _) => {
-            beside_metric(alloc, document, text, metric)
-        }
-        BundleError::DoubleRun(run) => double_text(alloc, document, text, run),
-        BundleError::Bind(run, cause) => {
-            let text = template_text(alloc, document, text, cause)?;
-            beside_run(alloc, document, text, run)
-        }
-        BundleError::Build(run, metric, _) => {
-            let text = beside_metric(alloc, document, text, metric)?;
-            beside_run(alloc, document, text, run)
-        }
-        BundleError::UnknownRun(entry) => {
-            unknown_text(
-                alloc,
-                text,
-                text_in(document, entry, "run"),
-                "runs",
-                runs(document),
-            )
-        }
-        BundleError::UnknownMetric(entry) => {
-            unknown_text(
-                alloc,
-                text,
-                text_in(document, entry, "metric"),
-                "metrics",
-                metrics(document),
-            )
-        }
-        _ => Ok(text),
+    text: String,
+    words: &str,
+    shown: Option<String>,
+) -> Result<String, AllocError>
+    requires { 0 < length words.now }
+    ensures { IfOk result (λ said. string_bytes said
+        ≡ in_place words.now (option_map (λ shown. string_bytes shown) shown) (string_bytes text)) }
+{
+    let Some(shown) = shown else {
+        return Ok(text);
+    };
+    match cut_at(text.as_str(), words) {
+        Some((before, behind)) => format!(in alloc; "{before}{shown}{behind}"),
+        None => Ok(text),
     }
 }
 
-/// The text of a template's refusal. A template that is the whole document is told by its place.
-fn manifest_text(
+/// What is shown of an item of a list.
+fn shown_item(
+    alloc: Global,
+    kind: &str,
+    number: usize,
+    items: Option<&[Json]>,
+) -> Result<Option<String>, AllocError>
+    ensures { IfOk result (λ shown. option_map (λ shown. string_bytes shown) shown
+        ≡ option_map (item_text kind.now number)
+        (item_at number (option_map (λ list. map (λ item. view item) list.now) items.entry))) }
+{
+    match item_at(items, number) {
+        Some(item) => Ok(Some(item_text(alloc, kind, number, item)?)),
+        None => Ok(None),
+    }
+}
+
+/// The text with the item's name behind its kind and number.
+#[tactic(auto, using(crate::proofs::Found::numbered_some))]
+fn beside_item(
+    alloc: Global,
+    text: String,
+    kind: &str,
+    number: usize,
+    items: Option<&[Json]>,
+) -> Result<String, AllocError>
+    ensures { IfOk result (λ said. string_bytes said ≡ beside_item kind.now number
+        (option_map (λ list. map (λ item. view item) list.now) items.entry) (string_bytes text)) }
+{
+    let words = format!(in alloc; "{kind} {number}")?;
+    let shown = shown_item(alloc, kind, number, items)?;
+    in_place(alloc, text, words.as_str(), shown)
+}
+
+fn beside_metric(
     alloc: Global,
     document: &Json,
     text: String,
-    cause: ManifestError,
-) -> Result<String, AllocError> {
-    if document.get("manifest").is_none() {
-        return format!(in alloc; "{text}{MANIFEST_HINT}");
-    }
-    template_text(alloc, document, text, cause)
+    number: usize,
+) -> Result<String, AllocError>
+    ensures { IfOk result
+        (λ said. string_bytes said ≡ beside_metric (view document.now) number (string_bytes text)) }
+{
+    beside_item(alloc, text, "metric", number, metrics(document))
 }
+
+fn beside_run(
+    alloc: Global,
+    document: &Json,
+    text: String,
+    number: usize,
+) -> Result<String, AllocError>
+    ensures { IfOk result
+        (λ said. string_bytes said ≡ beside_run (view document.now) number (string_bytes text)) }
+{
+    beside_item(alloc, text, "run", number, runs(document))
+}
+
+/// The text with an argument in the place of the list of arguments.
+fn with_argument(
+    alloc: Global,
+    document: &Json,
+    text: String,
+    number: usize,
+) -> Result<String, AllocError>
+    ensures { IfOk result
+        (λ said. string_bytes said ≡ with_argument (view document.now) number (string_bytes text)) }
+{
+    let shown = shown_item(alloc, "argument", number, template_list(document, "args"))?;
+    in_place(alloc, text, "spec.args", shown)
+}
+
+/// What is shown of a name that two runs have.
+fn double_name(alloc: Global, name: Option<&str>) -> Result<Option<String>, AllocError>
+    ensures { IfOk result (λ shown. option_map (λ shown. string_bytes shown) shown
+        ≡ option_map (λ name. codes "the name " ++ quoted name) (option_map (λ name. name.now) name.entry)) }
+{
+    let Some(name) = name else {
+        return Ok(None);
+    };
+    let mut shown = "the name ".to_string(alloc)?;
+    push_quoted(&mut shown, name)?;
+    Ok(Some(shown))
+}
+
+/// The text of a run's refusal, with the name that an earlier run has.
+fn with_double_name(
+    alloc: Global,
+    document: &Json,
+    text: String,
+    number: usize,
+) -> Result<String, AllocError>
+    ensures { IfOk result
+        (λ said. string_bytes said ≡ with_double_name (view document.now) number (string_bytes text)) }
+{
+    let shown = double_name(alloc, text_at(runs(document), number, "name"))?;
+    in_place(alloc, text, "the name", shown)
+}
+
+/// The text of the refusal of a name that isn't there, with that name and those that there are.
+fn with_names(
+    mut text: String,
+    name: Option<&str>,
+    kinds: &str,
+    items: Option<&[Json]>,
+) -> Result<String, AllocError>
+    ensures { IfOk result (λ said. string_bytes said ≡ with_names (option_map (λ name. name.now) name.entry)
+        kinds.now (option_map (λ list. map (λ item. view item) list.now) items.entry) (string_bytes text)) }
+{
+    let (Some(name), Some(items)) = (name, items) else {
+        return Ok(text);
+    };
+    text.push_str(" ")?;
+    push_quoted(&mut text, name)?;
+    write!(text, "; {kinds} are ")?;
+    push_names(&mut text, items)?;
+    Ok(text)
+}
+
+// ---- refusals of templates
 
 /// The text of a template's refusal, with the name of its argument or metric, or of an item of `dryRun`.
 fn template_text(
@@ -90,25 +179,15 @@ fn template_text(
     document: &Json,
     text: String,
     cause: ManifestError,
-) -> Result<String, AllocError> {
+) -> Result<String, AllocError>
+    ensures { IfOk result
+        (λ said. string_bytes said ≡ template_words (view document.now) cause (string_bytes text)) }
+{
     match cause {
-        ManifestError::BadArgs(number) => match item_in(arguments(document), number) {
-            Some(item) => with_item(
-                alloc,
-                &text,
-                "spec.args",
-                &Item::of("argument", number, item),
-            ),
-            None => Ok(text),
-        },
+        ManifestError::BadArgs(number) => with_argument(alloc, document, text, number),
         ManifestError::UnknownDryRun(number) => {
-            unknown_text(
-                alloc,
-                text,
-                dry_name(document, number),
-                "metrics",
-                metrics(document),
-            )
+            let name = text_at(template_list(document, "dryRun"), number, "metricName");
+            with_names(text, name, "metrics", metrics(document))
         }
         ManifestError::Unsupported(number)
         | ManifestError::DoubleMetric(number)
@@ -122,113 +201,90 @@ fn template_text(
     }
 }
 
-/// The text with an item in the place of the first of some words.
-fn with_item(
+/// The text of a manifest's refusal. A template that is the whole document is told by its place.
+fn manifest_text(
     alloc: Global,
-    text: &str,
-    words: &str,
-    item: &Item<'_>,
-) -> Result<String, AllocError> {
-    match text.split_once(words) {
-        Some((before, behind)) => format!(in alloc; "{before}{item}{behind}"),
-        None => text.to_string(alloc),
+    document: &Json,
+    mut text: String,
+    cause: ManifestError,
+) -> Result<String, AllocError>
+    ensures { IfOk result
+        (λ said. string_bytes said ≡ manifest_words (view document.now) cause (string_bytes text)) }
+{
+    if document.get("manifest").is_some() {
+        return template_text(alloc, document, text, cause);
     }
+    text.push_str(MANIFEST_HINT)?;
+    Ok(text)
 }
 
-/// The text with the item's name behind its number.
-fn beside_item(
+// ---- refusals
+
+/// The text of a refusal of a bundle's document: its own text, with names of the document beside its
+/// numbers.
+///
+/// # Errors
+///
+/// Want of memory alone.
+pub fn bundle_text(
     alloc: Global,
+    document: &Json,
+    error: BundleError,
     text: String,
-    kind: &'static str,
-    number: usize,
-    list: Option<&Json>,
-) -> Result<String, AllocError> {
-    match item_in(list, number) {
-        Some(item) => {
-            let words = format!(in alloc; "{kind} {number}")?;
-            with_item(alloc, &text, &words, &Item::of(kind, number, item))
+) -> Result<String, AllocError>
+    ensures { IfOk result
+        (λ said. string_bytes said ≡ bundle_words (view document.now) error (string_bytes text)) }
+{
+    match error {
+        BundleError::Manifest(cause) => manifest_text(alloc, document, text, cause),
+        BundleError::ShapeMissing(metric) | BundleError::Shapes(metric, _) => {
+            beside_metric(alloc, document, text, metric)
         }
-        None => Ok(text),
-    }
-}
-
-fn beside_metric(
-    alloc: Global,
-    document: &Json,
-    text: String,
-    number: usize,
-) -> Result<String, AllocError> {
-    beside_item(alloc, text, "metric", number, metrics(document))
-}
-
-fn beside_run(
-    alloc: Global,
-    document: &Json,
-    text: String,
-    number: usize,
-) -> Result<String, AllocError> {
-    beside_item(alloc, text, "run", number, runs(document))
-}
-
-/// The text of a run's refusal, with the name that an earlier run has.
-fn double_text(
-    alloc: Global,
-    document: &Json,
-    text: String,
-    number: usize,
-) -> Result<String, AllocError> {
-    let name = item_in(runs(document), number).and_then(name_of);
-    match (name, text.split_once("the name")) {
-        (Some(name), Some((before, behind))) => {
-            let name = Quoted(name);
-            format!(in alloc; "{before}the name {name}{behind}")
+        BundleError::DoubleRun(run) => with_double_name(alloc, document, text, run),
+        BundleError::Bind(run, cause) => {
+            let text = template_text(alloc, document, text, cause)?;
+            beside_run(alloc, document, text, run)
+        }
+        BundleError::Build(run, metric, _) => {
+            let text = beside_metric(alloc, document, text, metric)?;
+            beside_run(alloc, document, text, run)
+        }
+        BundleError::UnknownRun(entry) => {
+            let name = entry_text(document, entry, "run");
+            with_names(text, name, "runs", runs(document))
+        }
+        BundleError::UnknownMetric(entry) => {
+            let name = entry_text(document, entry, "metric");
+            with_names(text, name, "metrics", metrics(document))
         }
         _ => Ok(text),
     }
 }
 
-/// The text of the refusal of a name that isn't there, with that name and those that there are.
-fn unknown_text(
-    alloc: Global,
-    text: String,
-    name: Option<&str>,
-    kinds: &str,
-    list: Option<&Json>,
-) -> Result<String, AllocError> {
-    let (Some(name), Some(Json::Array(items))) = (name, list) else {
-        return Ok(text);
-    };
-    let (name, names) = (Quoted(name), Names(items));
-    format!(in alloc; "{text} {name}; {kinds} are {names}")
+/// Whether a condition has braces.
+fn has_braces(condition: Option<&str>) -> bool
+    ensures { result ≡ has_braces (option_map (λ text. text.now) condition.entry) }
+{
+    match condition {
+        Some(text) => text.contains("{{"),
+        None => false,
+    }
 }
 
-fn item_in(list: Option<&Json>, number: usize) -> Option<&Json> {
-    list?.get(number)
-}
-
-fn arguments(document: &Json) -> Option<&Json> {
-    document.get("manifest")?.get("spec")?.get("args")
-}
-
-fn metrics(document: &Json) -> Option<&Json> {
-    document.get("manifest")?.get("spec")?.get("metrics")
-}
-
-/// The name of an item of `dryRun`.
-fn dry_name(document: &Json, number: usize) -> Option<&str> {
-    let items = document.get("manifest")?.get("spec")?.get("dryRun")?;
-    items.get(number)?.get("metricName")?.as_str()
-}
-
-fn runs(document: &Json) -> Option<&Json> {
-    document.get("runs")
-}
-
-/// A text of an entry.
-fn text_in<'a>(document: &'a Json, entry: usize, member: &str) -> Option<&'a str> {
-    document
-        .get("measurements")?
-        .get(entry)?
-        .get(member)?
-        .as_str()
+/// The text of a refusal of what `eval` reads: its own text, and where arguments are bound, if the
+/// condition has braces.
+///
+/// # Errors
+///
+/// Want of memory alone.
+pub fn eval_text(document: &Json, error: EvalError, mut text: String) -> Result<String, AllocError>
+    ensures { IfOk result (λ said. string_bytes said ≡ eval_words (view document.now) error (string_bytes text)) }
+{
+    match error {
+        EvalError::Grammar(_) if has_braces(text_member(document, "condition")) => {
+            text.push_str(ARGUMENTS_HINT)?;
+            Ok(text)
+        }
+        _ => Ok(text),
+    }
 }

@@ -16,13 +16,19 @@ pub(crate) fn refusal_text(
         return format!(in alloc; "{refusal}");
     }
     match Json::from_slice(alloc, input) {
-        Ok(document) => match refusal {
-            Refusal::Eval(error) => eval_text(alloc, &document, *error),
-            Refusal::Bundle(error) => bundle_text(alloc, &document, *error),
-        },
+        Ok(document) => named_text(alloc, &document, refusal),
         Err(error) if error.is_memory() => Err(AllocError),
         Err(error) if is_no_json(refusal) => no_json_text(alloc, refusal, &error),
         Err(_) => format!(in alloc; "{refusal}"),
+    }
+}
+
+/// The refusal's own text, with names of the document.
+fn named_text(alloc: Global, document: &Json, refusal: &Refusal) -> Result<String, AllocError> {
+    let text = format!(in alloc; "{refusal}")?;
+    match refusal {
+        Refusal::Eval(error) => eval_text(document, *error, text),
+        Refusal::Bundle(error) => bundle_text(alloc, document, *error, text),
     }
 }
 

@@ -1,0 +1,17 @@
+-- Whether a sign stands in a text.
+use Rattle.std.proofs.Common.{◌≡◌, ◌<◌, ◌++◌, ℕ, None, Bool, true, false, List, length, sym, ap, arith}
+use Rattle.std.proofs.lemmas.List.{length-append}
+use Rattle.std.specs.Prelude.{MatchBool, codes, decimal, is_some}
+use Rattle.std.specs.Str.Pattern.{FindsText, HasMatch}
+use Rattle.ar_manifest.specs.Cut.{cut_at}
+use Rattle.ar_words.specs.Names.{numbered}
+use Rattle.ar_manifest.proofs.Cuts.{cut_at_first, cut_at_none}
+
+-- what `contains` answers
+pub contains_cuts : (sign text : List ℕ) (result : Bool) → 0 < length sign → MatchBool result (HasMatch (FindsText sign) text) (FindsText sign text None) → result ≡ is_some (cut_at sign text)
+contains_cuts sign text true some found = sym (ap is_some (cut_at_first sign some text found.0 _ found.2.0 found.2.1.split))
+contains_cuts sign text false some none = sym (ap is_some (cut_at_none sign some text none))
+
+-- a kind and a number are some words
+pub numbered_some : (kind words : List ℕ) (number : ℕ) → words ≡ numbered kind number → 0 < length words
+numbered_some kind words number is = rw is (omega (arith, length-append kind (codes " " ++ decimal number)))

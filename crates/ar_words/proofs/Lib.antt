@@ -1,0 +1,5 @@
+pub mod Ended
+pub mod Escapes
+pub mod Found
+pub mod Listed
+pub mod Still

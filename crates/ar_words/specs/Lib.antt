@@ -1,0 +1,3 @@
+pub mod Private
+pub mod Names
+pub mod Words

@@ -1,0 +1,14 @@
+-- Names, while they are listed.
+use Rattle.std.specs.Prelude.{ℕ, Bool, ◌||◌, if◌then◌else◌, List, [], ◌∷◌, ◌++◌, codes, is_some, Option, Some, None}
+use Rattle.serde_json.specs.Data.{Data}
+use Rattle.ar_words.specs.Names.{name_of, quoted}
+
+-- `listed`: a name stands before it
+abbrev pub name_listed : (listed : Bool) → Option (List ℕ) → List ℕ
+name_listed listed None = []
+name_listed listed (Some name) = (if listed then codes ", " else []) ++ quoted name
+
+-- likewise
+abbrev pub names_behind : (listed : Bool) → List Data → List ℕ
+names_behind listed [] = []
+names_behind listed (item ∷ items) = name_listed listed (name_of item) ++ names_behind (listed || is_some (name_of item)) items

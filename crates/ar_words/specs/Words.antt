@@ -1,0 +1,119 @@
+-- The words of refusals: a refusal's own text, with names of the document that was read beside its numbers. The document
+-- is as it was written, and may be any JSON value: what isn't there isn't named.
+use Rattle.std.specs.Prelude.{ℕ, Bool, false, if◌then◌else◌, List, ◌++◌, codes, Option, Some, None, is_none, is_some, option_and_then, option_map, slice_get, unwrap_or}
+use Rattle.serde_json.specs.Data.{Data}
+use Rattle.serde_json.specs.Find.{get}
+use Rattle.ar_json.specs.Members.{list_of, member, member_of_member, text_member}
+use Rattle.ar_manifest.specs.Cut.{cut_at}
+use Rattle.ar_manifest.specs.declared.error.ManifestError.{ManifestError}
+use Rattle.ar_manifest.specs.declared.error.ManifestError.TheVariants as causes
+use Rattle.ar_document.specs.declared.error.BundleError.{BundleError}
+use Rattle.ar_document.specs.declared.error.BundleError.TheVariants as errors
+use Rattle.ar_eval.specs.declared.eval.EvalError.{EvalError}
+use Rattle.ar_eval.specs.declared.eval.EvalError.TheVariants.{Grammar}
+use Rattle.ar_words.specs.Names.{item_text, names_text, numbered, quoted}
+
+-- ---- where the document has names
+
+-- a member that is a list
+abbrev pub list_in : (name : List ℕ) → Data → Option (List Data)
+list_in name d = option_and_then list_of (member name d)
+
+-- a list of the template's `spec`
+abbrev pub template_list : (name : List ℕ) → Data → Option (List Data)
+template_list name document = option_and_then (list_in name) (member_of_member (codes "manifest") (codes "spec") document)
+
+abbrev pub metrics : Data → Option (List Data)
+metrics document = template_list (codes "metrics") document
+
+abbrev pub runs : Data → Option (List Data)
+runs document = list_in (codes "runs") document
+
+abbrev pub item_at : (number : ℕ) → Option (List Data) → Option Data
+item_at number items = option_and_then (λ items. slice_get items number) items
+
+-- a text of an item of a list
+abbrev pub text_at : (name : List ℕ) → (number : ℕ) → Option (List Data) → Option (List ℕ)
+text_at name number items = option_and_then (text_member name) (item_at number items)
+
+-- ---- names in a text
+
+-- a text with what is shown, if anything is, in the place of the first of some words, if they stand in it
+unfoldable pub in_place : (words : List ℕ) → (shown : Option (List ℕ)) → (text : List ℕ) → List ℕ
+in_place words None text = text
+in_place words (Some shown) text = unwrap_or (option_map (λ cut. cut.0 ++ (shown ++ cut.1)) (cut_at words text)) text
+
+-- behind an item's kind and number stands its name
+abbrev pub beside_item : (kind : List ℕ) → (number : ℕ) → Option (List Data) → (text : List ℕ) → List ℕ
+beside_item kind number items text = in_place (numbered kind number) (option_map (item_text kind number) (item_at number items)) text
+
+abbrev pub beside_metric : Data → (number : ℕ) → (text : List ℕ) → List ℕ
+beside_metric document number text = beside_item (codes "metric") number (metrics document) text
+
+abbrev pub beside_run : Data → (number : ℕ) → (text : List ℕ) → List ℕ
+beside_run document number text = beside_item (codes "run") number (runs document) text
+
+-- `spec.args` gives way to the argument
+abbrev pub with_argument : Data → (number : ℕ) → (text : List ℕ) → List ℕ
+with_argument document number text = in_place (codes "spec.args") (option_map (item_text (codes "argument") number) (item_at number (template_list (codes "args") document))) text
+
+-- behind `the name` stands the name that two runs have
+abbrev pub with_double_name : Data → (number : ℕ) → (text : List ℕ) → List ℕ
+with_double_name document number text = in_place (codes "the name") (option_map (λ name. codes "the name " ++ quoted name) (text_at (codes "name") number (runs document))) text
+
+-- behind the text stand the name that isn't there and those that are
+abbrev pub with_names : (name : Option (List ℕ)) → (kinds : List ℕ) → Option (List Data) → (text : List ℕ) → List ℕ
+with_names (Some name) kinds (Some items) text = text ++ (codes " " ++ (quoted name ++ (codes "; " ++ (kinds ++ (codes " are " ++ names_text items)))))
+with_names name kinds items text = text
+
+-- ---- refusals of templates
+
+abbrev pub template_words : Data → ManifestError → (text : List ℕ) → List ℕ
+template_words document (causes.BadArgs number) text = with_argument document number text
+template_words document (causes.UnknownDryRun number) text = with_names (text_at (codes "metricName") number (template_list (codes "dryRun") document)) (codes "metrics") (metrics document) text
+template_words document (causes.Unsupported number) text = beside_metric document number text
+template_words document (causes.DoubleMetric number) text = beside_metric document number text
+template_words document (causes.BadField number) text = beside_metric document number text
+template_words document (causes.OpenBraces number) text = beside_metric document number text
+template_words document (causes.UnknownArg number) text = beside_metric document number text
+template_words document (causes.NoValue number) text = beside_metric document number text
+template_words document (causes.BadLimit number) text = beside_metric document number text
+template_words document (causes.IntervalMissing number) text = beside_metric document number text
+template_words document cause text = text
+
+-- a template that is the whole document is told by its place
+abbrev pub manifest_words : Data → ManifestError → (text : List ℕ) → List ℕ
+manifest_words document cause text =
+    if is_none (get (codes "manifest") document) then text ++ codes "; the document has no member `manifest`, into which the template goes"
+    else template_words document cause text
+
+-- ---- refusals of bundles
+
+-- the text that an entry has by a name
+abbrev pub entry_text : (name : List ℕ) → (entry : ℕ) → Data → Option (List ℕ)
+entry_text name entry document = text_at name entry (list_in (codes "measurements") document)
+
+abbrev pub bundle_words : Data → BundleError → (text : List ℕ) → List ℕ
+bundle_words document (errors.Manifest cause) text = manifest_words document cause text
+bundle_words document (errors.ShapeMissing metric) text = beside_metric document metric text
+bundle_words document (errors.Shapes metric error) text = beside_metric document metric text
+bundle_words document (errors.DoubleRun run) text = with_double_name document run text
+bundle_words document (errors.Bind run cause) text = beside_run document run (template_words document cause text)
+bundle_words document (errors.Build run metric error) text = beside_run document run (beside_metric document metric text)
+bundle_words document (errors.UnknownRun entry) text = with_names (entry_text (codes "run") entry document) (codes "runs") (runs document) text
+bundle_words document (errors.UnknownMetric entry) text = with_names (entry_text (codes "metric") entry document) (codes "metrics") (metrics document) text
+bundle_words document error text = text
+
+-- ---- refusals of what `eval` reads
+
+-- a condition has braces, as references to arguments have in a template
+abbrev pub has_braces : (condition : Option (List ℕ)) → Bool
+has_braces None = false
+has_braces (Some text) = is_some (cut_at (codes "{{") text)
+
+-- arguments in braces are bound in templates alone
+abbrev pub eval_words : Data → EvalError → (text : List ℕ) → List ℕ
+eval_words document (Grammar error) text =
+    if has_braces (text_member (codes "condition") document) then text ++ codes "; arguments as {{args.NAME}} are bound in a template, by check, list and run"
+    else text
+eval_words document error text = text
