@@ -1,6 +1,6 @@
 -- The words of refusals: a refusal's own text, with names of the document that was read beside its numbers. The document
 -- is as it was written, and may be any JSON value: what isn't there isn't named.
-use Rattle.std.specs.Prelude.{ℕ, Bool, false, if◌then◌else◌, List, ◌++◌, codes, Option, Some, None, is_none, is_some, option_and_then, option_map, slice_get, unwrap_or}
+use Rattle.std.specs.Prelude.{ℕ, Bool, false, if◌then◌else◌, List, [], ◌∷◌, ◌++◌, codes, Option, Some, None, is_none, is_some, option_and_then, option_map, slice_get, unwrap_or}
 use Rattle.serde_json.specs.Data.{Data}
 use Rattle.serde_json.specs.Find.{get}
 use Rattle.ar_json.specs.Members.{list_of, member, member_of_member, text_member}
@@ -61,10 +61,19 @@ with_argument document number text = in_place (codes "spec.args") (option_map (i
 abbrev pub with_double_name : Data → (number : ℕ) → (text : List ℕ) → List ℕ
 with_double_name document number text = in_place (codes "the name") (option_map (λ name. codes "the name " ++ quoted name) (text_at (codes "name") number (runs document))) text
 
+-- those of a kind that there are
+abbrev pub those_there : (kinds : List ℕ) → List Data → List ℕ
+those_there kinds [] = codes "; there are no " ++ kinds
+those_there kinds (item ∷ items) = codes "; " ++ (kinds ++ (codes " are " ++ names_text (item ∷ items)))
+
 -- behind the text stand the name that isn't there and those that are
 abbrev pub with_names : (name : Option (List ℕ)) → (kinds : List ℕ) → Option (List Data) → (text : List ℕ) → List ℕ
-with_names (Some name) kinds (Some items) text = text ++ (codes " " ++ (quoted name ++ (codes "; " ++ (kinds ++ (codes " are " ++ names_text items)))))
+with_names (Some name) kinds (Some items) text = text ++ (codes " " ++ (quoted name ++ those_there kinds items))
 with_names name kinds items text = text
+
+-- behind the text stand the arguments that the template declares
+abbrev pub with_arguments : Data → (text : List ℕ) → List ℕ
+with_arguments document text = text ++ those_there (codes "arguments") (unwrap_or (template_list (codes "args") document) [])
 
 -- ---- refusals of templates
 
@@ -75,7 +84,7 @@ template_words document (causes.Unsupported number) text = beside_metric documen
 template_words document (causes.DoubleMetric number) text = beside_metric document number text
 template_words document (causes.BadField number) text = beside_metric document number text
 template_words document (causes.OpenBraces number) text = beside_metric document number text
-template_words document (causes.UnknownArg number) text = beside_metric document number text
+template_words document (causes.UnknownArg number) text = with_arguments document (beside_metric document number text)
 template_words document (causes.NoValue number) text = beside_metric document number text
 template_words document (causes.BadLimit number) text = beside_metric document number text
 template_words document (causes.IntervalMissing number) text = beside_metric document number text

@@ -1,10 +1,10 @@
 //! The texts of refusals, with names of the document.
 
-ghost use Rattle.std.specs.Prelude.{◌≡◌, ◌<◌, ◌++◌, IfOk, codes, length, map, option_map, string_bytes};
+ghost use Rattle.std.specs.Prelude.{◌≡◌, ◌<◌, ◌++◌, IfOk, OnOk, codes, length, map, option_map, string_bytes};
 ghost use Rattle.serde_json.specs.View.{view};
 ghost use Rattle.ar_manifest.specs.Cut.{cut_at};
 ghost use Rattle.ar_words.specs.Names.{item_text, quoted};
-ghost use Rattle.ar_words.specs.Words.{beside_item, beside_metric, beside_run, bundle_words, eval_words, has_braces, in_place, item_at, manifest_words, template_words, with_argument, with_double_name, with_names};
+ghost use Rattle.ar_words.specs.Words.{beside_item, beside_metric, beside_run, bundle_words, eval_words, has_braces, in_place, item_at, manifest_words, template_words, those_there, with_argument, with_arguments, with_double_name, with_names};
 
 use crate::lists::{entry_text, item_at, metrics, runs, template_list, text_at};
 use crate::names::{item_text, push_names, push_quoted};
@@ -151,6 +151,18 @@ fn with_double_name(
     in_place(alloc, text, "the name", shown)
 }
 
+/// Those of a kind that there are.
+fn push_those(out: &mut String, kinds: &str, items: &[Json]) -> Result<(), AllocError>
+    ensures { OnOk result (string_bytes out.new ≡ string_bytes out.old
+        ++ those_there kinds.now (map (λ item. view item) items.now)) }
+{
+    if items.is_empty() {
+        return write!(out, "; there are no {kinds}");
+    }
+    write!(out, "; {kinds} are ")?;
+    push_names(out, items)
+}
+
 /// The text of the refusal of a name that isn't there, with that name and those that there are.
 fn with_names(
     mut text: String,
@@ -166,8 +178,17 @@ fn with_names(
     };
     text.push_str(" ")?;
     push_quoted(&mut text, name)?;
-    write!(text, "; {kinds} are ")?;
-    push_names(&mut text, items)?;
+    push_those(&mut text, kinds, items)?;
+    Ok(text)
+}
+
+/// The text with the arguments that the template declares.
+fn with_arguments(document: &Json, mut text: String) -> Result<String, AllocError>
+    ensures { IfOk result
+        (λ said. string_bytes said ≡ with_arguments (view document.now) (string_bytes text)) }
+{
+    let items = template_list(document, "args").unwrap_or(&[]);
+    push_those(&mut text, "arguments", items)?;
     Ok(text)
 }
 
@@ -189,11 +210,14 @@ fn template_text(
             let name = text_at(template_list(document, "dryRun"), number, "metricName");
             with_names(text, name, "metrics", metrics(document))
         }
+        ManifestError::UnknownArg(number) => {
+            let text = beside_metric(alloc, document, text, number)?;
+            with_arguments(document, text)
+        }
         ManifestError::Unsupported(number)
         | ManifestError::DoubleMetric(number)
         | ManifestError::BadField(number)
         | ManifestError::OpenBraces(number)
-        | ManifestError::UnknownArg(number)
         | ManifestError::NoValue(number)
         | ManifestError::BadLimit(number)
         | ManifestError::IntervalMissing(number) => beside_metric(alloc, document, text, number),
