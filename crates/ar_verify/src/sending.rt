@@ -238,7 +238,7 @@ fn enter<'s, M: ShapeName>(
     ))
 }
 
-/// Takes the truth value of a loop's body, above which and below which there is nothing.
+/// Takes the truth value of a loop's body, which has to be alone above the floor.
 fn take_answer<M: ShapeName>(mut kinds: Vec<Kind<'_, M>>) -> Result<(), Failure>
     ensures exact { Meets (λ _. []) result (only_truth (from_top kinds.entry.items)) }
     ensures taken { OnOk result (truth_taken (from_top kinds.entry.items) ≡ Ok []) }
