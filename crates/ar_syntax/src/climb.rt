@@ -17,10 +17,10 @@ pub(crate) fn climb(
     alloc: Global,
     stack: &mut Vec<Frame>,
     level: usize,
-    tree: Tree,
-) -> Result<Tree, AllocError>
-    ensures { IfOk result (λ ended. Have (frames_of stack.new.items) (expression_of ended)
-        ≡ climbed level (frames_of stack.old.items) (expression_of tree)) }
+    tree: Box<Tree>,
+) -> Result<Box<Tree>, AllocError>
+    ensures { IfOk result (λ ended. Have (frames_of stack.new.items) (expression_of ended.value)
+        ≡ climbed level (frames_of stack.old.items) (expression_of tree.value)) }
 {
     let mut tree = tree;
     while let Some(frame) = pop_ended(stack, level) {
@@ -66,8 +66,9 @@ fn ends_below(frame: &Frame, level: usize) -> bool
 }
 
 /// The tree of a phrase that ends with an operand.
-fn close(alloc: Global, frame: Frame, tree: Tree) -> Result<Tree, AllocError>
-    ensures { IfOk result (λ closed. expression_of closed ≡ closed_by (frame_of frame) (expression_of tree)) }
+fn close(alloc: Global, frame: Frame, tree: Box<Tree>) -> Result<Box<Tree>, AllocError>
+    ensures { IfOk result
+        (λ closed. expression_of closed.value ≡ closed_by (frame_of frame) (expression_of tree.value)) }
 {
     match frame {
         Frame::RightOf {
@@ -83,9 +84,13 @@ fn close(alloc: Global, frame: Frame, tree: Tree) -> Result<Tree, AllocError>
 
 /// Ends the phrases that a closing sign, a comma or a colon ends with an operand.
 #[tactic(auto, using(crate::proofs::Climbs::unwinds_all))]
-pub(crate) fn unwind(alloc: Global, stack: &mut Vec<Frame>, tree: Tree) -> Result<Tree, AllocError>
-    ensures { IfOk result (λ ended. Have (frames_of stack.new.items) (expression_of ended)
-        ≡ unwound (frames_of stack.old.items) (expression_of tree)) }
+pub(crate) fn unwind(
+    alloc: Global,
+    stack: &mut Vec<Frame>,
+    tree: Box<Tree>,
+) -> Result<Box<Tree>, AllocError>
+    ensures { IfOk result (λ ended. Have (frames_of stack.new.items) (expression_of ended.value)
+        ≡ unwound (frames_of stack.old.items) (expression_of tree.value)) }
 {
     let mut tree = tree;
     while let Some(frame) = pop_unwound(stack) {

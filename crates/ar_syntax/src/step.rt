@@ -1,7 +1,7 @@
 //! One token more.
 
-ghost use Rattle.std.specs.Prelude.{◌≡◌, ◌∷◌, ◌++◌, [], List, length, map, pred, IfOk};
-ghost use Rattle.ar_condition.specs.Expression.{Expression, LiteralAt};
+ghost use Rattle.std.specs.Prelude.{◌≡◌, ◌∷◌, ◌++◌, [], length, map, pred, IfOk};
+ghost use Rattle.ar_condition.specs.Expression.{LiteralAt};
 ghost use Rattle.ar_syntax.specs.Grammar.{ends_bracket, may_continue, may_open, takes_all, takes_more};
 ghost use Rattle.ar_syntax.specs.Machine.{Argued, Body, Braced, Frame, Grouped, Have, Indexed, Listed, RightOf, Yes, Want, WantArgument, argue, begin, choose, climbed, close_braced, close_empty, close_text, end_with, have, left, open_index, operate, negate, select, step, unwound, want, when};
 ghost use Rattle.ar_syntax.specs.Roles.{arity, called, follows, is_body, is_brace, is_group, is_in, looseness, name_of, text_value};
@@ -78,7 +78,7 @@ fn begin_with(
             }
         }
         Begin::ItemPoint => {
-            let owner = Tree::Item { at };
+            let owner = Box::new(alloc, Tree::Item { at })?;
             Ok(State::WantName { at, owner })
         }
         Begin::NoStart => Err(Refusal::Other),
@@ -86,19 +86,24 @@ fn begin_with(
 }
 
 /// Items with one more.
-fn with_item(items: Vec<Tree>, item: Tree) -> Result<Vec<Tree>, AllocFailed<Tree>>
+fn with_item(items: Vec<Tree>, item: Box<Tree>) -> Result<Vec<Tree>, AllocFailed<Tree>>
     ensures { IfOk result
-        (λ all. map expression_of all.items ≡ map expression_of items.items ++ expression_of item ∷ []) }
+        (λ all. map expression_of all.items ≡ map expression_of items.items ++ expression_of item.value ∷ []) }
 {
     let mut items = items;
-    items.push(item)?;
+    items.push(Box::into_inner(item))?;
     Ok(items)
 }
 
 /// Behind an operand.
 #[tactic(auto, using(crate::proofs::Openers::opener_left, crate::proofs::Openers::no_opener_left))]
-fn have(alloc: Global, stack: &mut Vec<Frame>, tree: Tree, token: &Token) -> Result<State, Refusal>
-    ensures { Steps (λ rules. have rules (frames_of stack.old.items) (expression_of tree) token.now)
+fn have(
+    alloc: Global,
+    stack: &mut Vec<Frame>,
+    tree: Box<Tree>,
+    token: &Token,
+) -> Result<State, Refusal>
+    ensures { Steps (λ rules. have rules (frames_of stack.old.items) (expression_of tree.value) token.now)
         (frames_of stack.new.items) result }
 {
     let at = token.span.start;
@@ -124,12 +129,12 @@ fn have(alloc: Global, stack: &mut Vec<Frame>, tree: Tree, token: &Token) -> Res
 fn operate(
     alloc: Global,
     stack: &mut Vec<Frame>,
-    tree: Tree,
+    tree: Box<Tree>,
     at: usize,
     operator: Binary,
 ) -> Result<State, Refusal>
     ensures { Steps
-        (λ rules. operate rules at operator (climbed (looseness operator) (frames_of stack.old.items) (expression_of tree)))
+        (λ rules. operate rules at operator (climbed (looseness operator) (frames_of stack.old.items) (expression_of tree.value)))
         (frames_of stack.new.items) result }
 {
     let first = climb(alloc, stack, looseness(operator), tree)?;
@@ -142,9 +147,14 @@ fn operate(
 }
 
 /// `not` behind the first operand of `not in`.
-fn negate(alloc: Global, stack: &mut Vec<Frame>, tree: Tree, at: usize) -> Result<State, Refusal>
+fn negate(
+    alloc: Global,
+    stack: &mut Vec<Frame>,
+    tree: Box<Tree>,
+    at: usize,
+) -> Result<State, Refusal>
     ensures { Steps
-        (λ rules. negate rules at (climbed (looseness NotIn) (frames_of stack.old.items) (expression_of tree)))
+        (λ rules. negate rules at (climbed (looseness NotIn) (frames_of stack.old.items) (expression_of tree.value)))
         (frames_of stack.new.items) result }
 {
     let first = climb(alloc, stack, looseness(Binary::NotIn), tree)?;
@@ -153,9 +163,14 @@ fn negate(alloc: Global, stack: &mut Vec<Frame>, tree: Tree, at: usize) -> Resul
 
 /// `?` behind its condition.
 #[tactic(auto, using(crate::proofs::Openers::opener_left, crate::proofs::Openers::no_opener_left))]
-fn choose(alloc: Global, stack: &mut Vec<Frame>, tree: Tree, at: usize) -> Result<State, Refusal>
+fn choose(
+    alloc: Global,
+    stack: &mut Vec<Frame>,
+    tree: Box<Tree>,
+    at: usize,
+) -> Result<State, Refusal>
     ensures { Steps
-        (λ rules. choose rules at (climbed 5 (frames_of stack.old.items) (expression_of tree)))
+        (λ rules. choose rules at (climbed 5 (frames_of stack.old.items) (expression_of tree.value)))
         (frames_of stack.new.items) result }
 {
     let condition = climb(alloc, stack, CONDITION_LEVEL, tree)?;
@@ -166,11 +181,11 @@ fn choose(alloc: Global, stack: &mut Vec<Frame>, tree: Tree, at: usize) -> Resul
 fn end_with(
     alloc: Global,
     stack: &mut Vec<Frame>,
-    tree: Tree,
+    tree: Box<Tree>,
     ender: Ender,
 ) -> Result<State, Refusal>
     ensures { Steps
-        (λ rules. end_with rules ender (unwound (frames_of stack.old.items) (expression_of tree)))
+        (λ rules. end_with rules ender (unwound (frames_of stack.old.items) (expression_of tree.value)))
         (frames_of stack.new.items) result }
 {
     let tree = unwind(alloc, stack, tree)?;
@@ -182,11 +197,11 @@ fn end_with(
 fn end_newest(
     alloc: Global,
     stack: &mut Vec<Frame>,
-    tree: Tree,
+    tree: Box<Tree>,
     ender: Ender,
 ) -> Result<State, Refusal>
     ensures { Steps
-        (λ rules. end_with rules ender (Have (frames_of stack.old.items) (expression_of tree)))
+        (λ rules. end_with rules ender (Have (frames_of stack.old.items) (expression_of tree.value)))
         (frames_of stack.new.items) result }
 {
     match stack.pop() {
@@ -200,33 +215,33 @@ fn end_frame(
     alloc: Global,
     stack: &mut Vec<Frame>,
     frame: Frame,
-    tree: Tree,
+    tree: Box<Tree>,
     ender: Ender,
 ) -> Result<State, Refusal>
     ensures { Steps
-        (λ rules. end_with rules ender (Have (frame_of frame ∷ frames_of stack.old.items) (expression_of tree)))
+        (λ rules. end_with rules ender (Have (frame_of frame ∷ frames_of stack.old.items) (expression_of tree.value)))
         (frames_of stack.new.items) result }
 {
     match frame {
         Frame::Yes { at, condition } => end_yes(stack, at, condition, tree, ender),
         Frame::Grouped => end_group(tree, ender),
         Frame::Indexed { at, list } => end_index(alloc, at, list, tree, ender),
-        Frame::Listed { at, so_far } => end_item(stack, at, with_item(so_far, tree)?, ender),
+        Frame::Listed { at, so_far } => end_item(alloc, stack, at, so_far, tree, ender),
         Frame::Argued {
             at,
             function,
             so_far,
-        } => end_argument(alloc, at, function, with_item(so_far, tree)?, ender),
+        } => end_argument(alloc, at, function, so_far, tree, ender),
         Frame::Body {
             at,
             function,
             so_far,
-        } => end_argument(alloc, at, function, with_item(so_far, tree)?, ender),
+        } => end_argument(alloc, at, function, so_far, tree, ender),
         Frame::Braced {
             at,
             function,
             so_far,
-        } => end_braces(at, function, with_item(so_far, tree)?, ender),
+        } => end_braces(at, function, so_far, tree, ender),
         Frame::RightOf { .. } => Err(Refusal::Other),
         Frame::Prefixed { .. } => Err(Refusal::Other),
         Frame::No { .. } => Err(Refusal::Other),
@@ -234,9 +249,9 @@ fn end_frame(
 }
 
 /// What stands in parentheses ends.
-fn end_group(tree: Tree, ender: Ender) -> Result<State, Refusal>
+fn end_group(tree: Box<Tree>, ender: Ender) -> Result<State, Refusal>
     ensures { (stack : _)
-        → StepsFreely (λ rules. end_with rules ender (Have (Grouped ∷ stack) (expression_of tree))) stack result }
+        → StepsFreely (λ rules. end_with rules ender (Have (Grouped ∷ stack) (expression_of tree.value))) stack result }
 {
     match ender {
         Ender::EndGroup => Ok(State::Have(tree)),
@@ -248,12 +263,12 @@ fn end_group(tree: Tree, ender: Ender) -> Result<State, Refusal>
 fn end_index(
     alloc: Global,
     at: usize,
-    list: Tree,
-    tree: Tree,
+    list: Box<Tree>,
+    tree: Box<Tree>,
     ender: Ender,
 ) -> Result<State, Refusal>
     ensures { (stack : _) → Steps
-        (λ rules. end_with rules ender (Have (Indexed at (expression_of list) ∷ stack) (expression_of tree)))
+        (λ rules. end_with rules ender (Have (Indexed at (expression_of list.value) ∷ stack) (expression_of tree.value)))
         stack result }
 {
     match ender {
@@ -262,17 +277,20 @@ fn end_index(
     }
 }
 
-/// An argument in braces ends, the last of these.
+/// An argument in braces ends.
 fn end_braces(
     at: usize,
     function: Call,
-    arguments: Vec<Tree>,
+    so_far: Vec<Tree>,
+    tree: Box<Tree>,
     ender: Ender,
 ) -> Result<State, Refusal>
-    ensures { (stack : _) (before : List Expression) (last : Expression)
-        → map expression_of arguments.items ≡ before ++ last ∷ []
-        → StepsFreely (λ rules. end_with rules ender (Have (Braced at function before ∷ stack) last)) stack result }
+    ensures { (stack : _) → Steps
+        (λ rules. end_with rules ender
+        (Have (Braced at function (map expression_of so_far.items) ∷ stack) (expression_of tree.value)))
+        stack result }
 {
+    let arguments = with_item(so_far, tree)?;
     match ender {
         Ender::EndBrace => Ok(State::HaveArgument {
             at,
@@ -288,12 +306,12 @@ fn end_braces(
 fn end_yes(
     stack: &mut Vec<Frame>,
     at: usize,
-    condition: Tree,
-    met: Tree,
+    condition: Box<Tree>,
+    met: Box<Tree>,
     ender: Ender,
 ) -> Result<State, Refusal>
     ensures { Steps
-        (λ rules. end_with rules ender (Have (Yes at (expression_of condition) ∷ frames_of stack.old.items) (expression_of met)))
+        (λ rules. end_with rules ender (Have (Yes at (expression_of condition.value) ∷ frames_of stack.old.items) (expression_of met.value)))
         (frames_of stack.new.items) result }
 {
     if ender != Ender::Colon {
@@ -303,40 +321,47 @@ fn end_yes(
     Ok(State::Want)
 }
 
-/// An item of a list ends, the last of these.
+/// An item of a list ends.
 fn end_item(
+    alloc: Global,
     stack: &mut Vec<Frame>,
     at: usize,
-    items: Vec<Tree>,
+    so_far: Vec<Tree>,
+    tree: Box<Tree>,
     ender: Ender,
 ) -> Result<State, Refusal>
-    ensures { (before : List Expression) (last : Expression) → map expression_of items.items ≡ before ++ last ∷ []
-        → Steps
-        (λ rules. end_with rules ender (Have (Listed at before ∷ frames_of stack.old.items) last))
+    ensures { Steps
+        (λ rules. end_with rules ender
+        (Have (Listed at (map expression_of so_far.items) ∷ frames_of stack.old.items) (expression_of tree.value)))
         (frames_of stack.new.items) result }
 {
+    let items = with_item(so_far, tree)?;
     match ender {
-        Ender::EndBracket => Ok(State::Have(list(at, items))),
+        Ender::EndBracket => Ok(State::Have(Box::new(alloc, list(at, items))?)),
         Ender::Comma => next_item(stack, at, items),
         _ => Err(Refusal::Other),
     }
 }
 
-/// An argument of a call ends, the last of these.
+/// An argument of a call ends.
 fn end_argument(
     alloc: Global,
     at: usize,
     function: Call,
-    arguments: Vec<Tree>,
+    so_far: Vec<Tree>,
+    tree: Box<Tree>,
     ender: Ender,
 ) -> Result<State, Refusal>
-    ensures plain { (stack : _) (before : List Expression) (last : Expression)
-        → map expression_of arguments.items ≡ before ++ last ∷ []
-        → Steps (λ rules. end_with rules ender (Have (Argued at function before ∷ stack) last)) stack result }
-    ensures body { (stack : _) (before : List Expression) (last : Expression)
-        → map expression_of arguments.items ≡ before ++ last ∷ []
-        → Steps (λ rules. end_with rules ender (Have (Body at function before ∷ stack) last)) stack result }
+    ensures plain { (stack : _) → Steps
+        (λ rules. end_with rules ender
+        (Have (Argued at function (map expression_of so_far.items) ∷ stack) (expression_of tree.value)))
+        stack result }
+    ensures body { (stack : _) → Steps
+        (λ rules. end_with rules ender
+        (Have (Body at function (map expression_of so_far.items) ∷ stack) (expression_of tree.value)))
+        stack result }
 {
+    let arguments = with_item(so_far, tree)?;
     match ender {
         Ender::EndGroup => end_call(alloc, at, function, arguments),
         Ender::Comma => next_argument(at, function, arguments),
@@ -399,14 +424,20 @@ fn end_call(
 }
 
 /// The tree of a call with all its arguments.
-fn call(alloc: Global, at: usize, function: Call, arguments: Vec<Tree>) -> Result<Tree, AllocError>
+fn call(
+    alloc: Global,
+    at: usize,
+    function: Call,
+    arguments: Vec<Tree>,
+) -> Result<Box<Tree>, AllocError>
     requires { length arguments.items ≡ arity function }
-    ensures { IfOk result (λ tree. expression_of tree ≡ called at function (map expression_of arguments.items)) }
+    ensures { IfOk result (λ tree. expression_of tree.value ≡ called at function (map expression_of arguments.items)) }
 {
     let mut arguments = arguments;
     let Some(last) = arguments.pop() else {
         unreachable!()
     };
+    let last = Box::new(alloc, last)?;
     match function {
         Call::Len => len(alloc, at, last),
         Call::IsNil => is_nil(alloc, at, last),
@@ -414,22 +445,22 @@ fn call(alloc: Global, at: usize, function: Call, arguments: Vec<Tree>) -> Resul
             let Some(operand) = arguments.pop() else {
                 unreachable!()
             };
-            default(alloc, at, operand, last)
+            default(alloc, at, Box::new(alloc, operand)?, last)
         }
         Call::Over(over) => {
             let Some(list) = arguments.pop() else {
                 unreachable!()
             };
-            predicate(alloc, at, over, list, last)
+            predicate(alloc, at, over, Box::new(alloc, list)?, last)
         }
     }
 }
 
 /// Behind the point of a field.
 #[tactic(auto, unfolding(crate::specs::Roles::name_of))]
-fn select(alloc: Global, at: usize, owner: Tree, token: &Token) -> Result<State, Refusal>
+fn select(alloc: Global, at: usize, owner: Box<Tree>, token: &Token) -> Result<State, Refusal>
     ensures { (stack : _)
-        → Steps (λ rules. select rules stack at (expression_of owner) (name_of token.now)) stack result }
+        → Steps (λ rules. select rules stack at (expression_of owner.value) (name_of token.now)) stack result }
 {
     let name = match &token.kind {
         TokenKind::Word(word) => Text::of(alloc, word.letters())?,
@@ -456,11 +487,11 @@ fn open_index(
     alloc: Global,
     stack: &mut Vec<Frame>,
     at: usize,
-    owner: Tree,
+    owner: Box<Tree>,
     token: &Token,
 ) -> Result<State, Refusal>
     ensures { Steps
-        (λ rules. open_index rules (frames_of stack.old.items) at (expression_of owner) token.now (text_value token.now))
+        (λ rules. open_index rules (frames_of stack.old.items) at (expression_of owner.value) token.now (text_value token.now))
         (frames_of stack.new.items) result }
 {
     match text_of(alloc, token)? {
@@ -490,29 +521,27 @@ fn close_text(
     alloc: Global,
     stack: &mut Vec<Frame>,
     at: usize,
-    owner: Tree,
+    owner: Box<Tree>,
     literal: (usize, Text),
     token: &Token,
 ) -> Result<State, Refusal>
     ensures { Steps
-        (λ rules. close_text rules (frames_of stack.old.items) at (expression_of owner) literal.0 literal.1 token.now (follows token.now))
+        (λ rules. close_text rules (frames_of stack.old.items) at (expression_of owner.value) literal.0 literal.1 token.now (follows token.now))
         (frames_of stack.new.items) result }
 {
     let (text_at, text) = literal;
     if closes_bracket(token) {
         return Ok(State::Have(field(alloc, at, owner, text)?));
     }
-    let tree = text_operand(text_at, text);
+    let tree = text_operand(alloc, text_at, text)?;
     have_indexed(alloc, stack, at, owner, tree, token)
 }
 
-fn text_operand(at: usize, text: Text) -> Tree
-    ensures { expression_of result ≡ LiteralAt at (TextLiteral text) }
+fn text_operand(alloc: Global, at: usize, text: Text) -> Result<Box<Tree>, AllocError>
+    ensures { IfOk result (λ tree. expression_of tree.value ≡ LiteralAt at (TextLiteral text)) }
 {
-    Tree::Literal {
-        at,
-        literal: Literal::Text(text),
-    }
+    let literal = Literal::Text(text);
+    Ok(Box::new(alloc, Tree::Literal { at, literal })?)
 }
 
 /// Behind the operand of an index.
@@ -521,12 +550,12 @@ fn have_indexed(
     alloc: Global,
     stack: &mut Vec<Frame>,
     at: usize,
-    list: Tree,
-    tree: Tree,
+    list: Box<Tree>,
+    tree: Box<Tree>,
     token: &Token,
 ) -> Result<State, Refusal>
     ensures { Steps
-        (λ rules. have rules (Indexed at (expression_of list) ∷ frames_of stack.old.items) (expression_of tree) token.now)
+        (λ rules. have rules (Indexed at (expression_of list.value) ∷ frames_of stack.old.items) (expression_of tree.value) token.now)
         (frames_of stack.new.items) result }
 {
     stack.push(Frame::Indexed { at, list })?;
@@ -535,9 +564,14 @@ fn have_indexed(
 
 /// Behind the `not` of `not in`.
 #[tactic(auto, using(crate::proofs::Climbs::pops))]
-fn want_in(stack: &mut Vec<Frame>, at: usize, first: Tree, token: &Token) -> Result<State, Refusal>
+fn want_in(
+    stack: &mut Vec<Frame>,
+    at: usize,
+    first: Box<Tree>,
+    token: &Token,
+) -> Result<State, Refusal>
     ensures { Steps
-        (λ rules. when rules (is_in token.now) (Want (RightOf at NotIn (expression_of first) ∷ frames_of stack.old.items)))
+        (λ rules. when rules (is_in token.now) (Want (RightOf at NotIn (expression_of first.value) ∷ frames_of stack.old.items)))
         (frames_of stack.new.items) result }
 {
     if !is_in(token) {

@@ -9,13 +9,13 @@ use Rattle.ar_syntax.specs.declared.machine.Frame.TheVariants as frames
 
 -- what a frame in memory waits for
 abbrev pub frame_of : rust.Frame → Frame
-frame_of (frames.RightOf at operator first) = RightOf at operator (expression_of first)
+frame_of (frames.RightOf at operator first) = RightOf at operator (expression_of first.value)
 frame_of (frames.Prefixed at operator) = Prefixed at operator
-frame_of (frames.Yes at condition) = Yes at (expression_of condition)
-frame_of (frames.No at condition met) = No at (expression_of condition) (expression_of met)
+frame_of (frames.Yes at condition) = Yes at (expression_of condition.value)
+frame_of (frames.No at condition met) = No at (expression_of condition.value) (expression_of met.value)
 frame_of frames.Grouped = Grouped
 frame_of (frames.Listed at so_far) = Listed at (map expression_of so_far.items)
-frame_of (frames.Indexed at list) = Indexed at (expression_of list)
+frame_of (frames.Indexed at list) = Indexed at (expression_of list.value)
 frame_of (frames.Argued at function so_far) = Argued at function (map expression_of so_far.items)
 frame_of (frames.Body at function so_far) = Body at function (map expression_of so_far.items)
 frame_of (frames.Braced at function so_far) = Braced at function (map expression_of so_far.items)

@@ -21,11 +21,11 @@ use Rattle.ar_syntax.specs.declared.state.Refusal.TheVariants.{Arguments, Items,
 -- what a state in memory says
 abbrev pub state_of : List Frame → rust.State → State
 state_of stack states.Want = Want stack
-state_of stack (states.Have tree) = Have stack (expression_of tree)
-state_of stack (states.WantName at owner) = WantName stack at (expression_of owner)
-state_of stack (states.WantIndex at owner) = WantIndex stack at (expression_of owner)
-state_of stack (states.HaveText at owner text_at text) = HaveText stack at (expression_of owner) text_at text
-state_of stack (states.WantIn at first) = WantIn stack at (expression_of first)
+state_of stack (states.Have tree) = Have stack (expression_of tree.value)
+state_of stack (states.WantName at owner) = WantName stack at (expression_of owner.value)
+state_of stack (states.WantIndex at owner) = WantIndex stack at (expression_of owner.value)
+state_of stack (states.HaveText at owner text_at text) = HaveText stack at (expression_of owner.value) text_at text
+state_of stack (states.WantIn at first) = WantIn stack at (expression_of first.value)
 state_of stack (states.WantGroup at function) = WantGroup stack at function
 state_of stack (states.WantArgument at function so_far) = WantArgument stack at function (map expression_of so_far.items)
 state_of stack (states.HaveArgument at function arguments) = HaveArgument stack at function (map expression_of arguments.items)
@@ -35,7 +35,7 @@ abbrev pub at_state : List rust_frames.Frame → rust.State → State
 at_state frames state = state_of (frames_of frames) state
 
 abbrev pub start_of : begins.Begin → Start
-start_of (begin.Leaf tree) = Leaf (expression_of tree)
+start_of (begin.Leaf tree) = Leaf (expression_of tree.value)
 start_of (begin.Prefix operator) = Prefix operator
 start_of begin.Group = Group
 start_of begin.Bracket = Bracket

@@ -6,7 +6,7 @@ use Rattle.ar_syntax.proofs.climb.unwind.Given as goal
 
 -- what is left to end
 abbrev pub invariant-loop-frame : goal.invariant-loop-frame
-invariant-loop-frame l = unwound (frames_of l.stack.items) (expression_of l.tree) ≡ unwound (frames_of l.fn.stack.items) (expression_of l.fn.tree)
+invariant-loop-frame l = unwound (frames_of l.stack.items) (expression_of l.tree.value) ≡ unwound (frames_of l.fn.stack.items) (expression_of l.fn.tree.value)
 
 abbrev pub decreases-loop-frame : goal.decreases-loop-frame
 decreases-loop-frame l = length l.stack.items
