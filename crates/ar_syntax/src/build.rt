@@ -1,13 +1,19 @@
 //! Trees of parts that are there.
 
 ghost use Rattle.std.specs.Prelude.{◌≡◌, IfOk, map};
-ghost use Rattle.ar_condition.specs.Expression.{FieldAt, IndexAt, UnaryAt, BinaryAt, ChoiceAt, ListAt, LenAt, IsNilAt, DefaultAt, PredicateAt, expressions};
+ghost use Rattle.ar_condition.specs.Expression.{ItemAt, FieldAt, IndexAt, UnaryAt, BinaryAt, ChoiceAt, ListAt, LenAt, IsNilAt, DefaultAt, PredicateAt, expressions};
 ghost use Rattle.ar_condition.specs.Views.{expression_of};
 
 use ar_condition::tree::{Binary, Tree, Trees, Unary};
 use ar_value::operator::Predicate;
 use ar_value::text::Text;
 use std::alloc::{AllocError, Global};
+
+pub(crate) fn item(alloc: Global, at: usize) -> Result<Box<Tree>, AllocError>
+    ensures { IfOk result (λ tree. expression_of tree.value ≡ ItemAt at) }
+{
+    Ok(Box::new(alloc, Tree::Item { at })?)
+}
 
 pub(crate) fn field(
     alloc: Global,
@@ -92,13 +98,12 @@ pub(crate) fn choice(
     )?)
 }
 
-pub(crate) fn list(at: usize, items: Vec<Tree>) -> Tree
-    ensures { expression_of result ≡ ListAt at (expressions (map expression_of items.items)) }
+pub(crate) fn list(alloc: Global, at: usize, items: Vec<Tree>) -> Result<Box<Tree>, AllocError>
+    ensures { IfOk result
+        (λ tree. expression_of tree.value ≡ ListAt at (expressions (map expression_of items.items))) }
 {
-    Tree::List {
-        at,
-        items: Trees { items },
-    }
+    let items = Trees { items };
+    Ok(Box::new(alloc, Tree::List { at, items })?)
 }
 
 pub(crate) fn len(alloc: Global, at: usize, list: Box<Tree>) -> Result<Box<Tree>, AllocError>

@@ -57,7 +57,7 @@ pub(crate) enum State {
 }
 
 /// Why a token can't stand next: a limit alone forbids it, or something else does.
-#[derive(Clone, Copy, Debug, PartialEq, Eq)]
+#[derive(Clone, Copy)]
 pub(crate) enum Refusal {
     Arguments,
     Items,

@@ -1,6 +1,6 @@
 //! One token more.
 
-ghost use Rattle.std.specs.Prelude.{◌≡◌, ◌∷◌, ◌++◌, [], length, map, pred, IfOk};
+ghost use Rattle.std.specs.Prelude.{◌≡◌, ◌∷◌, ◌++◌, ◌<◌, [], length, map, pred, IfOk};
 ghost use Rattle.ar_condition.specs.Expression.{LiteralAt};
 ghost use Rattle.ar_syntax.specs.Grammar.{ends_bracket, may_continue, may_open, takes_all, takes_more};
 ghost use Rattle.ar_syntax.specs.Machine.{Argued, Body, Braced, Frame, Grouped, Have, Indexed, Listed, RightOf, Yes, Want, WantArgument, argue, begin, choose, climbed, close_braced, close_empty, close_text, end_with, have, left, open_index, operate, negate, select, step, unwound, want, when};
@@ -11,7 +11,7 @@ ghost use Rattle.ar_syntax.specs.Private.Steps.{Steps, StepsFreely, ends_group, 
 ghost use Rattle.ar_syntax.specs.Private.Frames.{frame_of, frames_of};
 ghost use Rattle.ar_condition.specs.Views.{expression_of};
 
-use crate::build::{default, field, index, is_nil, len, list, predicate};
+use crate::build::{default, field, index, is_nil, item, len, list, predicate};
 use crate::climb::{climb, unwind};
 use crate::machine::Frame;
 use crate::role::{Call, Ender, Follow, follow_of, is_brace, is_group, is_in, looseness};
@@ -21,7 +21,7 @@ use crate::state::{Refusal, State};
 use crate::token::{Token, TokenKind};
 use ar_condition::tree::{Binary, Literal, Tree};
 use ar_value::text::Text;
-use std::alloc::{AllocError, AllocFailed, Global};
+use std::alloc::{AllocError, Global};
 
 /// How many items a list may have.
 const MOST_ITEMS: usize = 16;
@@ -41,6 +41,20 @@ fn open(stack: &mut Vec<Frame>, frame: Frame) -> Result<State, Refusal>
     }
     stack.push(frame)?;
     Ok(State::Want)
+}
+
+/// The state behind an opener that makes no frame yet, where one may begin.
+#[tactic(auto, using(crate::proofs::Openers::opener_left, crate::proofs::Openers::no_opener_left))]
+fn with_opener(stack: &[Frame], state: State) -> Result<State, Refusal>
+    ensures { Steps
+        (λ rules. when rules (may_open rules (left (frames_of stack.now))) (state_of (frames_of stack.now) state))
+        (frames_of stack.now) result }
+{
+    if left(stack) == 0 {
+        Err(Refusal::Depth)
+    } else {
+        Ok(state)
+    }
 }
 
 /// Where an operand is wanted.
@@ -70,23 +84,17 @@ fn begin_with(
             let so_far = Vec::new(alloc);
             open(stack, Frame::Listed { at, so_far })
         }
-        Begin::Calls(function) => {
-            if left(stack) == 0 {
-                Err(Refusal::Depth)
-            } else {
-                Ok(State::WantGroup { at, function })
-            }
-        }
-        Begin::ItemPoint => {
-            let owner = Box::new(alloc, Tree::Item { at })?;
-            Ok(State::WantName { at, owner })
-        }
+        Begin::Calls(function) => with_opener(stack, State::WantGroup { at, function }),
+        Begin::ItemPoint => Ok(State::WantName {
+            at,
+            owner: item(alloc, at)?,
+        }),
         Begin::NoStart => Err(Refusal::Other),
     }
 }
 
 /// Items with one more.
-fn with_item(items: Vec<Tree>, item: Box<Tree>) -> Result<Vec<Tree>, AllocFailed<Tree>>
+fn with_item(items: Vec<Tree>, item: Box<Tree>) -> Result<Vec<Tree>, AllocError>
     ensures { IfOk result
         (λ all. map expression_of all.items ≡ map expression_of items.items ++ expression_of item.value ∷ []) }
 {
@@ -112,13 +120,7 @@ fn have(
         Follow::NotOf => negate(alloc, stack, tree, at),
         Follow::Choose => choose(alloc, stack, tree, at),
         Follow::Select => Ok(State::WantName { at, owner: tree }),
-        Follow::Open => {
-            if left(stack) == 0 {
-                Err(Refusal::Depth)
-            } else {
-                Ok(State::WantIndex { at, owner: tree })
-            }
-        }
+        Follow::Open => with_opener(stack, State::WantIndex { at, owner: tree }),
         Follow::Ends(ender) => end_with(alloc, stack, tree, ender),
         Follow::NoFollow => Err(Refusal::Other),
     }
@@ -314,7 +316,7 @@ fn end_yes(
         (λ rules. end_with rules ender (Have (Yes at (expression_of condition.value) ∷ frames_of stack.old.items) (expression_of met.value)))
         (frames_of stack.new.items) result }
 {
-    if ender != Ender::Colon {
+    if !matches!(ender, Ender::Colon) {
         return Err(Refusal::Other);
     }
     stack.push(Frame::No { at, condition, met })?;
@@ -337,7 +339,7 @@ fn end_item(
 {
     let items = with_item(so_far, tree)?;
     match ender {
-        Ender::EndBracket => Ok(State::Have(Box::new(alloc, list(at, items))?)),
+        Ender::EndBracket => Ok(State::Have(list(alloc, at, items)?)),
         Ender::Comma => next_item(stack, at, items),
         _ => Err(Refusal::Other),
     }
@@ -434,40 +436,47 @@ fn call(
     ensures { IfOk result (λ tree. expression_of tree.value ≡ called at function (map expression_of arguments.items)) }
 {
     let mut arguments = arguments;
-    let Some(last) = arguments.pop() else {
-        unreachable!()
-    };
-    let last = Box::new(alloc, last)?;
+    let last = pop_argument(alloc, &mut arguments)?;
     match function {
         Call::Len => len(alloc, at, last),
         Call::IsNil => is_nil(alloc, at, last),
-        Call::Default => {
-            let Some(operand) = arguments.pop() else {
-                unreachable!()
-            };
-            default(alloc, at, Box::new(alloc, operand)?, last)
-        }
-        Call::Over(over) => {
-            let Some(list) = arguments.pop() else {
-                unreachable!()
-            };
-            predicate(alloc, at, over, Box::new(alloc, list)?, last)
-        }
+        Call::Default => default(alloc, at, pop_argument(alloc, &mut arguments)?, last),
+        Call::Over(over) => predicate(alloc, at, over, pop_argument(alloc, &mut arguments)?, last),
+    }
+}
+
+/// Takes the last argument, which has to be there.
+fn pop_argument(alloc: Global, arguments: &mut Vec<Tree>) -> Result<Box<Tree>, AllocError>
+    requires { 0 < length arguments.old.items }
+    ensures { IfOk result (λ last. arguments.old.items ≡ arguments.new.items ++ last.value ∷ []) }
+{
+    match arguments.pop() {
+        Some(last) => Ok(Box::new(alloc, last)?),
+        None => unreachable!(),
     }
 }
 
 /// Behind the point of a field.
-#[tactic(auto, unfolding(crate::specs::Roles::name_of))]
 fn select(alloc: Global, at: usize, owner: Box<Tree>, token: &Token) -> Result<State, Refusal>
     ensures { (stack : _)
         → Steps (λ rules. select rules stack at (expression_of owner.value) (name_of token.now)) stack result }
 {
-    let name = match &token.kind {
-        TokenKind::Word(word) => Text::of(alloc, word.letters())?,
-        TokenKind::Name(name) => Text::of(alloc, name.as_str())?,
-        _ => return Err(Refusal::Other),
-    };
-    Ok(State::Have(field(alloc, at, owner, name)?))
+    match name_of(alloc, token)? {
+        Some(name) => Ok(State::Have(field(alloc, at, owner, name)?)),
+        None => Err(Refusal::Other),
+    }
+}
+
+/// What a token names behind a point.
+#[tactic(auto, unfolding(crate::specs::Roles::name_of))]
+fn name_of(alloc: Global, token: &Token) -> Result<Option<Text>, AllocError>
+    ensures { IfOk result (λ name. name ≡ name_of token.now) }
+{
+    match &token.kind {
+        TokenKind::Word(word) => Ok(Some(Text::of(alloc, word.letters())?)),
+        TokenKind::Name(name) => Ok(Some(Text::of(alloc, name.as_str())?)),
+        _ => Ok(None),
+    }
 }
 
 /// A text token's text.
@@ -603,7 +612,7 @@ fn want_group(alloc: Global, at: usize, function: Call, token: &Token) -> Result
 }
 
 /// Where an argument of a call is wanted.
-#[tactic(auto, using(crate::proofs::Openers::empty_call))]
+#[tactic(auto, using(crate::proofs::Openers::empty_call, crate::proofs::Openers::argument_begins, crate::proofs::Openers::further_argument))]
 fn want_argument(
     alloc: Global,
     stack: &mut Vec<Frame>,
