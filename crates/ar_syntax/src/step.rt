@@ -7,7 +7,7 @@ ghost use Rattle.ar_syntax.specs.Machine.{Argued, Body, Braced, Frame, Grouped, 
 ghost use Rattle.ar_syntax.specs.Roles.{arity, called, follows, is_body, is_brace, is_group, is_in, looseness, name_of, text_value};
 ghost use Rattle.ar_condition.specs.declared.tree.Binary.TheVariants.{NotIn};
 ghost use Rattle.ar_condition.specs.declared.tree.Literal.TheVariants.{Text as TextLiteral};
-ghost use Rattle.ar_syntax.specs.Private.Steps.{Steps, StepsFreely, ends_group, start_of, state_of};
+ghost use Rattle.ar_syntax.specs.Private.Steps.{Steps, StepsFreely, is_empty_call, start_of, state_of};
 ghost use Rattle.ar_syntax.specs.Private.Frames.{frame_of, frames_of};
 ghost use Rattle.ar_condition.specs.Views.{expression_of};
 
@@ -612,7 +612,6 @@ fn want_group(alloc: Global, at: usize, function: Call, token: &Token) -> Result
 }
 
 /// Where an argument of a call is wanted.
-#[tactic(auto, using(crate::proofs::Openers::empty_call, crate::proofs::Openers::argument_begins, crate::proofs::Openers::further_argument))]
 fn want_argument(
     alloc: Global,
     stack: &mut Vec<Frame>,
@@ -625,17 +624,17 @@ fn want_argument(
         (λ rules. close_empty rules (frames_of stack.old.items) at function token.now (map expression_of so_far.items) (follows token.now))
         (frames_of stack.new.items) result }
 {
-    if so_far.is_empty() && closes_group(token) {
+    if is_empty_call(&so_far, token) {
         return Err(Refusal::Arguments);
     }
     argue(alloc, stack, at, function, so_far, token)
 }
 
-/// Whether the token is `)`.
-fn closes_group(token: &Token) -> bool
-    ensures { result ≡ ends_group (follows token.now) }
+/// Whether the token is `)` directly behind `(`.
+fn is_empty_call(so_far: &[Tree], token: &Token) -> bool
+    ensures { result ≡ is_empty_call (map expression_of so_far.now) (follows token.now) }
 {
-    matches!(follow_of(token), Follow::Ends(Ender::EndGroup))
+    so_far.is_empty() && matches!(follow_of(token), Follow::Ends(Ender::EndGroup))
 }
 
 /// An argument, in braces or not.

@@ -1,5 +1,6 @@
 -- A step of the code, beside that of the machine.
-use Rattle.std.specs.Prelude.{◌≡◌, Bool, true, false, if◌then◌else◌, List, map, Option, Some, None, Result, Ok, Err, IfErr}
+use Rattle.std.specs.Prelude.{◌≡◌, Bool, true, false, if◌then◌else◌, List, [], map, Option, Some, None, Result, Ok, Err, IfErr}
+use Rattle.ar_condition.specs.Expression.{Expression}
 use Rattle.ar_syntax.specs.Fault.{accepts, kind_fault}
 use Rattle.ar_syntax.specs.Grammar.{Rules}
 use Rattle.ar_syntax.specs.Machine.{Frame, State, Want, Have, WantName, WantIndex, HaveText, WantIn, WantGroup, WantArgument, HaveArgument}
@@ -43,9 +44,10 @@ start_of (begin.Calls function) = Calls function
 start_of begin.ItemPoint = ItemPoint
 start_of begin.NoStart = NoStart
 
-abbrev pub ends_group : Follow → Bool
-ends_group (Ends EndGroup) = true
-ends_group role = false
+-- whether a token ends a call that has no argument
+abbrev pub is_empty_call : List Expression → Follow → Bool
+is_empty_call [] (Ends EndGroup) = true
+is_empty_call so_far role = false
 
 -- the limit that alone forbids a step, if one does
 abbrev pub forbids : (Rules → Option State) → Refusal
