@@ -66,7 +66,6 @@ fn want(alloc: Global, stack: &mut Vec<Frame>, token: &Token) -> Result<State, R
 }
 
 /// What a token begins, where an operand is wanted.
-#[tactic(auto, using(crate::proofs::Openers::opener_left, crate::proofs::Openers::no_opener_left, crate::proofs::Climbs::pops))]
 fn begin_with(
     alloc: Global,
     stack: &mut Vec<Frame>,
@@ -104,7 +103,6 @@ fn with_item(items: Vec<Tree>, item: Box<Tree>) -> Result<Vec<Tree>, AllocError>
 }
 
 /// Behind an operand.
-#[tactic(auto, using(crate::proofs::Openers::opener_left, crate::proofs::Openers::no_opener_left))]
 fn have(
     alloc: Global,
     stack: &mut Vec<Frame>,
@@ -164,7 +162,6 @@ fn negate(
 }
 
 /// `?` behind its condition.
-#[tactic(auto, using(crate::proofs::Openers::opener_left, crate::proofs::Openers::no_opener_left))]
 fn choose(
     alloc: Global,
     stack: &mut Vec<Frame>,
