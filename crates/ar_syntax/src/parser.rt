@@ -12,7 +12,7 @@ ghost use Rattle.ar_syntax.specs.Private.Frames.{frames_of};
 ghost use Rattle.ar_condition.specs.Limits.{WrittenInLimits};
 ghost use Rattle.ar_condition.specs.Views.{expression_of};
 
-use crate::climb::unwind;
+use crate::climb::{Reach, climb};
 use crate::depth::fits;
 use crate::error::SyntaxError;
 use crate::fault::{fault_by, is_inside, wants_operand};
@@ -135,7 +135,7 @@ fn finished(alloc: Global, stack: Vec<Frame>, state: State) -> Result<Option<Box
         return Ok(None);
     };
     let mut stack = stack;
-    let tree = unwind(alloc, &mut stack, tree)?;
+    let tree = climb(alloc, &mut stack, Reach::Ender, tree)?;
     Ok(whole(&stack, tree))
 }
 

@@ -12,7 +12,7 @@ ghost use Rattle.ar_syntax.specs.Private.Frames.{frame_of, frames_of};
 ghost use Rattle.ar_condition.specs.Views.{expression_of};
 
 use crate::build::{default, field, index, is_nil, item, len, list, predicate};
-use crate::climb::{climb, unwind};
+use crate::climb::{Reach, climb};
 use crate::machine::Frame;
 use crate::role::{Call, Ender, Follow, follow_of, is_brace, is_group, is_in, looseness};
 use crate::stack::{inside, left};
@@ -137,7 +137,7 @@ fn operate(
         (λ rules. operate rules at operator (climbed (looseness operator) (frames_of stack.old.items) (expression_of tree.value)))
         (frames_of stack.new.items) result }
 {
-    let first = climb(alloc, stack, looseness(operator), tree)?;
+    let first = climb(alloc, stack, Reach::Level(looseness(operator)), tree)?;
     stack.push(Frame::RightOf {
         at,
         operator,
@@ -157,7 +157,7 @@ fn negate(
         (λ rules. negate rules at (climbed (looseness NotIn) (frames_of stack.old.items) (expression_of tree.value)))
         (frames_of stack.new.items) result }
 {
-    let first = climb(alloc, stack, looseness(Binary::NotIn), tree)?;
+    let first = climb(alloc, stack, Reach::Level(looseness(Binary::NotIn)), tree)?;
     Ok(State::WantIn { at, first })
 }
 
@@ -172,7 +172,7 @@ fn choose(
         (λ rules. choose rules at (climbed 5 (frames_of stack.old.items) (expression_of tree.value)))
         (frames_of stack.new.items) result }
 {
-    let condition = climb(alloc, stack, CONDITION_LEVEL, tree)?;
+    let condition = climb(alloc, stack, Reach::Level(CONDITION_LEVEL), tree)?;
     open(stack, Frame::Yes { at, condition })
 }
 
@@ -187,7 +187,7 @@ fn end_with(
         (λ rules. end_with rules ender (unwound (frames_of stack.old.items) (expression_of tree.value)))
         (frames_of stack.new.items) result }
 {
-    let tree = unwind(alloc, stack, tree)?;
+    let tree = climb(alloc, stack, Reach::Ender, tree)?;
     end_newest(alloc, stack, tree, ender)
 }
 
