@@ -3,11 +3,11 @@ use Rattle.std.proofs.Common.{◌≡◌, ℕ, zero, suc, ◌<◌, ◌≤◌, Boo
 use Rattle.std.proofs.lemmas.Bool.Decides.{nat_tests}
 use Rattle.std.specs.Prelude.{nat_eq, nat_lt, pred}
 use Rattle.ar_syntax.specs.Grammar.{Rules, ends_bracket, may_continue, may_open, takes_all, takes_more}
-use Rattle.ar_syntax.specs.Machine.{Argued, Body, Braced, Frame, Grouped, Have, Indexed, Listed, No, Prefixed, RightOf, State, Yes, close_empty, close_text, end_with, have, step, when, whole}
+use Rattle.ar_syntax.specs.Machine.{Argued, Body, Braced, Frame, Grouped, Have, Indexed, Listed, No, Prefixed, RightOf, State, Yes, argue, close_empty, close_text, end_with, have, step, when, whole}
 use Rattle.ar_syntax.specs.Refusal.{at_any_depth, of_any_count, of_any_items, strict}
-use Rattle.ar_syntax.specs.Roles.{Call, Colon, Comma, Default, EndBrace, EndBracket, EndGroup, Ender, Ends, Follow, IsNil, Len, Over, arity}
+use Rattle.ar_syntax.specs.Roles.{Call, Colon, Comma, Default, EndBrace, EndBracket, EndGroup, Ender, Ends, Follow, IsNil, Len, Over, arity, is_body, is_brace}
 use Rattle.ar_syntax.specs.Private.Frames.{unwinds}
-use Rattle.ar_syntax.specs.Private.Steps.{Steps, ends_group, fault_by, forbids}
+use Rattle.ar_syntax.specs.Private.Steps.{Steps, fault_by, forbids, is_empty_call}
 use Rattle.ar_value.specs.Answer.{Unless}
 use Rattle.ar_syntax.specs.Tokens.{is_memory}
 use Rattle.ar_syntax.specs.Parse.{stepped}
@@ -90,13 +90,20 @@ pub no_braces_left : (n : ℕ) (state : State) → n < 2 → (when strict (may_o
 no_braces_left n state h = let none : nat_lt 0 (pred n) ≡ false = below_two n h in rw none (refl, refl)
 
 -- `)` directly behind `(` ends no call, and it is the number of arguments that forbids it
-pub empty_call : (stack : List Frame) (at : ℕ) (function : Call) (token : Token) (so_far : List Tree) (role : Follow) → [] ≡ so_far → ends_group role ≡ true
-    → (close_empty strict stack at function token (map expression_of so_far) role ≡ None) × (forbids (λ rules. close_empty rules stack at function token (map expression_of so_far) role) ≡ Arguments)
-empty_call stack at Len token so_far (Ends EndGroup) none h = rw (← none) (refl, refl)
-empty_call stack at IsNil token so_far (Ends EndGroup) none h = rw (← none) (refl, refl)
-empty_call stack at Default token so_far (Ends EndGroup) none h = rw (← none) (refl, refl)
-empty_call stack at (Over predicate) token so_far (Ends EndGroup) none h = rw (← none) (refl, refl)
-empty_call stack at function token so_far role none h = absurd cc
+pub empty_call : (stack : List Frame) (at : ℕ) (function : Call) (token : Token) (so_far : List Expression) (role : Follow) → is_empty_call so_far role ≡ true
+    → (close_empty strict stack at function token so_far role ≡ None) × (forbids (λ rules. close_empty rules stack at function token so_far role) ≡ Arguments)
+empty_call stack at Len token [] (Ends EndGroup) h = (refl, refl)
+empty_call stack at IsNil token [] (Ends EndGroup) h = (refl, refl)
+empty_call stack at Default token [] (Ends EndGroup) h = (refl, refl)
+empty_call stack at (Over predicate) token [] (Ends EndGroup) h = (refl, refl)
+empty_call stack at function token so_far role h = absurd cc
+
+-- else an argument stands there
+pub argument_begins : (old stack : List Frame) (at : ℕ) (function : Call) (token : Token) (so_far : List Expression) (role : Follow) (r : Result rust.State Refusal) → is_empty_call so_far role ≡ false
+    → Steps (λ rules. argue rules old at function so_far token (is_body function (length so_far)) (is_brace token)) stack r
+    → Steps (λ rules. close_empty rules old at function token so_far role) stack r
+argument_begins old stack at function token [] (Ends EndGroup) r h begins = absurd cc
+argument_begins old stack at function token so_far role r h begins = begins
 
 chosen : (count items depth wants inside : Bool) (token : Token)
     → (if count then WrongCount token.span.start else (if items then TooManyItems token.span.start else (if depth then TooDeep token.span.start else kind_fault wants inside token.kind token.span.start)))

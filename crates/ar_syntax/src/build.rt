@@ -1,7 +1,7 @@
 //! Trees of parts that are there.
 
 ghost use Rattle.std.specs.Prelude.{◌≡◌, IfOk, map};
-ghost use Rattle.ar_condition.specs.Expression.{FieldAt, IndexAt, UnaryAt, BinaryAt, ChoiceAt, ListAt, LenAt, IsNilAt, DefaultAt, PredicateAt, expressions};
+ghost use Rattle.ar_condition.specs.Expression.{ItemAt, FieldAt, IndexAt, UnaryAt, BinaryAt, ChoiceAt, ListAt, LenAt, IsNilAt, DefaultAt, PredicateAt, expressions};
 ghost use Rattle.ar_condition.specs.Views.{expression_of};
 
 use ar_condition::tree::{Binary, Tree, Trees, Unary};
@@ -9,134 +9,151 @@ use ar_value::operator::Predicate;
 use ar_value::text::Text;
 use std::alloc::{AllocError, Global};
 
-pub(crate) fn field(alloc: Global, at: usize, owner: Tree, name: Text) -> Result<Tree, AllocError>
-    ensures { IfOk result (λ tree. expression_of tree ≡ FieldAt at (expression_of owner) name) }
+pub(crate) fn item(alloc: Global, at: usize) -> Result<Box<Tree>, AllocError>
+    ensures { IfOk result (λ tree. expression_of tree.value ≡ ItemAt at) }
 {
-    Ok(Tree::Field {
-        at,
-        owner: Box::new(alloc, owner)?,
-        name,
-    })
+    Ok(Box::new(alloc, Tree::Item { at })?)
 }
 
-pub(crate) fn index(alloc: Global, at: usize, list: Tree, index: Tree) -> Result<Tree, AllocError>
-    ensures { IfOk result (λ tree. expression_of tree ≡ IndexAt at (expression_of list) (expression_of index)) }
+pub(crate) fn field(
+    alloc: Global,
+    at: usize,
+    owner: Box<Tree>,
+    name: Text,
+) -> Result<Box<Tree>, AllocError>
+    ensures { IfOk result (λ tree. expression_of tree.value ≡ FieldAt at (expression_of owner.value) name) }
 {
-    Ok(Tree::Index {
-        at,
-        list: Box::new(alloc, list)?,
-        index: Box::new(alloc, index)?,
-    })
+    Ok(Box::new(alloc, Tree::Field { at, owner, name })?)
+}
+
+pub(crate) fn index(
+    alloc: Global,
+    at: usize,
+    list: Box<Tree>,
+    index: Box<Tree>,
+) -> Result<Box<Tree>, AllocError>
+    ensures { IfOk result
+        (λ tree. expression_of tree.value ≡ IndexAt at (expression_of list.value) (expression_of index.value)) }
+{
+    Ok(Box::new(alloc, Tree::Index { at, list, index })?)
 }
 
 pub(crate) fn unary(
     alloc: Global,
     at: usize,
     operator: Unary,
-    operand: Tree,
-) -> Result<Tree, AllocError>
-    ensures { IfOk result (λ tree. expression_of tree ≡ UnaryAt at operator (expression_of operand)) }
+    operand: Box<Tree>,
+) -> Result<Box<Tree>, AllocError>
+    ensures { IfOk result (λ tree. expression_of tree.value ≡ UnaryAt at operator (expression_of operand.value)) }
 {
-    Ok(Tree::Unary {
-        at,
-        operator,
-        operand: Box::new(alloc, operand)?,
-    })
+    Ok(Box::new(
+        alloc,
+        Tree::Unary {
+            at,
+            operator,
+            operand,
+        },
+    )?)
 }
 
 pub(crate) fn binary(
     alloc: Global,
     at: usize,
     operator: Binary,
-    left: Tree,
-    right: Tree,
-) -> Result<Tree, AllocError>
-    ensures { IfOk result
-        (λ tree. expression_of tree ≡ BinaryAt at operator (expression_of left) (expression_of right)) }
+    left: Box<Tree>,
+    right: Box<Tree>,
+) -> Result<Box<Tree>, AllocError>
+    ensures { IfOk result (λ tree. expression_of tree.value
+        ≡ BinaryAt at operator (expression_of left.value) (expression_of right.value)) }
 {
-    Ok(Tree::Binary {
-        at,
-        operator,
-        left: Box::new(alloc, left)?,
-        right: Box::new(alloc, right)?,
-    })
+    Ok(Box::new(
+        alloc,
+        Tree::Binary {
+            at,
+            operator,
+            left,
+            right,
+        },
+    )?)
 }
 
 pub(crate) fn choice(
     alloc: Global,
     at: usize,
-    condition: Tree,
-    yes: Tree,
-    no: Tree,
-) -> Result<Tree, AllocError>
+    condition: Box<Tree>,
+    yes: Box<Tree>,
+    no: Box<Tree>,
+) -> Result<Box<Tree>, AllocError>
+    ensures { IfOk result (λ tree. expression_of tree.value
+        ≡ ChoiceAt at (expression_of condition.value) (expression_of yes.value) (expression_of no.value)) }
+{
+    Ok(Box::new(
+        alloc,
+        Tree::Choice {
+            at,
+            condition,
+            yes,
+            no,
+        },
+    )?)
+}
+
+pub(crate) fn list(alloc: Global, at: usize, items: Vec<Tree>) -> Result<Box<Tree>, AllocError>
     ensures { IfOk result
-        (λ tree. expression_of tree ≡ ChoiceAt at (expression_of condition) (expression_of yes) (expression_of no)) }
+        (λ tree. expression_of tree.value ≡ ListAt at (expressions (map expression_of items.items))) }
 {
-    Ok(Tree::Choice {
-        at,
-        condition: Box::new(alloc, condition)?,
-        yes: Box::new(alloc, yes)?,
-        no: Box::new(alloc, no)?,
-    })
+    let items = Trees { items };
+    Ok(Box::new(alloc, Tree::List { at, items })?)
 }
 
-pub(crate) fn list(at: usize, items: Vec<Tree>) -> Tree
-    ensures { expression_of result ≡ ListAt at (expressions (map expression_of items.items)) }
+pub(crate) fn len(alloc: Global, at: usize, list: Box<Tree>) -> Result<Box<Tree>, AllocError>
+    ensures { IfOk result (λ tree. expression_of tree.value ≡ LenAt at (expression_of list.value)) }
 {
-    Tree::List {
-        at,
-        items: Trees { items },
-    }
+    Ok(Box::new(alloc, Tree::Len { at, list })?)
 }
 
-pub(crate) fn len(alloc: Global, at: usize, list: Tree) -> Result<Tree, AllocError>
-    ensures { IfOk result (λ tree. expression_of tree ≡ LenAt at (expression_of list)) }
+pub(crate) fn is_nil(alloc: Global, at: usize, operand: Box<Tree>) -> Result<Box<Tree>, AllocError>
+    ensures { IfOk result (λ tree. expression_of tree.value ≡ IsNilAt at (expression_of operand.value)) }
 {
-    Ok(Tree::Len {
-        at,
-        list: Box::new(alloc, list)?,
-    })
-}
-
-pub(crate) fn is_nil(alloc: Global, at: usize, operand: Tree) -> Result<Tree, AllocError>
-    ensures { IfOk result (λ tree. expression_of tree ≡ IsNilAt at (expression_of operand)) }
-{
-    Ok(Tree::IsNil {
-        at,
-        operand: Box::new(alloc, operand)?,
-    })
+    Ok(Box::new(alloc, Tree::IsNil { at, operand })?)
 }
 
 pub(crate) fn default(
     alloc: Global,
     at: usize,
-    operand: Tree,
-    otherwise: Tree,
-) -> Result<Tree, AllocError>
-    ensures { IfOk result
-        (λ tree. expression_of tree ≡ DefaultAt at (expression_of operand) (expression_of otherwise)) }
+    operand: Box<Tree>,
+    otherwise: Box<Tree>,
+) -> Result<Box<Tree>, AllocError>
+    ensures { IfOk result (λ tree. expression_of tree.value
+        ≡ DefaultAt at (expression_of operand.value) (expression_of otherwise.value)) }
 {
-    Ok(Tree::Default {
-        at,
-        operand: Box::new(alloc, operand)?,
-        otherwise: Box::new(alloc, otherwise)?,
-    })
+    Ok(Box::new(
+        alloc,
+        Tree::Default {
+            at,
+            operand,
+            otherwise,
+        },
+    )?)
 }
 
 pub(crate) fn predicate(
     alloc: Global,
     at: usize,
     predicate: Predicate,
-    list: Tree,
-    body: Tree,
-) -> Result<Tree, AllocError>
-    ensures { IfOk result
-        (λ tree. expression_of tree ≡ PredicateAt at predicate (expression_of list) (expression_of body)) }
+    list: Box<Tree>,
+    body: Box<Tree>,
+) -> Result<Box<Tree>, AllocError>
+    ensures { IfOk result (λ tree. expression_of tree.value
+        ≡ PredicateAt at predicate (expression_of list.value) (expression_of body.value)) }
 {
-    Ok(Tree::Predicate {
-        at,
-        predicate,
-        list: Box::new(alloc, list)?,
-        body: Box::new(alloc, body)?,
-    })
+    Ok(Box::new(
+        alloc,
+        Tree::Predicate {
+            at,
+            predicate,
+            list,
+            body,
+        },
+    )?)
 }

@@ -1,8 +1,8 @@
 //! What an operand ends.
 
 ghost use Rattle.std.specs.Prelude.{◌≡◌, ◌∷◌, true, false, IfOk, MatchOption};
-ghost use Rattle.ar_syntax.specs.Machine.{Have, climbed, unwound};
-ghost use Rattle.ar_syntax.specs.Private.Frames.{closed_by, ends_below, frame_of, frames_of, top_ends, top_unwinds, unwinds};
+ghost use Rattle.ar_syntax.specs.Machine.{Have};
+ghost use Rattle.ar_syntax.specs.Private.Frames.{closed_by, ended, ends, ends_below, frame_of, frames_of, top_ends};
 ghost use Rattle.ar_condition.specs.Views.{expression_of};
 
 use crate::build::{binary, choice, unary};
@@ -11,50 +11,72 @@ use crate::role::looseness;
 use ar_condition::tree::Tree;
 use std::alloc::{AllocError, Global};
 
-/// Ends the phrases of levels up to this one with an operand.
+/// How far an operand ends phrases.
+#[derive(Clone, Copy)]
+pub(crate) enum Reach {
+    /// Those of levels up to this one.
+    Level(usize),
+    /// Those that a closing sign, a comma or a colon ends.
+    Ender,
+}
+
+/// Ends phrases with an operand.
 #[tactic(auto, using(crate::proofs::Climbs::climbs))]
 pub(crate) fn climb(
     alloc: Global,
     stack: &mut Vec<Frame>,
-    level: usize,
-    tree: Tree,
-) -> Result<Tree, AllocError>
-    ensures { IfOk result (λ ended. Have (frames_of stack.new.items) (expression_of ended)
-        ≡ climbed level (frames_of stack.old.items) (expression_of tree)) }
+    reach: Reach,
+    tree: Box<Tree>,
+) -> Result<Box<Tree>, AllocError>
+    ensures { IfOk result (λ last. Have (frames_of stack.new.items) (expression_of last.value)
+        ≡ ended reach (frames_of stack.old.items) (expression_of tree.value)) }
 {
     let mut tree = tree;
-    while let Some(frame) = pop_ended(stack, level) {
+    while let Some(frame) = pop_ended(stack, reach) {
         tree = close(alloc, frame, tree)?;
     }
     Ok(tree)
 }
 
-/// Takes the newest frame, where it ends with an operand up to a level.
+/// Takes the newest frame, where it ends with an operand.
 #[tactic(auto, using(crate::proofs::Climbs::pops))]
-fn pop_ended(stack: &mut Vec<Frame>, level: usize) -> Option<Frame>
+fn pop_ended(stack: &mut Vec<Frame>, reach: Reach) -> Option<Frame>
     ensures { MatchOption result
-        ((stack.new.items ≡ stack.old.items) × (top_ends level (frames_of stack.old.items) ≡ false))
-        (λ frame. (frames_of stack.old.items ≡ frame_of frame ∷ frames_of stack.new.items) × (ends_below level (frame_of frame) ≡ true)) }
+        ((stack.new.items ≡ stack.old.items) × (top_ends reach (frames_of stack.old.items) ≡ false))
+        (λ frame. (frames_of stack.old.items ≡ frame_of frame ∷ frames_of stack.new.items) × (ends reach (frame_of frame) ≡ true)) }
 {
-    if newest_ends(stack, level) {
+    if newest_ends(stack, reach) {
         stack.pop()
     } else {
         None
     }
 }
 
-/// Whether the newest frame ends with an operand up to a level.
+/// Whether the newest frame ends with an operand.
 #[tactic(auto, using(crate::proofs::Climbs::pops))]
-fn newest_ends(stack: &[Frame], level: usize) -> bool
-    ensures { result ≡ top_ends level (frames_of stack.now) }
+fn newest_ends(stack: &[Frame], reach: Reach) -> bool
+    ensures { result ≡ top_ends reach (frames_of stack.now) }
 {
     match stack.last() {
-        Some(frame) => ends_below(frame, level),
+        Some(frame) => ends(frame, reach),
         None => false,
     }
 }
 
-/// Whether the frame ends with an operand up to a level.
+/// Whether the frame ends with an operand.
+fn ends(frame: &Frame, reach: Reach) -> bool
+    ensures { result ≡ ends reach (frame_of frame.now) }
+{
+    match reach {
+        Reach::Level(level) => ends_below(frame, level),
+        Reach::Ender => matches!(
+            frame,
+            Frame::RightOf { .. } | Frame::Prefixed { .. } | Frame::No { .. }
+        ),
+    }
+}
+
+/// Whether the frame ends with an operand, up to a level.
 fn ends_below(frame: &Frame, level: usize) -> bool
     ensures { result ≡ ends_below level (frame_of frame.now) }
 {
@@ -66,8 +88,9 @@ fn ends_below(frame: &Frame, level: usize) -> bool
 }
 
 /// The tree of a phrase that ends with an operand.
-fn close(alloc: Global, frame: Frame, tree: Tree) -> Result<Tree, AllocError>
-    ensures { IfOk result (λ closed. expression_of closed ≡ closed_by (frame_of frame) (expression_of tree)) }
+fn close(alloc: Global, frame: Frame, tree: Box<Tree>) -> Result<Box<Tree>, AllocError>
+    ensures { IfOk result
+        (λ closed. expression_of closed.value ≡ closed_by (frame_of frame) (expression_of tree.value)) }
 {
     match frame {
         Frame::RightOf {
@@ -79,51 +102,4 @@ fn close(alloc: Global, frame: Frame, tree: Tree) -> Result<Tree, AllocError>
         Frame::No { at, condition, met } => choice(alloc, at, condition, met, tree),
         _ => Ok(tree),
     }
-}
-
-/// Ends the phrases that a closing sign, a comma or a colon ends with an operand.
-#[tactic(auto, using(crate::proofs::Climbs::unwinds_all))]
-pub(crate) fn unwind(alloc: Global, stack: &mut Vec<Frame>, tree: Tree) -> Result<Tree, AllocError>
-    ensures { IfOk result (λ ended. Have (frames_of stack.new.items) (expression_of ended)
-        ≡ unwound (frames_of stack.old.items) (expression_of tree)) }
-{
-    let mut tree = tree;
-    while let Some(frame) = pop_unwound(stack) {
-        tree = close(alloc, frame, tree)?;
-    }
-    Ok(tree)
-}
-
-/// Takes the newest frame, where it ends before a closing sign, a comma or a colon.
-#[tactic(auto, using(crate::proofs::Climbs::pops))]
-fn pop_unwound(stack: &mut Vec<Frame>) -> Option<Frame>
-    ensures { MatchOption result
-        ((stack.new.items ≡ stack.old.items) × (top_unwinds (frames_of stack.old.items) ≡ false))
-        (λ frame. (frames_of stack.old.items ≡ frame_of frame ∷ frames_of stack.new.items) × (unwinds (frame_of frame) ≡ true)) }
-{
-    if newest_unwinds(stack) {
-        stack.pop()
-    } else {
-        None
-    }
-}
-
-/// Whether the newest frame ends before a closing sign, a comma or a colon.
-fn newest_unwinds(stack: &[Frame]) -> bool
-    ensures { result ≡ top_unwinds (frames_of stack.now) }
-{
-    match stack.last() {
-        Some(frame) => unwinds(frame),
-        None => false,
-    }
-}
-
-/// Whether the frame ends before a closing sign, a comma or a colon.
-fn unwinds(frame: &Frame) -> bool
-    ensures { result ≡ unwinds (frame_of frame.now) }
-{
-    matches!(
-        frame,
-        Frame::RightOf { .. } | Frame::Prefixed { .. } | Frame::No { .. }
-    )
 }

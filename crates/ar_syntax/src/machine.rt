@@ -10,7 +10,7 @@ pub(crate) enum Frame {
     RightOf {
         at: usize,
         operator: Binary,
-        first: Tree,
+        first: Box<Tree>,
     },
     /// The operand of a sign before it.
     Prefixed {
@@ -20,13 +20,13 @@ pub(crate) enum Frame {
     /// What stands behind `?`.
     Yes {
         at: usize,
-        condition: Tree,
+        condition: Box<Tree>,
     },
     /// What stands behind `:`.
     No {
         at: usize,
-        condition: Tree,
-        met: Tree,
+        condition: Box<Tree>,
+        met: Box<Tree>,
     },
     /// What stands in parentheses.
     Grouped,
@@ -38,7 +38,7 @@ pub(crate) enum Frame {
     /// An index.
     Indexed {
         at: usize,
-        list: Tree,
+        list: Box<Tree>,
     },
     /// An argument of a call: a plain one, a predicate, and a predicate in braces.
     Argued {

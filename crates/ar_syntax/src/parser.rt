@@ -12,7 +12,7 @@ ghost use Rattle.ar_syntax.specs.Private.Frames.{frames_of};
 ghost use Rattle.ar_condition.specs.Limits.{WrittenInLimits};
 ghost use Rattle.ar_condition.specs.Views.{expression_of};
 
-use crate::climb::unwind;
+use crate::climb::{Reach, climb};
 use crate::depth::fits;
 use crate::error::SyntaxError;
 use crate::fault::{fault_by, is_inside, wants_operand};
@@ -106,8 +106,8 @@ fn ended(alloc: Global, stack: Vec<Frame>, state: State, end: usize) -> Result<T
 }
 
 /// The tree of tokens that end at a place, where they are a condition.
-fn complete(tree: Option<Tree>, end: usize) -> Result<Tree, SyntaxError>
-    ensures { Gives (λ _. false) expression_of result (ended end (option_map expression_of tree)) }
+fn complete(tree: Option<Box<Tree>>, end: usize) -> Result<Tree, SyntaxError>
+    ensures { Gives (λ _. false) expression_of result (ended end (option_map (λ tree. expression_of tree.value) tree)) }
 {
     match tree {
         Some(tree) => limited(tree),
@@ -116,32 +116,34 @@ fn complete(tree: Option<Tree>, end: usize) -> Result<Tree, SyntaxError>
 }
 
 /// A tree that isn't too deep.
-fn limited(tree: Tree) -> Result<Tree, SyntaxError>
-    ensures { Gives (λ _. false) expression_of result (limited (expression_of tree)) }
+fn limited(tree: Box<Tree>) -> Result<Tree, SyntaxError>
+    ensures { Gives (λ _. false) expression_of result (limited (expression_of tree.value)) }
 {
     if fits(&tree, MOST_TREE_LEVELS) {
-        Ok(tree)
+        Ok(Box::into_inner(tree))
     } else {
         Err(SyntaxError::TooDeep(0))
     }
 }
 
 /// The tree that ends the tokens, where they may end.
-fn finished(alloc: Global, stack: Vec<Frame>, state: State) -> Result<Option<Tree>, AllocError>
-    ensures { IfOk result (λ tree. option_map expression_of tree ≡ finished (at_state stack.items state)) }
+fn finished(alloc: Global, stack: Vec<Frame>, state: State) -> Result<Option<Box<Tree>>, AllocError>
+    ensures { IfOk result (λ whole. option_map (λ tree. expression_of tree.value) whole
+        ≡ finished (at_state stack.items state)) }
 {
     let State::Have(tree) = state else {
         return Ok(None);
     };
     let mut stack = stack;
-    let tree = unwind(alloc, &mut stack, tree)?;
+    let tree = climb(alloc, &mut stack, Reach::Ender, tree)?;
     Ok(whole(&stack, tree))
 }
 
 /// A tree that no frame waits for.
 #[tactic(auto, using(crate::proofs::Openers::no_whole, crate::proofs::Climbs::pops))]
-fn whole(stack: &[Frame], tree: Tree) -> Option<Tree>
-    ensures { option_map expression_of result ≡ whole (Have (frames_of stack.now) (expression_of tree)) }
+fn whole(stack: &[Frame], tree: Box<Tree>) -> Option<Box<Tree>>
+    ensures { option_map (λ tree. expression_of tree.value) result
+        ≡ whole (Have (frames_of stack.now) (expression_of tree.value)) }
 {
     match stack {
         [] => Some(tree),

@@ -8,7 +8,7 @@ use ar_condition::tree::Binary;
 use ar_value::operator::Predicate;
 
 /// The calls of the language.
-#[derive(Clone, Copy, Debug, PartialEq, Eq)]
+#[derive(Clone, Copy)]
 pub enum Call {
     Len,
     IsNil,
@@ -17,7 +17,7 @@ pub enum Call {
 }
 
 /// The signs that end what stands in brackets, or before a colon.
-#[derive(Clone, Copy, Debug, PartialEq, Eq)]
+#[derive(Clone, Copy)]
 pub enum Ender {
     Comma,
     Colon,
@@ -27,7 +27,7 @@ pub enum Ender {
 }
 
 /// What a token is behind an operand.
-#[derive(Clone, Copy, Debug, PartialEq, Eq)]
+#[derive(Clone, Copy)]
 pub enum Follow {
     Operator(Binary),
     /// `not`, of `not in`

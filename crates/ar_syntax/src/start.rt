@@ -4,6 +4,7 @@ ghost use Rattle.std.specs.Prelude.{◌≡◌, IfOk};
 ghost use Rattle.ar_condition.specs.Expression.{LiteralAt};
 ghost use Rattle.ar_syntax.specs.Roles.{Leaf, sign_start, starts, word_start};
 ghost use Rattle.ar_syntax.specs.Private.Steps.{start_of};
+ghost use Rattle.ar_condition.specs.Views.{expression_of};
 
 use crate::role::Call;
 use crate::token::{Sign, Token, TokenKind, Word};
@@ -15,7 +16,7 @@ use std::alloc::{AllocError, Global};
 /// What a token begins.
 #[derive(Drop)]
 pub(crate) enum Begin {
-    Leaf(Tree),
+    Leaf(Box<Tree>),
     Prefix(Unary),
     Group,
     Bracket,
@@ -32,55 +33,61 @@ pub(crate) fn begin_of(alloc: Global, inside: bool, token: &Token) -> Result<Beg
 {
     let at = token.span.start;
     match &token.kind {
-        TokenKind::Word(word) => Ok(word_begin(at, *word)),
+        TokenKind::Word(word) => word_begin(alloc, at, *word),
         TokenKind::Name(_) => Ok(Begin::NoStart),
-        TokenKind::Whole(whole) => Ok(literal(at, Literal::Whole(*whole))),
-        TokenKind::Decimal(decimal) => Ok(literal(at, Literal::Decimal(*decimal))),
+        TokenKind::Whole(whole) => literal(alloc, at, Literal::Whole(*whole)),
+        TokenKind::Decimal(decimal) => literal(alloc, at, Literal::Decimal(*decimal)),
         TokenKind::Text(text) => {
             let text = Text::of(alloc, text.as_str())?;
-            Ok(literal(at, Literal::Text(text)))
+            literal(alloc, at, Literal::Text(text))
         }
-        TokenKind::Sign(sign) => Ok(sign_begin(inside, at, *sign)),
+        TokenKind::Sign(sign) => sign_begin(alloc, inside, at, *sign),
     }
 }
 
-fn literal(at: usize, literal: Literal) -> Begin
-    ensures { start_of result ≡ Leaf (LiteralAt at literal) }
+fn leaf(alloc: Global, tree: Tree) -> Result<Begin, AllocError>
+    ensures { IfOk result (λ begin. start_of begin ≡ Leaf (expression_of tree)) }
 {
-    Begin::Leaf(Tree::Literal { at, literal })
+    Ok(Begin::Leaf(Box::new(alloc, tree)?))
 }
 
-fn word_begin(at: usize, word: Word) -> Begin
-    ensures { start_of result ≡ word_start at word }
+fn literal(alloc: Global, at: usize, literal: Literal) -> Result<Begin, AllocError>
+    ensures { IfOk result (λ begin. start_of begin ≡ Leaf (LiteralAt at literal)) }
+{
+    leaf(alloc, Tree::Literal { at, literal })
+}
+
+fn word_begin(alloc: Global, at: usize, word: Word) -> Result<Begin, AllocError>
+    ensures { IfOk result (λ begin. start_of begin ≡ word_start at word) }
 {
     match word {
-        Word::Result => Begin::Leaf(Tree::Result { at }),
-        Word::True => literal(at, Literal::Bool(true)),
-        Word::False => literal(at, Literal::Bool(false)),
-        Word::Nil => literal(at, Literal::Nil),
-        Word::Not => Begin::Prefix(Unary::Not),
-        Word::Len => Begin::Calls(Call::Len),
-        Word::IsNil => Begin::Calls(Call::IsNil),
-        Word::Default => Begin::Calls(Call::Default),
-        Word::All => Begin::Calls(Call::Over(Predicate::All)),
-        Word::Any => Begin::Calls(Call::Over(Predicate::Any)),
-        Word::Count => Begin::Calls(Call::Over(Predicate::Count)),
-        Word::Filter => Begin::Calls(Call::Over(Predicate::Filter)),
-        Word::And | Word::Or | Word::In => Begin::NoStart,
+        Word::Result => leaf(alloc, Tree::Result { at }),
+        Word::True => literal(alloc, at, Literal::Bool(true)),
+        Word::False => literal(alloc, at, Literal::Bool(false)),
+        Word::Nil => literal(alloc, at, Literal::Nil),
+        Word::Not => Ok(Begin::Prefix(Unary::Not)),
+        Word::Len => Ok(Begin::Calls(Call::Len)),
+        Word::IsNil => Ok(Begin::Calls(Call::IsNil)),
+        Word::Default => Ok(Begin::Calls(Call::Default)),
+        Word::All => Ok(Begin::Calls(Call::Over(Predicate::All))),
+        Word::Any => Ok(Begin::Calls(Call::Over(Predicate::Any))),
+        Word::Count => Ok(Begin::Calls(Call::Over(Predicate::Count))),
+        Word::Filter => Ok(Begin::Calls(Call::Over(Predicate::Filter))),
+        Word::And | Word::Or | Word::In => Ok(Begin::NoStart),
     }
 }
 
-fn sign_begin(inside: bool, at: usize, sign: Sign) -> Begin
-    ensures { start_of result ≡ sign_start inside at sign }
+fn sign_begin(alloc: Global, inside: bool, at: usize, sign: Sign) -> Result<Begin, AllocError>
+    ensures { IfOk result (λ begin. start_of begin ≡ sign_start inside at sign) }
 {
     match sign {
-        Sign::Minus => Begin::Prefix(Unary::Minus),
-        Sign::Plus => Begin::Prefix(Unary::Plus),
-        Sign::Not => Begin::Prefix(Unary::Not),
-        Sign::OpenParenthesis => Begin::Group,
-        Sign::OpenBracket => Begin::Bracket,
-        Sign::Hash if inside => Begin::Leaf(Tree::Item { at }),
-        Sign::Point if inside => Begin::ItemPoint,
-        _ => Begin::NoStart,
+        Sign::Minus => Ok(Begin::Prefix(Unary::Minus)),
+        Sign::Plus => Ok(Begin::Prefix(Unary::Plus)),
+        Sign::Not => Ok(Begin::Prefix(Unary::Not)),
+        Sign::OpenParenthesis => Ok(Begin::Group),
+        Sign::OpenBracket => Ok(Begin::Bracket),
+        Sign::Hash if inside => leaf(alloc, Tree::Item { at }),
+        Sign::Point if inside => Ok(Begin::ItemPoint),
+        _ => Ok(Begin::NoStart),
     }
 }

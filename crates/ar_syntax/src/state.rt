@@ -14,28 +14,28 @@ pub(crate) enum State {
     /// An operand is wanted.
     Want,
     /// An operand is there.
-    Have(Tree),
+    Have(Box<Tree>),
     /// A word is wanted, behind the point of a field.
     WantName {
         at: usize,
-        owner: Tree,
+        owner: Box<Tree>,
     },
     /// What stands behind the `[` of an index or field is wanted.
     WantIndex {
         at: usize,
-        owner: Tree,
+        owner: Box<Tree>,
     },
     /// A text stands behind such a `[`.
     HaveText {
         at: usize,
-        owner: Tree,
+        owner: Box<Tree>,
         text_at: usize,
         text: Text,
     },
     /// `in` is wanted, behind `not`.
     WantIn {
         at: usize,
-        first: Tree,
+        first: Box<Tree>,
     },
     /// `(` is wanted, behind the name of a call.
     WantGroup {
@@ -57,7 +57,7 @@ pub(crate) enum State {
 }
 
 /// Why a token can't stand next: a limit alone forbids it, or something else does.
-#[derive(Clone, Copy, Debug, PartialEq, Eq)]
+#[derive(Clone, Copy)]
 pub(crate) enum Refusal {
     Arguments,
     Items,

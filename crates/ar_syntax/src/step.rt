@@ -1,18 +1,18 @@
 //! One token more.
 
-ghost use Rattle.std.specs.Prelude.{◌≡◌, ◌∷◌, ◌++◌, [], List, length, map, pred, IfOk};
-ghost use Rattle.ar_condition.specs.Expression.{Expression, LiteralAt};
+ghost use Rattle.std.specs.Prelude.{◌≡◌, ◌∷◌, ◌++◌, ◌<◌, [], length, map, pred, IfOk};
+ghost use Rattle.ar_condition.specs.Expression.{LiteralAt};
 ghost use Rattle.ar_syntax.specs.Grammar.{ends_bracket, may_continue, may_open, takes_all, takes_more};
 ghost use Rattle.ar_syntax.specs.Machine.{Argued, Body, Braced, Frame, Grouped, Have, Indexed, Listed, RightOf, Yes, Want, WantArgument, argue, begin, choose, climbed, close_braced, close_empty, close_text, end_with, have, left, open_index, operate, negate, select, step, unwound, want, when};
 ghost use Rattle.ar_syntax.specs.Roles.{arity, called, follows, is_body, is_brace, is_group, is_in, looseness, name_of, text_value};
 ghost use Rattle.ar_condition.specs.declared.tree.Binary.TheVariants.{NotIn};
 ghost use Rattle.ar_condition.specs.declared.tree.Literal.TheVariants.{Text as TextLiteral};
-ghost use Rattle.ar_syntax.specs.Private.Steps.{Steps, StepsFreely, ends_group, start_of, state_of};
+ghost use Rattle.ar_syntax.specs.Private.Steps.{Steps, StepsFreely, is_empty_call, start_of, state_of};
 ghost use Rattle.ar_syntax.specs.Private.Frames.{frame_of, frames_of};
 ghost use Rattle.ar_condition.specs.Views.{expression_of};
 
-use crate::build::{default, field, index, is_nil, len, list, predicate};
-use crate::climb::{climb, unwind};
+use crate::build::{default, field, index, is_nil, item, len, list, predicate};
+use crate::climb::{Reach, climb};
 use crate::machine::Frame;
 use crate::role::{Call, Ender, Follow, follow_of, is_brace, is_group, is_in, looseness};
 use crate::stack::{inside, left};
@@ -21,7 +21,7 @@ use crate::state::{Refusal, State};
 use crate::token::{Token, TokenKind};
 use ar_condition::tree::{Binary, Literal, Tree};
 use ar_value::text::Text;
-use std::alloc::{AllocError, AllocFailed, Global};
+use std::alloc::{AllocError, Global};
 
 /// How many items a list may have.
 const MOST_ITEMS: usize = 16;
@@ -43,6 +43,20 @@ fn open(stack: &mut Vec<Frame>, frame: Frame) -> Result<State, Refusal>
     Ok(State::Want)
 }
 
+/// The state behind an opener that makes no frame yet, where one may begin.
+#[tactic(auto, using(crate::proofs::Openers::opener_left, crate::proofs::Openers::no_opener_left))]
+fn with_opener(stack: &[Frame], state: State) -> Result<State, Refusal>
+    ensures { Steps
+        (λ rules. when rules (may_open rules (left (frames_of stack.now))) (state_of (frames_of stack.now) state))
+        (frames_of stack.now) result }
+{
+    if left(stack) == 0 {
+        Err(Refusal::Depth)
+    } else {
+        Ok(state)
+    }
+}
+
 /// Where an operand is wanted.
 fn want(alloc: Global, stack: &mut Vec<Frame>, token: &Token) -> Result<State, Refusal>
     ensures { Steps (λ rules. want rules (frames_of stack.old.items) token.now) (frames_of stack.new.items) result }
@@ -52,7 +66,6 @@ fn want(alloc: Global, stack: &mut Vec<Frame>, token: &Token) -> Result<State, R
 }
 
 /// What a token begins, where an operand is wanted.
-#[tactic(auto, using(crate::proofs::Openers::opener_left, crate::proofs::Openers::no_opener_left, crate::proofs::Climbs::pops))]
 fn begin_with(
     alloc: Global,
     stack: &mut Vec<Frame>,
@@ -70,35 +83,33 @@ fn begin_with(
             let so_far = Vec::new(alloc);
             open(stack, Frame::Listed { at, so_far })
         }
-        Begin::Calls(function) => {
-            if left(stack) == 0 {
-                Err(Refusal::Depth)
-            } else {
-                Ok(State::WantGroup { at, function })
-            }
-        }
-        Begin::ItemPoint => {
-            let owner = Tree::Item { at };
-            Ok(State::WantName { at, owner })
-        }
+        Begin::Calls(function) => with_opener(stack, State::WantGroup { at, function }),
+        Begin::ItemPoint => Ok(State::WantName {
+            at,
+            owner: item(alloc, at)?,
+        }),
         Begin::NoStart => Err(Refusal::Other),
     }
 }
 
 /// Items with one more.
-fn with_item(items: Vec<Tree>, item: Tree) -> Result<Vec<Tree>, AllocFailed<Tree>>
+fn with_item(items: Vec<Tree>, item: Box<Tree>) -> Result<Vec<Tree>, AllocError>
     ensures { IfOk result
-        (λ all. map expression_of all.items ≡ map expression_of items.items ++ expression_of item ∷ []) }
+        (λ all. map expression_of all.items ≡ map expression_of items.items ++ expression_of item.value ∷ []) }
 {
     let mut items = items;
-    items.push(item)?;
+    items.push(Box::into_inner(item))?;
     Ok(items)
 }
 
 /// Behind an operand.
-#[tactic(auto, using(crate::proofs::Openers::opener_left, crate::proofs::Openers::no_opener_left))]
-fn have(alloc: Global, stack: &mut Vec<Frame>, tree: Tree, token: &Token) -> Result<State, Refusal>
-    ensures { Steps (λ rules. have rules (frames_of stack.old.items) (expression_of tree) token.now)
+fn have(
+    alloc: Global,
+    stack: &mut Vec<Frame>,
+    tree: Box<Tree>,
+    token: &Token,
+) -> Result<State, Refusal>
+    ensures { Steps (λ rules. have rules (frames_of stack.old.items) (expression_of tree.value) token.now)
         (frames_of stack.new.items) result }
 {
     let at = token.span.start;
@@ -107,13 +118,7 @@ fn have(alloc: Global, stack: &mut Vec<Frame>, tree: Tree, token: &Token) -> Res
         Follow::NotOf => negate(alloc, stack, tree, at),
         Follow::Choose => choose(alloc, stack, tree, at),
         Follow::Select => Ok(State::WantName { at, owner: tree }),
-        Follow::Open => {
-            if left(stack) == 0 {
-                Err(Refusal::Depth)
-            } else {
-                Ok(State::WantIndex { at, owner: tree })
-            }
-        }
+        Follow::Open => with_opener(stack, State::WantIndex { at, owner: tree }),
         Follow::Ends(ender) => end_with(alloc, stack, tree, ender),
         Follow::NoFollow => Err(Refusal::Other),
     }
@@ -124,15 +129,15 @@ fn have(alloc: Global, stack: &mut Vec<Frame>, tree: Tree, token: &Token) -> Res
 fn operate(
     alloc: Global,
     stack: &mut Vec<Frame>,
-    tree: Tree,
+    tree: Box<Tree>,
     at: usize,
     operator: Binary,
 ) -> Result<State, Refusal>
     ensures { Steps
-        (λ rules. operate rules at operator (climbed (looseness operator) (frames_of stack.old.items) (expression_of tree)))
+        (λ rules. operate rules at operator (climbed (looseness operator) (frames_of stack.old.items) (expression_of tree.value)))
         (frames_of stack.new.items) result }
 {
-    let first = climb(alloc, stack, looseness(operator), tree)?;
+    let first = climb(alloc, stack, Reach::Level(looseness(operator)), tree)?;
     stack.push(Frame::RightOf {
         at,
         operator,
@@ -142,23 +147,32 @@ fn operate(
 }
 
 /// `not` behind the first operand of `not in`.
-fn negate(alloc: Global, stack: &mut Vec<Frame>, tree: Tree, at: usize) -> Result<State, Refusal>
+fn negate(
+    alloc: Global,
+    stack: &mut Vec<Frame>,
+    tree: Box<Tree>,
+    at: usize,
+) -> Result<State, Refusal>
     ensures { Steps
-        (λ rules. negate rules at (climbed (looseness NotIn) (frames_of stack.old.items) (expression_of tree)))
+        (λ rules. negate rules at (climbed (looseness NotIn) (frames_of stack.old.items) (expression_of tree.value)))
         (frames_of stack.new.items) result }
 {
-    let first = climb(alloc, stack, looseness(Binary::NotIn), tree)?;
+    let first = climb(alloc, stack, Reach::Level(looseness(Binary::NotIn)), tree)?;
     Ok(State::WantIn { at, first })
 }
 
 /// `?` behind its condition.
-#[tactic(auto, using(crate::proofs::Openers::opener_left, crate::proofs::Openers::no_opener_left))]
-fn choose(alloc: Global, stack: &mut Vec<Frame>, tree: Tree, at: usize) -> Result<State, Refusal>
+fn choose(
+    alloc: Global,
+    stack: &mut Vec<Frame>,
+    tree: Box<Tree>,
+    at: usize,
+) -> Result<State, Refusal>
     ensures { Steps
-        (λ rules. choose rules at (climbed 5 (frames_of stack.old.items) (expression_of tree)))
+        (λ rules. choose rules at (climbed 5 (frames_of stack.old.items) (expression_of tree.value)))
         (frames_of stack.new.items) result }
 {
-    let condition = climb(alloc, stack, CONDITION_LEVEL, tree)?;
+    let condition = climb(alloc, stack, Reach::Level(CONDITION_LEVEL), tree)?;
     open(stack, Frame::Yes { at, condition })
 }
 
@@ -166,14 +180,14 @@ fn choose(alloc: Global, stack: &mut Vec<Frame>, tree: Tree, at: usize) -> Resul
 fn end_with(
     alloc: Global,
     stack: &mut Vec<Frame>,
-    tree: Tree,
+    tree: Box<Tree>,
     ender: Ender,
 ) -> Result<State, Refusal>
     ensures { Steps
-        (λ rules. end_with rules ender (unwound (frames_of stack.old.items) (expression_of tree)))
+        (λ rules. end_with rules ender (unwound (frames_of stack.old.items) (expression_of tree.value)))
         (frames_of stack.new.items) result }
 {
-    let tree = unwind(alloc, stack, tree)?;
+    let tree = climb(alloc, stack, Reach::Ender, tree)?;
     end_newest(alloc, stack, tree, ender)
 }
 
@@ -182,11 +196,11 @@ fn end_with(
 fn end_newest(
     alloc: Global,
     stack: &mut Vec<Frame>,
-    tree: Tree,
+    tree: Box<Tree>,
     ender: Ender,
 ) -> Result<State, Refusal>
     ensures { Steps
-        (λ rules. end_with rules ender (Have (frames_of stack.old.items) (expression_of tree)))
+        (λ rules. end_with rules ender (Have (frames_of stack.old.items) (expression_of tree.value)))
         (frames_of stack.new.items) result }
 {
     match stack.pop() {
@@ -200,33 +214,33 @@ fn end_frame(
     alloc: Global,
     stack: &mut Vec<Frame>,
     frame: Frame,
-    tree: Tree,
+    tree: Box<Tree>,
     ender: Ender,
 ) -> Result<State, Refusal>
     ensures { Steps
-        (λ rules. end_with rules ender (Have (frame_of frame ∷ frames_of stack.old.items) (expression_of tree)))
+        (λ rules. end_with rules ender (Have (frame_of frame ∷ frames_of stack.old.items) (expression_of tree.value)))
         (frames_of stack.new.items) result }
 {
     match frame {
         Frame::Yes { at, condition } => end_yes(stack, at, condition, tree, ender),
         Frame::Grouped => end_group(tree, ender),
         Frame::Indexed { at, list } => end_index(alloc, at, list, tree, ender),
-        Frame::Listed { at, so_far } => end_item(stack, at, with_item(so_far, tree)?, ender),
+        Frame::Listed { at, so_far } => end_item(alloc, stack, at, so_far, tree, ender),
         Frame::Argued {
             at,
             function,
             so_far,
-        } => end_argument(alloc, at, function, with_item(so_far, tree)?, ender),
+        } => end_argument(alloc, at, function, so_far, tree, ender),
         Frame::Body {
             at,
             function,
             so_far,
-        } => end_argument(alloc, at, function, with_item(so_far, tree)?, ender),
+        } => end_argument(alloc, at, function, so_far, tree, ender),
         Frame::Braced {
             at,
             function,
             so_far,
-        } => end_braces(at, function, with_item(so_far, tree)?, ender),
+        } => end_braces(at, function, so_far, tree, ender),
         Frame::RightOf { .. } => Err(Refusal::Other),
         Frame::Prefixed { .. } => Err(Refusal::Other),
         Frame::No { .. } => Err(Refusal::Other),
@@ -234,9 +248,9 @@ fn end_frame(
 }
 
 /// What stands in parentheses ends.
-fn end_group(tree: Tree, ender: Ender) -> Result<State, Refusal>
+fn end_group(tree: Box<Tree>, ender: Ender) -> Result<State, Refusal>
     ensures { (stack : _)
-        → StepsFreely (λ rules. end_with rules ender (Have (Grouped ∷ stack) (expression_of tree))) stack result }
+        → StepsFreely (λ rules. end_with rules ender (Have (Grouped ∷ stack) (expression_of tree.value))) stack result }
 {
     match ender {
         Ender::EndGroup => Ok(State::Have(tree)),
@@ -248,12 +262,12 @@ fn end_group(tree: Tree, ender: Ender) -> Result<State, Refusal>
 fn end_index(
     alloc: Global,
     at: usize,
-    list: Tree,
-    tree: Tree,
+    list: Box<Tree>,
+    tree: Box<Tree>,
     ender: Ender,
 ) -> Result<State, Refusal>
     ensures { (stack : _) → Steps
-        (λ rules. end_with rules ender (Have (Indexed at (expression_of list) ∷ stack) (expression_of tree)))
+        (λ rules. end_with rules ender (Have (Indexed at (expression_of list.value) ∷ stack) (expression_of tree.value)))
         stack result }
 {
     match ender {
@@ -262,17 +276,20 @@ fn end_index(
     }
 }
 
-/// An argument in braces ends, the last of these.
+/// An argument in braces ends.
 fn end_braces(
     at: usize,
     function: Call,
-    arguments: Vec<Tree>,
+    so_far: Vec<Tree>,
+    tree: Box<Tree>,
     ender: Ender,
 ) -> Result<State, Refusal>
-    ensures { (stack : _) (before : List Expression) (last : Expression)
-        → map expression_of arguments.items ≡ before ++ last ∷ []
-        → StepsFreely (λ rules. end_with rules ender (Have (Braced at function before ∷ stack) last)) stack result }
+    ensures { (stack : _) → Steps
+        (λ rules. end_with rules ender
+        (Have (Braced at function (map expression_of so_far.items) ∷ stack) (expression_of tree.value)))
+        stack result }
 {
+    let arguments = with_item(so_far, tree)?;
     match ender {
         Ender::EndBrace => Ok(State::HaveArgument {
             at,
@@ -288,55 +305,62 @@ fn end_braces(
 fn end_yes(
     stack: &mut Vec<Frame>,
     at: usize,
-    condition: Tree,
-    met: Tree,
+    condition: Box<Tree>,
+    met: Box<Tree>,
     ender: Ender,
 ) -> Result<State, Refusal>
     ensures { Steps
-        (λ rules. end_with rules ender (Have (Yes at (expression_of condition) ∷ frames_of stack.old.items) (expression_of met)))
+        (λ rules. end_with rules ender (Have (Yes at (expression_of condition.value) ∷ frames_of stack.old.items) (expression_of met.value)))
         (frames_of stack.new.items) result }
 {
-    if ender != Ender::Colon {
+    if !matches!(ender, Ender::Colon) {
         return Err(Refusal::Other);
     }
     stack.push(Frame::No { at, condition, met })?;
     Ok(State::Want)
 }
 
-/// An item of a list ends, the last of these.
+/// An item of a list ends.
 fn end_item(
+    alloc: Global,
     stack: &mut Vec<Frame>,
     at: usize,
-    items: Vec<Tree>,
+    so_far: Vec<Tree>,
+    tree: Box<Tree>,
     ender: Ender,
 ) -> Result<State, Refusal>
-    ensures { (before : List Expression) (last : Expression) → map expression_of items.items ≡ before ++ last ∷ []
-        → Steps
-        (λ rules. end_with rules ender (Have (Listed at before ∷ frames_of stack.old.items) last))
+    ensures { Steps
+        (λ rules. end_with rules ender
+        (Have (Listed at (map expression_of so_far.items) ∷ frames_of stack.old.items) (expression_of tree.value)))
         (frames_of stack.new.items) result }
 {
+    let items = with_item(so_far, tree)?;
     match ender {
-        Ender::EndBracket => Ok(State::Have(list(at, items))),
+        Ender::EndBracket => Ok(State::Have(list(alloc, at, items)?)),
         Ender::Comma => next_item(stack, at, items),
         _ => Err(Refusal::Other),
     }
 }
 
-/// An argument of a call ends, the last of these.
+/// An argument of a call ends.
 fn end_argument(
     alloc: Global,
     at: usize,
     function: Call,
-    arguments: Vec<Tree>,
+    so_far: Vec<Tree>,
+    tree: Box<Tree>,
     ender: Ender,
 ) -> Result<State, Refusal>
-    ensures plain { (stack : _) (before : List Expression) (last : Expression)
-        → map expression_of arguments.items ≡ before ++ last ∷ []
-        → Steps (λ rules. end_with rules ender (Have (Argued at function before ∷ stack) last)) stack result }
-    ensures body { (stack : _) (before : List Expression) (last : Expression)
-        → map expression_of arguments.items ≡ before ++ last ∷ []
-        → Steps (λ rules. end_with rules ender (Have (Body at function before ∷ stack) last)) stack result }
+    ensures plain { (stack : _) → Steps
+        (λ rules. end_with rules ender
+        (Have (Argued at function (map expression_of so_far.items) ∷ stack) (expression_of tree.value)))
+        stack result }
+    ensures body { (stack : _) → Steps
+        (λ rules. end_with rules ender
+        (Have (Body at function (map expression_of so_far.items) ∷ stack) (expression_of tree.value)))
+        stack result }
 {
+    let arguments = with_item(so_far, tree)?;
     match ender {
         Ender::EndGroup => end_call(alloc, at, function, arguments),
         Ender::Comma => next_argument(at, function, arguments),
@@ -399,44 +423,57 @@ fn end_call(
 }
 
 /// The tree of a call with all its arguments.
-fn call(alloc: Global, at: usize, function: Call, arguments: Vec<Tree>) -> Result<Tree, AllocError>
+fn call(
+    alloc: Global,
+    at: usize,
+    function: Call,
+    arguments: Vec<Tree>,
+) -> Result<Box<Tree>, AllocError>
     requires { length arguments.items ≡ arity function }
-    ensures { IfOk result (λ tree. expression_of tree ≡ called at function (map expression_of arguments.items)) }
+    ensures { IfOk result (λ tree. expression_of tree.value ≡ called at function (map expression_of arguments.items)) }
 {
     let mut arguments = arguments;
-    let Some(last) = arguments.pop() else {
-        unreachable!()
-    };
+    let last = pop_argument(alloc, &mut arguments)?;
     match function {
         Call::Len => len(alloc, at, last),
         Call::IsNil => is_nil(alloc, at, last),
-        Call::Default => {
-            let Some(operand) = arguments.pop() else {
-                unreachable!()
-            };
-            default(alloc, at, operand, last)
-        }
-        Call::Over(over) => {
-            let Some(list) = arguments.pop() else {
-                unreachable!()
-            };
-            predicate(alloc, at, over, list, last)
-        }
+        Call::Default => default(alloc, at, pop_argument(alloc, &mut arguments)?, last),
+        Call::Over(over) => predicate(alloc, at, over, pop_argument(alloc, &mut arguments)?, last),
+    }
+}
+
+/// Takes the last argument, which has to be there.
+fn pop_argument(alloc: Global, arguments: &mut Vec<Tree>) -> Result<Box<Tree>, AllocError>
+    requires { 0 < length arguments.old.items }
+    ensures { IfOk result (λ last. arguments.old.items ≡ arguments.new.items ++ last.value ∷ []) }
+{
+    match arguments.pop() {
+        Some(last) => Ok(Box::new(alloc, last)?),
+        None => unreachable!(),
     }
 }
 
 /// Behind the point of a field.
-#[tactic(auto, unfolding(crate::specs::Roles::name_of))]
-fn select(alloc: Global, at: usize, owner: Tree, token: &Token) -> Result<State, Refusal>
+fn select(alloc: Global, at: usize, owner: Box<Tree>, token: &Token) -> Result<State, Refusal>
     ensures { (stack : _)
-        → Steps (λ rules. select rules stack at (expression_of owner) (name_of token.now)) stack result }
+        → Steps (λ rules. select rules stack at (expression_of owner.value) (name_of token.now)) stack result }
 {
-    let name = match &token.kind {
-        TokenKind::Word(word) => Text::of(alloc, word.letters())?,
-        TokenKind::Name(name) => Text::of(alloc, name.as_str())?,
-        _ => return Err(Refusal::Other),
-    };
-    Ok(State::Have(field(alloc, at, owner, name)?))
+    match name_of(alloc, token)? {
+        Some(name) => Ok(State::Have(field(alloc, at, owner, name)?)),
+        None => Err(Refusal::Other),
+    }
+}
+
+/// What a token names behind a point.
+#[tactic(auto, unfolding(crate::specs::Roles::name_of))]
+fn name_of(alloc: Global, token: &Token) -> Result<Option<Text>, AllocError>
+    ensures { IfOk result (λ name. name ≡ name_of token.now) }
+{
+    match &token.kind {
+        TokenKind::Word(word) => Ok(Some(Text::of(alloc, word.letters())?)),
+        TokenKind::Name(name) => Ok(Some(Text::of(alloc, name.as_str())?)),
+        _ => Ok(None),
+    }
 }
 
 /// A text token's text.
@@ -456,11 +493,11 @@ fn open_index(
     alloc: Global,
     stack: &mut Vec<Frame>,
     at: usize,
-    owner: Tree,
+    owner: Box<Tree>,
     token: &Token,
 ) -> Result<State, Refusal>
     ensures { Steps
-        (λ rules. open_index rules (frames_of stack.old.items) at (expression_of owner) token.now (text_value token.now))
+        (λ rules. open_index rules (frames_of stack.old.items) at (expression_of owner.value) token.now (text_value token.now))
         (frames_of stack.new.items) result }
 {
     match text_of(alloc, token)? {
@@ -490,29 +527,27 @@ fn close_text(
     alloc: Global,
     stack: &mut Vec<Frame>,
     at: usize,
-    owner: Tree,
+    owner: Box<Tree>,
     literal: (usize, Text),
     token: &Token,
 ) -> Result<State, Refusal>
     ensures { Steps
-        (λ rules. close_text rules (frames_of stack.old.items) at (expression_of owner) literal.0 literal.1 token.now (follows token.now))
+        (λ rules. close_text rules (frames_of stack.old.items) at (expression_of owner.value) literal.0 literal.1 token.now (follows token.now))
         (frames_of stack.new.items) result }
 {
     let (text_at, text) = literal;
     if closes_bracket(token) {
         return Ok(State::Have(field(alloc, at, owner, text)?));
     }
-    let tree = text_operand(text_at, text);
+    let tree = text_operand(alloc, text_at, text)?;
     have_indexed(alloc, stack, at, owner, tree, token)
 }
 
-fn text_operand(at: usize, text: Text) -> Tree
-    ensures { expression_of result ≡ LiteralAt at (TextLiteral text) }
+fn text_operand(alloc: Global, at: usize, text: Text) -> Result<Box<Tree>, AllocError>
+    ensures { IfOk result (λ tree. expression_of tree.value ≡ LiteralAt at (TextLiteral text)) }
 {
-    Tree::Literal {
-        at,
-        literal: Literal::Text(text),
-    }
+    let literal = Literal::Text(text);
+    Ok(Box::new(alloc, Tree::Literal { at, literal })?)
 }
 
 /// Behind the operand of an index.
@@ -521,12 +556,12 @@ fn have_indexed(
     alloc: Global,
     stack: &mut Vec<Frame>,
     at: usize,
-    list: Tree,
-    tree: Tree,
+    list: Box<Tree>,
+    tree: Box<Tree>,
     token: &Token,
 ) -> Result<State, Refusal>
     ensures { Steps
-        (λ rules. have rules (Indexed at (expression_of list) ∷ frames_of stack.old.items) (expression_of tree) token.now)
+        (λ rules. have rules (Indexed at (expression_of list.value) ∷ frames_of stack.old.items) (expression_of tree.value) token.now)
         (frames_of stack.new.items) result }
 {
     stack.push(Frame::Indexed { at, list })?;
@@ -535,9 +570,14 @@ fn have_indexed(
 
 /// Behind the `not` of `not in`.
 #[tactic(auto, using(crate::proofs::Climbs::pops))]
-fn want_in(stack: &mut Vec<Frame>, at: usize, first: Tree, token: &Token) -> Result<State, Refusal>
+fn want_in(
+    stack: &mut Vec<Frame>,
+    at: usize,
+    first: Box<Tree>,
+    token: &Token,
+) -> Result<State, Refusal>
     ensures { Steps
-        (λ rules. when rules (is_in token.now) (Want (RightOf at NotIn (expression_of first) ∷ frames_of stack.old.items)))
+        (λ rules. when rules (is_in token.now) (Want (RightOf at NotIn (expression_of first.value) ∷ frames_of stack.old.items)))
         (frames_of stack.new.items) result }
 {
     if !is_in(token) {
@@ -569,7 +609,6 @@ fn want_group(alloc: Global, at: usize, function: Call, token: &Token) -> Result
 }
 
 /// Where an argument of a call is wanted.
-#[tactic(auto, using(crate::proofs::Openers::empty_call))]
 fn want_argument(
     alloc: Global,
     stack: &mut Vec<Frame>,
@@ -582,17 +621,17 @@ fn want_argument(
         (λ rules. close_empty rules (frames_of stack.old.items) at function token.now (map expression_of so_far.items) (follows token.now))
         (frames_of stack.new.items) result }
 {
-    if so_far.is_empty() && closes_group(token) {
+    if is_empty_call(&so_far, token) {
         return Err(Refusal::Arguments);
     }
     argue(alloc, stack, at, function, so_far, token)
 }
 
-/// Whether the token is `)`.
-fn closes_group(token: &Token) -> bool
-    ensures { result ≡ ends_group (follows token.now) }
+/// Whether the token is `)` directly behind `(`.
+fn is_empty_call(so_far: &[Tree], token: &Token) -> bool
+    ensures { result ≡ is_empty_call (map expression_of so_far.now) (follows token.now) }
 {
-    matches!(follow_of(token), Follow::Ends(Ender::EndGroup))
+    so_far.is_empty() && matches!(follow_of(token), Follow::Ends(Ender::EndGroup))
 }
 
 /// An argument, in braces or not.

@@ -1,21 +1,23 @@
 -- What the stack in memory says of what is begun and not ended.
 use Rattle.std.specs.Prelude.{ℕ, Bool, true, false, nat_le, map, List, [], ◌∷◌, ◌++◌}
 use Rattle.ar_condition.specs.Expression.{Expression, UnaryAt, BinaryAt, ChoiceAt}
-use Rattle.ar_syntax.specs.Machine.{Frame, RightOf, Prefixed, Yes, No, Grouped, Listed, Indexed, Argued, Body, Braced}
+use Rattle.ar_syntax.specs.Machine.{Frame, State, climbed, unwound, RightOf, Prefixed, Yes, No, Grouped, Listed, Indexed, Argued, Body, Braced}
 use Rattle.ar_syntax.specs.Roles.{looseness}
 use Rattle.ar_condition.specs.Views.{expression_of}
+use Rattle.ar_syntax.specs.declared.climb.Reach.{Reach}
+use Rattle.ar_syntax.specs.declared.climb.Reach.TheVariants.{Level, Ender}
 use Rattle.ar_syntax.specs.declared.machine.Frame as rust
 use Rattle.ar_syntax.specs.declared.machine.Frame.TheVariants as frames
 
 -- what a frame in memory waits for
 abbrev pub frame_of : rust.Frame → Frame
-frame_of (frames.RightOf at operator first) = RightOf at operator (expression_of first)
+frame_of (frames.RightOf at operator first) = RightOf at operator (expression_of first.value)
 frame_of (frames.Prefixed at operator) = Prefixed at operator
-frame_of (frames.Yes at condition) = Yes at (expression_of condition)
-frame_of (frames.No at condition met) = No at (expression_of condition) (expression_of met)
+frame_of (frames.Yes at condition) = Yes at (expression_of condition.value)
+frame_of (frames.No at condition met) = No at (expression_of condition.value) (expression_of met.value)
 frame_of frames.Grouped = Grouped
 frame_of (frames.Listed at so_far) = Listed at (map expression_of so_far.items)
-frame_of (frames.Indexed at list) = Indexed at (expression_of list)
+frame_of (frames.Indexed at list) = Indexed at (expression_of list.value)
 frame_of (frames.Argued at function so_far) = Argued at function (map expression_of so_far.items)
 frame_of (frames.Body at function so_far) = Body at function (map expression_of so_far.items)
 frame_of (frames.Braced at function so_far) = Braced at function (map expression_of so_far.items)
@@ -31,10 +33,6 @@ ends_below level (RightOf at operator first) = nat_le (looseness operator) level
 ends_below level (Prefixed at operator) = true
 ends_below level frame = false
 
-abbrev pub top_ends : ℕ → List Frame → Bool
-top_ends level [] = false
-top_ends level (frame ∷ stack) = ends_below level frame
-
 -- the tree of a phrase that ends with an operand
 abbrev pub closed_by : Frame → Expression → Expression
 closed_by (RightOf at operator first) tree = BinaryAt at operator first tree
@@ -49,9 +47,19 @@ unwinds (Prefixed at operator) = true
 unwinds (No at condition met) = true
 unwinds frame = false
 
-abbrev pub top_unwinds : List Frame → Bool
-top_unwinds [] = false
-top_unwinds (frame ∷ stack) = unwinds frame
+-- whether a frame ends with an operand, that far
+abbrev pub ends : Reach → Frame → Bool
+ends (Level level) frame = ends_below level frame
+ends Ender frame = unwinds frame
+
+abbrev pub top_ends : Reach → List Frame → Bool
+top_ends reach [] = false
+top_ends reach (frame ∷ stack) = ends reach frame
+
+-- the phrases end with an operand, that far
+abbrev pub ended : Reach → List Frame → Expression → State
+ended (Level level) stack tree = climbed level stack tree
+ended Ender stack tree = unwound stack tree
 
 -- whether what a frame waits for is a predicate
 abbrev pub is_predicate : Frame → Bool

@@ -1,5 +1,6 @@
 -- A step of the code, beside that of the machine.
-use Rattle.std.specs.Prelude.{◌≡◌, Bool, true, false, if◌then◌else◌, List, map, Option, Some, None, Result, Ok, Err, IfErr}
+use Rattle.std.specs.Prelude.{◌≡◌, Bool, true, false, if◌then◌else◌, List, [], map, Option, Some, None, Result, Ok, Err, IfErr}
+use Rattle.ar_condition.specs.Expression.{Expression}
 use Rattle.ar_syntax.specs.Fault.{accepts, kind_fault}
 use Rattle.ar_syntax.specs.Grammar.{Rules}
 use Rattle.ar_syntax.specs.Machine.{Frame, State, Want, Have, WantName, WantIndex, HaveText, WantIn, WantGroup, WantArgument, HaveArgument}
@@ -21,11 +22,11 @@ use Rattle.ar_syntax.specs.declared.state.Refusal.TheVariants.{Arguments, Items,
 -- what a state in memory says
 abbrev pub state_of : List Frame → rust.State → State
 state_of stack states.Want = Want stack
-state_of stack (states.Have tree) = Have stack (expression_of tree)
-state_of stack (states.WantName at owner) = WantName stack at (expression_of owner)
-state_of stack (states.WantIndex at owner) = WantIndex stack at (expression_of owner)
-state_of stack (states.HaveText at owner text_at text) = HaveText stack at (expression_of owner) text_at text
-state_of stack (states.WantIn at first) = WantIn stack at (expression_of first)
+state_of stack (states.Have tree) = Have stack (expression_of tree.value)
+state_of stack (states.WantName at owner) = WantName stack at (expression_of owner.value)
+state_of stack (states.WantIndex at owner) = WantIndex stack at (expression_of owner.value)
+state_of stack (states.HaveText at owner text_at text) = HaveText stack at (expression_of owner.value) text_at text
+state_of stack (states.WantIn at first) = WantIn stack at (expression_of first.value)
 state_of stack (states.WantGroup at function) = WantGroup stack at function
 state_of stack (states.WantArgument at function so_far) = WantArgument stack at function (map expression_of so_far.items)
 state_of stack (states.HaveArgument at function arguments) = HaveArgument stack at function (map expression_of arguments.items)
@@ -35,7 +36,7 @@ abbrev pub at_state : List rust_frames.Frame → rust.State → State
 at_state frames state = state_of (frames_of frames) state
 
 abbrev pub start_of : begins.Begin → Start
-start_of (begin.Leaf tree) = Leaf (expression_of tree)
+start_of (begin.Leaf tree) = Leaf (expression_of tree.value)
 start_of (begin.Prefix operator) = Prefix operator
 start_of begin.Group = Group
 start_of begin.Bracket = Bracket
@@ -43,9 +44,10 @@ start_of (begin.Calls function) = Calls function
 start_of begin.ItemPoint = ItemPoint
 start_of begin.NoStart = NoStart
 
-abbrev pub ends_group : Follow → Bool
-ends_group (Ends EndGroup) = true
-ends_group role = false
+-- whether a token ends a call that has no argument
+abbrev pub is_empty_call : List Expression → Follow → Bool
+is_empty_call [] (Ends EndGroup) = true
+is_empty_call so_far role = false
 
 -- the limit that alone forbids a step, if one does
 abbrev pub forbids : (Rules → Option State) → Refusal

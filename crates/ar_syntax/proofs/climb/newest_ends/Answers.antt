@@ -4,4 +4,4 @@ use Rattle.ar_syntax.proofs.climb.newest_ends.Goals as goal
 
 pub returns-in-Some : goal.returns-in-Some
 returns-in-Some c =
-    c.ends_below.ensures ∙ sym (newest c.args.level c.args.stack.now (length c.args.stack.now - 1) c.in-Some.frame.now (omega (arith, c.in-Some.ensures.item.3.0)) (sym c.in-Some.ensures.value))
+    c.ends.ensures ∙ sym (newest c.args.reach c.args.stack.now (length c.args.stack.now - 1) c.in-Some.frame.now (omega (arith, c.in-Some.ensures.item.3.0)) (sym c.in-Some.ensures.value))

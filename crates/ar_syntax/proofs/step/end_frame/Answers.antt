@@ -1,4 +1,4 @@
-use Rattle.std.proofs.Common.{map, refl}
+use Rattle.std.proofs.Common.{refl}
 use Rattle.ar_syntax.specs.Private.Frames.{frames_of}
 use Rattle.ar_condition.specs.Views.{expression_of}
 use Rattle.ar_syntax.proofs.Openers.{no_end}
@@ -11,22 +11,19 @@ pub returns-in-Indexed : goal.returns-in-Indexed
 returns-in-Indexed c = rw c.in-Indexed.is (c.end_index.ensures (frames_of c.args.stack.now.items))
 
 pub returns-in-Argued : goal.returns-in-Argued
-returns-in-Argued c =
-    rw c.in-Argued.is (c.end_argument.ensures.plain (frames_of c.args.stack.now.items) (map expression_of c.in-Argued.so_far.items) (expression_of c.args.tree) c.in_ok-with_item-in-Argued.ensures)
+returns-in-Argued c = rw c.in-Argued.is (c.end_argument.ensures.plain (frames_of c.args.stack.now.items))
 
 pub returns-in-Body : goal.returns-in-Body
-returns-in-Body c =
-    rw c.in-Body.is (c.end_argument-in-Body.ensures.body (frames_of c.args.stack.now.items) (map expression_of c.in-Body.so_far.items) (expression_of c.args.tree) c.in_ok-with_item-in-Body.ensures)
+returns-in-Body c = rw c.in-Body.is (c.end_argument-in-Body.ensures.body (frames_of c.args.stack.now.items))
 
 pub returns-in-Braced : goal.returns-in-Braced
-returns-in-Braced c =
-    rw c.in-Braced.is (c.end_braces.ensures (frames_of c.args.stack.now.items) (map expression_of c.in-Braced.so_far.items) (expression_of c.args.tree) c.in_ok-with_item-in-Braced.ensures).0
+returns-in-Braced c = rw c.in-Braced.is (c.end_braces.ensures (frames_of c.args.stack.now.items))
 
 pub returns-in-RightOf : goal.returns-in-RightOf
-returns-in-RightOf c = rw c.in-RightOf.is (no_end (frames_of c.args.stack.now.items) (expression_of c.args.tree) c.args.ender _ refl)
+returns-in-RightOf c = rw c.in-RightOf.is (no_end (frames_of c.args.stack.now.items) (expression_of c.args.tree.value) c.args.ender _ refl)
 
 pub returns-in-Prefixed : goal.returns-in-Prefixed
-returns-in-Prefixed c = rw c.in-Prefixed.is (no_end (frames_of c.args.stack.now.items) (expression_of c.args.tree) c.args.ender _ refl)
+returns-in-Prefixed c = rw c.in-Prefixed.is (no_end (frames_of c.args.stack.now.items) (expression_of c.args.tree.value) c.args.ender _ refl)
 
 pub returns : goal.returns
-returns c = rw c.in-No.is (no_end (frames_of c.args.stack.now.items) (expression_of c.args.tree) c.args.ender _ refl)
+returns c = rw c.in-No.is (no_end (frames_of c.args.stack.now.items) (expression_of c.args.tree.value) c.args.ender _ refl)

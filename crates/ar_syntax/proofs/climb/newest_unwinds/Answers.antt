@@ -1,7 +1,0 @@
-use Rattle.std.proofs.Common.{arith, sym, ◌∙◌, ◌-◌, length}
-use Rattle.ar_syntax.proofs.Climbs.{newest-unwinds}
-use Rattle.ar_syntax.proofs.climb.newest_unwinds.Goals as goal
-
-pub returns-in-Some : goal.returns-in-Some
-returns-in-Some c =
-    c.unwinds.ensures ∙ sym (newest-unwinds c.args.stack.now (length c.args.stack.now - 1) c.in-Some.frame.now (omega (arith, c.in-Some.ensures.item.3.0)) (sym c.in-Some.ensures.value))
