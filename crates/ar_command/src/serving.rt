@@ -136,7 +136,7 @@ pub fn serve<S: Source, W: Sink, G: Gate, R: Threads + Wait + Sync>(
     requires reader_works { S.has_failed reader.old ≡ false }
     requires writer_works { W.has_failed writer.old ≡ false }
 
-    // What is written is what the command says of the bytes that were taken; and so it closes.
+    // What is written is what the command says of the bytes that were taken, and so it closes.
     ensures written { IfOk result (IsCarriedOut command (S.taken reader.old) (S.taken reader.new)
         (W.contents writer.old) (W.contents writer.new)) }
 
@@ -186,7 +186,7 @@ pub fn serve_plain<S: Source, W: Sink>(
     requires reader_works { S.has_failed reader.old ≡ false }
     requires writer_works { W.has_failed writer.old ≡ false }
 
-    // What is written is what the command says of the bytes that were taken; and so it closes.
+    // What is written is what the command says of the bytes that were taken, and so it closes.
     ensures written { IfOk result (IsCarriedOut command (S.taken reader.old) (S.taken reader.new)
         (W.contents writer.old) (W.contents writer.new)) }
 
