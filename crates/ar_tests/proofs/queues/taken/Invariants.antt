@@ -3,7 +3,7 @@ use Rattle.crossbeam_queue.specs.Passes.{IsPassOf, view}
 use Rattle.ar_queue.specs.declared.queue.View.{View}
 use Rattle.ar_tests.proofs.queues.taken.Given as goal
 
-put_so_far : (numbers : ℕ) → View
+abbrev pub put_so_far : (numbers : ℕ) → View
 put_so_far numbers = record { feeds = 1; live = 1; put = numbers; marks = 0; out = 0; ended = 0; taken = [] }
 
 -- the numbers so far were put
