@@ -15,7 +15,7 @@ use std::alloc::{AllocError, Global};
 use std::marker::Model;
 
 /// A metric of the template.
-#[derive(Debug, Drop)]
+#[derive(Drop)]
 pub struct MetricPart {
     pub name: Text,
     /// Of its measured values.
@@ -23,19 +23,19 @@ pub struct MetricPart {
 }
 
 /// The judges of a run, one for each metric. Contracts see their list.
-#[derive(Debug, Drop)]
+#[derive(Drop)]
 pub struct Judges {
     judges: Vec<Judge>,
 }
 
 /// The limits of a run, one for each metric. Contracts see their list.
-#[derive(Debug, Drop)]
+#[derive(Drop)]
 pub struct RunLimits {
     limits: Vec<Limits>,
 }
 
 /// An analysis run.
-#[derive(Debug, Drop)]
+#[derive(Drop)]
 pub struct RunPart {
     pub name: Text,
     pub judges: Judges,
@@ -43,7 +43,7 @@ pub struct RunPart {
 }
 
 /// What happens to a run.
-#[derive(Debug, Drop)]
+#[derive(Drop)]
 pub enum What {
     /// A measurement of the metric with this number, counted from 0.
     Measure(usize, Sample),
@@ -52,7 +52,7 @@ pub enum What {
 }
 
 /// An entry of a bundle: what happened to the run with this number, counted from 0.
-#[derive(Debug, Drop)]
+#[derive(Drop)]
 pub struct EventPart {
     pub run: usize,
     pub what: What,
@@ -60,7 +60,7 @@ pub struct EventPart {
 
 /// The metrics of a template, its runs, and what happened to them. Contracts see it as the `Bundle`
 /// of `specs/Bundle`.
-#[derive(Debug, Drop)]
+#[derive(Drop)]
 pub struct Bundle {
     metrics: Vec<MetricPart>,
     runs: Vec<RunPart>,

@@ -8,7 +8,7 @@ use std::alloc::{AllocError, Global};
 use std::marker::Model;
 
 /// A number of a bundle, as it stands in its run's history.
-#[derive(Clone, Copy, Debug, PartialEq, Eq)]
+#[derive(Clone, Copy, PartialEq, Eq)]
 pub struct Entry {
     pub number: u64,
     pub finding: Finding,
@@ -17,7 +17,7 @@ pub struct Entry {
 }
 
 /// The entries of one run, in the order in which they were applied. Contracts see their list.
-#[derive(Debug, Drop)]
+#[derive(Drop)]
 pub struct History {
     entries: Vec<Entry>,
 }
@@ -73,7 +73,7 @@ impl From<Vec<Entry>> for History {
 }
 
 /// The history of each run of a bundle, in their order. Contracts see the list of the histories.
-#[derive(Debug, Drop)]
+#[derive(Drop)]
 pub struct Histories {
     runs: Vec<History>,
 }

@@ -28,7 +28,7 @@ use std::sync::Wait;
 use std::thread::Threads;
 
 /// A text to be written, and how its command closes.
-#[derive(Debug, Drop)]
+#[derive(Drop)]
 pub(crate) struct Said {
     pub text: String,
     pub closing: Closing,

@@ -15,7 +15,7 @@ const CHUNK: usize = 65_536;
 const TURNS: usize = MOST_BYTES + 2;
 
 /// Why an input can't be had.
-#[derive(Debug, Drop)]
+#[derive(Drop)]
 pub enum InputError {
     Read,
     OutOfMemory,

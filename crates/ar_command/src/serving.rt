@@ -18,7 +18,7 @@ use std::thread::Threads;
 use thiserror::Error;
 
 /// How a command ended.
-#[derive(Clone, Copy, Debug, PartialEq, Eq)]
+#[derive(Clone, Copy, PartialEq, Eq)]
 pub enum Closing {
     Good,
     /// A run is reported as Failed, Error or Inconclusive.

@@ -19,7 +19,7 @@ pub enum Literal {
 }
 
 /// The operators of one operand, which stand before it.
-#[derive(Clone, Copy, Debug, PartialEq, Eq)]
+#[derive(Clone, Copy, PartialEq, Eq)]
 pub enum Unary {
     Plus,
     Minus,
@@ -27,7 +27,7 @@ pub enum Unary {
 }
 
 /// The operators of two operands, which stand between them.
-#[derive(Clone, Copy, Debug, PartialEq, Eq)]
+#[derive(Clone, Copy, PartialEq, Eq)]
 pub enum Binary {
     Or,
     And,
@@ -42,7 +42,7 @@ pub enum Binary {
 }
 
 /// The operators that compare two operands.
-#[derive(Clone, Copy, Debug, PartialEq, Eq)]
+#[derive(Clone, Copy, PartialEq, Eq)]
 pub enum Comparison {
     Equal,
     NotEqual,

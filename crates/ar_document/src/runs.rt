@@ -21,7 +21,7 @@ use std::alloc::Global;
 const MOST_RUNS: usize = 64;
 
 /// A run as a document writes it.
-#[derive(Debug, Drop)]
+#[derive(Drop)]
 pub struct Run {
     pub name: Text,
     /// Its own arguments, which go before the template's.

@@ -26,7 +26,7 @@ use std::marker::Model;
 
 /// A condition's text with its verified code. Contracts see it as the `Condition` of
 /// `specs/Condition`.
-#[derive(Debug, Drop)]
+#[derive(Drop)]
 pub struct Condition {
     text: Text,
     verified: Verified,

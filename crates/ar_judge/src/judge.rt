@@ -21,7 +21,7 @@ use std::marker::Model;
 
 /// A metric's success condition and failure condition, each where it is there. Contracts see it as
 /// the `Judge` of `specs/Verdict`.
-#[derive(Debug, Drop)]
+#[derive(Drop)]
 pub struct Judge {
     success: Option<Condition>,
     failure: Option<Condition>,

@@ -4,7 +4,7 @@ use ar_json::value_reading::ShapeFault;
 use ar_value::value::Value;
 
 /// What a metric's provider gave. Contracts see it by `sample_view` of `specs/Verdict`.
-#[derive(Debug, Drop)]
+#[derive(Drop)]
 pub enum Sample {
     /// It failed, and measured nothing.
     Provider,

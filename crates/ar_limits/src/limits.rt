@@ -7,7 +7,7 @@ use crate::counts::Counts;
 use crate::phase::Phase;
 
 /// The limits of one metric.
-#[derive(Clone, Copy, Debug, PartialEq, Eq)]
+#[derive(Clone, Copy, PartialEq, Eq)]
 pub struct Limits {
     /// How many measurements may fail: one more, and the metric is Failed.
     pub failure: u32,

@@ -9,7 +9,7 @@ use crate::limits::Limits;
 use crate::phase::Phase;
 
 /// A metric of a run: its limits, and what its applied marks have made of it.
-#[derive(Clone, Copy, Debug)]
+#[derive(Clone, Copy)]
 pub(crate) struct Metric {
     pub(crate) limits: Limits,
     pub(crate) counts: Counts,

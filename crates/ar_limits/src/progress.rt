@@ -14,7 +14,7 @@ use crate::phase::Phase;
 use std::alloc::{AllocError, Global};
 
 /// The metrics of a run, and its phase.
-#[derive(Debug, Drop)]
+#[derive(Drop)]
 pub(crate) struct Progress {
     pub(crate) metrics: Vec<Metric>,
     /// How many of the metrics aren't complete.

@@ -17,7 +17,7 @@ use std::marker::Model;
 pub const MOST_EVENTS: u64 = 100_000;
 
 /// Where a run stands after the events that it was handed.
-#[derive(Debug, Drop)]
+#[derive(Drop)]
 pub struct RunState {
     progress: Progress,
     /// The events so far, at most `MOST_EVENTS`.

@@ -10,7 +10,7 @@ use std::marker::Model;
 
 /// Values by name, in the order in which the names came. Contracts see the list of names with
 /// their values.
-#[derive(Debug, Drop)]
+#[derive(Drop)]
 pub struct Arguments<V> {
     values: IndexMap<String, V>,
 }

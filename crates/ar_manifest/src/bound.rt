@@ -6,7 +6,7 @@ use ar_value::Text;
 use std::marker::Model;
 
 /// A metric of a template whose arguments are bound.
-#[derive(Debug, Drop)]
+#[derive(Drop)]
 pub struct BoundMetric {
     pub name: Text,
     pub success_condition: Option<Text>,
@@ -24,7 +24,7 @@ pub struct BoundMetric {
 }
 
 /// The metrics of a template whose arguments are bound. Contracts see their list.
-#[derive(Debug, Drop)]
+#[derive(Drop)]
 pub struct Bound {
     metrics: Vec<BoundMetric>,
 }

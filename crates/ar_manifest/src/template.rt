@@ -19,7 +19,7 @@ use std::alloc::Global;
 use std::marker::Model;
 
 /// A limit as a template has it, in which arguments may stand.
-#[derive(Debug, Drop)]
+#[derive(Drop)]
 pub enum Limit {
     /// A whole JSON number without a sign.
     Whole(u64),
@@ -29,7 +29,7 @@ pub enum Limit {
 }
 
 /// The limits of a metric, as far as they are there.
-#[derive(Debug, Drop)]
+#[derive(Drop)]
 pub struct MetricLimits {
     pub count: Option<Limit>,
     pub failure: Option<Limit>,
@@ -38,7 +38,7 @@ pub struct MetricLimits {
 }
 
 /// A metric of a template.
-#[derive(Debug, Drop)]
+#[derive(Drop)]
 pub struct Metric {
     pub name: Text,
     pub success_condition: Option<Text>,
@@ -51,7 +51,7 @@ pub struct Metric {
 }
 
 /// Metrics in their order, which contracts see as a list.
-#[derive(Debug, Drop)]
+#[derive(Drop)]
 pub struct Metrics {
     metrics: Vec<Metric>,
 }
@@ -89,7 +89,7 @@ impl From<Vec<Metric>> for Metrics {
 }
 
 /// An AnalysisTemplate or a ClusterAnalysisTemplate: what of it says how measurements are judged.
-#[derive(Debug, Drop)]
+#[derive(Drop)]
 pub struct Template {
     pub name: Text,
     /// The arguments of `spec.args`, each with its value if it has one.

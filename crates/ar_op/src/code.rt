@@ -59,13 +59,9 @@ impl Code {
     }
 }
 
-/// How many operations, texts and names it has; `ar_code::listing` shows them.
+/// Nothing of its parts: `ar_code::listing` shows them.
 impl fmt::Debug for Code {
     fn fmt<W: fmt::Write>(&self, f: &mut fmt::Formatter<W>) -> fmt::Result {
-        let (ops, texts, names) = (self.ops.len(), self.texts.len(), self.names.len());
-        write!(
-            f,
-            "Code of {ops} operations, {texts} texts and {names} names"
-        )
+        f.write_str("Code { .. }")
     }
 }

@@ -6,7 +6,7 @@ use ar_value::fault::Fault;
 pub type Answer = Result<bool, Fault>;
 
 /// The answer of a run, and what the run cost.
-#[derive(Clone, Copy, Debug, PartialEq, Eq)]
+#[derive(Clone, Copy, PartialEq, Eq)]
 pub struct Outcome {
     pub answer: Answer,
     pub cost: u64,

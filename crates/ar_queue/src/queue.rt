@@ -9,7 +9,7 @@ use std::collections::LinkedList;
 use std::marker::PhantomData;
 
 /// What stands in the queue.
-#[derive(Clone, Copy, Debug, PartialEq, Eq)]
+#[derive(Clone, Copy, PartialEq, Eq)]
 pub enum Item {
     /// A number of the bundle.
     Number(u64),

@@ -9,21 +9,21 @@ use ar_value::decimal::Decimal;
 use ar_value::text::Text;
 
 /// Where a token stands in its text: byte offsets from 0, `end` being the first byte behind it.
-#[derive(Clone, Copy, Debug, PartialEq, Eq)]
+#[derive(Clone, Copy, PartialEq, Eq)]
 pub struct Span {
     pub start: usize,
     pub end: usize,
 }
 
 /// A word, a number, a text or a sign, and where it stands.
-#[derive(Debug, Drop)]
+#[derive(Drop)]
 pub struct Token {
     pub kind: TokenKind,
     pub span: Span,
 }
 
 /// What a token is.
-#[derive(Debug, Drop)]
+#[derive(Drop)]
 pub enum TokenKind {
     /// A word that the language names: a letter or `_`, then letters, digits and `_`.
     Word(Word),
@@ -39,7 +39,7 @@ pub enum TokenKind {
 }
 
 /// The words that the language names.
-#[derive(Clone, Copy, Debug, PartialEq, Eq)]
+#[derive(Clone, Copy, PartialEq, Eq)]
 pub enum Word {
     Result,
     True,
@@ -59,7 +59,7 @@ pub enum Word {
 }
 
 /// The signs.
-#[derive(Clone, Copy, Debug, PartialEq, Eq)]
+#[derive(Clone, Copy, PartialEq, Eq)]
 pub enum Sign {
     Comparison(Comparison),
     /// `&&`
@@ -87,7 +87,7 @@ pub enum Sign {
 }
 
 /// The bases that a prefix names.
-#[derive(Clone, Copy, Debug, PartialEq, Eq)]
+#[derive(Clone, Copy, PartialEq, Eq)]
 pub enum Base {
     Binary,
     Octal,

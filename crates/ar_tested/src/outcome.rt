@@ -3,7 +3,7 @@
 use ar_operand::outcome::Outcome;
 
 /// How a run ends.
-#[derive(Clone, Copy, Debug, PartialEq, Eq)]
+#[derive(Clone, Copy, PartialEq, Eq)]
 pub enum Ended {
     Done(Outcome),
     /// At the place of an operation whose operands are missing or of wrong kinds, or that stands in

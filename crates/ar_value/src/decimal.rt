@@ -12,7 +12,7 @@ pub(crate) const MILLION: i128 = 1_000_000;
 
 /// A decimal number with six digits after the point, from -9223372036854.775808 to
 /// 9223372036854.775807. Contracts see it as its whole number of millionths.
-#[derive(Clone, Copy, Debug, PartialEq, Eq, PartialOrd, Ord, Hash)]
+#[derive(Clone, Copy, PartialEq, Eq, PartialOrd, Ord, Hash)]
 pub struct Decimal {
     millionths: i64,
 }
@@ -55,7 +55,7 @@ impl Decimal {
 }
 
 /// A number of a condition or a measurement.
-#[derive(Clone, Copy, Debug)]
+#[derive(Clone, Copy)]
 pub enum Number {
     Whole(i64),
     Decimal(Decimal),

@@ -10,7 +10,7 @@ use std::alloc::{AllocError, Global};
 
 /// The kind of an expression: a shape, or that of the literal `nil`. Contracts see it by
 /// `kind_view` of `specs/View`.
-#[derive(Debug, Drop)]
+#[derive(Drop)]
 pub enum Kind {
     Nil,
     Shape(Shape),

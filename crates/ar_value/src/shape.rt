@@ -10,7 +10,7 @@ use std::alloc::{AllocError, Global};
 /// The declared shape of a metric's measurements. Contracts see it by `shape_view` of
 /// `specs/View`.
 #[cycle(shape)]
-#[derive(Debug, Drop)]
+#[derive(Drop)]
 pub enum Shape {
     Bool,
     Whole,
@@ -26,7 +26,7 @@ pub enum Shape {
 
 /// The shape of a record's field, by its name.
 #[cycle(shape)]
-#[derive(Debug, Drop)]
+#[derive(Drop)]
 pub struct FieldShape {
     pub name: Text,
     pub shape: Shape,
@@ -34,7 +34,7 @@ pub struct FieldShape {
 
 /// The shapes of a record's fields.
 #[cycle(shape)]
-#[derive(Debug, Drop)]
+#[derive(Drop)]
 pub struct FieldShapes {
     pub items: Vec<FieldShape>,
 }

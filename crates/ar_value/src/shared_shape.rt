@@ -9,7 +9,7 @@ use std::sync::Arc;
 
 /// A shape that stands once and has several owners, in any threads, as the conditions of a metric in
 /// all runs. Contracts see the shape.
-#[derive(Debug, Drop)]
+#[derive(Drop)]
 pub struct SharedShape {
     shape: Arc<Shape>,
 }

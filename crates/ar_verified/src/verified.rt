@@ -14,7 +14,7 @@ use std::marker::Model;
 
 /// Code that was verified for a shape of the measured value, with what a run may cost at most and
 /// how many operands it may have. Contracts see it as the `Verified` of `specs/Verdict`.
-#[derive(Debug, Drop)]
+#[derive(Drop)]
 pub struct Verified {
     code: Code,
     shape: SharedShape,

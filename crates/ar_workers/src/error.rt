@@ -21,7 +21,7 @@ pub enum WorkError {
 }
 
 /// Why workers ended early.
-#[derive(Debug, Drop)]
+#[derive(Drop)]
 pub(crate) enum Unfinished {
     NoThread,
     OutOfMemory,
