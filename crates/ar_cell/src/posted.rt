@@ -3,7 +3,7 @@
 use ar_limits::Effect;
 
 /// A number was posted.
-#[derive(Clone, Copy, Debug, PartialEq, Eq)]
+#[derive(Clone, Copy, Debug)]
 pub struct Posted {
     /// Where its entry stands in its run's history, counted from 0.
     pub place: usize,
@@ -12,5 +12,5 @@ pub struct Posted {
 }
 
 /// The number stands in its run's history already.
-#[derive(Clone, Copy, Debug, PartialEq, Eq)]
+#[derive(Clone, Copy, Debug)]
 pub struct Double;

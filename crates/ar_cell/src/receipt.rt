@@ -1,7 +1,7 @@
 //! What a worker keeps of its posts.
 
 /// What a worker keeps of a post that succeeded.
-#[derive(Clone, Copy, Debug, PartialEq, Eq)]
+#[derive(Clone, Copy, Debug)]
 pub struct Receipt {
     /// The run that the number is of, counted from 0.
     pub run: usize,

@@ -17,7 +17,7 @@ pub struct Snapshot {
 }
 
 /// Why a run isn't shown.
-#[derive(Clone, Copy, Debug, PartialEq, Eq)]
+#[derive(Clone, Copy, Debug)]
 pub enum LookFault {
     /// The run's history has this many entries by the worker, and their numbers and places aren't
     /// those of the worker's receipts for the run.

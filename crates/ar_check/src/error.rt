@@ -8,7 +8,7 @@ use thiserror::Error;
 
 /// Why a condition has no kinds where `result` has a shape. A number is the place of the tree that
 /// wants something else: a byte offset from 0.
-#[derive(Clone, Copy, Debug, PartialEq, Eq, Error)]
+#[derive(Clone, Copy, Debug, Error)]
 pub enum TypeError {
     /// An operand isn't of a kind that the operator, call or field here takes.
     #[error("byte {0}: WrongOperand: expected a record before a field; \"whole\" for an index and %; \"whole\" or \"decimal\" for a sign, + - * / < <= > >=; \"bool\" for ! && || ? and predicates; numbers, \"bool\" or \"text\" alone for == != in")]

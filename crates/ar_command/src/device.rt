@@ -11,7 +11,7 @@ use std::io;
 use std::io::{Read, Write};
 
 /// A read or a write failed; a `Device` tells why.
-#[derive(Clone, Copy, PartialEq, Eq)]
+#[derive(Clone, Copy)]
 pub struct DeviceFault;
 
 /// What a document is read from.

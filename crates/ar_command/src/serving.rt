@@ -18,7 +18,7 @@ use std::thread::Threads;
 use thiserror::Error;
 
 /// How a command ended.
-#[derive(Clone, Copy, PartialEq, Eq)]
+#[derive(Clone, Copy)]
 pub enum Closing {
     Good,
     /// A run is reported as Failed, Error or Inconclusive.
@@ -26,7 +26,7 @@ pub enum Closing {
 }
 
 /// Why an input is refused.
-#[derive(Clone, Copy, Debug, PartialEq, Eq, Error)]
+#[derive(Clone, Copy, Debug, Error)]
 pub enum Refusal {
     #[error("{0}")]
     Eval(EvalError),

@@ -17,7 +17,7 @@ const MOST_WORKERS: usize = 16;
 pub const DEFAULT_WORKERS: usize = 4;
 
 /// What the program can be asked to do.
-#[derive(Clone, Copy, Debug, PartialEq, Eq)]
+#[derive(Clone, Copy, Debug)]
 pub enum Command {
     /// Judge one condition on one value.
     Eval,
@@ -35,7 +35,7 @@ pub enum Command {
 }
 
 /// Why a command line asks for nothing.
-#[derive(Clone, Copy, Debug, PartialEq, Eq, Error)]
+#[derive(Clone, Copy, Debug, Error)]
 pub enum UsageError {
     #[error("command line: Words: expected `eval`, `check`, `list` or `run`, with the document on standard input, or --help")]
     Words,

@@ -4,7 +4,7 @@ use std::alloc::AllocError;
 use thiserror::Error;
 
 /// Why a condition isn't compiled.
-#[derive(Clone, Copy, Debug, PartialEq, Eq, Error)]
+#[derive(Clone, Copy, Debug, Error)]
 pub enum CompileError {
     /// Its code would have more than 4,096 operations.
     #[error("TooManyOps: expected a condition of at most 4096 operations; split it, or nest fewer calls and operators")]

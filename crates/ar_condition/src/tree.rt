@@ -19,7 +19,7 @@ pub enum Literal {
 }
 
 /// The operators of one operand, which stand before it.
-#[derive(Clone, Copy, PartialEq, Eq)]
+#[derive(Clone, Copy)]
 pub enum Unary {
     Plus,
     Minus,
@@ -27,7 +27,7 @@ pub enum Unary {
 }
 
 /// The operators of two operands, which stand between them.
-#[derive(Clone, Copy, PartialEq, Eq)]
+#[derive(Clone, Copy)]
 pub enum Binary {
     Or,
     And,
@@ -42,7 +42,7 @@ pub enum Binary {
 }
 
 /// The operators that compare two operands.
-#[derive(Clone, Copy, PartialEq, Eq)]
+#[derive(Clone, Copy)]
 pub enum Comparison {
     Equal,
     NotEqual,

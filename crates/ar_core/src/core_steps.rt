@@ -1,7 +1,7 @@
 //! Steps of a board, as `specs/Core` defines them.
 
 /// A step of the core.
-#[derive(Clone, Copy, PartialEq, Eq)]
+#[derive(Clone, Copy)]
 pub enum CoreStep {
     /// The next number goes to the queue's end.
     Put,
@@ -13,7 +13,7 @@ pub enum CoreStep {
 }
 
 /// Whether a step was made.
-#[derive(Clone, Copy, PartialEq, Eq)]
+#[derive(Clone, Copy)]
 pub enum Moved {
     /// It was.
     Done,

@@ -10,7 +10,7 @@ use thiserror::Error;
 /// Why an input is no bundle, in the order in which it is looked at; but `ShapeMissing` and `Shapes`
 /// go metric by metric, `Bind` and `Build` run by run, and the last three entry by entry, of which
 /// `BadEntry` goes before the names. Numbers of metrics, runs and entries count from 0.
-#[derive(Clone, Copy, Debug, PartialEq, Eq, Error)]
+#[derive(Clone, Copy, Debug, Error)]
 pub enum BundleError {
     /// It has more than 16,777,216 bytes.
     #[error("document: TooLarge: expected at most 16777216 bytes")]

@@ -25,7 +25,7 @@ use std::alloc::{AllocError, Global};
 use thiserror::Error;
 
 /// Why an input can't be evaluated, in the order in which it is looked at.
-#[derive(Clone, Copy, Debug, PartialEq, Eq, Error)]
+#[derive(Clone, Copy, Debug, Error)]
 pub enum EvalError {
     #[error("document: TooLarge: expected at most 16777216 bytes")]
     TooLarge,

@@ -14,7 +14,7 @@ use thiserror::Error;
 pub const MOST_BYTES: usize = 16_777_216;
 
 /// Why an input is no JSON document.
-#[derive(Clone, Copy, Debug, PartialEq, Eq, Error)]
+#[derive(Clone, Copy, Debug, Error)]
 pub enum JsonError {
     /// It has more than 16,777,216 bytes.
     #[error("document: TooLarge: expected at most 16777216 bytes")]

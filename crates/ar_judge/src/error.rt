@@ -9,7 +9,7 @@ use thiserror::Error;
 
 /// Why a text is no condition that can be run, in the order in which it is looked at. It is told
 /// behind the name of the condition.
-#[derive(Clone, Copy, Debug, PartialEq, Eq, Error)]
+#[derive(Clone, Copy, Debug, Error)]
 pub enum BuildCause {
     /// It isn't of the language.
     #[error(", {0}")]
@@ -28,7 +28,7 @@ pub enum BuildCause {
 }
 
 /// Why a metric has no judge: the first of its texts that is no condition that can be run.
-#[derive(Clone, Copy, Debug, PartialEq, Eq, Error)]
+#[derive(Clone, Copy, Debug, Error)]
 pub enum BuildError {
     #[error("successCondition{0}")]
     Success(BuildCause),

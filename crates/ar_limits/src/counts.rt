@@ -6,7 +6,7 @@ ghost use Rattle.ar_limits.specs.declared.run.TheConstants.{MOST_EVENTS};
 use crate::event::Mark;
 
 /// The applied marks of one metric, by kind.
-#[derive(Clone, Copy, Default, PartialEq, Eq)]
+#[derive(Clone, Copy, Default)]
 pub struct Counts {
     pub successful: u64,
     pub failed: u64,

@@ -3,7 +3,7 @@
 use crate::phase::Phase;
 
 /// What one measurement of a metric was found to be.
-#[derive(Clone, Copy, PartialEq, Eq)]
+#[derive(Clone, Copy)]
 pub enum Mark {
     Successful,
     Failed,
@@ -12,7 +12,7 @@ pub enum Mark {
 }
 
 /// What happens to a run.
-#[derive(Clone, Copy, PartialEq, Eq)]
+#[derive(Clone, Copy)]
 pub enum Event {
     /// A mark of the metric with this number, counted from 0.
     Mark(usize, Mark),

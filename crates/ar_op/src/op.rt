@@ -22,7 +22,7 @@ pub enum Source {
 }
 
 /// When a jump goes to its place, and what it does with the truth value on top.
-#[derive(Clone, Copy, PartialEq, Eq)]
+#[derive(Clone, Copy)]
 pub enum Jump {
     /// Where a false truth value is on top, which stays; else on without it.
     And,

@@ -9,7 +9,7 @@ use ar_value::decimal::Decimal;
 use ar_value::text::Text;
 
 /// Where a token stands in its text: byte offsets from 0, `end` being the first byte behind it.
-#[derive(Clone, Copy, PartialEq, Eq)]
+#[derive(Clone, Copy)]
 pub struct Span {
     pub start: usize,
     pub end: usize,
@@ -39,7 +39,7 @@ pub enum TokenKind {
 }
 
 /// The words that the language names.
-#[derive(Clone, Copy, PartialEq, Eq)]
+#[derive(Clone, Copy)]
 pub enum Word {
     Result,
     True,
@@ -59,7 +59,7 @@ pub enum Word {
 }
 
 /// The signs.
-#[derive(Clone, Copy, PartialEq, Eq)]
+#[derive(Clone, Copy)]
 pub enum Sign {
     Comparison(Comparison),
     /// `&&`
@@ -87,7 +87,7 @@ pub enum Sign {
 }
 
 /// The bases that a prefix names.
-#[derive(Clone, Copy, PartialEq, Eq)]
+#[derive(Clone, Copy)]
 pub enum Base {
     Binary,
     Octal,

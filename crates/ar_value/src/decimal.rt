@@ -28,7 +28,7 @@ impl Model for Decimal {
 }
 
 /// Why a text is no decimal.
-#[derive(Clone, Copy, Debug, PartialEq, Eq, Error)]
+#[derive(Clone, Copy, Debug, Error)]
 pub enum NumberFault {
     #[error("BadDecimal: expected digits with at most one point and an exponent or none, as 0.95 or 9.5e-1")]
     BadDecimal,

@@ -1,7 +1,7 @@
 //! The operators of conditions, and the kinds of operands that they tell apart.
 
 /// The kinds of a list's items, where these are scalars.
-#[derive(Clone, Copy, PartialEq, Eq)]
+#[derive(Clone, Copy)]
 pub enum Scalar {
     Bool,
     Whole,
@@ -10,14 +10,14 @@ pub enum Scalar {
 }
 
 /// What numbers an operation takes.
-#[derive(Clone, Copy, PartialEq, Eq)]
+#[derive(Clone, Copy)]
 pub enum Numbers {
     Wholes,
     Decimals,
 }
 
 /// Scalars that can be equal.
-#[derive(Clone, Copy, PartialEq, Eq)]
+#[derive(Clone, Copy)]
 pub enum Family {
     Truth,
     Number,
@@ -25,7 +25,7 @@ pub enum Family {
 }
 
 /// The operators on two numbers that give a number.
-#[derive(Clone, Copy, PartialEq, Eq)]
+#[derive(Clone, Copy)]
 pub enum Arithmetic {
     Add,
     Subtract,
@@ -35,7 +35,7 @@ pub enum Arithmetic {
 }
 
 /// The operators on two decimals that give a decimal. There is no remainder of decimals.
-#[derive(Clone, Copy, PartialEq, Eq)]
+#[derive(Clone, Copy)]
 pub enum DecimalArithmetic {
     Add,
     Subtract,
@@ -44,7 +44,7 @@ pub enum DecimalArithmetic {
 }
 
 /// The operators that say which of two numbers is the greater.
-#[derive(Clone, Copy, PartialEq, Eq)]
+#[derive(Clone, Copy)]
 pub enum Order {
     Less,
     LessOrEqual,
@@ -53,7 +53,7 @@ pub enum Order {
 }
 
 /// What numbers an order comparison takes.
-#[derive(Clone, Copy, PartialEq, Eq)]
+#[derive(Clone, Copy)]
 pub enum Compared {
     Wholes,
     Decimals,
@@ -62,7 +62,7 @@ pub enum Compared {
 }
 
 /// The operators on one operand.
-#[derive(Clone, Copy, PartialEq, Eq)]
+#[derive(Clone, Copy)]
 pub enum UnaryOperator {
     /// How many items a list has.
     Len,
@@ -78,7 +78,7 @@ pub enum UnaryOperator {
 }
 
 /// The operators on two operands.
-#[derive(Clone, Copy, PartialEq, Eq)]
+#[derive(Clone, Copy)]
 pub enum BinaryOperator {
     /// The item of a list at a whole; -1 is the last.
     Index,
@@ -97,7 +97,7 @@ pub enum BinaryOperator {
 }
 
 /// The calls that take a list and a predicate on its items.
-#[derive(Clone, Copy, PartialEq, Eq)]
+#[derive(Clone, Copy)]
 pub enum Predicate {
     All,
     Any,
