@@ -14,7 +14,7 @@ use crate::effect::apply;
 use crate::failure::Failure;
 use crate::kind::{Kind, as_list, is_scalar, list_like};
 use crate::operands::{Around, Operands};
-use crate::part::AnyShape;
+use crate::part::Part;
 use crate::stack::{pop, push};
 use crate::whole::{ShapeName, Whole};
 use ar_op::code::Code;
@@ -23,28 +23,29 @@ use ar_value::operator::{Predicate, Scalar};
 use ar_value::shape::Shape;
 use ar_verified::Reason;
 use std::alloc::{AllocError, Global};
+use std::rc::Rc;
 
 /// How many operands there may be, those below the floor too.
 const MOST_OPERANDS: usize = 64;
 
 /// Operands on the way to a place.
 #[derive(Drop)]
-pub(crate) struct Sent<'s, M: ShapeName> {
+pub(crate) struct Sent<M: ShapeName> {
     pub target: usize,
-    pub operands: Operands<'s, M>,
+    pub operands: Operands<M>,
 }
 
 /// What an operation sends on, in the order in which it arrives.
 #[derive(Drop)]
-pub(crate) enum Sends<'s, M: ShapeName> {
+pub(crate) enum Sends<M: ShapeName> {
     Nothing,
-    One(Sent<'s, M>),
-    Two(Sent<'s, M>, Sent<'s, M>),
+    One(Sent<M>),
+    Two(Sent<M>, Sent<M>),
 }
 
 /// Takes a truth value.
 #[tactic(auto, using(crate::proofs::Passed::truth_on_top, crate::proofs::Passed::no_truth_on_top))]
-fn take_truth<M: ShapeName>(kinds: &mut Vec<Kind<'_, M>>) -> Result<(), Failure>
+fn take_truth<M: ShapeName>(kinds: &mut Vec<Kind<M>>) -> Result<(), Failure>
     ensures { Meets (λ _. from_top kinds.new.items) result (truth_taken (from_top kinds.old.items)) }
 {
     let operand = pop(kinds).ok_or(Reason::IllKinded)?;
@@ -56,23 +57,23 @@ fn take_truth<M: ShapeName>(kinds: &mut Vec<Kind<'_, M>>) -> Result<(), Failure>
 }
 
 /// Takes a list.
-fn take_list<'s, M: ShapeName>(kinds: &mut Vec<Kind<'s, M>>) -> Result<AnyShape<'s, M>, Failure>
-    ensures { Meets (λ list. (list_view list, from_top kinds.new.items)) result
+fn take_list<M: ShapeName>(kinds: &mut Vec<Kind<M>>) -> Result<Rc<Part<M>>, Failure>
+    ensures { Meets (λ list. (list_view list.value, from_top kinds.new.items)) result
         (list_taken (from_top kinds.old.items)) }
 {
     let operand = pop(kinds).ok_or(Reason::IllKinded)?;
     let list = as_list(&operand).ok_or(Reason::IllKinded)?;
-    Ok(list.share()?)
+    Ok(list.clone()?)
 }
 
 /// What a loop gives over a list.
-fn answer_kind<'s, M: ShapeName>(
+fn answer_kind<M: ShapeName>(
     alloc: Global,
     predicate: Predicate,
-    list: &AnyShape<'s, M>,
-) -> Result<Kind<'s, M>, AllocError>
+    list: &Rc<Part<M>>,
+) -> Result<Kind<M>, AllocError>
     ensures { IfOk result
-        (λ answer. kind_view answer ≡ answer_kind predicate (list_view list.now).0 (list_view list.now).1) }
+        (λ answer. kind_view answer ≡ answer_kind predicate (list_view list.now.value).0 (list_view list.now.value).1) }
 {
     match predicate {
         Predicate::All | Predicate::Any => Kind::made(alloc, Shape::Bool),
@@ -82,19 +83,19 @@ fn answer_kind<'s, M: ShapeName>(
 }
 
 #[tactic(auto, using(crate::proofs::Tops::on_top))]
-fn push_loop<'s, M: ShapeName>(
-    loops: &mut Vec<Around<'s, M>>,
-    innermost: Around<'s, M>,
+fn push_loop<M: ShapeName>(
+    loops: &mut Vec<Around<M>>,
+    innermost: Around<M>,
 ) -> Result<(), AllocError>
     ensures { OnOk result
-        (from_innermost loops.new.items ≡ around_view innermost.entry ∷ from_innermost loops.old.items) }
+        (from_innermost loops.new.items ≡ around_view innermost ∷ from_innermost loops.old.items) }
 {
     loops.push(innermost)?;
     Ok(())
 }
 
 #[tactic(auto, using(crate::proofs::Tops::on_top))]
-fn pop_loop<'s, M: ShapeName>(loops: &mut Vec<Around<'s, M>>) -> Option<Around<'s, M>>
+fn pop_loop<M: ShapeName>(loops: &mut Vec<Around<M>>) -> Option<Around<M>>
     ensures { MatchOption result (from_innermost loops.old.items ≡ [])
         (λ popped. from_innermost loops.old.items ≡ around_view popped ∷ from_innermost loops.new.items) }
 {
@@ -103,21 +104,21 @@ fn pop_loop<'s, M: ShapeName>(loops: &mut Vec<Around<'s, M>>) -> Option<Around<'
 
 /// The shape of the innermost loop's list.
 #[tactic(auto, using(crate::proofs::Tops::last_item))]
-fn innermost<'a, 's, M: ShapeName>(loops: &'a [Around<'s, M>]) -> Option<&'a AnyShape<'s, M>>
+fn innermost<'a, M: ShapeName>(loops: &'a [Around<M>]) -> Option<&'a Part<M>>
     ensures { option_map (λ list. (list_view list.now).0) result ≡ item_of (from_innermost loops.now) }
 {
     Some(&loops.last()?.list)
 }
 
 /// Goes to a place with the truth value on top, or on without it.
-fn keep_or_take<'s, M: ShapeName>(
+fn keep_or_take<M: ShapeName>(
     alloc: Global,
     next: usize,
     target: u32,
-    mut had: Operands<'s, M>,
-) -> Result<Sends<'s, M>, Failure>
+    mut had: Operands<M>,
+) -> Result<Sends<M>, Failure>
     ensures { Meets sends_view result
-        (kept_or_taken next target (operands_view had.entry).kinds (operands_view had.entry).loops) }
+        (kept_or_taken next target (operands_view had).kinds (operands_view had).loops) }
 {
     let kept = had.copy(alloc)?;
     take_truth(&mut had.kinds)?;
@@ -134,14 +135,14 @@ fn keep_or_take<'s, M: ShapeName>(
 }
 
 /// Goes to a place or on, without the truth value on top.
-fn branch<'s, M: ShapeName>(
+fn branch<M: ShapeName>(
     alloc: Global,
     next: usize,
     target: u32,
-    mut had: Operands<'s, M>,
-) -> Result<Sends<'s, M>, Failure>
+    mut had: Operands<M>,
+) -> Result<Sends<M>, Failure>
     ensures { Meets sends_view result
-        (branched next target (operands_view had.entry).kinds (operands_view had.entry).loops) }
+        (branched next target (operands_view had).kinds (operands_view had).loops) }
 {
     take_truth(&mut had.kinds)?;
     let taken = had.copy(alloc)?;
@@ -158,15 +159,15 @@ fn branch<'s, M: ShapeName>(
 }
 
 /// Goes to the place of a jump, or on.
-fn jump<'s, M: ShapeName>(
+fn jump<M: ShapeName>(
     alloc: Global,
     jump: Jump,
     next: usize,
     target: u32,
-    had: Operands<'s, M>,
-) -> Result<Sends<'s, M>, Failure>
+    had: Operands<M>,
+) -> Result<Sends<M>, Failure>
     ensures { Meets sends_view result
-        (jumping jump next target (operands_view had.entry).kinds (operands_view had.entry).loops) }
+        (jumping jump next target (operands_view had).kinds (operands_view had).loops) }
 {
     match jump {
         Jump::And | Jump::Or => keep_or_take(alloc, next, target, had),
@@ -179,13 +180,13 @@ fn jump<'s, M: ShapeName>(
 }
 
 /// Operands at the begin of the body of a loop over a list, where there are none above its floor.
-fn inside<'s, M: ShapeName>(
+fn inside<M: ShapeName>(
     alloc: Global,
-    list: AnyShape<'s, M>,
-    had: Operands<'s, M>,
-) -> Result<Operands<'s, M>, AllocError>
+    list: Rc<Part<M>>,
+    had: Operands<M>,
+) -> Result<Operands<M>, AllocError>
     ensures { IfOk result (λ inside. operands_view inside
-        ≡ operands [] (around (list_view list.entry, (operands_view had.entry).kinds) ∷ (operands_view had.entry).loops)) }
+        ≡ operands [] (around (list_view list.value, (operands_view had).kinds) ∷ (operands_view had).loops)) }
 {
     let Operands { kinds, mut loops } = had;
     push_loop(&mut loops, Around { list, below: kinds })?;
@@ -196,14 +197,14 @@ fn inside<'s, M: ShapeName>(
 }
 
 /// Operands behind a loop over a list, with its answer on top.
-fn behind<'s, M: ShapeName>(
+fn behind<M: ShapeName>(
     alloc: Global,
     predicate: Predicate,
-    list: &AnyShape<'s, M>,
-    mut below: Vec<Kind<'s, M>>,
-) -> Result<Vec<Kind<'s, M>>, AllocError>
+    list: &Rc<Part<M>>,
+    mut below: Vec<Kind<M>>,
+) -> Result<Vec<Kind<M>>, AllocError>
     ensures { IfOk result (λ kinds. from_top kinds.items
-        ≡ answer_kind predicate (list_view list.now).0 (list_view list.now).1 ∷ from_top below.entry.items) }
+        ≡ answer_kind predicate (list_view list.now.value).0 (list_view list.now.value).1 ∷ from_top below.items) }
 {
     let answer = answer_kind(alloc, predicate, list)?;
     push(&mut below, answer)?;
@@ -211,15 +212,15 @@ fn behind<'s, M: ShapeName>(
 }
 
 /// Begins a loop over the list on top, or goes behind it with its answer.
-fn enter<'s, M: ShapeName>(
+fn enter<M: ShapeName>(
     alloc: Global,
     predicate: Predicate,
     next: usize,
     step: u32,
-    mut had: Operands<'s, M>,
-) -> Result<Sends<'s, M>, Failure>
+    mut had: Operands<M>,
+) -> Result<Sends<M>, Failure>
     ensures { Meets sends_view result
-        (beginning predicate next (step + 1) (operands_view had.entry).kinds (operands_view had.entry).loops) }
+        (beginning predicate next (step + 1) (operands_view had).kinds (operands_view had).loops) }
 {
     let list = take_list(&mut had.kinds)?;
     let Operands { kinds, loops } = had.copy(alloc)?;
@@ -239,9 +240,9 @@ fn enter<'s, M: ShapeName>(
 }
 
 /// Takes the truth value of a loop's body, which has to be alone above the floor.
-fn take_answer<M: ShapeName>(mut kinds: Vec<Kind<'_, M>>) -> Result<(), Failure>
-    ensures exact { Meets (λ _. []) result (only_truth (from_top kinds.entry.items)) }
-    ensures taken { OnOk result (truth_taken (from_top kinds.entry.items) ≡ Ok []) }
+fn take_answer<M: ShapeName>(mut kinds: Vec<Kind<M>>) -> Result<(), Failure>
+    ensures exact { Meets (λ _. []) result (only_truth (from_top kinds.items)) }
+    ensures taken { OnOk result (truth_taken (from_top kinds.items) ≡ Ok []) }
 {
     take_truth(&mut kinds)?;
     if kinds.is_empty() {
@@ -252,14 +253,14 @@ fn take_answer<M: ShapeName>(mut kinds: Vec<Kind<'_, M>>) -> Result<(), Failure>
 }
 
 /// Goes behind a loop, where nothing but the truth value of its body is above its floor.
-fn step<'s, M: ShapeName>(
+fn step<M: ShapeName>(
     alloc: Global,
     predicate: Predicate,
     next: usize,
-    had: Operands<'s, M>,
-) -> Result<Sends<'s, M>, Failure>
+    had: Operands<M>,
+) -> Result<Sends<M>, Failure>
     ensures { Meets sends_view result
-        (stepping predicate next (operands_view had.entry).kinds (operands_view had.entry).loops) }
+        (stepping predicate next (operands_view had).kinds (operands_view had).loops) }
 {
     let Operands { kinds, mut loops } = had;
     take_answer(kinds)?;
@@ -272,8 +273,8 @@ fn step<'s, M: ShapeName>(
 }
 
 /// Ends with the truth value on top.
-fn answer<'s, M: ShapeName>(had: Operands<'s, M>) -> Result<Sends<'s, M>, Failure>
-    ensures { Meets sends_view result (returning (operands_view had.entry).kinds) }
+fn answer<M: ShapeName>(had: Operands<M>) -> Result<Sends<M>, Failure>
+    ensures { Meets sends_view result (returning (operands_view had).kinds) }
 {
     let Operands { mut kinds, .. } = had;
     take_truth(&mut kinds)?;
@@ -281,28 +282,25 @@ fn answer<'s, M: ShapeName>(had: Operands<'s, M>) -> Result<Sends<'s, M>, Failur
 }
 
 /// Pushes what an operation gives, unless it doesn't take its operands.
-fn push_given<'s, M: ShapeName>(
-    kinds: &mut Vec<Kind<'s, M>>,
-    given: Option<Kind<'s, M>>,
-) -> Result<(), Failure>
+fn push_given<M: ShapeName>(kinds: &mut Vec<Kind<M>>, given: Option<Kind<M>>) -> Result<(), Failure>
     ensures { Meets (λ _. from_top kinds.new.items) result
-        (given_on_top (option_map kind_view given.entry) (from_top kinds.old.items)) }
+        (given_on_top (option_map kind_view given) (from_top kinds.old.items)) }
 {
     let given = given.ok_or(Reason::IllKinded)?;
     Ok(push(kinds, given)?)
 }
 
 /// Goes to the next place.
-fn go_on<'s, M: ShapeName>(
+fn go_on<M: ShapeName>(
     alloc: Global,
     code: &Code,
-    measured: &Whole<'s, M>,
+    measured: &Whole<M>,
     next: usize,
     op: Op,
-    had: Operands<'s, M>,
-) -> Result<Sends<'s, M>, Failure>
-    ensures { Meets sends_view result (going_on next (operands_view had.entry).loops
-        (effect code.now (shape_view M.shape) (item_of (operands_view had.entry).loops) op (operands_view had.entry).kinds)) }
+    had: Operands<M>,
+) -> Result<Sends<M>, Failure>
+    ensures { Meets sends_view result (going_on next (operands_view had).loops
+        (effect code.now (shape_view M.shape) (item_of (operands_view had).loops) op (operands_view had).kinds)) }
 {
     let Operands { mut kinds, loops } = had;
     let given = apply(alloc, code, measured, innermost(&loops), op, &mut kinds)?;
@@ -313,16 +311,16 @@ fn go_on<'s, M: ShapeName>(
     }))
 }
 
-fn passed_on<'s, M: ShapeName>(
+fn passed_on<M: ShapeName>(
     alloc: Global,
     code: &Code,
-    measured: &Whole<'s, M>,
+    measured: &Whole<M>,
     next: usize,
     op: Op,
-    had: Operands<'s, M>,
-) -> Result<Sends<'s, M>, Failure>
+    had: Operands<M>,
+) -> Result<Sends<M>, Failure>
     ensures { Meets sends_view result (passed_by code.now (shape_view M.shape) next op
-        (operands_view had.entry).kinds (operands_view had.entry).loops) }
+        (operands_view had).kinds (operands_view had).loops) }
 {
     match op {
         Op::Push(_) | Op::MakeList { .. } | Op::Field(_) | Op::Unary(_) | Op::Binary(_) => {
@@ -337,7 +335,7 @@ fn passed_on<'s, M: ShapeName>(
 
 /// Whether an operand is missing above the floor, or the item.
 #[tactic(auto, using(crate::proofs::Tops::so_many))]
-fn lacks<M: ShapeName>(op: Op, had: &Operands<'_, M>) -> bool
+fn lacks<M: ShapeName>(op: Op, had: &Operands<M>) -> bool
     ensures { result ≡ lacks op (operands_view had.now) }
 {
     match op {
@@ -346,7 +344,7 @@ fn lacks<M: ShapeName>(op: Op, had: &Operands<'_, M>) -> bool
     }
 }
 
-impl<'s, M: ShapeName> Sends<'s, M> {
+impl<M: ShapeName> Sends<M> {
     /// The greatest number of operands on the way.
     pub(crate) fn deepest(&self) -> usize
         ensures { result ≡ counted (deepest (sends_view self.now)) }
@@ -363,16 +361,16 @@ impl<'s, M: ShapeName> Sends<'s, M> {
 }
 
 /// What an operation sends on, of operands that arrived.
-pub(crate) fn send_on<'s, M: ShapeName>(
+pub(crate) fn send_on<M: ShapeName>(
     alloc: Global,
     code: &Code,
-    measured: &Whole<'s, M>,
+    measured: &Whole<M>,
     next: usize,
     op: Op,
-    had: Operands<'s, M>,
-) -> Result<Sends<'s, M>, Failure>
+    had: Operands<M>,
+) -> Result<Sends<M>, Failure>
     ensures exact { Meets sends_view result
-        (sends_by code.now (shape_view M.shape) next op (operands_view had.entry)) }
+        (sends_by code.now (shape_view M.shape) next op (operands_view had)) }
     ensures shallow { IfOk result (λ sends. deepest (sends_view sends) ≤ most_operands) }
 {
     if lacks(op, &had) {

@@ -9,18 +9,15 @@ use crate::whole::ShapeName;
 use std::alloc::{AllocError, Global};
 
 #[tactic(auto, using(crate::proofs::Tops::on_top))]
-pub(crate) fn push<'s, M: ShapeName>(
-    kinds: &mut Vec<Kind<'s, M>>,
-    kind: Kind<'s, M>,
-) -> Result<(), AllocError>
-    ensures { OnOk result (from_top kinds.new.items ≡ kind_view kind.entry ∷ from_top kinds.old.items) }
+pub(crate) fn push<M: ShapeName>(kinds: &mut Vec<Kind<M>>, kind: Kind<M>) -> Result<(), AllocError>
+    ensures { OnOk result (from_top kinds.new.items ≡ kind_view kind ∷ from_top kinds.old.items) }
 {
     kinds.push(kind)?;
     Ok(())
 }
 
 #[tactic(auto, using(crate::proofs::Tops::on_top))]
-pub(crate) fn pop<'s, M: ShapeName>(kinds: &mut Vec<Kind<'s, M>>) -> Option<Kind<'s, M>>
+pub(crate) fn pop<M: ShapeName>(kinds: &mut Vec<Kind<M>>) -> Option<Kind<M>>
     ensures { MatchOption result ((from_top kinds.old.items ≡ []) × (from_top kinds.new.items ≡ []))
         (λ kind. from_top kinds.old.items ≡ kind_view kind ∷ from_top kinds.new.items) }
 {
