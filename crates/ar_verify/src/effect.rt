@@ -9,7 +9,7 @@ ghost use Rattle.ar_verified.specs.Effects.{binary_kind, effect, field_by, list_
 ghost use Rattle.ar_verify.specs.Private.Kinds.{kind_view, list_view};
 ghost use Rattle.ar_verify.specs.Private.Stacks.{Leaves, TakesScalar, from_top};
 
-use crate::kind::{Kind, is_scalar};
+use crate::kind::{Kind, given_part, given_shape, is_scalar};
 use crate::operators::{apply_binary, apply_unary, field_of};
 use crate::part::{INNER, Part};
 use crate::stack::pop;
@@ -24,7 +24,7 @@ use std::alloc::{AllocError, Global};
 fn scalar<M: ShapeName>(alloc: Global, scalar: Scalar) -> Result<Option<Kind<M>>, AllocError>
     ensures { IfOk result (λ given. option_map kind_view given ≡ Some (shaped (scalar_shape scalar))) }
 {
-    Ok(Some(Kind::made(alloc, scalar_shape(scalar))?))
+    given_shape(alloc, scalar_shape(scalar))
 }
 
 /// The kind of the measured value.
@@ -47,7 +47,7 @@ fn item_kind<M: ShapeName>(
         ≡ option_map (λ list. shaped (list_view list.now).0) list.entry) }
 {
     match list {
-        Some(list) => Ok(Some(Kind::Shape(list.child(alloc, INNER)?))),
+        Some(list) => given_part(alloc, list, INNER),
         None => Ok(None),
     }
 }
@@ -150,7 +150,7 @@ fn scalar_shape(scalar: Scalar) -> Shape
 }
 
 /// Takes an operand off the top and says whether it was a scalar of a kind.
-fn takes_scalar<M: ShapeName>(scalar: Scalar, kinds: &mut Vec<Kind<M>>) -> bool
+pub(crate) fn takes_scalar<M: ShapeName>(scalar: Scalar, kinds: &mut Vec<Kind<M>>) -> bool
     ensures { TakesScalar scalar (from_top kinds.old.items) (from_top kinds.new.items) result }
 {
     match pop(kinds) {
@@ -179,7 +179,7 @@ fn make_list<M: ShapeName>(
         item: Box::new(alloc, scalar_shape(scalar))?,
         max: usize::from(count),
     };
-    Ok(Some(Kind::made(alloc, list)?))
+    given_shape(alloc, list)
 }
 
 /// Takes the operands of an operation that goes on to the next place, and gives what it makes of them.

@@ -1,13 +1,13 @@
 //! Kinds of operands.
 
 ghost use Rattle.std.specs.Bool.{Decides};
-ghost use Rattle.std.specs.Prelude.{◌≡◌, IfOk, option_map};
+ghost use Rattle.std.specs.Prelude.{◌≡◌, IfOk, Some, option_map};
 ghost use Rattle.ar_value.specs.Kind.{merge, or_nil, shaped};
 ghost use Rattle.ar_value.specs.Shape.{list};
 ghost use Rattle.ar_value.specs.View.{shape_view};
 ghost use Rattle.ar_verified.specs.Effects.{family_in, family_of, is_scalar};
 ghost use Rattle.ar_verify.specs.Private.Kinds.{is_list, kind_view, list_in, list_parts, list_view, parts_view, shape_in};
-ghost use Rattle.ar_verify.specs.Private.Parts.{part_view};
+ghost use Rattle.ar_verify.specs.Private.Parts.{child, part_view};
 
 use crate::part::{INNER, Part, are_one, child};
 use crate::whole::ShapeName;
@@ -61,6 +61,28 @@ impl<M: ShapeName> Kind<M> {
     }
 }
 
+/// The kind of a shape that stands alone, as an operation gives it.
+pub(crate) fn given_shape<M: ShapeName>(
+    alloc: Global,
+    shape: Shape,
+) -> Result<Option<Kind<M>>, AllocError>
+    ensures { IfOk result (λ given. option_map kind_view given ≡ Some (shaped (shape_view shape))) }
+{
+    Ok(Some(Kind::made(alloc, shape)?))
+}
+
+/// The kind of a part of a shape, by its number, as an operation gives it.
+pub(crate) fn given_part<M: ShapeName>(
+    alloc: Global,
+    whole: &Part<M>,
+    number: usize,
+) -> Result<Option<Kind<M>>, AllocError>
+    ensures { IfOk result
+        (λ given. option_map kind_view given ≡ Some (shaped (child number (part_view whole.now)))) }
+{
+    Ok(Some(Kind::Shape(whole.child(alloc, number)?)))
+}
+
 fn are_same<M: ShapeName>(left: &Kind<M>, right: &Kind<M>) -> bool
     ensures { Decides result (kind_view left.now ≡ kind_view right.now) }
 {
@@ -94,7 +116,7 @@ fn merge_shapes<M: ShapeName>(
         ≡ merge (shaped (shape_view left.now)) (shaped (shape_view right.now))) }
 {
     match kind::merge_shapes(alloc, left, right)? {
-        Some(shape) => Ok(Some(Kind::made(alloc, shape)?)),
+        Some(shape) => given_shape(alloc, shape),
         None => Ok(None),
     }
 }
@@ -211,8 +233,25 @@ fn is_list(shape: &Shape) -> bool
 
 /// The shape of a list, where the kind is that of one.
 #[tactic(auto, using(crate::proofs::Parts::of_a_list, crate::proofs::Parts::of_no_list))]
-pub(crate) fn as_list<'a, M: ShapeName>(kind: &'a Kind<M>) -> Option<&'a Rc<Part<M>>>
-    ensures { option_map (λ list. list_view list.now.value) result ≡ list_in (kind_view kind.now) }
+pub(crate) fn as_list<M: ShapeName>(kind: &Kind<M>) -> Option<&Part<M>>
+    ensures { option_map (λ list. list_view list.now) result ≡ list_in (kind_view kind.now) }
+{
+    match kind {
+        Kind::Nil => None,
+        Kind::Shape(list) => {
+            if is_list(list.get()) {
+                Some(list)
+            } else {
+                None
+            }
+        }
+    }
+}
+
+/// Likewise, of a kind that isn't needed any more.
+#[tactic(auto, using(crate::proofs::Parts::of_a_list, crate::proofs::Parts::of_no_list))]
+pub(crate) fn into_list<M: ShapeName>(kind: Kind<M>) -> Option<Rc<Part<M>>>
+    ensures { option_map (λ list. list_view list.value) result ≡ list_in (kind_view kind) }
 {
     match kind {
         Kind::Nil => None,

@@ -6,7 +6,9 @@ ghost use Rattle.ar_value.specs.View.{shape_view};
 ghost use Rattle.ar_verified.specs.Effects.{decimal_kind, decimal_shape, family_in, is_scalar, binary_kind, decimals_kind, default_kind, equal_kind, field_kind, is_compared, is_family, is_number, item_kind, length_kind, member_kind, needed_kind, negative_kind, of_one_family, opposite_kind, order_kind, quotient_kind, same_kind, truth, unary_kind, where_taken, wholes_kind};
 ghost use Rattle.ar_verify.specs.Private.Kinds.{kind_view};
 
-use crate::kind::{Kind, as_list, family_in, family_of, is_scalar, list_in, merge};
+use crate::kind::{
+    Kind, as_list, family_in, family_of, given_part, given_shape, is_scalar, list_in, merge,
+};
 use crate::part::{INNER, field_number, plain};
 use crate::whole::ShapeName;
 use ar_value::kind;
@@ -25,7 +27,7 @@ fn where_taken<M: ShapeName>(
     ensures { IfOk result (λ given. option_map kind_view given ≡ where_taken is_taken (shaped (shape_view shape))) }
 {
     if is_taken {
-        Ok(Some(Kind::made(alloc, shape)?))
+        given_shape(alloc, shape)
     } else {
         Ok(None)
     }
@@ -42,7 +44,7 @@ pub(crate) fn field_of<M: ShapeName>(
     match operand {
         Kind::Nil => Ok(None),
         Kind::Shape(record) => match field_number(name, record.get()) {
-            Some(number) => Ok(Some(Kind::Shape(record.child(alloc, number)?))),
+            Some(number) => given_part(alloc, record, number),
             None => Ok(None),
         },
     }
@@ -61,7 +63,7 @@ fn item<M: ShapeName>(
         return Ok(None);
     }
     match as_list(list) {
-        Some(list) => Ok(Some(Kind::Shape(list.child(alloc, INNER)?))),
+        Some(list) => given_part(alloc, list, INNER),
         None => Ok(None),
     }
 }
@@ -119,7 +121,7 @@ fn decimal<M: ShapeName>(alloc: Global, operand: &Kind<M>) -> Result<Option<Kind
     match operand.shape() {
         None => Ok(None),
         Some(shape) => match decimal_shape(alloc, shape)? {
-            Some(decimal) => Ok(Some(Kind::made(alloc, decimal)?)),
+            Some(decimal) => given_shape(alloc, decimal),
             None => Ok(None),
         },
     }

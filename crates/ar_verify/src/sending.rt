@@ -7,12 +7,12 @@ ghost use Rattle.ar_verified.specs.Effects.{effect};
 ghost use Rattle.ar_verify.specs.Private.Failures.{Meets};
 ghost use Rattle.ar_verify.specs.Private.Held.{around_view, counted, from_innermost, operands_view};
 ghost use Rattle.ar_verify.specs.Private.Kinds.{kind_view, list_view};
-ghost use Rattle.ar_verify.specs.Private.Sending.{around, beginning, branched, given_on_top, going_on, jumping, kept_or_taken, list_taken, only_truth, passed_by, returning, sends_by, sends_view, stepping, truth_taken};
+ghost use Rattle.ar_verify.specs.Private.Sending.{around, beginning, begun, branched, ending, given_on_top, going_on, jumping, kept_or_taken, list_taken, only_truth, passed_by, performed, returning, sends_by, sends_view, stepping, truth_taken};
 ghost use Rattle.ar_verify.specs.Private.Stacks.{from_top};
 
-use crate::effect::apply;
+use crate::effect::{apply, takes_scalar};
 use crate::failure::Failure;
-use crate::kind::{Kind, as_list, is_scalar, list_like};
+use crate::kind::{Kind, into_list, list_like};
 use crate::operands::{Around, Operands};
 use crate::part::Part;
 use crate::stack::{pop, push};
@@ -44,12 +44,11 @@ pub(crate) enum Sends<M: ShapeName> {
 }
 
 /// Takes a truth value.
-#[tactic(auto, using(crate::proofs::Passed::truth_on_top, crate::proofs::Passed::no_truth_on_top))]
+#[tactic(auto, using(crate::proofs::Passed::truth_is_taken, crate::proofs::Passed::no_truth_is_taken))]
 fn take_truth<M: ShapeName>(kinds: &mut Vec<Kind<M>>) -> Result<(), Failure>
     ensures { Meets (λ _. from_top kinds.new.items) result (truth_taken (from_top kinds.old.items)) }
 {
-    let operand = pop(kinds).ok_or(Reason::IllKinded)?;
-    if is_scalar(Scalar::Bool, &operand) {
+    if takes_scalar(Scalar::Bool, kinds) {
         Ok(())
     } else {
         Err(Failure::Fault(Reason::IllKinded))
@@ -61,9 +60,10 @@ fn take_list<M: ShapeName>(kinds: &mut Vec<Kind<M>>) -> Result<Rc<Part<M>>, Fail
     ensures { Meets (λ list. (list_view list.value, from_top kinds.new.items)) result
         (list_taken (from_top kinds.old.items)) }
 {
-    let operand = pop(kinds).ok_or(Reason::IllKinded)?;
-    let list = as_list(&operand).ok_or(Reason::IllKinded)?;
-    Ok(list.clone()?)
+    match pop(kinds) {
+        Some(operand) => into_list(operand).ok_or(Failure::Fault(Reason::IllKinded)),
+        None => Err(Failure::Fault(Reason::IllKinded)),
+    }
 }
 
 /// What a loop gives over a list.
@@ -211,6 +211,48 @@ fn behind<M: ShapeName>(
     Ok(below)
 }
 
+/// Operands behind a loop over a list, with its answer on top of those that were there.
+fn skip_loop<M: ShapeName>(
+    alloc: Global,
+    predicate: Predicate,
+    list: &Rc<Part<M>>,
+    had: &Operands<M>,
+) -> Result<Operands<M>, AllocError>
+    ensures { IfOk result (λ skipped. operands_view skipped ≡ operands
+        (answer_kind predicate (list_view list.now.value).0 (list_view list.now.value).1 ∷ (operands_view had.now).kinds)
+        (operands_view had.now).loops) }
+{
+    let Operands { kinds, loops } = had.copy(alloc)?;
+    let kinds = behind(alloc, predicate, list, kinds)?;
+    Ok(Operands { kinds, loops })
+}
+
+/// Begins a loop over a list that was on top, or goes behind it with its answer.
+fn begin_loop<M: ShapeName>(
+    alloc: Global,
+    predicate: Predicate,
+    next: usize,
+    behind: usize,
+    list: Rc<Part<M>>,
+    had: Operands<M>,
+) -> Result<Sends<M>, AllocError>
+    ensures { IfOk result (λ sends. sends_view sends
+        ≡ begun predicate next behind (list_view list.value, (operands_view had).kinds) (operands_view had).loops) }
+{
+    let skipped = skip_loop(alloc, predicate, &list, &had)?;
+    let body = inside(alloc, list, had)?;
+    Ok(Sends::Two(
+        Sent {
+            target: next,
+            operands: body,
+        },
+        Sent {
+            target: behind,
+            operands: skipped,
+        },
+    ))
+}
+
 /// Begins a loop over the list on top, or goes behind it with its answer.
 fn enter<M: ShapeName>(
     alloc: Global,
@@ -223,20 +265,7 @@ fn enter<M: ShapeName>(
         (beginning predicate next (step + 1) (operands_view had).kinds (operands_view had).loops) }
 {
     let list = take_list(&mut had.kinds)?;
-    let Operands { kinds, loops } = had.copy(alloc)?;
-    let kinds = behind(alloc, predicate, &list, kinds)?;
-    let behind = Operands { kinds, loops };
-    let body = inside(alloc, list, had)?;
-    Ok(Sends::Two(
-        Sent {
-            target: next,
-            operands: body,
-        },
-        Sent {
-            target: step as usize + 1,
-            operands: behind,
-        },
-    ))
+    Ok(begin_loop(alloc, predicate, next, step as usize + 1, list, had)?)
 }
 
 /// Takes the truth value of a loop's body, which has to be alone above the floor.
@@ -252,6 +281,23 @@ fn take_answer<M: ShapeName>(mut kinds: Vec<Kind<M>>) -> Result<(), Failure>
     }
 }
 
+/// Goes behind the innermost loop, with its answer.
+fn end_loop<M: ShapeName>(
+    alloc: Global,
+    predicate: Predicate,
+    next: usize,
+    mut loops: Vec<Around<M>>,
+) -> Result<Sends<M>, Failure>
+    ensures { Meets sends_view result (ending predicate next [] (from_innermost loops.items)) }
+{
+    let Around { list, below } = pop_loop(&mut loops).ok_or(Reason::BadMerge)?;
+    let kinds = behind(alloc, predicate, &list, below)?;
+    Ok(Sends::One(Sent {
+        target: next,
+        operands: Operands { kinds, loops },
+    }))
+}
+
 /// Goes behind a loop, where nothing but the truth value of its body is above its floor.
 fn step<M: ShapeName>(
     alloc: Global,
@@ -262,14 +308,8 @@ fn step<M: ShapeName>(
     ensures { Meets sends_view result
         (stepping predicate next (operands_view had).kinds (operands_view had).loops) }
 {
-    let Operands { kinds, mut loops } = had;
-    take_answer(kinds)?;
-    let Around { list, below } = pop_loop(&mut loops).ok_or(Reason::BadMerge)?;
-    let kinds = behind(alloc, predicate, &list, below)?;
-    Ok(Sends::One(Sent {
-        target: next,
-        operands: Operands { kinds, loops },
-    }))
+    take_answer(had.kinds)?;
+    end_loop(alloc, predicate, next, had.loops)
 }
 
 /// Ends with the truth value on top.
@@ -290,6 +330,22 @@ fn push_given<M: ShapeName>(kinds: &mut Vec<Kind<M>>, given: Option<Kind<M>>) ->
     Ok(push(kinds, given)?)
 }
 
+/// Performs an operation that goes on to the next place, of the operands above the floor.
+fn perform<M: ShapeName>(
+    alloc: Global,
+    code: &Code,
+    measured: &Whole<M>,
+    here: Option<&Part<M>>,
+    op: Op,
+    kinds: &mut Vec<Kind<M>>,
+) -> Result<(), Failure>
+    ensures { Meets (λ _. from_top kinds.new.items) result (performed
+        (effect code.now (shape_view M.shape) (option_map (λ list. (list_view list.now).0) here.entry) op (from_top kinds.old.items))) }
+{
+    let given = apply(alloc, code, measured, here, op, kinds)?;
+    push_given(kinds, given)
+}
+
 /// Goes to the next place.
 fn go_on<M: ShapeName>(
     alloc: Global,
@@ -297,17 +353,16 @@ fn go_on<M: ShapeName>(
     measured: &Whole<M>,
     next: usize,
     op: Op,
-    had: Operands<M>,
+    mut had: Operands<M>,
 ) -> Result<Sends<M>, Failure>
     ensures { Meets sends_view result (going_on next (operands_view had).loops
         (effect code.now (shape_view M.shape) (item_of (operands_view had).loops) op (operands_view had).kinds)) }
 {
-    let Operands { mut kinds, loops } = had;
-    let given = apply(alloc, code, measured, innermost(&loops), op, &mut kinds)?;
-    push_given(&mut kinds, given)?;
+    let here = innermost(&had.loops);
+    perform(alloc, code, measured, here, op, &mut had.kinds)?;
     Ok(Sends::One(Sent {
         target: next,
-        operands: Operands { kinds, loops },
+        operands: had,
     }))
 }
 
