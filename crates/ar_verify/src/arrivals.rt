@@ -13,13 +13,14 @@ ghost use Rattle.ar_verify.specs.Private.Failures.{Meets};
 ghost use Rattle.ar_verify.specs.Private.Held.{arrival_view, operands_view};
 ghost use Rattle.ar_verify.specs.Private.Sending.{sends_view, sent_view};
 ghost use Rattle.ar_verify.specs.Private.Stacks.{from_top};
-ghost use Rattle.ar_verify.specs.Private.Table.{ComesTo, StaysWithin, entry, looked_at, one_more, pass_view, summary_view, summed_up, table_view, with_all, with_one, without};
+ghost use Rattle.ar_verify.specs.Private.Table.{ComesTo, StaysWithin, added, entry, looked_at, one_more, pass_view, summary_view, summed_up, table_view, with_all, with_one, without};
 ghost use Rattle.ar_verified.specs.declared.error.Reason.TheVariants.{Unreachable};
 
 use crate::failure::Failure;
 use crate::kind::{Kind, list_in};
 use crate::operands::{Operands, join};
 use crate::sending::{Sends, Sent, send_on};
+use crate::stack::add;
 use crate::whole::{ShapeName, Whole};
 use ar_op::code::Code;
 use ar_op::op::Op;
@@ -69,9 +70,9 @@ fn table<M: ShapeName>(
         (λ arrived. table_view arrived.items ≡ Ok (operands [] []) ∷ replicate count (Err Unreachable)) }
 {
     let mut arrived = Vec::new(alloc);
-    arrived.push(Ok(Operands::none(alloc)))?;
+    add(&mut arrived, Ok(Operands::none(alloc)))?;
     for _place in 0..count {
-        arrived.push(Err(Reason::Unreachable))?;
+        add(&mut arrived, Err(Reason::Unreachable))?;
     }
     Ok(arrived)
 }
@@ -145,12 +146,49 @@ impl Arrivals {
         ensures depth { self.new.depth ≡ self.old.depth }
         ensures items { OnOk result (self.new.most_items.items ≡ self.old.most_items.items ++ most ∷ []) }
     {
-        self.most_items.push(most)?;
-        Ok(())
+        add(&mut self.most_items, most)
     }
 }
 
 impl<M: ShapeName> Pass<M> {
+    /// The pass at the first of so many operations.
+    fn begin(alloc: Global, count: usize) -> Result<Pass<M>, AllocError>
+        ensures table { IfOk result
+            (λ pass. table_view pass.arrived.items ≡ Ok (operands [] []) ∷ replicate count (Err Unreachable)) }
+        ensures depth { IfOk result (λ pass. pass.found.depth ≡ 0) }
+        ensures items { IfOk result (λ pass. pass.found.most_items.items ≡ []) }
+    {
+        let most_items = Vec::with_capacity(alloc, count)?;
+        Ok(Pass {
+            arrived: table(alloc, count)?,
+            found: Arrivals {
+                depth: 0,
+                most_items,
+            },
+        })
+    }
+
+    /// Adds what an operation sends on, of operands that arrived, where the next place has a number.
+    #[tactic(auto, using(crate::proofs::Table::all_added))]
+    fn add(
+        &mut self,
+        alloc: Global,
+        code: &Code,
+        measured: &Whole<M>,
+        next: usize,
+        op: Op,
+        had: Operands<M>,
+    ) -> Result<(), Failure>
+        requires inside { next < length self.old.arrived.items }
+        requires targets { StaysWithin (length self.old.arrived.items) op }
+        ensures { Meets (λ _. pass_view self.new) result
+            (added code.now (shape_view M.shape) next op (pass_view self.old) (operands_view had)) }
+    {
+        let sends = send_on(alloc, code, measured, next, op, had)?;
+        self.found.depth = self.found.depth.max(sends.deepest());
+        Ok(send_all(alloc, &mut self.arrived, sends)?)
+    }
+
     /// Looks at the operation at a place, to which the pass has come.
     fn look_at(
         &mut self,
@@ -167,10 +205,7 @@ impl<M: ShapeName> Pass<M> {
     {
         let had = take(&mut self.arrived, place)?;
         self.found.note_items(most_on_top(&had.kinds))?;
-        let sends = send_on(alloc, code, measured, place + 1, op, had)?;
-        self.found.depth = self.found.depth.max(sends.deepest());
-        send_all(alloc, &mut self.arrived, sends)?;
-        Ok(())
+        self.add(alloc, code, measured, place + 1, op, had)
     }
 }
 
@@ -186,15 +221,8 @@ fn find_named<M: ShapeName>(
     ensures { Gives is_memory summary_view result (summed_up code.now (shape_view M.shape)) }
 {
     let ops = code.ops();
-    let measured: Whole<M> = Whole::new(alloc, shape.share()?)?;
-    let found = Arrivals {
-        depth: 0,
-        most_items: Vec::with_capacity(alloc, ops.len())?,
-    };
-    let mut pass = Pass {
-        arrived: table(alloc, ops.len())?,
-        found,
-    };
+    let measured: Whole<M> = Whole::new(alloc, shape)?;
+    let mut pass = Pass::begin(alloc, ops.len())?;
     for (place, op) in ops.iter().enumerate() {
         if let Err(failure) = pass.look_at(alloc, code, &measured, place, *op) {
             return Err(failure.at(place));

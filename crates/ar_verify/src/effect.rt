@@ -88,6 +88,22 @@ fn unary<M: ShapeName>(
     }
 }
 
+/// Takes the left operand, where the right one is taken.
+fn binary_with<M: ShapeName>(
+    alloc: Global,
+    operator: BinaryOperator,
+    right: &Kind<M>,
+    kinds: &mut Vec<Kind<M>>,
+) -> Result<Option<Kind<M>>, AllocError>
+    ensures { IfOk result (λ given. Leaves given kinds.new.items
+        (on_one (λ left. binary_kind operator left (kind_view right.now)) (from_top kinds.old.items))) }
+{
+    match pop(kinds) {
+        Some(left) => apply_binary(alloc, operator, &left, right),
+        None => Ok(None),
+    }
+}
+
 /// Takes two operands, the right one from the top.
 fn binary<M: ShapeName>(
     alloc: Global,
@@ -97,13 +113,10 @@ fn binary<M: ShapeName>(
     ensures { IfOk result
         (λ given. Leaves given kinds.new.items (on_two (binary_kind operator) (from_top kinds.old.items))) }
 {
-    let Some(right) = pop(kinds) else {
-        return Ok(None);
-    };
-    let Some(left) = pop(kinds) else {
-        return Ok(None);
-    };
-    apply_binary(alloc, operator, &left, &right)
+    match pop(kinds) {
+        Some(right) => binary_with(alloc, operator, &right, kinds),
+        None => Ok(None),
+    }
 }
 
 /// The name of a number.

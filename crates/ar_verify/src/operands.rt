@@ -1,6 +1,6 @@
 //! Operands on the way to a place, by their kinds.
 
-ghost use Rattle.std.specs.Prelude.{◌≡◌, ◌∷◌, [], IfOk, MatchOption, OnOk, map, option_map};
+ghost use Rattle.std.specs.Prelude.{◌≡◌, ◌++◌, ◌∷◌, [], IfOk, MatchOption, OnOk, map, option_map};
 ghost use Rattle.ar_verified.specs.Arrivals.{floor, height, merged, of_loops, operands};
 ghost use Rattle.ar_verify.specs.Private.Held.{around_view, arrival_view, counted, from_innermost, operands_view};
 ghost use Rattle.ar_verify.specs.Private.Kinds.{kind_view};
@@ -8,6 +8,7 @@ ghost use Rattle.ar_verify.specs.Private.Stacks.{from_top};
 
 use crate::kind::{Kind, merge};
 use crate::part::Part;
+use crate::stack::add;
 use crate::whole::ShapeName;
 use ar_verified::Reason;
 use std::alloc::{AllocError, Global};
@@ -29,12 +30,20 @@ pub(crate) struct Operands<M: ShapeName> {
     pub loops: Vec<Around<M>>,
 }
 
+/// Adds a kind once more.
+fn copy_onto<M: ShapeName>(copies: &mut Vec<Kind<M>>, kind: &Kind<M>) -> Result<(), AllocError>
+    ensures { OnOk result
+        (map kind_view copies.new.items ≡ map kind_view copies.old.items ++ kind_view kind.now ∷ []) }
+{
+    add(copies, kind.share()?)
+}
+
 fn copy_kinds<M: ShapeName>(alloc: Global, kinds: &[Kind<M>]) -> Result<Vec<Kind<M>>, AllocError>
     ensures { IfOk result (λ copies. map kind_view copies.items ≡ map kind_view kinds.now) }
 {
     let mut copies = Vec::with_capacity(alloc, kinds.len())?;
     for kind in kinds {
-        copies.push(kind.share()?)?;
+        copy_onto(&mut copies, kind)?;
     }
     Ok(copies)
 }
@@ -57,7 +66,7 @@ fn copy_loops<M: ShapeName>(
 {
     let mut copies = Vec::with_capacity(alloc, loops.len())?;
     for around in loops {
-        copies.push(around.copy(alloc)?)?;
+        add(&mut copies, around.copy(alloc)?)?;
     }
     Ok(copies)
 }
@@ -118,7 +127,7 @@ fn merge_all<M: ShapeName>(
     let mut kinds = Vec::with_capacity(alloc, lefts.len())?;
     for (index, left) in lefts.iter().enumerate() {
         match merge(alloc, left, &rights[index])? {
-            Some(kind) => kinds.push(kind)?,
+            Some(kind) => add(&mut kinds, kind)?,
             None => return Ok(None),
         }
     }

@@ -15,7 +15,7 @@ use crate::failure::Failure;
 use crate::kind::{Kind, into_list, list_like};
 use crate::operands::{Around, Operands};
 use crate::part::Part;
-use crate::stack::{pop, push};
+use crate::stack::{add, pop, push};
 use crate::whole::{ShapeName, Whole};
 use ar_op::code::Code;
 use ar_op::op::{Jump, Op, Source};
@@ -90,8 +90,7 @@ fn push_loop<M: ShapeName>(
     ensures { OnOk result
         (from_innermost loops.new.items ≡ around_view innermost ∷ from_innermost loops.old.items) }
 {
-    loops.push(innermost)?;
-    Ok(())
+    add(loops, innermost)
 }
 
 #[tactic(auto, using(crate::proofs::Tops::on_top))]

@@ -32,11 +32,11 @@ pub(crate) struct Whole<M: ShapeName> {
 }
 
 impl<M: ShapeName> Whole<M> {
-    pub(crate) fn new(alloc: Global, shape: SharedShape) -> Result<Whole<M>, AllocError>
-        requires { shape ≡ M.shape }
+    pub(crate) fn new(alloc: Global, shape: &SharedShape) -> Result<Whole<M>, AllocError>
+        requires { shape.now ≡ M.shape }
     {
         Ok(Whole {
-            shape: Rc::new(alloc, shape)?,
+            shape: Rc::new(alloc, shape.share()?)?,
             name: PhantomData,
         })
     }
