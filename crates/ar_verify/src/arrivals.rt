@@ -169,7 +169,6 @@ impl<M: ShapeName> Pass<M> {
     }
 
     /// Adds what an operation sends on, of operands that arrived, where the next place has a number.
-    #[tactic(auto, using(crate::proofs::Table::all_added))]
     fn add(
         &mut self,
         alloc: Global,

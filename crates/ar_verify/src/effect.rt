@@ -34,8 +34,7 @@ fn measured_kind<M: ShapeName>(
 ) -> Result<Option<Kind<M>>, AllocError>
     ensures { IfOk result (λ given. option_map kind_view given ≡ Some (shaped (shape_view M.shape))) }
 {
-    let shape = Part::measured(alloc, measured.again()?)?;
-    Ok(Some(Kind::Shape(shape)))
+    Ok(Some(Kind::Shape(Part::measured(alloc, measured)?)))
 }
 
 /// The kind of the items of a list, if there is one.

@@ -61,6 +61,13 @@ impl<M: ShapeName> Kind<M> {
     }
 }
 
+/// A kind once more, as an operation gives it.
+pub(crate) fn given_again<M: ShapeName>(kind: &Kind<M>) -> Result<Option<Kind<M>>, AllocError>
+    ensures { IfOk result (λ given. option_map kind_view given ≡ Some (kind_view kind.now)) }
+{
+    Ok(Some(kind.share()?))
+}
+
 /// The kind of a shape that stands alone, as an operation gives it.
 pub(crate) fn given_shape<M: ShapeName>(
     alloc: Global,
@@ -97,13 +104,15 @@ fn are_same<M: ShapeName>(left: &Kind<M>, right: &Kind<M>) -> bool
 
 /// The kind of nil and of what fits a shape.
 #[tactic(auto, using(crate::proofs::Parts::nil_already))]
-fn nil_or<M: ShapeName>(alloc: Global, shape: &Rc<Part<M>>) -> Result<Kind<M>, AllocError>
-    ensures { IfOk result (λ kind. kind_view kind ≡ shaped (or_nil (part_view shape.now.value))) }
+fn nil_or<M: ShapeName>(alloc: Global, shape: &Rc<Part<M>>) -> Result<Option<Kind<M>>, AllocError>
+    ensures { IfOk result
+        (λ kind. option_map kind_view kind ≡ Some (shaped (or_nil (part_view shape.now.value)))) }
 {
     if kind::is_optional(shape.get()) {
-        return Ok(Kind::Shape(shape.clone()?));
+        Ok(Some(Kind::Shape(shape.clone()?)))
+    } else {
+        given_shape(alloc, kind::or_nil(alloc, shape.get())?)
     }
-    Kind::made(alloc, kind::or_nil(alloc, shape.get())?)
 }
 
 /// The merge of shapes, where there is one.
@@ -131,9 +140,7 @@ fn merge_different<M: ShapeName>(
 {
     match (left, right) {
         (Kind::Nil, Kind::Nil) => Ok(Some(Kind::Nil)),
-        (Kind::Nil, Kind::Shape(shape)) | (Kind::Shape(shape), Kind::Nil) => {
-            Ok(Some(nil_or(alloc, shape)?))
-        }
+        (Kind::Nil, Kind::Shape(shape)) | (Kind::Shape(shape), Kind::Nil) => nil_or(alloc, shape),
         (Kind::Shape(left), Kind::Shape(right)) => merge_shapes(alloc, left.get(), right.get()),
     }
 }
@@ -149,7 +156,7 @@ pub(crate) fn merge<M: ShapeName>(
     ensures { IfOk result (λ kind. option_map kind_view kind ≡ merge (kind_view left.now) (kind_view right.now)) }
 {
     if are_same(left, right) {
-        Ok(Some(left.share()?))
+        given_again(left)
     } else {
         merge_different(alloc, left, right)
     }

@@ -7,7 +7,8 @@ ghost use Rattle.ar_verified.specs.Effects.{decimal_kind, decimal_shape, family_
 ghost use Rattle.ar_verify.specs.Private.Kinds.{kind_view};
 
 use crate::kind::{
-    Kind, as_list, family_in, family_of, given_part, given_shape, is_scalar, list_in, merge,
+    Kind, as_list, family_in, family_of, given_again, given_part, given_shape, is_scalar, list_in,
+    merge,
 };
 use crate::part::{INNER, field_number, plain};
 use crate::whole::ShapeName;
@@ -94,7 +95,7 @@ fn default<M: ShapeName>(
         (λ given. option_map kind_view given ≡ default_kind (kind_view operand.now) (kind_view other.now)) }
 {
     match operand {
-        Kind::Nil => Ok(Some(other.share()?)),
+        Kind::Nil => given_again(other),
         Kind::Shape(shape) => merge(alloc, &Kind::Shape(plain(alloc, shape)?), other),
     }
 }
@@ -180,7 +181,7 @@ fn same<M: ShapeName>(scalar: Scalar, operand: &Kind<M>) -> Result<Option<Kind<M
     ensures { IfOk result (λ given. option_map kind_view given ≡ same_kind scalar (kind_view operand.now)) }
 {
     if is_scalar(scalar, operand) {
-        Ok(Some(operand.share()?))
+        given_again(operand)
     } else {
         Ok(None)
     }

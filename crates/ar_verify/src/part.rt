@@ -107,10 +107,10 @@ impl<M: ShapeName> Part<M> {
     }
 
     /// The shape of the measured value.
-    pub(crate) fn measured(alloc: Global, whole: Whole<M>) -> Result<Rc<Part<M>>, AllocError>
+    pub(crate) fn measured(alloc: Global, whole: &Whole<M>) -> Result<Rc<Part<M>>, AllocError>
         ensures { IfOk result (λ measured. part_view measured.value ≡ shape_view M.shape) }
     {
-        Part::whole(alloc, Root::Measured(whole))
+        Part::whole(alloc, Root::Measured(whole.again()?))
     }
 
     /// A shape that stands alone.

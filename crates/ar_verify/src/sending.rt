@@ -312,11 +312,10 @@ fn step<M: ShapeName>(
 }
 
 /// Ends with the truth value on top.
-fn answer<M: ShapeName>(had: Operands<M>) -> Result<Sends<M>, Failure>
+fn answer<M: ShapeName>(mut had: Operands<M>) -> Result<Sends<M>, Failure>
     ensures { Meets sends_view result (returning (operands_view had).kinds) }
 {
-    let Operands { mut kinds, .. } = had;
-    take_truth(&mut kinds)?;
+    take_truth(&mut had.kinds)?;
     Ok(Sends::Nothing)
 }
 
