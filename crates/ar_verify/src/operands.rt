@@ -112,7 +112,7 @@ impl<M: ShapeName> Operands<M> {
 }
 
 /// What two stacks have in common, kind by kind, where they are as high.
-#[tactic(auto, using(crate::proofs::Joins::unlike_heights, crate::proofs::Joins::one_merged, crate::proofs::Joins::one_clashes, crate::proofs::Joins::all_merged))]
+#[tactic(auto, using(crate::proofs::Joins::unlike_heights))]
 fn merge_all<M: ShapeName>(
     alloc: Global,
     lefts: &[Kind<M>],
