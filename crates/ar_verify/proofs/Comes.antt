@@ -3,6 +3,7 @@ use Rattle.std.proofs.Common.{◌≡◌, ◌≢◌, ◌<◌, ◌≤◌, ℕ, zer
 use Rattle.std.specs.Prelude.{◌==◌, if◌then◌else◌, slice_index_or}
 use Rattle.std.specs.List.{AllByRecursion}
 use Rattle.std.proofs.lemmas.Bool.Decides.{nat_tests}
+use Rattle.std.proofs.Math.ListN.{drop_of_length-le}
 use Rattle.std.proofs.lemmas.List.{append-nil, get_or-replicate, get_or-set_other, get_or-set_same, length-map, length-replicate, length-set}
 use Rattle.ar_value.specs.Answer.{◌>>=◌, Unless}
 use Rattle.ar_value.specs.Kind.{Kind}
@@ -250,3 +251,13 @@ begins code shape s table depth most = record {
   depth = depth;
   most_items = most;
 }
+
+-- ---- where no operation is left
+
+pub all_seen : (code : Code) (shape : Shape) (place : ℕ) (s : State) → ComesTo code shape place s → length code.ops ≤ place → summed_up code shape ≡ Ok s.found
+all_seen code shape place s comes past =
+    let inside = comes.inside in
+    let all : length code.ops ≡ place = omega (arith, inside, past) in
+    ap (λ all. all >>= λ sents. Ok (summary (length code.ops) sents)) (comes.left ∙ ap (λ rest. sent_on code shape place rest comes.sents) (drop_of_length-le code.ops past))
+    ∙ ap (λ depth. Ok (record { depth = depth; most_items = most_each (length code.ops) comes.sents })) (sym comes.depth)
+    ∙ ap (λ items. Ok (record { depth = s.found.depth; most_items = items })) (ap (λ n. most_each n comes.sents) all ∙ sym comes.most_items)

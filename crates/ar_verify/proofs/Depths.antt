@@ -22,17 +22,19 @@ use Rattle.ar_verified.proofs.Nesting.{passes_each, alike, begins, behind_step, 
 
 -- ---- the numbers of loops, one after the other
 
-pub one_deeper : (op : Op) (depth : ℕ) → depth_behind op depth ≤ depth + 1
+one_deeper : (op : Op) (depth : ℕ) → depth_behind op depth ≤ depth + 1
 one_deeper (Enter predicate step) depth = omega arith
 one_deeper (Step predicate enter) depth = omega arith
 one_deeper op depth = omega arith
 
 module _ (ops : List Op) (before whole : List ℕ) where
-  pub counts_on : (i : ℕ) (op : Op) (depth : ℕ) → i < length ops → op ≡ slice_index_or ops i op → before ++ depths depth (drop i ops) ≡ whole
-      → (before ++ depth ∷ []) ++ depths (depth_behind op depth) (drop (i + 1) ops) ≡ whole
-  counts_on i op depth within is left =
-      let first : drop i ops ≡ op ∷ drop (suc i) ops = drop-cons ops i op within ∙ ap (λ one. one ∷ drop (suc i) ops) (sym is) in
-      rw (add-one i, append_assoc) (sym (ap (λ others. before ++ depths depth others) first) ∙ left)
+  pub counts_further : (i : ℕ) (op : Op) (depth deeper : ℕ) (after : List ℕ) → i < length ops → deeper ≡ depth_behind (slice_index_or ops i op) depth → after ≡ before ++ depth ∷ []
+      → (depth ≤ i) × (before ++ depths depth (drop i ops) ≡ whole) → (deeper ≤ i + 1) × (after ++ depths deeper (drop (i + 1) ops) ≡ whole)
+  counts_further i op depth deeper after within is longer h =
+      let first : drop i ops ≡ slice_index_or ops i op ∷ drop (suc i) ops = drop-cons ops i op within in
+      let one_more = one_deeper (slice_index_or ops i op) depth in
+      let low = h.0 in
+      (omega (arith, is, one_more, low), rw (is, longer, add-one i, append_assoc) (sym (ap (λ others. before ++ depths depth others) first) ∙ h.1))
 
   pub counted_all : (i depth : ℕ) → length ops ≤ i → before ++ depths depth (drop i ops) ≡ whole → before ≡ whole
   counted_all i depth past left = sym (append-nil before) ∙ ap (λ others. before ++ depths depth others) (sym (drop_of_length-le ops past)) ∙ left

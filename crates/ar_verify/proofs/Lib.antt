@@ -8,6 +8,7 @@ pub mod Heights
 pub mod Joins
 pub mod Passed
 pub mod Table
+pub mod Copies
 pub mod Costs
 pub mod Verdicts
 pub mod Comes

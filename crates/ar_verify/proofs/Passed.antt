@@ -1,5 +1,5 @@
 -- What operations send on, by the number of the next place.
-use Rattle.std.proofs.Common.{◌≡◌, ℕ, suc, ◌+◌, true, false, List, [], ◌∷◌, Option, Some, None, Result, Ok, Err, refl, sym, ap, ◌∙◌, add-one}
+use Rattle.std.proofs.Common.{◌≡◌, ℕ, suc, ◌+◌, Bool, true, false, List, [], ◌∷◌, Option, Some, None, Result, Ok, Err, refl, sym, ap, ◌∙◌, add-one}
 use Rattle.ar_value.specs.Answer.{◌>>=◌}
 use Rattle.ar_value.specs.Kind.{Kind, nil, shaped}
 use Rattle.ar_value.specs.Shape.{Shape, bool, whole, decimal, text, list, object, optional}
@@ -13,12 +13,13 @@ use Rattle.ar_op.specs.declared.op.Op.TheVariants as ops
 use Rattle.ar_verified.specs.Arrivals.{Around, Operands, Sent, ended, entered, item_of, jumped, on_truth, passed_on, sends, sent, to_next}
 use Rattle.ar_verified.specs.Effects.{effect, is_scalar}
 use Rattle.ar_verify.specs.Private.Sending.{beginning, ending, going_on, jumping, passed_by, sends_by, truth_taken}
+use Rattle.ar_verify.specs.Private.Stacks.{TakesScalar}
 use Rattle.ar_verified.specs.declared.error.Reason.{Reason}
 use Rattle.ar_verified.specs.declared.error.Reason.TheVariants.{IllKinded}
 
 -- ---- a truth value on top
 
-pub truth_on_top : (kind : Kind) (kinds : List Kind) → true ≡ is_scalar scalars.Bool kind → truth_taken (kind ∷ kinds) ≡ Ok kinds
+truth_on_top : (kind : Kind) (kinds : List Kind) → true ≡ is_scalar scalars.Bool kind → truth_taken (kind ∷ kinds) ≡ Ok kinds
 truth_on_top nil kinds is = absurd cc
 truth_on_top (shaped bool) kinds is = refl
 truth_on_top (shaped whole) kinds is = absurd cc
@@ -28,7 +29,7 @@ truth_on_top (shaped (list shape most)) kinds is = absurd cc
 truth_on_top (shaped (object inside)) kinds is = absurd cc
 truth_on_top (shaped (optional shape)) kinds is = absurd cc
 
-pub no_truth_on_top : (kind : Kind) (kinds : List Kind) → false ≡ is_scalar scalars.Bool kind → truth_taken (kind ∷ kinds) ≡ Err IllKinded
+no_truth_on_top : (kind : Kind) (kinds : List Kind) → false ≡ is_scalar scalars.Bool kind → truth_taken (kind ∷ kinds) ≡ Err IllKinded
 no_truth_on_top nil kinds is = refl
 no_truth_on_top (shaped bool) kinds is = absurd cc
 no_truth_on_top (shaped whole) kinds is = refl
@@ -37,6 +38,14 @@ no_truth_on_top (shaped text) kinds is = refl
 no_truth_on_top (shaped (list shape most)) kinds is = refl
 no_truth_on_top (shaped (object inside)) kinds is = refl
 no_truth_on_top (shaped (optional shape)) kinds is = refl
+
+pub truth_is_taken : (before after : List Kind) (is_taken : Bool) → TakesScalar scalars.Bool before after is_taken → is_taken ≡ true → truth_taken before ≡ Ok after
+truth_is_taken [] after is_taken takes is = absurd cc
+truth_is_taken (kind ∷ before) after is_taken takes is = truth_on_top kind before (sym is ∙ takes.0) ∙ ap Ok (sym takes.1)
+
+pub no_truth_is_taken : (before after : List Kind) (is_taken : Bool) → TakesScalar scalars.Bool before after is_taken → is_taken ≡ false → truth_taken before ≡ Err IllKinded
+no_truth_is_taken [] after is_taken takes is = refl
+no_truth_is_taken (kind ∷ before) after is_taken takes is = no_truth_on_top kind before (sym is ∙ takes.0)
 
 -- ---- operations
 

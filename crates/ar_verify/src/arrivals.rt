@@ -13,17 +13,18 @@ ghost use Rattle.ar_verify.specs.Private.Failures.{Meets};
 ghost use Rattle.ar_verify.specs.Private.Held.{arrival_view, operands_view};
 ghost use Rattle.ar_verify.specs.Private.Sending.{sends_view, sent_view};
 ghost use Rattle.ar_verify.specs.Private.Stacks.{from_top};
-ghost use Rattle.ar_verify.specs.Private.Table.{ComesTo, StaysWithin, entry, looked_at, one_more, pass_view, summary_view, summed_up, table_view, with_all, with_one, without};
+ghost use Rattle.ar_verify.specs.Private.Table.{ComesTo, StaysWithin, added, entry, looked_at, one_more, pass_view, summary_view, summed_up, table_view, with_all, with_one, without};
 ghost use Rattle.ar_verified.specs.declared.error.Reason.TheVariants.{Unreachable};
 
 use crate::failure::Failure;
 use crate::kind::{Kind, list_in};
 use crate::operands::{Operands, join};
 use crate::sending::{Sends, Sent, send_on};
+use crate::stack::add;
 use crate::whole::{ShapeName, Whole};
 use ar_op::code::Code;
 use ar_op::op::Op;
-use ar_value::shape::Shape;
+use ar_value::shared_shape::SharedShape;
 use ar_verified::{Cause, Reason};
 use std::alloc::{AllocError, Global};
 use std::marker::Brand;
@@ -40,15 +41,15 @@ pub(crate) struct Arrivals {
 
 /// The way through the operations.
 #[derive(Drop)]
-struct Pass<'s, M: ShapeName> {
+struct Pass<M: ShapeName> {
     /// What arrived so far at each place further on, or why nothing can be performed there.
-    arrived: Vec<Result<Operands<'s, M>, Reason>>,
+    arrived: Vec<Result<Operands<M>, Reason>>,
     found: Arrivals,
 }
 
 /// How many items the list on top may have.
 #[tactic(auto, using(crate::proofs::Tops::most_in_list))]
-fn most_on_top<M: ShapeName>(kinds: &[Kind<'_, M>]) -> usize
+fn most_on_top<M: ShapeName>(kinds: &[Kind<M>]) -> usize
     ensures { result ≡ most_on_top (from_top kinds.now) }
 {
     let Some(kind) = kinds.last() else {
@@ -61,27 +62,27 @@ fn most_on_top<M: ShapeName>(kinds: &[Kind<'_, M>]) -> usize
 }
 
 /// A table of the places of so many operations, and of one behind them. A run begins at the first.
-fn table<'s, M: ShapeName>(
+fn table<M: ShapeName>(
     alloc: Global,
     count: usize,
-) -> Result<Vec<Result<Operands<'s, M>, Reason>>, AllocError>
+) -> Result<Vec<Result<Operands<M>, Reason>>, AllocError>
     ensures { IfOk result
         (λ arrived. table_view arrived.items ≡ Ok (operands [] []) ∷ replicate count (Err Unreachable)) }
 {
     let mut arrived = Vec::new(alloc);
-    arrived.push(Ok(Operands::none(alloc)))?;
+    add(&mut arrived, Ok(Operands::none(alloc)))?;
     for _place in 0..count {
-        arrived.push(Err(Reason::Unreachable))?;
+        add(&mut arrived, Err(Reason::Unreachable))?;
     }
     Ok(arrived)
 }
 
 /// Takes what arrived at a place.
 #[tactic(auto, using(crate::proofs::Table::entry_is, crate::proofs::Table::taken_away))]
-fn take<'s, M: ShapeName>(
-    arrived: &mut [Result<Operands<'s, M>, Reason>],
+fn take<M: ShapeName>(
+    arrived: &mut [Result<Operands<M>, Reason>],
     place: usize,
-) -> Result<Operands<'s, M>, Reason>
+) -> Result<Operands<M>, Reason>
     requires { place < length arrived.old }
     ensures taken { arrival_view result ≡ entry (table_view arrived.old) place }
     ensures left { table_view arrived.new ≡ without (table_view arrived.old) place }
@@ -90,13 +91,13 @@ fn take<'s, M: ShapeName>(
 }
 
 /// What arrived somewhere, and one more behind it.
-fn one_more<'s, M: ShapeName>(
+fn one_more<M: ShapeName>(
     alloc: Global,
-    arrived: Result<Operands<'s, M>, Reason>,
-    next: Operands<'s, M>,
-) -> Result<Result<Operands<'s, M>, Reason>, AllocError>
+    arrived: Result<Operands<M>, Reason>,
+    next: Operands<M>,
+) -> Result<Result<Operands<M>, Reason>, AllocError>
     ensures { IfOk result
-        (λ joined. arrival_view joined ≡ one_more (arrival_view arrived.entry) (operands_view next.entry)) }
+        (λ joined. arrival_view joined ≡ one_more (arrival_view arrived) (operands_view next)) }
 {
     match arrived {
         Ok(so_far) => join(alloc, so_far, &next),
@@ -106,13 +107,13 @@ fn one_more<'s, M: ShapeName>(
 }
 
 /// Adds operands to what arrived where they go.
-fn send<'s, M: ShapeName>(
+fn send<M: ShapeName>(
     alloc: Global,
-    arrived: &mut [Result<Operands<'s, M>, Reason>],
-    sent: Sent<'s, M>,
+    arrived: &mut [Result<Operands<M>, Reason>],
+    sent: Sent<M>,
 ) -> Result<(), AllocError>
     requires { sent.target < length arrived.old }
-    ensures { OnOk result (table_view arrived.new ≡ with_one (table_view arrived.old) (sent_view sent.entry)) }
+    ensures { OnOk result (table_view arrived.new ≡ with_one (table_view arrived.old) (sent_view sent)) }
 {
     let Sent { target, operands } = sent;
     let so_far = take(arrived, target);
@@ -121,13 +122,13 @@ fn send<'s, M: ShapeName>(
 }
 
 /// Adds all that an operation sends on.
-fn send_all<'s, M: ShapeName>(
+fn send_all<M: ShapeName>(
     alloc: Global,
-    arrived: &mut [Result<Operands<'s, M>, Reason>],
-    sends: Sends<'s, M>,
+    arrived: &mut [Result<Operands<M>, Reason>],
+    sends: Sends<M>,
 ) -> Result<(), AllocError>
     requires { AllByRecursion (λ one. one.target < length arrived.old) (sends_view sends) }
-    ensures { OnOk result (table_view arrived.new ≡ with_all (table_view arrived.old) (sends_view sends.entry)) }
+    ensures { OnOk result (table_view arrived.new ≡ with_all (table_view arrived.old) (sends_view sends)) }
 {
     match sends {
         Sends::Nothing => Ok(()),
@@ -145,18 +146,54 @@ impl Arrivals {
         ensures depth { self.new.depth ≡ self.old.depth }
         ensures items { OnOk result (self.new.most_items.items ≡ self.old.most_items.items ++ most ∷ []) }
     {
-        self.most_items.push(most)?;
-        Ok(())
+        add(&mut self.most_items, most)
     }
 }
 
-impl<'s, M: ShapeName> Pass<'s, M> {
+impl<M: ShapeName> Pass<M> {
+    /// The pass at the first of so many operations.
+    fn begin(alloc: Global, count: usize) -> Result<Pass<M>, AllocError>
+        ensures table { IfOk result
+            (λ pass. table_view pass.arrived.items ≡ Ok (operands [] []) ∷ replicate count (Err Unreachable)) }
+        ensures depth { IfOk result (λ pass. pass.found.depth ≡ 0) }
+        ensures items { IfOk result (λ pass. pass.found.most_items.items ≡ []) }
+    {
+        let most_items = Vec::with_capacity(alloc, count)?;
+        Ok(Pass {
+            arrived: table(alloc, count)?,
+            found: Arrivals {
+                depth: 0,
+                most_items,
+            },
+        })
+    }
+
+    /// Adds what an operation sends on, of operands that arrived, where the next place has a number.
+    fn add(
+        &mut self,
+        alloc: Global,
+        code: &Code,
+        measured: &Whole<M>,
+        next: usize,
+        op: Op,
+        had: Operands<M>,
+    ) -> Result<(), Failure>
+        requires inside { next < length self.old.arrived.items }
+        requires targets { StaysWithin (length self.old.arrived.items) op }
+        ensures { Meets (λ _. pass_view self.new) result
+            (added code.now (shape_view M.shape) next op (pass_view self.old) (operands_view had)) }
+    {
+        let sends = send_on(alloc, code, measured, next, op, had)?;
+        self.found.depth = self.found.depth.max(sends.deepest());
+        Ok(send_all(alloc, &mut self.arrived, sends)?)
+    }
+
     /// Looks at the operation at a place, to which the pass has come.
     fn look_at(
         &mut self,
         alloc: Global,
         code: &Code,
-        measured: &Whole<'s, M>,
+        measured: &Whole<M>,
         place: usize,
         op: Op,
     ) -> Result<(), Failure>
@@ -167,30 +204,24 @@ impl<'s, M: ShapeName> Pass<'s, M> {
     {
         let had = take(&mut self.arrived, place)?;
         self.found.note_items(most_on_top(&had.kinds))?;
-        let sends = send_on(alloc, code, measured, place + 1, op, had)?;
-        self.found.depth = self.found.depth.max(sends.deepest());
-        send_all(alloc, &mut self.arrived, sends)?;
-        Ok(())
+        self.add(alloc, code, measured, place + 1, op, had)
     }
 }
 
 /// Finds the first operation that what arrives at its place can't be given to, or what is known of
 /// the operands where there is none. The measured value's shape has a name.
-fn find_named<M: ShapeName>(alloc: Global, code: &Code, shape: &Shape) -> Result<Arrivals, Cause>
+fn find_named<M: ShapeName>(
+    alloc: Global,
+    code: &Code,
+    shape: &SharedShape,
+) -> Result<Arrivals, Cause>
     requires shape { shape.now ≡ M.shape }
     requires places { all_pass (names_well code.now.ops) 0 code.now.ops ≡ Ok tt }
     ensures { Gives is_memory summary_view result (summed_up code.now (shape_view M.shape)) }
 {
     let ops = code.ops();
-    let measured: Whole<'_, M> = Whole::new(shape);
-    let found = Arrivals {
-        depth: 0,
-        most_items: Vec::with_capacity(alloc, ops.len())?,
-    };
-    let mut pass = Pass {
-        arrived: table(alloc, ops.len())?,
-        found,
-    };
+    let measured: Whole<M> = Whole::new(alloc, shape)?;
+    let mut pass = Pass::begin(alloc, ops.len())?;
     for (place, op) in ops.iter().enumerate() {
         if let Err(failure) = pass.look_at(alloc, code, &measured, place, *op) {
             return Err(failure.at(place));
@@ -200,7 +231,11 @@ fn find_named<M: ShapeName>(alloc: Global, code: &Code, shape: &Shape) -> Result
 }
 
 /// Likewise for a shape of the measured value.
-pub(crate) fn find_arrivals(alloc: Global, code: &Code, shape: &Shape) -> Result<Arrivals, Cause>
+pub(crate) fn find_arrivals(
+    alloc: Global,
+    code: &Code,
+    shape: &SharedShape,
+) -> Result<Arrivals, Cause>
     requires { all_pass (names_well code.now.ops) 0 code.now.ops ≡ Ok tt }
     ensures { Gives is_memory summary_view result (summed_up code.now (shape_view shape.now)) }
 {

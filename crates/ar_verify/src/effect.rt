@@ -9,9 +9,9 @@ ghost use Rattle.ar_verified.specs.Effects.{binary_kind, effect, field_by, list_
 ghost use Rattle.ar_verify.specs.Private.Kinds.{kind_view, list_view};
 ghost use Rattle.ar_verify.specs.Private.Stacks.{Leaves, TakesScalar, from_top};
 
-use crate::kind::{Kind, is_scalar};
+use crate::kind::{Kind, given_part, given_shape, is_scalar};
 use crate::operators::{apply_binary, apply_unary, field_of};
-use crate::part::{AnyShape, INNER};
+use crate::part::{INNER, Part};
 use crate::stack::pop;
 use crate::whole::{ShapeName, Whole};
 use ar_op::code::Code;
@@ -21,47 +21,43 @@ use ar_value::shape::Shape;
 use std::alloc::{AllocError, Global};
 
 /// The kind of a scalar.
-fn scalar<'s, M: ShapeName>(
-    alloc: Global,
-    scalar: Scalar,
-) -> Result<Option<Kind<'s, M>>, AllocError>
+fn scalar<M: ShapeName>(alloc: Global, scalar: Scalar) -> Result<Option<Kind<M>>, AllocError>
     ensures { IfOk result (λ given. option_map kind_view given ≡ Some (shaped (scalar_shape scalar))) }
 {
-    Ok(Some(Kind::made(alloc, scalar_shape(scalar))?))
+    given_shape(alloc, scalar_shape(scalar))
 }
 
 /// The kind of the measured value.
-fn measured_kind<'s, M: ShapeName>(
+fn measured_kind<M: ShapeName>(
     alloc: Global,
-    measured: &Whole<'s, M>,
-) -> Result<Option<Kind<'s, M>>, AllocError>
+    measured: &Whole<M>,
+) -> Result<Option<Kind<M>>, AllocError>
     ensures { IfOk result (λ given. option_map kind_view given ≡ Some (shaped (shape_view M.shape))) }
 {
-    let shape = AnyShape::measured(alloc, measured.again())?;
-    Ok(Some(Kind::Shape(shape)))
+    Ok(Some(Kind::Shape(Part::measured(alloc, measured)?)))
 }
 
 /// The kind of the items of a list, if there is one.
-fn item_kind<'s, M: ShapeName>(
+fn item_kind<M: ShapeName>(
     alloc: Global,
-    list: Option<&AnyShape<'s, M>>,
-) -> Result<Option<Kind<'s, M>>, AllocError>
+    list: Option<&Part<M>>,
+) -> Result<Option<Kind<M>>, AllocError>
     ensures { IfOk result (λ given. option_map kind_view given
         ≡ option_map (λ list. shaped (list_view list.now).0) list.entry) }
 {
     match list {
-        Some(list) => Ok(Some(Kind::Shape(list.child(alloc, INNER)?))),
+        Some(list) => given_part(alloc, list, INNER),
         None => Ok(None),
     }
 }
 
 /// What is pushed, where the innermost loop, if there is one, is over a list.
-fn pushed<'s, M: ShapeName>(
+fn pushed<M: ShapeName>(
     alloc: Global,
-    measured: &Whole<'s, M>,
-    here: Option<&AnyShape<'s, M>>,
+    measured: &Whole<M>,
+    here: Option<&Part<M>>,
     source: Source,
-) -> Result<Option<Kind<'s, M>>, AllocError>
+) -> Result<Option<Kind<M>>, AllocError>
     ensures { IfOk result (λ given. option_map kind_view given
         ≡ pushed_kind (shape_view M.shape) (option_map (λ list. (list_view list.now).0) here.entry) source) }
 {
@@ -77,11 +73,11 @@ fn pushed<'s, M: ShapeName>(
 }
 
 /// Takes an operand.
-fn unary<'s, M: ShapeName>(
+fn unary<M: ShapeName>(
     alloc: Global,
     operator: UnaryOperator,
-    kinds: &mut Vec<Kind<'s, M>>,
-) -> Result<Option<Kind<'s, M>>, AllocError>
+    kinds: &mut Vec<Kind<M>>,
+) -> Result<Option<Kind<M>>, AllocError>
     ensures { IfOk result
         (λ given. Leaves given kinds.new.items (on_one (unary_kind operator) (from_top kinds.old.items))) }
 {
@@ -91,22 +87,35 @@ fn unary<'s, M: ShapeName>(
     }
 }
 
-/// Takes two operands, the right one from the top.
-fn binary<'s, M: ShapeName>(
+/// Takes the left operand, where the right one is taken.
+fn binary_with<M: ShapeName>(
     alloc: Global,
     operator: BinaryOperator,
-    kinds: &mut Vec<Kind<'s, M>>,
-) -> Result<Option<Kind<'s, M>>, AllocError>
+    right: &Kind<M>,
+    kinds: &mut Vec<Kind<M>>,
+) -> Result<Option<Kind<M>>, AllocError>
+    ensures { IfOk result (λ given. Leaves given kinds.new.items
+        (on_one (λ left. binary_kind operator left (kind_view right.now)) (from_top kinds.old.items))) }
+{
+    match pop(kinds) {
+        Some(left) => apply_binary(alloc, operator, &left, right),
+        None => Ok(None),
+    }
+}
+
+/// Takes two operands, the right one from the top.
+fn binary<M: ShapeName>(
+    alloc: Global,
+    operator: BinaryOperator,
+    kinds: &mut Vec<Kind<M>>,
+) -> Result<Option<Kind<M>>, AllocError>
     ensures { IfOk result
         (λ given. Leaves given kinds.new.items (on_two (binary_kind operator) (from_top kinds.old.items))) }
 {
-    let Some(right) = pop(kinds) else {
-        return Ok(None);
-    };
-    let Some(left) = pop(kinds) else {
-        return Ok(None);
-    };
-    apply_binary(alloc, operator, &left, &right)
+    match pop(kinds) {
+        Some(right) => binary_with(alloc, operator, &right, kinds),
+        None => Ok(None),
+    }
 }
 
 /// The name of a number.
@@ -123,12 +132,12 @@ fn name_at(names: &[String], number: u32) -> Option<&str>
 }
 
 /// Takes a record and gives its field, by the number of the name.
-fn field<'s, M: ShapeName>(
+fn field<M: ShapeName>(
     alloc: Global,
     code: &Code,
     number: u32,
-    kinds: &mut Vec<Kind<'s, M>>,
-) -> Result<Option<Kind<'s, M>>, AllocError>
+    kinds: &mut Vec<Kind<M>>,
+) -> Result<Option<Kind<M>>, AllocError>
     ensures { IfOk result
         (λ given. Leaves given kinds.new.items (field_by code.now number (from_top kinds.old.items))) }
 {
@@ -153,7 +162,7 @@ fn scalar_shape(scalar: Scalar) -> Shape
 }
 
 /// Takes an operand off the top and says whether it was a scalar of a kind.
-fn takes_scalar<M: ShapeName>(scalar: Scalar, kinds: &mut Vec<Kind<'_, M>>) -> bool
+pub(crate) fn takes_scalar<M: ShapeName>(scalar: Scalar, kinds: &mut Vec<Kind<M>>) -> bool
     ensures { TakesScalar scalar (from_top kinds.old.items) (from_top kinds.new.items) result }
 {
     match pop(kinds) {
@@ -163,13 +172,13 @@ fn takes_scalar<M: ShapeName>(scalar: Scalar, kinds: &mut Vec<Kind<'_, M>>) -> b
 }
 
 /// Takes so many scalars of a kind and gives the list of them.
-#[tactic(auto, using(crate::proofs::Tops::scalar_taken, crate::proofs::Tops::scalar_refused, crate::proofs::Tops::all_taken))]
-fn make_list<'s, M: ShapeName>(
+#[tactic(auto, using(crate::proofs::Tops::scalar_refused, crate::proofs::Tops::all_taken))]
+fn make_list<M: ShapeName>(
     alloc: Global,
     scalar: Scalar,
     count: u8,
-    kinds: &mut Vec<Kind<'s, M>>,
-) -> Result<Option<Kind<'s, M>>, AllocError>
+    kinds: &mut Vec<Kind<M>>,
+) -> Result<Option<Kind<M>>, AllocError>
     ensures { IfOk result
         (λ given. Leaves given kinds.new.items (list_made scalar count count (from_top kinds.old.items))) }
 {
@@ -182,18 +191,18 @@ fn make_list<'s, M: ShapeName>(
         item: Box::new(alloc, scalar_shape(scalar))?,
         max: usize::from(count),
     };
-    Ok(Some(Kind::made(alloc, list)?))
+    given_shape(alloc, list)
 }
 
 /// Takes the operands of an operation that goes on to the next place, and gives what it makes of them.
-pub(crate) fn apply<'s, M: ShapeName>(
+pub(crate) fn apply<M: ShapeName>(
     alloc: Global,
     code: &Code,
-    measured: &Whole<'s, M>,
-    here: Option<&AnyShape<'s, M>>,
+    measured: &Whole<M>,
+    here: Option<&Part<M>>,
     op: Op,
-    kinds: &mut Vec<Kind<'s, M>>,
-) -> Result<Option<Kind<'s, M>>, AllocError>
+    kinds: &mut Vec<Kind<M>>,
+) -> Result<Option<Kind<M>>, AllocError>
     ensures { IfOk result (λ given. Leaves given kinds.new.items
         (effect code.now (shape_view M.shape) (option_map (λ list. (list_view list.now).0) here.entry) op (from_top kinds.old.items))) }
 {

@@ -1,27 +1,28 @@
 //! Kinds of operands.
 
 ghost use Rattle.std.specs.Bool.{Decides};
-ghost use Rattle.std.specs.Prelude.{◌≡◌, IfOk, option_map};
+ghost use Rattle.std.specs.Prelude.{◌≡◌, IfOk, Some, option_map};
 ghost use Rattle.ar_value.specs.Kind.{merge, or_nil, shaped};
 ghost use Rattle.ar_value.specs.Shape.{list};
 ghost use Rattle.ar_value.specs.View.{shape_view};
 ghost use Rattle.ar_verified.specs.Effects.{family_in, family_of, is_scalar};
 ghost use Rattle.ar_verify.specs.Private.Kinds.{is_list, kind_view, list_in, list_parts, list_view, parts_view, shape_in};
-ghost use Rattle.ar_verify.specs.Private.Parts.{any_view};
+ghost use Rattle.ar_verify.specs.Private.Parts.{child, part_view};
 
-use crate::part::{AnyShape, INNER, are_one, child};
+use crate::part::{INNER, Part, are_one, child};
 use crate::whole::ShapeName;
 use ar_value::kind;
 use ar_value::operator::{Family, Scalar};
 use ar_value::sameness::are_same_shapes;
 use ar_value::shape::Shape;
 use std::alloc::{AllocError, Global};
+use std::rc::Rc;
 
 /// The kind of an operand: that of the literal `nil`, or a shape.
 #[derive(Drop)]
-pub(crate) enum Kind<'s, M: ShapeName> {
+pub(crate) enum Kind<M: ShapeName> {
     Nil,
-    Shape(AnyShape<'s, M>),
+    Shape(Rc<Part<M>>),
 }
 
 /// What a list's shape says of it.
@@ -32,12 +33,12 @@ pub(crate) struct ListParts<'a> {
     pub most: usize,
 }
 
-impl<'s, M: ShapeName> Kind<'s, M> {
+impl<M: ShapeName> Kind<M> {
     /// The kind of operands of a shape that stands alone.
-    pub(crate) fn made(alloc: Global, shape: Shape) -> Result<Kind<'s, M>, AllocError>
+    pub(crate) fn made(alloc: Global, shape: Shape) -> Result<Kind<M>, AllocError>
         ensures { IfOk result (λ kind. kind_view kind ≡ shaped (shape_view shape)) }
     {
-        Ok(Kind::Shape(AnyShape::made(alloc, shape)?))
+        Ok(Kind::Shape(Part::made(alloc, shape)?))
     }
 
     pub(crate) fn shape(&self) -> Option<&Shape>
@@ -50,17 +51,46 @@ impl<'s, M: ShapeName> Kind<'s, M> {
     }
 
     /// The same kind once more, its shape likewise.
-    pub(crate) fn share(&self) -> Result<Kind<'s, M>, AllocError>
+    pub(crate) fn share(&self) -> Result<Kind<M>, AllocError>
         ensures { IfOk result (λ shared. kind_view shared ≡ kind_view self.now) }
     {
         match self {
             Kind::Nil => Ok(Kind::Nil),
-            Kind::Shape(shape) => Ok(Kind::Shape(shape.share()?)),
+            Kind::Shape(shape) => Ok(Kind::Shape(shape.clone()?)),
         }
     }
 }
 
-fn are_same<M: ShapeName>(left: &Kind<'_, M>, right: &Kind<'_, M>) -> bool
+/// A kind once more, as an operation gives it.
+pub(crate) fn given_again<M: ShapeName>(kind: &Kind<M>) -> Result<Option<Kind<M>>, AllocError>
+    ensures { IfOk result (λ given. option_map kind_view given ≡ Some (kind_view kind.now)) }
+{
+    Ok(Some(kind.share()?))
+}
+
+/// The kind of a shape that stands alone, as an operation gives it.
+pub(crate) fn given_shape<M: ShapeName>(
+    alloc: Global,
+    shape: Shape,
+) -> Result<Option<Kind<M>>, AllocError>
+    ensures { IfOk result (λ given. option_map kind_view given ≡ Some (shaped (shape_view shape))) }
+{
+    Ok(Some(Kind::made(alloc, shape)?))
+}
+
+/// The kind of a part of a shape, by its number, as an operation gives it.
+pub(crate) fn given_part<M: ShapeName>(
+    alloc: Global,
+    whole: &Part<M>,
+    number: usize,
+) -> Result<Option<Kind<M>>, AllocError>
+    ensures { IfOk result
+        (λ given. option_map kind_view given ≡ Some (shaped (child number (part_view whole.now)))) }
+{
+    Ok(Some(Kind::Shape(whole.child(alloc, number)?)))
+}
+
+fn are_same<M: ShapeName>(left: &Kind<M>, right: &Kind<M>) -> bool
     ensures { Decides result (kind_view left.now ≡ kind_view right.now) }
 {
     match left {
@@ -74,46 +104,43 @@ fn are_same<M: ShapeName>(left: &Kind<'_, M>, right: &Kind<'_, M>) -> bool
 
 /// The kind of nil and of what fits a shape.
 #[tactic(auto, using(crate::proofs::Parts::nil_already))]
-fn nil_or<'s, M: ShapeName>(
-    alloc: Global,
-    shape: &AnyShape<'s, M>,
-) -> Result<Kind<'s, M>, AllocError>
-    ensures { IfOk result (λ kind. kind_view kind ≡ shaped (or_nil (any_view shape.now))) }
+fn nil_or<M: ShapeName>(alloc: Global, shape: &Rc<Part<M>>) -> Result<Option<Kind<M>>, AllocError>
+    ensures { IfOk result
+        (λ kind. option_map kind_view kind ≡ Some (shaped (or_nil (part_view shape.now.value)))) }
 {
     if kind::is_optional(shape.get()) {
-        return Ok(Kind::Shape(shape.share()?));
+        Ok(Some(Kind::Shape(shape.clone()?)))
+    } else {
+        given_shape(alloc, kind::or_nil(alloc, shape.get())?)
     }
-    Kind::made(alloc, kind::or_nil(alloc, shape.get())?)
 }
 
 /// The merge of shapes, where there is one.
-fn merge_shapes<'s, M: ShapeName>(
+fn merge_shapes<M: ShapeName>(
     alloc: Global,
     left: &Shape,
     right: &Shape,
-) -> Result<Option<Kind<'s, M>>, AllocError>
+) -> Result<Option<Kind<M>>, AllocError>
     ensures { IfOk result (λ kind. option_map kind_view kind
         ≡ merge (shaped (shape_view left.now)) (shaped (shape_view right.now))) }
 {
     match kind::merge_shapes(alloc, left, right)? {
-        Some(shape) => Ok(Some(Kind::made(alloc, shape)?)),
+        Some(shape) => given_shape(alloc, shape),
         None => Ok(None),
     }
 }
 
 /// The merge of kinds that differ.
-fn merge_different<'s, M: ShapeName>(
+fn merge_different<M: ShapeName>(
     alloc: Global,
-    left: &Kind<'s, M>,
-    right: &Kind<'s, M>,
-) -> Result<Option<Kind<'s, M>>, AllocError>
+    left: &Kind<M>,
+    right: &Kind<M>,
+) -> Result<Option<Kind<M>>, AllocError>
     ensures { IfOk result (λ kind. option_map kind_view kind ≡ merge (kind_view left.now) (kind_view right.now)) }
 {
     match (left, right) {
         (Kind::Nil, Kind::Nil) => Ok(Some(Kind::Nil)),
-        (Kind::Nil, Kind::Shape(shape)) | (Kind::Shape(shape), Kind::Nil) => {
-            Ok(Some(nil_or(alloc, shape)?))
-        }
+        (Kind::Nil, Kind::Shape(shape)) | (Kind::Shape(shape), Kind::Nil) => nil_or(alloc, shape),
         (Kind::Shape(left), Kind::Shape(right)) => merge_shapes(alloc, left.get(), right.get()),
     }
 }
@@ -121,15 +148,15 @@ fn merge_different<'s, M: ShapeName>(
 /// The kind of what has the one kind or the other, where there is one: of a kind and itself that kind,
 /// which is shared.
 #[tactic(auto, using(crate::proofs::Joins::merged_with_itself))]
-pub(crate) fn merge<'s, M: ShapeName>(
+pub(crate) fn merge<M: ShapeName>(
     alloc: Global,
-    left: &Kind<'s, M>,
-    right: &Kind<'s, M>,
-) -> Result<Option<Kind<'s, M>>, AllocError>
+    left: &Kind<M>,
+    right: &Kind<M>,
+) -> Result<Option<Kind<M>>, AllocError>
     ensures { IfOk result (λ kind. option_map kind_view kind ≡ merge (kind_view left.now) (kind_view right.now)) }
 {
     if are_same(left, right) {
-        Ok(Some(left.share()?))
+        given_again(left)
     } else {
         merge_different(alloc, left, right)
     }
@@ -146,7 +173,7 @@ fn is_scalar_shape(scalar: Scalar, shape: &Shape) -> bool
     }
 }
 
-pub(crate) fn is_scalar<M: ShapeName>(scalar: Scalar, kind: &Kind<'_, M>) -> bool
+pub(crate) fn is_scalar<M: ShapeName>(scalar: Scalar, kind: &Kind<M>) -> bool
     ensures { result ≡ is_scalar scalar (kind_view kind.now) }
 {
     match kind {
@@ -167,7 +194,7 @@ pub(crate) fn family_of(shape: &Shape) -> Option<Family>
 }
 
 /// The family of a scalar that may be nil.
-pub(crate) fn family_in<M: ShapeName>(kind: &Kind<'_, M>) -> Option<Family>
+pub(crate) fn family_in<M: ShapeName>(kind: &Kind<M>) -> Option<Family>
     ensures { result ≡ family_in (kind_view kind.now) }
 {
     match kind {
@@ -191,7 +218,7 @@ fn list_parts(shape: &Shape) -> Option<ListParts<'_>>
 }
 
 /// What the kind says of a list, where it is that of one.
-pub(crate) fn list_in<'a, M: ShapeName>(kind: &'a Kind<'_, M>) -> Option<ListParts<'a>>
+pub(crate) fn list_in<'a, M: ShapeName>(kind: &'a Kind<M>) -> Option<ListParts<'a>>
     ensures { option_map parts_view result ≡ list_in (kind_view kind.now) }
 {
     list_parts(kind.shape()?)
@@ -213,8 +240,25 @@ fn is_list(shape: &Shape) -> bool
 
 /// The shape of a list, where the kind is that of one.
 #[tactic(auto, using(crate::proofs::Parts::of_a_list, crate::proofs::Parts::of_no_list))]
-pub(crate) fn as_list<'a, 's, M: ShapeName>(kind: &'a Kind<'s, M>) -> Option<&'a AnyShape<'s, M>>
+pub(crate) fn as_list<M: ShapeName>(kind: &Kind<M>) -> Option<&Part<M>>
     ensures { option_map (λ list. list_view list.now) result ≡ list_in (kind_view kind.now) }
+{
+    match kind {
+        Kind::Nil => None,
+        Kind::Shape(list) => {
+            if is_list(list.get()) {
+                Some(list)
+            } else {
+                None
+            }
+        }
+    }
+}
+
+/// Likewise, of a kind that isn't needed any more.
+#[tactic(auto, using(crate::proofs::Parts::of_a_list, crate::proofs::Parts::of_no_list))]
+pub(crate) fn into_list<M: ShapeName>(kind: Kind<M>) -> Option<Rc<Part<M>>>
+    ensures { option_map (λ list. list_view list.value) result ≡ list_in (kind_view kind) }
 {
     match kind {
         Kind::Nil => None,
@@ -231,18 +275,18 @@ pub(crate) fn as_list<'a, 's, M: ShapeName>(kind: &'a Kind<'s, M>) -> Option<&'a
 /// The shape of a list of the same items, and of as many at most. That of a list is shared; no other
 /// is meant.
 #[tactic(auto, using(crate::proofs::Parts::list_itself, crate::proofs::Parts::made_like))]
-pub(crate) fn list_like<'s, M: ShapeName>(
+pub(crate) fn list_like<M: ShapeName>(
     alloc: Global,
-    of: &AnyShape<'s, M>,
-) -> Result<AnyShape<'s, M>, AllocError>
-    ensures { IfOk result (λ like. any_view like ≡ list (list_view of.now).0 (list_view of.now).1) }
+    of: &Rc<Part<M>>,
+) -> Result<Rc<Part<M>>, AllocError>
+    ensures { IfOk result (λ like. part_view like.value ≡ list (list_view of.now.value).0 (list_view of.now.value).1) }
 {
     let shape = of.get();
     if is_list(shape) {
-        return of.share();
+        return of.clone();
     }
     let item = child(shape, INNER).copy(alloc)?;
-    AnyShape::made(
+    Part::made(
         alloc,
         Shape::List {
             item: Box::new(alloc, item)?,

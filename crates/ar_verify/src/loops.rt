@@ -31,7 +31,6 @@ fn depth_behind(op: Op, depth: usize) -> usize
 }
 
 /// How many loops are around each operation.
-#[tactic(auto, using(crate::proofs::Depths::counts_on, crate::proofs::Depths::counted_all, crate::proofs::Depths::one_deeper))]
 fn depths(alloc: Global, ops: &[Op]) -> Result<Vec<usize>, AllocError>
     ensures { IfOk result (λ around. around.items ≡ depths 0 ops.now) }
 {

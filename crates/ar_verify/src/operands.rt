@@ -1,72 +1,79 @@
 //! Operands on the way to a place, by their kinds.
 
-ghost use Rattle.std.specs.Prelude.{◌≡◌, ◌∷◌, [], IfOk, MatchOption, OnOk, map, option_map};
+ghost use Rattle.std.specs.Prelude.{◌≡◌, ◌++◌, ◌∷◌, [], IfOk, MatchOption, OnOk, map, option_map};
 ghost use Rattle.ar_verified.specs.Arrivals.{floor, height, merged, of_loops, operands};
 ghost use Rattle.ar_verify.specs.Private.Held.{around_view, arrival_view, counted, from_innermost, operands_view};
 ghost use Rattle.ar_verify.specs.Private.Kinds.{kind_view};
 ghost use Rattle.ar_verify.specs.Private.Stacks.{from_top};
 
 use crate::kind::{Kind, merge};
-use crate::part::AnyShape;
+use crate::part::Part;
+use crate::stack::add;
 use crate::whole::ShapeName;
 use ar_verified::Reason;
 use std::alloc::{AllocError, Global};
+use std::rc::Rc;
 
 /// A loop around a place.
 #[derive(Drop)]
-pub(crate) struct Around<'s, M: ShapeName> {
-    pub list: AnyShape<'s, M>,
+pub(crate) struct Around<M: ShapeName> {
+    pub list: Rc<Part<M>>,
     /// The operands below its floor and above that of the loop around it, of which the last is on top.
-    pub below: Vec<Kind<'s, M>>,
+    pub below: Vec<Kind<M>>,
 }
 
 #[derive(Drop)]
-pub(crate) struct Operands<'s, M: ShapeName> {
+pub(crate) struct Operands<M: ShapeName> {
     /// Those above the floor of the innermost loop, of which the last is on top.
-    pub kinds: Vec<Kind<'s, M>>,
+    pub kinds: Vec<Kind<M>>,
     /// The last is the innermost.
-    pub loops: Vec<Around<'s, M>>,
+    pub loops: Vec<Around<M>>,
 }
 
-fn copy_kinds<'s, M: ShapeName>(
-    alloc: Global,
-    kinds: &[Kind<'s, M>],
-) -> Result<Vec<Kind<'s, M>>, AllocError>
+/// Adds a kind once more.
+fn copy_onto<M: ShapeName>(copies: &mut Vec<Kind<M>>, kind: &Kind<M>) -> Result<(), AllocError>
+    ensures { OnOk result
+        (map kind_view copies.new.items ≡ map kind_view copies.old.items ++ kind_view kind.now ∷ []) }
+{
+    add(copies, kind.share()?)
+}
+
+fn copy_kinds<M: ShapeName>(alloc: Global, kinds: &[Kind<M>]) -> Result<Vec<Kind<M>>, AllocError>
     ensures { IfOk result (λ copies. map kind_view copies.items ≡ map kind_view kinds.now) }
 {
     let mut copies = Vec::with_capacity(alloc, kinds.len())?;
     for kind in kinds {
-        copies.push(kind.share()?)?;
+        copy_onto(&mut copies, kind)?;
     }
     Ok(copies)
 }
 
-impl<'s, M: ShapeName> Around<'s, M> {
-    fn copy(&self, alloc: Global) -> Result<Around<'s, M>, AllocError>
+impl<M: ShapeName> Around<M> {
+    fn copy(&self, alloc: Global) -> Result<Around<M>, AllocError>
         ensures { IfOk result (λ copy. around_view copy ≡ around_view self.now) }
     {
-        let list = self.list.share()?;
+        let list = self.list.clone()?;
         let below = copy_kinds(alloc, &self.below)?;
         Ok(Around { list, below })
     }
 }
 
-fn copy_loops<'s, M: ShapeName>(
+fn copy_loops<M: ShapeName>(
     alloc: Global,
-    loops: &[Around<'s, M>],
-) -> Result<Vec<Around<'s, M>>, AllocError>
+    loops: &[Around<M>],
+) -> Result<Vec<Around<M>>, AllocError>
     ensures { IfOk result (λ copies. map around_view copies.items ≡ map around_view loops.now) }
 {
     let mut copies = Vec::with_capacity(alloc, loops.len())?;
     for around in loops {
-        copies.push(around.copy(alloc)?)?;
+        add(&mut copies, around.copy(alloc)?)?;
     }
     Ok(copies)
 }
 
 /// How many operands lie below the floor of the innermost loop.
 #[tactic(auto, using(crate::proofs::Heights::one_deeper, crate::proofs::Heights::all_taken))]
-fn floor<M: ShapeName>(loops: &[Around<'_, M>]) -> usize
+fn floor<M: ShapeName>(loops: &[Around<M>]) -> usize
     ensures { result ≡ counted (floor (from_innermost loops.now)) }
 {
     let mut floor: usize = 0;
@@ -76,9 +83,9 @@ fn floor<M: ShapeName>(loops: &[Around<'_, M>]) -> usize
     floor
 }
 
-impl<'s, M: ShapeName> Operands<'s, M> {
+impl<M: ShapeName> Operands<M> {
     /// A run begins without operands.
-    pub(crate) fn none(alloc: Global) -> Operands<'s, M>
+    pub(crate) fn none(alloc: Global) -> Operands<M>
         ensures { operands_view result ≡ operands [] [] }
     {
         Operands {
@@ -87,7 +94,7 @@ impl<'s, M: ShapeName> Operands<'s, M> {
         }
     }
 
-    pub(crate) fn copy(&self, alloc: Global) -> Result<Operands<'s, M>, AllocError>
+    pub(crate) fn copy(&self, alloc: Global) -> Result<Operands<M>, AllocError>
         ensures { IfOk result (λ copy. operands_view copy ≡ operands_view self.now) }
     {
         let kinds = copy_kinds(alloc, &self.kinds)?;
@@ -105,12 +112,12 @@ impl<'s, M: ShapeName> Operands<'s, M> {
 }
 
 /// What two stacks have in common, kind by kind, where they are as high.
-#[tactic(auto, using(crate::proofs::Joins::unlike_heights, crate::proofs::Joins::one_merged, crate::proofs::Joins::one_clashes, crate::proofs::Joins::all_merged))]
-fn merge_all<'s, M: ShapeName>(
+#[tactic(auto, using(crate::proofs::Joins::unlike_heights))]
+fn merge_all<M: ShapeName>(
     alloc: Global,
-    lefts: &[Kind<'s, M>],
-    rights: &[Kind<'s, M>],
-) -> Result<Option<Vec<Kind<'s, M>>>, AllocError>
+    lefts: &[Kind<M>],
+    rights: &[Kind<M>],
+) -> Result<Option<Vec<Kind<M>>>, AllocError>
     ensures { IfOk result (λ kinds. option_map (λ kinds. map kind_view kinds.items) kinds
         ≡ merged (map kind_view lefts.now) (map kind_view rights.now)) }
 {
@@ -120,7 +127,7 @@ fn merge_all<'s, M: ShapeName>(
     let mut kinds = Vec::with_capacity(alloc, lefts.len())?;
     for (index, left) in lefts.iter().enumerate() {
         match merge(alloc, left, &rights[index])? {
-            Some(kind) => kinds.push(kind)?,
+            Some(kind) => add(&mut kinds, kind)?,
             None => return Ok(None),
         }
     }
@@ -130,13 +137,13 @@ fn merge_all<'s, M: ShapeName>(
 /// What arrives where some operands arrived already. They come from inside the same loops, so they
 /// differ above the floor alone.
 #[tactic(auto, using(crate::proofs::Joins::merged_from_top))]
-pub(crate) fn join<'s, M: ShapeName>(
+pub(crate) fn join<M: ShapeName>(
     alloc: Global,
-    so_far: Operands<'s, M>,
-    next: &Operands<'s, M>,
-) -> Result<Result<Operands<'s, M>, Reason>, AllocError>
-    ensures { IfOk result (λ joined. arrival_view joined ≡ of_loops (operands_view so_far.entry).loops
-        (merged (operands_view so_far.entry).kinds (operands_view next.now).kinds)) }
+    so_far: Operands<M>,
+    next: &Operands<M>,
+) -> Result<Result<Operands<M>, Reason>, AllocError>
+    ensures { IfOk result (λ joined. arrival_view joined ≡ of_loops (operands_view so_far).loops
+        (merged (operands_view so_far).kinds (operands_view next.now).kinds)) }
 {
     match merge_all(alloc, &so_far.kinds, &next.kinds)? {
         Some(kinds) => Ok(Ok(Operands {

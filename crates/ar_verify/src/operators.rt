@@ -6,8 +6,11 @@ ghost use Rattle.ar_value.specs.View.{shape_view};
 ghost use Rattle.ar_verified.specs.Effects.{decimal_kind, decimal_shape, family_in, is_scalar, binary_kind, decimals_kind, default_kind, equal_kind, field_kind, is_compared, is_family, is_number, item_kind, length_kind, member_kind, needed_kind, negative_kind, of_one_family, opposite_kind, order_kind, quotient_kind, same_kind, truth, unary_kind, where_taken, wholes_kind};
 ghost use Rattle.ar_verify.specs.Private.Kinds.{kind_view};
 
-use crate::kind::{Kind, as_list, family_in, family_of, is_scalar, list_in, merge};
-use crate::part::{INNER, field_number};
+use crate::kind::{
+    Kind, as_list, family_in, family_of, given_again, given_part, given_shape, is_scalar, list_in,
+    merge,
+};
+use crate::part::{INNER, field_number, plain};
 use crate::whole::ShapeName;
 use ar_value::kind;
 use ar_value::operator::{
@@ -17,43 +20,43 @@ use ar_value::shape::Shape;
 use std::alloc::{AllocError, Global};
 
 /// The kind of a shape, where the operands are taken.
-fn where_taken<'s, M: ShapeName>(
+fn where_taken<M: ShapeName>(
     alloc: Global,
     is_taken: bool,
     shape: Shape,
-) -> Result<Option<Kind<'s, M>>, AllocError>
+) -> Result<Option<Kind<M>>, AllocError>
     ensures { IfOk result (λ given. option_map kind_view given ≡ where_taken is_taken (shaped (shape_view shape))) }
 {
     if is_taken {
-        Ok(Some(Kind::made(alloc, shape)?))
+        given_shape(alloc, shape)
     } else {
         Ok(None)
     }
 }
 
 /// The field of a record, by its name.
-pub(crate) fn field_of<'s, M: ShapeName>(
+pub(crate) fn field_of<M: ShapeName>(
     alloc: Global,
     name: &str,
-    operand: &Kind<'s, M>,
-) -> Result<Option<Kind<'s, M>>, AllocError>
+    operand: &Kind<M>,
+) -> Result<Option<Kind<M>>, AllocError>
     ensures { IfOk result (λ given. option_map kind_view given ≡ field_kind name.now (kind_view operand.now)) }
 {
     match operand {
         Kind::Nil => Ok(None),
         Kind::Shape(record) => match field_number(name, record.get()) {
-            Some(number) => Ok(Some(Kind::Shape(record.child(alloc, number)?))),
+            Some(number) => given_part(alloc, record, number),
             None => Ok(None),
         },
     }
 }
 
 #[tactic(auto, using(crate::proofs::Parts::item_by_list))]
-fn item<'s, M: ShapeName>(
+fn item<M: ShapeName>(
     alloc: Global,
-    list: &Kind<'s, M>,
-    index: &Kind<'_, M>,
-) -> Result<Option<Kind<'s, M>>, AllocError>
+    list: &Kind<M>,
+    index: &Kind<M>,
+) -> Result<Option<Kind<M>>, AllocError>
     ensures { IfOk result
         (λ given. option_map kind_view given ≡ item_kind (kind_view list.now) (kind_view index.now)) }
 {
@@ -61,45 +64,39 @@ fn item<'s, M: ShapeName>(
         return Ok(None);
     }
     match as_list(list) {
-        Some(list) => Ok(Some(Kind::Shape(list.child(alloc, INNER)?))),
+        Some(list) => given_part(alloc, list, INNER),
         None => Ok(None),
     }
 }
 
 #[tactic(auto, using(crate::proofs::Parts::length_of_list))]
-fn length<'s, M: ShapeName>(
-    alloc: Global,
-    list: &Kind<'_, M>,
-) -> Result<Option<Kind<'s, M>>, AllocError>
+fn length<M: ShapeName>(alloc: Global, list: &Kind<M>) -> Result<Option<Kind<M>>, AllocError>
     ensures { IfOk result (λ given. option_map kind_view given ≡ length_kind (kind_view list.now)) }
 {
     where_taken(alloc, list_in(list).is_some(), Shape::Whole)
 }
 
-fn needed<'s, M: ShapeName>(
-    alloc: Global,
-    operand: &Kind<'s, M>,
-) -> Result<Option<Kind<'s, M>>, AllocError>
+fn needed<M: ShapeName>(alloc: Global, operand: &Kind<M>) -> Result<Option<Kind<M>>, AllocError>
     ensures { IfOk result (λ given. option_map kind_view given ≡ needed_kind (kind_view operand.now)) }
 {
     match operand {
         Kind::Nil => Ok(None),
-        Kind::Shape(shape) => Ok(Some(Kind::Shape(shape.plain(alloc)?))),
+        Kind::Shape(shape) => Ok(Some(Kind::Shape(plain(alloc, shape)?))),
     }
 }
 
 /// The kind of what isn't nil, or of what stands for it.
-fn default<'s, M: ShapeName>(
+fn default<M: ShapeName>(
     alloc: Global,
-    operand: &Kind<'s, M>,
-    other: &Kind<'s, M>,
-) -> Result<Option<Kind<'s, M>>, AllocError>
+    operand: &Kind<M>,
+    other: &Kind<M>,
+) -> Result<Option<Kind<M>>, AllocError>
     ensures { IfOk result
         (λ given. option_map kind_view given ≡ default_kind (kind_view operand.now) (kind_view other.now)) }
 {
     match operand {
-        Kind::Nil => Ok(Some(other.share()?)),
-        Kind::Shape(shape) => merge(alloc, &Kind::Shape(shape.plain(alloc)?), other),
+        Kind::Nil => given_again(other),
+        Kind::Shape(shape) => merge(alloc, &Kind::Shape(plain(alloc, shape)?), other),
     }
 }
 
@@ -119,16 +116,13 @@ fn decimal_shape(alloc: Global, shape: &Shape) -> Result<Option<Shape>, AllocErr
     }
 }
 
-fn decimal<'s, M: ShapeName>(
-    alloc: Global,
-    operand: &Kind<'_, M>,
-) -> Result<Option<Kind<'s, M>>, AllocError>
+fn decimal<M: ShapeName>(alloc: Global, operand: &Kind<M>) -> Result<Option<Kind<M>>, AllocError>
     ensures { IfOk result (λ given. option_map kind_view given ≡ decimal_kind (kind_view operand.now)) }
 {
     match operand.shape() {
         None => Ok(None),
         Some(shape) => match decimal_shape(alloc, shape)? {
-            Some(decimal) => Ok(Some(Kind::made(alloc, decimal)?)),
+            Some(decimal) => given_shape(alloc, decimal),
             None => Ok(None),
         },
     }
@@ -153,11 +147,11 @@ fn of_one_family(family: Option<Family>, other: Option<Family>) -> bool
 }
 
 #[tactic(auto, using(crate::proofs::Parts::member_of_list))]
-fn member<'s, M: ShapeName>(
+fn member<M: ShapeName>(
     alloc: Global,
-    operand: &Kind<'_, M>,
-    list: &Kind<'_, M>,
-) -> Result<Option<Kind<'s, M>>, AllocError>
+    operand: &Kind<M>,
+    list: &Kind<M>,
+) -> Result<Option<Kind<M>>, AllocError>
     ensures { IfOk result
         (λ given. option_map kind_view given ≡ member_kind (kind_view operand.now) (kind_view list.now)) }
 {
@@ -183,23 +177,20 @@ fn quotient(operator: Arithmetic) -> Shape
     }
 }
 
-fn same<'s, M: ShapeName>(
-    scalar: Scalar,
-    operand: &Kind<'s, M>,
-) -> Result<Option<Kind<'s, M>>, AllocError>
+fn same<M: ShapeName>(scalar: Scalar, operand: &Kind<M>) -> Result<Option<Kind<M>>, AllocError>
     ensures { IfOk result (λ given. option_map kind_view given ≡ same_kind scalar (kind_view operand.now)) }
 {
     if is_scalar(scalar, operand) {
-        Ok(Some(operand.share()?))
+        given_again(operand)
     } else {
         Ok(None)
     }
 }
 
-fn negative<'s, M: ShapeName>(
+fn negative<M: ShapeName>(
     numbers: Numbers,
-    operand: &Kind<'s, M>,
-) -> Result<Option<Kind<'s, M>>, AllocError>
+    operand: &Kind<M>,
+) -> Result<Option<Kind<M>>, AllocError>
     ensures { IfOk result (λ given. option_map kind_view given ≡ negative_kind numbers (kind_view operand.now)) }
 {
     match numbers {
@@ -209,7 +200,7 @@ fn negative<'s, M: ShapeName>(
 }
 
 #[tactic(auto, using(crate::proofs::Parts::number_is_either))]
-fn is_compared<M: ShapeName>(numbers: Compared, operand: &Kind<'_, M>) -> bool
+fn is_compared<M: ShapeName>(numbers: Compared, operand: &Kind<M>) -> bool
     ensures { result ≡ is_compared numbers (kind_view operand.now) }
 {
     match numbers {
@@ -222,11 +213,11 @@ fn is_compared<M: ShapeName>(numbers: Compared, operand: &Kind<'_, M>) -> bool
 }
 
 /// What an operator gives of one operand.
-pub(crate) fn apply_unary<'s, M: ShapeName>(
+pub(crate) fn apply_unary<M: ShapeName>(
     alloc: Global,
     operator: UnaryOperator,
-    operand: &Kind<'s, M>,
-) -> Result<Option<Kind<'s, M>>, AllocError>
+    operand: &Kind<M>,
+) -> Result<Option<Kind<M>>, AllocError>
     ensures { IfOk result (λ given. option_map kind_view given ≡ unary_kind operator (kind_view operand.now)) }
 {
     match operator {
@@ -239,19 +230,19 @@ pub(crate) fn apply_unary<'s, M: ShapeName>(
     }
 }
 
-fn are_scalars<M: ShapeName>(scalar: Scalar, left: &Kind<'_, M>, right: &Kind<'_, M>) -> bool
+fn are_scalars<M: ShapeName>(scalar: Scalar, left: &Kind<M>, right: &Kind<M>) -> bool
     ensures { result ≡ (is_scalar scalar (kind_view left.now) && is_scalar scalar (kind_view right.now)) }
 {
     is_scalar(scalar, left) && is_scalar(scalar, right)
 }
 
-fn are_compared<M: ShapeName>(numbers: Compared, left: &Kind<'_, M>, right: &Kind<'_, M>) -> bool
+fn are_compared<M: ShapeName>(numbers: Compared, left: &Kind<M>, right: &Kind<M>) -> bool
     ensures { result ≡ (is_compared numbers (kind_view left.now) && is_compared numbers (kind_view right.now)) }
 {
     is_compared(numbers, left) && is_compared(numbers, right)
 }
 
-fn are_in_family<M: ShapeName>(family: Family, left: &Kind<'_, M>, right: &Kind<'_, M>) -> bool
+fn are_in_family<M: ShapeName>(family: Family, left: &Kind<M>, right: &Kind<M>) -> bool
     ensures { result ≡ (is_family family (family_in (kind_view left.now))
         && is_family family (family_in (kind_view right.now))) }
 {
@@ -259,12 +250,12 @@ fn are_in_family<M: ShapeName>(family: Family, left: &Kind<'_, M>, right: &Kind<
 }
 
 /// What an operator gives of two operands.
-pub(crate) fn apply_binary<'s, M: ShapeName>(
+pub(crate) fn apply_binary<M: ShapeName>(
     alloc: Global,
     operator: BinaryOperator,
-    left: &Kind<'s, M>,
-    right: &Kind<'s, M>,
-) -> Result<Option<Kind<'s, M>>, AllocError>
+    left: &Kind<M>,
+    right: &Kind<M>,
+) -> Result<Option<Kind<M>>, AllocError>
     ensures { IfOk result
         (λ given. option_map kind_view given ≡ binary_kind operator (kind_view left.now) (kind_view right.now)) }
 {

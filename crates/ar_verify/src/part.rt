@@ -5,7 +5,7 @@ ghost use Rattle.ar_value.specs.Kind.{plain, shaped};
 ghost use Rattle.ar_value.specs.Shape.{field_shapes_of, shape_named};
 ghost use Rattle.ar_value.specs.View.{field_shape_view, shape_view};
 ghost use Rattle.ar_verified.specs.Effects.{field_kind};
-ghost use Rattle.ar_verify.specs.Private.Parts.{any_view, child, field_or, nth_field, part_at, root_view};
+ghost use Rattle.ar_verify.specs.Private.Parts.{part_view, child, field_or, nth_field, part_at, root_view};
 
 use crate::whole::{ShapeName, Whole};
 use ar_value::kind;
@@ -15,16 +15,17 @@ use std::rc::Rc;
 
 /// A whole shape: that of the measured value, or one that is shared by all that are a part of it.
 #[derive(Drop)]
-pub(crate) enum Root<'s, M: ShapeName> {
-    Measured(Whole<'s, M>),
+pub(crate) enum Root<M: ShapeName> {
+    Measured(Whole<M>),
     Made(Rc<Shape>),
 }
 
-/// A part of a shape, by the numbers of the parts on the way to it.
+/// A part of a shape, by the numbers of the parts on the way to it. It is held in an [`Rc`], which is
+/// shared and let go in one step.
 #[derive(Drop)]
-pub(crate) struct AnyShape<'s, M: ShapeName> {
-    pub root: Root<'s, M>,
-    pub path: Rc<Vec<usize>>,
+pub(crate) struct Part<M: ShapeName> {
+    pub root: Root<M>,
+    pub path: Vec<usize>,
 }
 
 /// The number of what a list or an optional shape is of.
@@ -67,16 +68,16 @@ fn follow<'a>(whole: &'a Shape, path: &[usize]) -> &'a Shape
 }
 
 /// One step more.
-fn longer(alloc: Global, path: &[usize], number: usize) -> Result<Rc<Vec<usize>>, AllocError>
-    ensures { IfOk result (λ longer. longer.value.items ≡ path.now ++ number ∷ []) }
+fn longer(alloc: Global, path: &[usize], number: usize) -> Result<Vec<usize>, AllocError>
+    ensures { IfOk result (λ longer. longer.items ≡ path.now ++ number ∷ []) }
 {
     let mut longer = Vec::with_capacity(alloc, path.len().saturating_add(1))?;
     longer.extend_from_slice(path)?;
     longer.push(number)?;
-    Ok(Rc::new(alloc, longer)?)
+    Ok(longer)
 }
 
-impl<'s, M: ShapeName> Root<'s, M> {
+impl<M: ShapeName> Root<M> {
     fn get(&self) -> &Shape
         ensures { shape_view result.now ≡ root_view self.now }
     {
@@ -87,88 +88,79 @@ impl<'s, M: ShapeName> Root<'s, M> {
     }
 
     /// It is refused only where a made one has more owners than can be counted.
-    fn share(&self) -> Result<Root<'s, M>, AllocError>
+    fn share(&self) -> Result<Root<M>, AllocError>
         ensures { IfOk result (λ shared. root_view shared ≡ root_view self.now) }
     {
         match self {
-            Root::Measured(whole) => Ok(Root::Measured(whole.again())),
+            Root::Measured(whole) => Ok(Root::Measured(whole.again()?)),
             Root::Made(shape) => Ok(Root::Made(shape.clone()?)),
         }
     }
 }
 
-impl<'s, M: ShapeName> AnyShape<'s, M> {
-    fn whole(alloc: Global, root: Root<'s, M>) -> Result<AnyShape<'s, M>, AllocError>
-        ensures { IfOk result (λ whole. any_view whole ≡ root_view root.entry) }
+impl<M: ShapeName> Part<M> {
+    fn whole(alloc: Global, root: Root<M>) -> Result<Rc<Part<M>>, AllocError>
+        ensures { IfOk result (λ whole. part_view whole.value ≡ root_view root) }
     {
-        let path = Rc::new(alloc, Vec::new(alloc))?;
-        Ok(AnyShape { root, path })
+        let path = Vec::new(alloc);
+        Ok(Rc::new(alloc, Part { root, path })?)
     }
 
     /// The shape of the measured value.
-    pub(crate) fn measured(
-        alloc: Global,
-        whole: Whole<'s, M>,
-    ) -> Result<AnyShape<'s, M>, AllocError>
-        ensures { IfOk result (λ measured. any_view measured ≡ shape_view M.shape) }
+    pub(crate) fn measured(alloc: Global, whole: &Whole<M>) -> Result<Rc<Part<M>>, AllocError>
+        ensures { IfOk result (λ measured. part_view measured.value ≡ shape_view M.shape) }
     {
-        AnyShape::whole(alloc, Root::Measured(whole))
+        Part::whole(alloc, Root::Measured(whole.again()?))
     }
 
     /// A shape that stands alone.
-    pub(crate) fn made(alloc: Global, shape: Shape) -> Result<AnyShape<'s, M>, AllocError>
-        ensures { IfOk result (λ made. any_view made ≡ shape_view shape) }
+    pub(crate) fn made(alloc: Global, shape: Shape) -> Result<Rc<Part<M>>, AllocError>
+        ensures { IfOk result (λ made. part_view made.value ≡ shape_view shape) }
     {
-        AnyShape::whole(alloc, Root::Made(Rc::new(alloc, shape)?))
+        Part::whole(alloc, Root::Made(Rc::new(alloc, shape)?))
     }
 
     pub(crate) fn get(&self) -> &Shape
-        ensures { shape_view result.now ≡ any_view self.now }
+        ensures { shape_view result.now ≡ part_view self.now }
     {
-        follow(self.root.get(), self.path.as_slice())
-    }
-
-    /// The same shape once more, which takes no memory.
-    pub(crate) fn share(&self) -> Result<AnyShape<'s, M>, AllocError>
-        ensures { IfOk result (λ shared. any_view shared ≡ any_view self.now) }
-    {
-        let root = self.root.share()?;
-        let path = self.path.clone()?;
-        Ok(AnyShape { root, path })
+        follow(self.root.get(), &self.path)
     }
 
     /// A part by its number.
     #[tactic(auto, using(crate::proofs::Ways::one_further))]
-    pub(crate) fn child(&self, alloc: Global, number: usize) -> Result<AnyShape<'s, M>, AllocError>
-        ensures { IfOk result (λ part. any_view part ≡ child number (any_view self.now)) }
+    pub(crate) fn child(&self, alloc: Global, number: usize) -> Result<Rc<Part<M>>, AllocError>
+        ensures { IfOk result (λ part. part_view part.value ≡ child number (part_view self.now)) }
     {
+        let path = longer(alloc, &self.path, number)?;
         let root = self.root.share()?;
-        let path = longer(alloc, self.path.as_slice(), number)?;
-        Ok(AnyShape { root, path })
-    }
-
-    /// The shape of what isn't nil.
-    #[tactic(auto, using(crate::proofs::Parts::plain_already, crate::proofs::Ways::plain_inside))]
-    pub(crate) fn plain(&self, alloc: Global) -> Result<AnyShape<'s, M>, AllocError>
-        ensures { IfOk result (λ inner. any_view inner ≡ plain (any_view self.now)) }
-    {
-        if kind::is_optional(self.get()) {
-            self.child(alloc, INNER)
-        } else {
-            self.share()
-        }
+        Ok(Rc::new(alloc, Part { root, path })?)
     }
 }
 
-fn is_measured<M: ShapeName>(root: &Root<'_, M>) -> bool
+/// The shape of what isn't nil.
+#[tactic(auto, using(crate::proofs::Parts::plain_already, crate::proofs::Ways::plain_inside))]
+pub(crate) fn plain<M: ShapeName>(
+    alloc: Global,
+    part: &Rc<Part<M>>,
+) -> Result<Rc<Part<M>>, AllocError>
+    ensures { IfOk result (λ inner. part_view inner.value ≡ plain (part_view part.now.value)) }
+{
+    if kind::is_optional(part.get()) {
+        part.child(alloc, INNER)
+    } else {
+        part.clone()
+    }
+}
+
+fn is_measured<M: ShapeName>(root: &Root<M>) -> bool
     ensures { result ≡ true → root_view root.now ≡ shape_view M.shape }
 {
     matches!(root, Root::Measured(_))
 }
 
 /// Whether it is known without a look at their shapes that two parts are one.
-pub(crate) fn are_one<M: ShapeName>(left: &AnyShape<'_, M>, right: &AnyShape<'_, M>) -> bool
-    ensures { result ≡ true → any_view left.now ≡ any_view right.now }
+pub(crate) fn are_one<M: ShapeName>(left: &Part<M>, right: &Part<M>) -> bool
+    ensures { result ≡ true → part_view left.now ≡ part_view right.now }
 {
     is_measured(&left.root)
         && is_measured(&right.root)

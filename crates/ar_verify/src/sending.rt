@@ -7,15 +7,15 @@ ghost use Rattle.ar_verified.specs.Effects.{effect};
 ghost use Rattle.ar_verify.specs.Private.Failures.{Meets};
 ghost use Rattle.ar_verify.specs.Private.Held.{around_view, counted, from_innermost, operands_view};
 ghost use Rattle.ar_verify.specs.Private.Kinds.{kind_view, list_view};
-ghost use Rattle.ar_verify.specs.Private.Sending.{around, beginning, branched, given_on_top, going_on, jumping, kept_or_taken, list_taken, only_truth, passed_by, returning, sends_by, sends_view, stepping, truth_taken};
+ghost use Rattle.ar_verify.specs.Private.Sending.{around, beginning, begun, branched, ending, given_on_top, going_on, jumping, kept_or_taken, list_taken, only_truth, passed_by, performed, returning, sends_by, sends_view, stepping, truth_taken};
 ghost use Rattle.ar_verify.specs.Private.Stacks.{from_top};
 
-use crate::effect::apply;
+use crate::effect::{apply, takes_scalar};
 use crate::failure::Failure;
-use crate::kind::{Kind, as_list, is_scalar, list_like};
+use crate::kind::{Kind, into_list, list_like};
 use crate::operands::{Around, Operands};
-use crate::part::AnyShape;
-use crate::stack::{pop, push};
+use crate::part::Part;
+use crate::stack::{add, pop, push};
 use crate::whole::{ShapeName, Whole};
 use ar_op::code::Code;
 use ar_op::op::{Jump, Op, Source};
@@ -23,32 +23,32 @@ use ar_value::operator::{Predicate, Scalar};
 use ar_value::shape::Shape;
 use ar_verified::Reason;
 use std::alloc::{AllocError, Global};
+use std::rc::Rc;
 
 /// How many operands there may be, those below the floor too.
 const MOST_OPERANDS: usize = 64;
 
 /// Operands on the way to a place.
 #[derive(Drop)]
-pub(crate) struct Sent<'s, M: ShapeName> {
+pub(crate) struct Sent<M: ShapeName> {
     pub target: usize,
-    pub operands: Operands<'s, M>,
+    pub operands: Operands<M>,
 }
 
 /// What an operation sends on, in the order in which it arrives.
 #[derive(Drop)]
-pub(crate) enum Sends<'s, M: ShapeName> {
+pub(crate) enum Sends<M: ShapeName> {
     Nothing,
-    One(Sent<'s, M>),
-    Two(Sent<'s, M>, Sent<'s, M>),
+    One(Sent<M>),
+    Two(Sent<M>, Sent<M>),
 }
 
 /// Takes a truth value.
-#[tactic(auto, using(crate::proofs::Passed::truth_on_top, crate::proofs::Passed::no_truth_on_top))]
-fn take_truth<M: ShapeName>(kinds: &mut Vec<Kind<'_, M>>) -> Result<(), Failure>
+#[tactic(auto, using(crate::proofs::Passed::truth_is_taken, crate::proofs::Passed::no_truth_is_taken))]
+fn take_truth<M: ShapeName>(kinds: &mut Vec<Kind<M>>) -> Result<(), Failure>
     ensures { Meets (λ _. from_top kinds.new.items) result (truth_taken (from_top kinds.old.items)) }
 {
-    let operand = pop(kinds).ok_or(Reason::IllKinded)?;
-    if is_scalar(Scalar::Bool, &operand) {
+    if takes_scalar(Scalar::Bool, kinds) {
         Ok(())
     } else {
         Err(Failure::Fault(Reason::IllKinded))
@@ -56,23 +56,24 @@ fn take_truth<M: ShapeName>(kinds: &mut Vec<Kind<'_, M>>) -> Result<(), Failure>
 }
 
 /// Takes a list.
-fn take_list<'s, M: ShapeName>(kinds: &mut Vec<Kind<'s, M>>) -> Result<AnyShape<'s, M>, Failure>
-    ensures { Meets (λ list. (list_view list, from_top kinds.new.items)) result
+fn take_list<M: ShapeName>(kinds: &mut Vec<Kind<M>>) -> Result<Rc<Part<M>>, Failure>
+    ensures { Meets (λ list. (list_view list.value, from_top kinds.new.items)) result
         (list_taken (from_top kinds.old.items)) }
 {
-    let operand = pop(kinds).ok_or(Reason::IllKinded)?;
-    let list = as_list(&operand).ok_or(Reason::IllKinded)?;
-    Ok(list.share()?)
+    match pop(kinds) {
+        Some(operand) => into_list(operand).ok_or(Failure::Fault(Reason::IllKinded)),
+        None => Err(Failure::Fault(Reason::IllKinded)),
+    }
 }
 
 /// What a loop gives over a list.
-fn answer_kind<'s, M: ShapeName>(
+fn answer_kind<M: ShapeName>(
     alloc: Global,
     predicate: Predicate,
-    list: &AnyShape<'s, M>,
-) -> Result<Kind<'s, M>, AllocError>
+    list: &Rc<Part<M>>,
+) -> Result<Kind<M>, AllocError>
     ensures { IfOk result
-        (λ answer. kind_view answer ≡ answer_kind predicate (list_view list.now).0 (list_view list.now).1) }
+        (λ answer. kind_view answer ≡ answer_kind predicate (list_view list.now.value).0 (list_view list.now.value).1) }
 {
     match predicate {
         Predicate::All | Predicate::Any => Kind::made(alloc, Shape::Bool),
@@ -82,19 +83,18 @@ fn answer_kind<'s, M: ShapeName>(
 }
 
 #[tactic(auto, using(crate::proofs::Tops::on_top))]
-fn push_loop<'s, M: ShapeName>(
-    loops: &mut Vec<Around<'s, M>>,
-    innermost: Around<'s, M>,
+fn push_loop<M: ShapeName>(
+    loops: &mut Vec<Around<M>>,
+    innermost: Around<M>,
 ) -> Result<(), AllocError>
     ensures { OnOk result
-        (from_innermost loops.new.items ≡ around_view innermost.entry ∷ from_innermost loops.old.items) }
+        (from_innermost loops.new.items ≡ around_view innermost ∷ from_innermost loops.old.items) }
 {
-    loops.push(innermost)?;
-    Ok(())
+    add(loops, innermost)
 }
 
 #[tactic(auto, using(crate::proofs::Tops::on_top))]
-fn pop_loop<'s, M: ShapeName>(loops: &mut Vec<Around<'s, M>>) -> Option<Around<'s, M>>
+fn pop_loop<M: ShapeName>(loops: &mut Vec<Around<M>>) -> Option<Around<M>>
     ensures { MatchOption result (from_innermost loops.old.items ≡ [])
         (λ popped. from_innermost loops.old.items ≡ around_view popped ∷ from_innermost loops.new.items) }
 {
@@ -103,21 +103,21 @@ fn pop_loop<'s, M: ShapeName>(loops: &mut Vec<Around<'s, M>>) -> Option<Around<'
 
 /// The shape of the innermost loop's list.
 #[tactic(auto, using(crate::proofs::Tops::last_item))]
-fn innermost<'a, 's, M: ShapeName>(loops: &'a [Around<'s, M>]) -> Option<&'a AnyShape<'s, M>>
+fn innermost<'a, M: ShapeName>(loops: &'a [Around<M>]) -> Option<&'a Part<M>>
     ensures { option_map (λ list. (list_view list.now).0) result ≡ item_of (from_innermost loops.now) }
 {
     Some(&loops.last()?.list)
 }
 
 /// Goes to a place with the truth value on top, or on without it.
-fn keep_or_take<'s, M: ShapeName>(
+fn keep_or_take<M: ShapeName>(
     alloc: Global,
     next: usize,
     target: u32,
-    mut had: Operands<'s, M>,
-) -> Result<Sends<'s, M>, Failure>
+    mut had: Operands<M>,
+) -> Result<Sends<M>, Failure>
     ensures { Meets sends_view result
-        (kept_or_taken next target (operands_view had.entry).kinds (operands_view had.entry).loops) }
+        (kept_or_taken next target (operands_view had).kinds (operands_view had).loops) }
 {
     let kept = had.copy(alloc)?;
     take_truth(&mut had.kinds)?;
@@ -134,14 +134,14 @@ fn keep_or_take<'s, M: ShapeName>(
 }
 
 /// Goes to a place or on, without the truth value on top.
-fn branch<'s, M: ShapeName>(
+fn branch<M: ShapeName>(
     alloc: Global,
     next: usize,
     target: u32,
-    mut had: Operands<'s, M>,
-) -> Result<Sends<'s, M>, Failure>
+    mut had: Operands<M>,
+) -> Result<Sends<M>, Failure>
     ensures { Meets sends_view result
-        (branched next target (operands_view had.entry).kinds (operands_view had.entry).loops) }
+        (branched next target (operands_view had).kinds (operands_view had).loops) }
 {
     take_truth(&mut had.kinds)?;
     let taken = had.copy(alloc)?;
@@ -158,15 +158,15 @@ fn branch<'s, M: ShapeName>(
 }
 
 /// Goes to the place of a jump, or on.
-fn jump<'s, M: ShapeName>(
+fn jump<M: ShapeName>(
     alloc: Global,
     jump: Jump,
     next: usize,
     target: u32,
-    had: Operands<'s, M>,
-) -> Result<Sends<'s, M>, Failure>
+    had: Operands<M>,
+) -> Result<Sends<M>, Failure>
     ensures { Meets sends_view result
-        (jumping jump next target (operands_view had.entry).kinds (operands_view had.entry).loops) }
+        (jumping jump next target (operands_view had).kinds (operands_view had).loops) }
 {
     match jump {
         Jump::And | Jump::Or => keep_or_take(alloc, next, target, had),
@@ -179,13 +179,13 @@ fn jump<'s, M: ShapeName>(
 }
 
 /// Operands at the begin of the body of a loop over a list, where there are none above its floor.
-fn inside<'s, M: ShapeName>(
+fn inside<M: ShapeName>(
     alloc: Global,
-    list: AnyShape<'s, M>,
-    had: Operands<'s, M>,
-) -> Result<Operands<'s, M>, AllocError>
+    list: Rc<Part<M>>,
+    had: Operands<M>,
+) -> Result<Operands<M>, AllocError>
     ensures { IfOk result (λ inside. operands_view inside
-        ≡ operands [] (around (list_view list.entry, (operands_view had.entry).kinds) ∷ (operands_view had.entry).loops)) }
+        ≡ operands [] (around (list_view list.value, (operands_view had).kinds) ∷ (operands_view had).loops)) }
 {
     let Operands { kinds, mut loops } = had;
     push_loop(&mut loops, Around { list, below: kinds })?;
@@ -196,35 +196,49 @@ fn inside<'s, M: ShapeName>(
 }
 
 /// Operands behind a loop over a list, with its answer on top.
-fn behind<'s, M: ShapeName>(
+fn behind<M: ShapeName>(
     alloc: Global,
     predicate: Predicate,
-    list: &AnyShape<'s, M>,
-    mut below: Vec<Kind<'s, M>>,
-) -> Result<Vec<Kind<'s, M>>, AllocError>
+    list: &Rc<Part<M>>,
+    mut below: Vec<Kind<M>>,
+) -> Result<Vec<Kind<M>>, AllocError>
     ensures { IfOk result (λ kinds. from_top kinds.items
-        ≡ answer_kind predicate (list_view list.now).0 (list_view list.now).1 ∷ from_top below.entry.items) }
+        ≡ answer_kind predicate (list_view list.now.value).0 (list_view list.now.value).1 ∷ from_top below.items) }
 {
     let answer = answer_kind(alloc, predicate, list)?;
     push(&mut below, answer)?;
     Ok(below)
 }
 
-/// Begins a loop over the list on top, or goes behind it with its answer.
-fn enter<'s, M: ShapeName>(
+/// Operands behind a loop over a list, with its answer on top of those that were there.
+fn skip_loop<M: ShapeName>(
+    alloc: Global,
+    predicate: Predicate,
+    list: &Rc<Part<M>>,
+    had: &Operands<M>,
+) -> Result<Operands<M>, AllocError>
+    ensures { IfOk result (λ skipped. operands_view skipped ≡ operands
+        (answer_kind predicate (list_view list.now.value).0 (list_view list.now.value).1 ∷ (operands_view had.now).kinds)
+        (operands_view had.now).loops) }
+{
+    let Operands { kinds, loops } = had.copy(alloc)?;
+    let kinds = behind(alloc, predicate, list, kinds)?;
+    Ok(Operands { kinds, loops })
+}
+
+/// Begins a loop over a list that was on top, or goes behind it with its answer.
+fn begin_loop<M: ShapeName>(
     alloc: Global,
     predicate: Predicate,
     next: usize,
-    step: u32,
-    mut had: Operands<'s, M>,
-) -> Result<Sends<'s, M>, Failure>
-    ensures { Meets sends_view result
-        (beginning predicate next (step + 1) (operands_view had.entry).kinds (operands_view had.entry).loops) }
+    behind: usize,
+    list: Rc<Part<M>>,
+    had: Operands<M>,
+) -> Result<Sends<M>, AllocError>
+    ensures { IfOk result (λ sends. sends_view sends
+        ≡ begun predicate next behind (list_view list.value, (operands_view had).kinds) (operands_view had).loops) }
 {
-    let list = take_list(&mut had.kinds)?;
-    let Operands { kinds, loops } = had.copy(alloc)?;
-    let kinds = behind(alloc, predicate, &list, kinds)?;
-    let behind = Operands { kinds, loops };
+    let skipped = skip_loop(alloc, predicate, &list, &had)?;
     let body = inside(alloc, list, had)?;
     Ok(Sends::Two(
         Sent {
@@ -232,16 +246,31 @@ fn enter<'s, M: ShapeName>(
             operands: body,
         },
         Sent {
-            target: step as usize + 1,
-            operands: behind,
+            target: behind,
+            operands: skipped,
         },
     ))
 }
 
+/// Begins a loop over the list on top, or goes behind it with its answer.
+fn enter<M: ShapeName>(
+    alloc: Global,
+    predicate: Predicate,
+    next: usize,
+    step: u32,
+    mut had: Operands<M>,
+) -> Result<Sends<M>, Failure>
+    ensures { Meets sends_view result
+        (beginning predicate next (step + 1) (operands_view had).kinds (operands_view had).loops) }
+{
+    let list = take_list(&mut had.kinds)?;
+    Ok(begin_loop(alloc, predicate, next, step as usize + 1, list, had)?)
+}
+
 /// Takes the truth value of a loop's body, which has to be alone above the floor.
-fn take_answer<M: ShapeName>(mut kinds: Vec<Kind<'_, M>>) -> Result<(), Failure>
-    ensures exact { Meets (λ _. []) result (only_truth (from_top kinds.entry.items)) }
-    ensures taken { OnOk result (truth_taken (from_top kinds.entry.items) ≡ Ok []) }
+fn take_answer<M: ShapeName>(mut kinds: Vec<Kind<M>>) -> Result<(), Failure>
+    ensures exact { Meets (λ _. []) result (only_truth (from_top kinds.items)) }
+    ensures taken { OnOk result (truth_taken (from_top kinds.items) ≡ Ok []) }
 {
     take_truth(&mut kinds)?;
     if kinds.is_empty() {
@@ -251,18 +280,15 @@ fn take_answer<M: ShapeName>(mut kinds: Vec<Kind<'_, M>>) -> Result<(), Failure>
     }
 }
 
-/// Goes behind a loop, where nothing but the truth value of its body is above its floor.
-fn step<'s, M: ShapeName>(
+/// Goes behind the innermost loop, with its answer.
+fn end_loop<M: ShapeName>(
     alloc: Global,
     predicate: Predicate,
     next: usize,
-    had: Operands<'s, M>,
-) -> Result<Sends<'s, M>, Failure>
-    ensures { Meets sends_view result
-        (stepping predicate next (operands_view had.entry).kinds (operands_view had.entry).loops) }
+    mut loops: Vec<Around<M>>,
+) -> Result<Sends<M>, Failure>
+    ensures { Meets sends_view result (ending predicate next [] (from_innermost loops.items)) }
 {
-    let Operands { kinds, mut loops } = had;
-    take_answer(kinds)?;
     let Around { list, below } = pop_loop(&mut loops).ok_or(Reason::BadMerge)?;
     let kinds = behind(alloc, predicate, &list, below)?;
     Ok(Sends::One(Sent {
@@ -271,58 +297,83 @@ fn step<'s, M: ShapeName>(
     }))
 }
 
-/// Ends with the truth value on top.
-fn answer<'s, M: ShapeName>(had: Operands<'s, M>) -> Result<Sends<'s, M>, Failure>
-    ensures { Meets sends_view result (returning (operands_view had.entry).kinds) }
+/// Goes behind a loop, where nothing but the truth value of its body is above its floor.
+fn step<M: ShapeName>(
+    alloc: Global,
+    predicate: Predicate,
+    next: usize,
+    had: Operands<M>,
+) -> Result<Sends<M>, Failure>
+    ensures { Meets sends_view result
+        (stepping predicate next (operands_view had).kinds (operands_view had).loops) }
 {
-    let Operands { mut kinds, .. } = had;
-    take_truth(&mut kinds)?;
+    take_answer(had.kinds)?;
+    end_loop(alloc, predicate, next, had.loops)
+}
+
+/// Ends with the truth value on top.
+fn answer<M: ShapeName>(mut had: Operands<M>) -> Result<Sends<M>, Failure>
+    ensures { Meets sends_view result (returning (operands_view had).kinds) }
+{
+    take_truth(&mut had.kinds)?;
     Ok(Sends::Nothing)
 }
 
 /// Pushes what an operation gives, unless it doesn't take its operands.
-fn push_given<'s, M: ShapeName>(
-    kinds: &mut Vec<Kind<'s, M>>,
-    given: Option<Kind<'s, M>>,
-) -> Result<(), Failure>
+fn push_given<M: ShapeName>(kinds: &mut Vec<Kind<M>>, given: Option<Kind<M>>) -> Result<(), Failure>
     ensures { Meets (λ _. from_top kinds.new.items) result
-        (given_on_top (option_map kind_view given.entry) (from_top kinds.old.items)) }
+        (given_on_top (option_map kind_view given) (from_top kinds.old.items)) }
 {
     let given = given.ok_or(Reason::IllKinded)?;
     Ok(push(kinds, given)?)
 }
 
-/// Goes to the next place.
-fn go_on<'s, M: ShapeName>(
+/// Performs an operation that goes on to the next place, of the operands above the floor.
+fn perform<M: ShapeName>(
     alloc: Global,
     code: &Code,
-    measured: &Whole<'s, M>,
+    measured: &Whole<M>,
+    here: Option<&Part<M>>,
+    op: Op,
+    kinds: &mut Vec<Kind<M>>,
+) -> Result<(), Failure>
+    ensures { Meets (λ _. from_top kinds.new.items) result (performed
+        (effect code.now (shape_view M.shape) (option_map (λ list. (list_view list.now).0) here.entry) op (from_top kinds.old.items))) }
+{
+    let given = apply(alloc, code, measured, here, op, kinds)?;
+    push_given(kinds, given)
+}
+
+/// Goes to the next place.
+fn go_on<M: ShapeName>(
+    alloc: Global,
+    code: &Code,
+    measured: &Whole<M>,
     next: usize,
     op: Op,
-    had: Operands<'s, M>,
-) -> Result<Sends<'s, M>, Failure>
-    ensures { Meets sends_view result (going_on next (operands_view had.entry).loops
-        (effect code.now (shape_view M.shape) (item_of (operands_view had.entry).loops) op (operands_view had.entry).kinds)) }
+    mut had: Operands<M>,
+) -> Result<Sends<M>, Failure>
+    ensures { Meets sends_view result (going_on next (operands_view had).loops
+        (effect code.now (shape_view M.shape) (item_of (operands_view had).loops) op (operands_view had).kinds)) }
 {
-    let Operands { mut kinds, loops } = had;
-    let given = apply(alloc, code, measured, innermost(&loops), op, &mut kinds)?;
-    push_given(&mut kinds, given)?;
+    let here = innermost(&had.loops);
+    perform(alloc, code, measured, here, op, &mut had.kinds)?;
     Ok(Sends::One(Sent {
         target: next,
-        operands: Operands { kinds, loops },
+        operands: had,
     }))
 }
 
-fn passed_on<'s, M: ShapeName>(
+fn passed_on<M: ShapeName>(
     alloc: Global,
     code: &Code,
-    measured: &Whole<'s, M>,
+    measured: &Whole<M>,
     next: usize,
     op: Op,
-    had: Operands<'s, M>,
-) -> Result<Sends<'s, M>, Failure>
+    had: Operands<M>,
+) -> Result<Sends<M>, Failure>
     ensures { Meets sends_view result (passed_by code.now (shape_view M.shape) next op
-        (operands_view had.entry).kinds (operands_view had.entry).loops) }
+        (operands_view had).kinds (operands_view had).loops) }
 {
     match op {
         Op::Push(_) | Op::MakeList { .. } | Op::Field(_) | Op::Unary(_) | Op::Binary(_) => {
@@ -337,7 +388,7 @@ fn passed_on<'s, M: ShapeName>(
 
 /// Whether an operand is missing above the floor, or the item.
 #[tactic(auto, using(crate::proofs::Tops::so_many))]
-fn lacks<M: ShapeName>(op: Op, had: &Operands<'_, M>) -> bool
+fn lacks<M: ShapeName>(op: Op, had: &Operands<M>) -> bool
     ensures { result ≡ lacks op (operands_view had.now) }
 {
     match op {
@@ -346,7 +397,7 @@ fn lacks<M: ShapeName>(op: Op, had: &Operands<'_, M>) -> bool
     }
 }
 
-impl<'s, M: ShapeName> Sends<'s, M> {
+impl<M: ShapeName> Sends<M> {
     /// The greatest number of operands on the way.
     pub(crate) fn deepest(&self) -> usize
         ensures { result ≡ counted (deepest (sends_view self.now)) }
@@ -363,16 +414,16 @@ impl<'s, M: ShapeName> Sends<'s, M> {
 }
 
 /// What an operation sends on, of operands that arrived.
-pub(crate) fn send_on<'s, M: ShapeName>(
+pub(crate) fn send_on<M: ShapeName>(
     alloc: Global,
     code: &Code,
-    measured: &Whole<'s, M>,
+    measured: &Whole<M>,
     next: usize,
     op: Op,
-    had: Operands<'s, M>,
-) -> Result<Sends<'s, M>, Failure>
+    had: Operands<M>,
+) -> Result<Sends<M>, Failure>
     ensures exact { Meets sends_view result
-        (sends_by code.now (shape_view M.shape) next op (operands_view had.entry)) }
+        (sends_by code.now (shape_view M.shape) next op (operands_view had)) }
     ensures shallow { IfOk result (λ sends. deepest (sends_view sends) ≤ most_operands) }
 {
     if lacks(op, &had) {

@@ -10,7 +10,6 @@ use crate::arrivals::find_arrivals;
 use crate::budget::{budget, is_payable};
 use crate::places::check_places;
 use ar_op::code::Code;
-use ar_value::shape::Shape;
 use ar_value::shared_shape::SharedShape;
 use ar_verified::{Cause, Reason, Refused, Verified};
 use std::alloc::Global;
@@ -22,7 +21,7 @@ struct Bounds {
     depth: usize,
 }
 
-fn check(alloc: Global, code: &Code, shape: &Shape) -> Result<Bounds, Cause>
+fn check(alloc: Global, code: &Code, shape: &SharedShape) -> Result<Bounds, Cause>
     ensures accepted { IfOk result (λ bounds. IsVerified code.now (shape_view shape.now) bounds.budget bounds.depth) }
     ensures refused { IfErr result (IsCause code.now (shape_view shape.now)) }
     ensures code { IsCode code.now }
@@ -56,7 +55,7 @@ pub fn verify(alloc: Global, code: Code, shape: SharedShape) -> Result<Verified,
     ensures safe { IfOk result RunsSafely }
     ensures refused { IfErr result (λ refused. (refused.code ≡ code) × IsCause code (shape_view shape) refused.cause) }
 {
-    match check(alloc, &code, shape.get()) {
+    match check(alloc, &code, &shape) {
         Ok(bounds) => Ok(Verified::new(code, shape, bounds.budget, bounds.depth)),
         Err(cause) => Err(Refused { code, cause }),
     }

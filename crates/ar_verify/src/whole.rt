@@ -5,7 +5,10 @@ ghost use Rattle.std.specs.Coded.{codes};
 ghost use Rattle.ar_value.specs.contracts.shape.Shape as shape_row;
 
 use ar_value::shape::Shape;
+use ar_value::shared_shape::SharedShape;
+use std::alloc::{AllocError, Global};
 use std::marker::{Brand, PhantomData};
+use std::rc::Rc;
 
 /// Names the shape of the measured value.
 pub(crate) trait ShapeName {
@@ -20,35 +23,35 @@ impl ShapeName for Brand {
     ghost shape = { Bool };
 }
 
-/// The shape that is named.
+/// The shape that is named, which stands once.
 #[derive(Drop)]
-pub(crate) struct Whole<'s, M: ShapeName> {
-    shape: &'s Shape,
+pub(crate) struct Whole<M: ShapeName> {
+    shape: Rc<SharedShape>,
     name: PhantomData<M>,
-    ghost is: { shape.now ≡ M.shape } by { Prim.hlevel (codes, shape_row.the_row.coded) },
+    ghost is: { shape.value ≡ M.shape } by { Prim.hlevel (codes, shape_row.the_row.coded) },
 }
 
-impl<'s, M: ShapeName> Whole<'s, M> {
-    pub(crate) fn new(shape: &'s Shape) -> Whole<'s, M>
+impl<M: ShapeName> Whole<M> {
+    pub(crate) fn new(alloc: Global, shape: &SharedShape) -> Result<Whole<M>, AllocError>
         requires { shape.now ≡ M.shape }
     {
-        Whole {
-            shape,
+        Ok(Whole {
+            shape: Rc::new(alloc, shape.share()?)?,
             name: PhantomData,
-        }
+        })
     }
 
-    pub(crate) fn get(&self) -> &'s Shape
+    pub(crate) fn get(&self) -> &Shape
         ensures { result.now ≡ M.shape }
     {
-        self.shape
+        self.shape.get()
     }
 
-    /// The same once more.
-    pub(crate) fn again(&self) -> Whole<'s, M> {
-        Whole {
-            shape: self.shape,
+    /// The same once more, which takes no memory.
+    pub(crate) fn again(&self) -> Result<Whole<M>, AllocError> {
+        Ok(Whole {
+            shape: self.shape.clone()?,
             name: PhantomData,
-        }
+        })
     }
 }

@@ -9,7 +9,7 @@ use Rattle.ar_verify.specs.declared.operands.Operands as held
 use Rattle.ar_verify.specs.declared.whole.ShapeName as ShapeName
 
 abbrev pub around_view : {M : Type 0} {name : ShapeName.Ghosts M} → code.Around M name → Around
-around_view a = record { item = (list_view a.list).0; most = (list_view a.list).1; below = from_top a.below.items }
+around_view a = record { item = (list_view a.list.value).0; most = (list_view a.list.value).1; below = from_top a.below.items }
 
 -- loops of which the last is the innermost, from the innermost
 abbrev pub from_innermost : {M : Type 0} {name : ShapeName.Ghosts M} → List (code.Around M name) → List Around

@@ -2,7 +2,7 @@
 use Rattle.std.specs.Prelude.{ℕ, zero, suc, List, [], ◌∷◌, Option, Some, None, unwrap_or}
 use Rattle.ar_value.specs.Shape.{Shape, FieldShapes, list, object, optional, no_fields, field}
 use Rattle.ar_value.specs.View.{shape_view}
-use Rattle.ar_verify.specs.declared.part.AnyShape.{AnyShape}
+use Rattle.ar_verify.specs.declared.part.Part.{Part}
 use Rattle.ar_verify.specs.declared.part.Root.{Root}
 use Rattle.ar_verify.specs.declared.part.Root.TheVariants as roots
 use Rattle.ar_verify.specs.declared.whole.ShapeName as ShapeName
@@ -31,5 +31,5 @@ module _ {M : Type 0} {name : ShapeName.Ghosts M} where
   root_view (roots.Measured whole) = shape_view name.shape
   root_view (roots.Made shape) = shape_view shape.value
 
-  abbrev pub any_view : AnyShape M name → Shape
-  any_view s = part_at s.path.value.items (root_view s.root)
+  abbrev pub part_view : Part M name → Shape
+  part_view p = part_at p.path.items (root_view p.root)

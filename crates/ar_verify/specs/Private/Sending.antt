@@ -58,9 +58,12 @@ given_on_top None kinds = Err IllKinded
 
 -- ---- what is sent on, where the next place has a number
 
+abbrev pub performed : Option (List Kind) → Result (List Kind) Reason
+performed (Some kinds) = Ok kinds
+performed None = Err IllKinded
+
 abbrev pub going_on : (next : ℕ) → List Around → Option (List Kind) → Result (List Sent) Reason
-going_on next loops (Some kinds) = Ok (sent next kinds loops ∷ [])
-going_on next loops None = Err IllKinded
+going_on next loops given = performed given >>= λ kinds. Ok (sent next kinds loops ∷ [])
 
 abbrev pub kept_or_taken : (next target : ℕ) → List Kind → List Around → Result (List Sent) Reason
 kept_or_taken next target kinds loops = truth_taken kinds >>= λ taken. Ok (sent target kinds loops ∷ sent next taken loops ∷ [])
@@ -71,9 +74,13 @@ branched next target kinds loops = truth_taken kinds >>= λ taken. Ok (sent targ
 abbrev pub around : (Shape × ℕ) × List Kind → Around
 around taken = record { item = taken.0.0; most = taken.0.1; below = taken.1 }
 
+-- where a list was taken off the top of some kinds
+abbrev pub begun : Predicate → (next behind : ℕ) → (Shape × ℕ) × List Kind → List Around → List Sent
+begun predicate next behind taken loops =
+    sent next [] (around taken ∷ loops) ∷ sent behind (answer_kind predicate taken.0.0 taken.0.1 ∷ taken.1) loops ∷ []
+
 abbrev pub beginning : Predicate → (next behind : ℕ) → List Kind → List Around → Result (List Sent) Reason
-beginning predicate next behind kinds loops = list_taken kinds >>= λ taken.
-    Ok (sent next [] (around taken ∷ loops) ∷ sent behind (answer_kind predicate taken.0.0 taken.0.1 ∷ taken.1) loops ∷ [])
+beginning predicate next behind kinds loops = list_taken kinds >>= λ taken. Ok (begun predicate next behind taken loops)
 
 abbrev pub ending : Predicate → (next : ℕ) → List Kind → List Around → Result (List Sent) Reason
 ending predicate next [] (loop ∷ outer) = Ok (sent next (answer_kind predicate loop.item loop.most ∷ loop.below) outer ∷ [])

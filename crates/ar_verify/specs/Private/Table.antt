@@ -79,15 +79,23 @@ pub record State : Type 0 where
 abbrev pub pass_view : {M : Type 0} {name : ShapeName.Ghosts M} → passes.Pass M name → State
 pass_view p = record { table = table_view p.arrived.items; found = summary_view p.found }
 
+-- what arrived at a place is taken
+abbrev pub left : (place : ℕ) → State → Operands → State
+left place s had = record { table = without s.table place; found = record { depth = s.found.depth; most_items = s.found.most_items ++ most_on_top had.kinds ∷ [] } }
+
+abbrev pub with_sent : State → List Sent → State
+with_sent s sents = record { table = with_all s.table sents; found = record { depth = max s.found.depth (deepest sents); most_items = s.found.most_items } }
+
 abbrev pub visited : (place : ℕ) → State → Operands → List Sent → State
-visited place s had sents = record {
-  table = with_all (without s.table place) sents;
-  found = record { depth = max s.found.depth (deepest sents); most_items = s.found.most_items ++ most_on_top had.kinds ∷ [] };
-}
+visited place s had sents = with_sent (left place s had) sents
+
+-- what an operation sends on is added, where the next place has a number
+abbrev pub added : Code → Shape → (next : ℕ) → Op → State → Operands → Result State Reason
+added code shape next op s had = sends_by code shape next op had >>= λ sents. Ok (with_sent s sents)
 
 -- an operation at a place is looked at
 abbrev pub looked_at : Code → Shape → (place : ℕ) → Op → State → Result State Reason
-looked_at code shape place op s = entry s.table place >>= λ had. sends_by code shape (place + 1) op had >>= λ sents. Ok (visited place s had sents)
+looked_at code shape place op s = entry s.table place >>= λ had. added code shape (place + 1) op (left place s had) had
 
 -- so many places hold each one that an operation names
 abbrev pub StaysWithin : (places : ℕ) → Op → Type 0

@@ -1,6 +1,6 @@
 use Rattle.std.proofs.Common.{option_map, sym, ap, ◌∙◌, arith}
 use Rattle.ar_verify.specs.Private.Kinds.{kind_view}
-use Rattle.ar_verify.proofs.Joins.{one_clashes, one_merged}
+use Rattle.ar_verify.proofs.Joins.{all_merged, one_clashes, one_merged}
 use Rattle.ar_verify.proofs.operands.merge_all.Goals as goal
 
 pub returns-in-None : goal.returns-in-None
@@ -10,5 +10,10 @@ returns-in-None g c =
 
 pub loop-index-preserved : goal.loop-index-preserved
 loop-index-preserved g c =
-    one_merged kind_view kind_view kind_view c.args.lefts.now c.args.rights.now _ c.loop-index.index c.loop-index.kinds.items c.push.new.self.items c.index-lefts-index.result
-    c.index-rights-index.result c.in-Some.kind c.loop-index-test.true (omega arith) c.index-lefts-index.is c.index-rights-index.is (sym (ap (option_map kind_view) c.in-Some.is) ∙ c.in_ok-kind.ensures) c.in_ok-push-in-Some.ensures.items c.loop-index.invariant
+    one_merged kind_view kind_view kind_view c.args.lefts.now c.args.rights.now _ c.loop-index.index c.loop-index.kinds.items c.add.new.list.items c.index-lefts-index.result
+    c.index-rights-index.result c.in-Some.kind c.loop-index-test.true (omega arith) c.index-lefts-index.is c.index-rights-index.is (sym (ap (option_map kind_view) c.in-Some.is) ∙ c.in_ok-kind.ensures) c.in_ok-add-in-Some.ensures c.loop-index.invariant
+
+pub returns : goal.returns
+returns g c =
+    sym (all_merged kind_view kind_view kind_view c.args.lefts.now c.args.rights.now _ c.loop-index.index c.loop-index.kinds.items c.loop-index-test.false
+    (omega (arith, c.if-lefts-rights.false, c.loop-index-test.false)) c.loop-index.invariant)

@@ -1,12 +1,15 @@
-use Rattle.std.proofs.Common.{◌≡◌, ◌+◌, length, arith}
-use Rattle.ar_value.specs.View.{shape_view}
-use Rattle.ar_verify.specs.Private.Held.{operands_view}
-use Rattle.ar_verify.specs.Private.Sending.{sends_view}
-use Rattle.ar_verify.proofs.Targets.{sends_within}
+use Rattle.std.proofs.Common.{◌≡◌, length, arith}
+use Rattle.std.proofs.lemmas.List.{with_items_is}
 use Rattle.ar_verify.proofs.arrivals.Pass.look_at.Goals as goal
 
-pub send_all-requires : goal.send_all-requires
-send_all-requires g c =
-    let long : length c.deref_mut-2.result.now ≡ length c.args.self.now.arrived.items = omega arith in
-    rw long (sends_within (length c.args.self.now.arrived.items) c.args.code.now (shape_view g.M.ShapeName.shape) (c.args.place + 1) c.requires.inside c.args.op
-    (operands_view c.in_ok-had.had) (sends_view c.in_ok-sends.sends) c.requires.targets c.in_ok-sends.ensures.exact)
+pub add-requires-clause-inside : goal.add-requires-clause-inside
+add-requires-clause-inside g c =
+    let long : length c.take.new.arrived ≡ c.args.self.now.arrived.len = omega arith in
+    let inside = c.requires.inside in
+    rw (with_items_is c.args.self.now.arrived c.take.new.arrived long) (omega (arith, inside))
+
+pub add-requires-clause-targets : goal.add-requires-clause-targets
+add-requires-clause-targets g c =
+    let long : length c.take.new.arrived ≡ c.args.self.now.arrived.len = omega arith in
+    let as_long : length c.take.new.arrived ≡ length c.args.self.now.arrived.items = omega arith in
+    rw (with_items_is c.args.self.now.arrived c.take.new.arrived long, as_long) c.requires.targets
