@@ -10,7 +10,7 @@ ghost use Rattle.ar_value.specs.View.{shape_view};
 ghost use Rattle.ar_condition.specs.Expression.{expressions, BinaryAt, ChoiceAt, DefaultAt, IndexAt, PredicateAt};
 ghost use Rattle.ar_condition.specs.Views.{expression_of};
 ghost use Rattle.ar_check.specs.Basics.{literal_kind};
-ghost use Rattle.ar_check.specs.Check.{checked, choice_tree, default_kind, default_of, default_tree, field_of, index_of, innermost, is_nil_literal, len_of, over_items, plain_kind, predicate_kind, predicate_of};
+ghost use Rattle.ar_check.specs.Check.{checked, choice_tree, default_kind, default_of, default_tree, field_of, given, index_of, innermost, is_nil_literal, len_of, over_items, plain_kind, predicate_kind, predicate_of};
 ghost use Rattle.ar_condition.specs.Meaning.{IsTruthOrFault, mean};
 ghost use Rattle.ar_check.specs.Operand.{made_plain, operand};
 ghost use Rattle.ar_check.specs.Private.Inside.{choice_between, inside, item_in, item_view, items_in, kind_view, operand_view, turned_where, typed_in};
@@ -92,14 +92,13 @@ struct Scope<'s> {
 
 /// A tree where `result` has a shape, and so has the innermost item, inside so many predicates.
 #[cycle(typed)]
-#[tactic(auto, using(crate::proofs::Freely::gives_freely))]
 fn typed<'s>(alloc: Global, tree: Tree, scope: Scope<'s>) -> Result<Operand<'s>, TypeError>
     ensures { Gives is_memory operand_view result (typed_in scope.entry (expression_of tree)) }
 {
     match tree {
-        Tree::Result { .. } => Ok(measured_of(alloc, scope.measured)?),
+        Tree::Result { .. } => measured_of(alloc, scope.measured),
         Tree::Item { at } => item_of(alloc, at, scope.item),
-        Tree::Literal { literal, .. } => Ok(literal_of(alloc, literal)?),
+        Tree::Literal { literal, .. } => literal_of(alloc, literal),
         Tree::Field { at, owner, name } => {
             field_of(alloc, at, name, child(alloc, owner, scope)?)
         }
@@ -297,8 +296,8 @@ fn in_predicate<'s>(scope: Scope<'s>, item: &'s Shape, around: usize) -> Scope<'
     }
 }
 
-fn measured_of(alloc: Global, shape: &Shape) -> Result<Operand<'_>, AllocError>
-    ensures { IfOk result (λ made. operand_view made ≡ operand typed.result (shaped (shape_view shape.now))) }
+fn measured_of(alloc: Global, shape: &Shape) -> Result<Operand<'_>, TypeError>
+    ensures { Gives is_memory operand_view result (given typed.result (shaped (shape_view shape.now))) }
 {
     let tree = Box::new(alloc, Typed::Result)?;
     let kind = Kind::Declared(shape);
@@ -326,8 +325,8 @@ fn innermost_kind(at: usize, item: Option<&Shape>) -> Result<Kind<'_>, TypeError
     }
 }
 
-fn literal_of<'s>(alloc: Global, literal: Literal) -> Result<Operand<'s>, AllocError>
-    ensures { IfOk result (λ made. operand_view made ≡ operand (typed.literal literal) (literal_kind literal)) }
+fn literal_of<'s>(alloc: Global, literal: Literal) -> Result<Operand<'s>, TypeError>
+    ensures { Gives is_memory operand_view result (given (typed.literal literal) (literal_kind literal)) }
 {
     let kind = match &literal {
         Literal::Nil => Kind::Nil,
