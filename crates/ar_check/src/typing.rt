@@ -24,7 +24,7 @@ use crate::error::TypeError;
 use crate::list::{Item, list};
 use crate::operand::{
     Kind, Operand, as_truth, common, field_kind, is_truth, item_kind, item_shape, made_plain,
-    plain_kind, scalar, turned, turned_both, turns, without_nil,
+    plain_kind, plain_tree, scalar, turned, turned_both, turns, without_nil,
 };
 use crate::operators::{binary, is_nil_of, truth, unary, where_wanted};
 use ar_condition::tree::{Binary, Literal, Tree};
@@ -76,7 +76,8 @@ pub fn check(alloc: Global, tree: Tree, shape: &Shape) -> Result<Typed, TypeErro
 fn plain_condition(alloc: Global, condition: Operand<'_>) -> Result<Typed, AllocError>
     ensures { IfOk result (λ made. typed_view made ≡ made_plain (operand_view condition.entry)) }
 {
-    Ok(Box::into_inner(made_plain(alloc, condition)?))
+    let Operand { tree, kind } = condition;
+    Ok(Box::into_inner(plain_tree(alloc, &kind, tree)?))
 }
 
 /// What the names of a condition stand for at a place.
@@ -137,12 +138,19 @@ fn typed<'s>(alloc: Global, tree: Tree, scope: Scope<'s>) -> Result<Operand<'s>,
     }
 }
 
-/// A tree below another.
+/// A tree below another. It is boxed, so that it can be let go in one step where one beside it has a
+/// fault.
 #[cycle(typed)]
-fn child<'s>(alloc: Global, tree: Box<Tree>, scope: Scope<'s>) -> Result<Operand<'s>, TypeError>
-    ensures { Gives is_memory operand_view result (typed_in scope.entry (expression_of tree.value)) }
+fn child<'s>(
+    alloc: Global,
+    tree: Box<Tree>,
+    scope: Scope<'s>,
+) -> Result<Box<Operand<'s>>, TypeError>
+    ensures { Gives is_memory (λ made. operand_view made.value) result
+        (typed_in scope.entry (expression_of tree.value)) }
 {
-    typed(alloc, Box::into_inner(tree), scope)
+    let operand = typed(alloc, Box::into_inner(tree), scope)?;
+    Ok(Box::new(alloc, operand)?)
 }
 
 /// An item of a list, at an index.
@@ -258,7 +266,8 @@ fn typed_item(alloc: Global, tree: Tree, scope: Scope<'_>) -> Result<Item, TypeE
     let at = tree.place();
     let operand = typed(alloc, tree, scope)?;
     let scalar = scalar(&operand);
-    let tree = made_plain(alloc, operand)?;
+    let Operand { tree, kind } = operand;
+    let tree = plain_tree(alloc, &kind, tree)?;
     Ok(Item { at, scalar, tree })
 }
 
@@ -353,9 +362,9 @@ fn field_of<'s>(
     alloc: Global,
     at: usize,
     name: Text,
-    owner: Operand<'s>,
+    owner: Box<Operand<'s>>,
 ) -> Result<Operand<'s>, TypeError>
-    ensures { Gives is_memory operand_view result (field_of at name (operand_view owner.entry)) }
+    ensures { Gives is_memory operand_view result (field_of at name (operand_view owner.entry.value)) }
 {
     let kind = field_kind(alloc, at, name.as_str(), &owner.kind)?;
     let tree = field(alloc, made_plain(alloc, owner)?, name)?;
@@ -366,11 +375,11 @@ fn field_of<'s>(
 fn index_of<'s>(
     alloc: Global,
     at: usize,
-    list: Operand<'s>,
-    position: Operand<'_>,
+    list: Box<Operand<'s>>,
+    position: Box<Operand<'_>>,
 ) -> Result<Operand<'s>, TypeError>
     ensures { Gives is_memory operand_view result
-        (index_of at (operand_view list.entry) (operand_view position.entry)) }
+        (index_of at (operand_view list.entry.value) (operand_view position.entry.value)) }
 {
     let kind = item_kind(alloc, at, &list.kind)?;
     let wanted = matches!(scalar(&position), Some(Scalar::Whole));
@@ -381,11 +390,12 @@ fn index_of<'s>(
 /// The tree of an item, of a plain list at a plain index.
 fn index_tree(
     alloc: Global,
-    list: Operand<'_>,
-    position: Operand<'_>,
+    list: Box<Operand<'_>>,
+    position: Box<Operand<'_>>,
 ) -> Result<Box<Typed>, AllocError>
     ensures { IfOk result (λ tree. typed_view tree.value
-        ≡ typed.binary binary.Index (made_plain (operand_view list.entry)) (made_plain (operand_view position.entry))) }
+        ≡ typed.binary binary.Index (made_plain (operand_view list.entry.value))
+        (made_plain (operand_view position.entry.value))) }
 {
     let list = made_plain(alloc, list)?;
     build::binary(
@@ -397,8 +407,8 @@ fn index_tree(
 }
 
 #[tactic(auto, using(crate::proofs::Freely::gives_freely))]
-fn len_of<'s>(alloc: Global, at: usize, list: Operand<'_>) -> Result<Operand<'s>, TypeError>
-    ensures { Gives is_memory operand_view result (len_of at (operand_view list.entry)) }
+fn len_of<'s>(alloc: Global, at: usize, list: Box<Operand<'_>>) -> Result<Operand<'s>, TypeError>
+    ensures { Gives is_memory operand_view result (len_of at (operand_view list.entry.value)) }
 {
     item_shape(at, &list.kind)?;
     let tree = build::unary(alloc, UnaryOperator::Len, made_plain(alloc, list)?)?;
@@ -412,11 +422,12 @@ fn choice_of<'s>(
     alloc: Global,
     at: usize,
     condition: (bool, Box<Typed>),
-    yes: Operand<'s>,
-    no: Operand<'s>,
+    yes: Box<Operand<'s>>,
+    no: Box<Operand<'s>>,
 ) -> Result<Operand<'s>, TypeError>
     ensures { Gives is_memory operand_view result
-        (choice_between at condition.0 (typed_view condition.1.value) (operand_view yes.entry) (operand_view no.entry)) }
+        (choice_between at condition.0 (typed_view condition.1.value)
+        (operand_view yes.entry.value) (operand_view no.entry.value)) }
 {
     let kind = common(alloc, &yes.kind, &no.kind);
     let (wanted, condition) = condition;
@@ -431,11 +442,11 @@ fn choice_of<'s>(
 fn choice_tree(
     alloc: Global,
     condition: Box<Typed>,
-    yes: Operand<'_>,
-    no: Operand<'_>,
+    yes: Box<Operand<'_>>,
+    no: Box<Operand<'_>>,
 ) -> Result<Box<Typed>, AllocError>
     ensures { IfOk result (λ tree. typed_view tree.value
-        ≡ choice_tree (typed_view condition.value) (operand_view yes.entry) (operand_view no.entry)) }
+        ≡ choice_tree (typed_view condition.value) (operand_view yes.entry.value) (operand_view no.entry.value)) }
 {
     let (yes, no) = turned_both(alloc, yes, no)?;
     choice(alloc, condition, yes, no)
@@ -446,20 +457,20 @@ fn choice_tree(
 fn default_of<'s>(
     alloc: Global,
     at: usize,
-    first: Operand<'s>,
-    other: Operand<'s>,
+    first: Box<Operand<'s>>,
+    other: Box<Operand<'s>>,
 ) -> Result<Operand<'s>, TypeError>
     ensures { Gives is_memory operand_view result
-        (default_of at (operand_view first.entry) (operand_view other.entry)) }
+        (default_of at (operand_view first.entry.value) (operand_view other.entry.value)) }
 {
-    let Operand { tree, kind } = first;
+    let Operand { tree, kind } = Box::into_inner(first);
     let plain = without_nil(kind);
     let turns_first = turns(&other.kind, &plain);
     let turns_other = turns(&plain, &other.kind);
     let Operand {
         tree: other,
         kind: of_other,
-    } = other;
+    } = Box::into_inner(other);
     let kind = default_kind(alloc, plain, of_other);
     let tree = default_tree(alloc, turned(alloc, turns_first, tree)?, turns_other, other)?;
     match kind? {
@@ -502,11 +513,11 @@ fn predicate_of<'s>(
     alloc: Global,
     at: usize,
     over: Predicate,
-    list: Operand<'s>,
+    list: Box<Operand<'s>>,
     body: (bool, Box<Typed>),
 ) -> Result<Operand<'s>, TypeError>
     ensures { Gives is_memory operand_view result
-        (predicate_of at over (operand_view list.entry) body.0 (typed_view body.1.value)) }
+        (predicate_of at over (operand_view list.entry.value) body.0 (typed_view body.1.value)) }
 {
     let kind = predicate_kind(alloc, over, &list.kind)?;
     let (wanted, body) = body;

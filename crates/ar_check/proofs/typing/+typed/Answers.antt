@@ -27,3 +27,8 @@ pub typed_items-returns : goal.typed_items-returns
 typed_items-returns t c =
     let inv = c.loop-tree.invariant in
     ended (shape_view c.args.scope.measured.now) (option_map (λ shape. shape_view shape.now) c.args.scope.item) c.args.scope.around _ _ _ _ inv.3 inv.2 c.in-None.ensures.steps.0
+
+pub typed_predicate-returns : goal.typed_predicate-returns
+typed_predicate-returns t c =
+    let body = rw c.deref.ensures at c.in_ok-body.ensures in
+    rw (c.in_ok-list.ensures, body) c.predicate_of.ensures
