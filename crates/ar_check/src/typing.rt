@@ -7,7 +7,7 @@ ghost use Rattle.ar_value.specs.Fits.{fits};
 ghost use Rattle.ar_value.specs.Kind.{shaped};
 ghost use Rattle.ar_value.specs.Value.{Value};
 ghost use Rattle.ar_value.specs.View.{shape_view};
-ghost use Rattle.ar_condition.specs.Expression.{expressions, BinaryAt, ChoiceAt, DefaultAt, IndexAt, PredicateAt};
+ghost use Rattle.ar_condition.specs.Expression.{expressions, BinaryAt, ChoiceAt, DefaultAt, FieldAt, IndexAt, IsNilAt, LenAt, ListAt, PredicateAt, UnaryAt};
 ghost use Rattle.ar_condition.specs.Views.{expression_of};
 ghost use Rattle.ar_check.specs.Basics.{literal_kind};
 ghost use Rattle.ar_check.specs.Check.{checked, choice_tree, default_kind, default_of, default_tree, field_of, given, index_of, innermost, is_nil_literal, len_of, over_items, plain_kind, predicate_kind, predicate_of};
@@ -27,7 +27,7 @@ use crate::operand::{
     plain_kind, plain_tree, scalar, turned, turned_both, turns, without_nil,
 };
 use crate::operators::{binary, is_nil_of, truth, unary, where_wanted};
-use ar_condition::tree::{Binary, Literal, Tree};
+use ar_condition::tree::{Binary, Literal, Tree, Unary};
 use ar_condition::typed::Typed;
 use ar_value::operator::{BinaryOperator, Predicate, Scalar, UnaryOperator};
 use ar_value::shape::Shape;
@@ -100,15 +100,13 @@ fn typed<'s>(alloc: Global, tree: Tree, scope: Scope<'s>) -> Result<Operand<'s>,
         Tree::Result { .. } => measured_of(alloc, scope.measured),
         Tree::Item { at } => item_of(alloc, at, scope.item),
         Tree::Literal { literal, .. } => literal_of(alloc, literal),
-        Tree::Field { at, owner, name } => {
-            field_of(alloc, at, name, child(alloc, owner, scope)?)
-        }
+        Tree::Field { at, owner, name } => typed_field(alloc, at, owner, name, scope),
         Tree::Index { at, list, index } => typed_index(alloc, at, list, index, scope),
         Tree::Unary {
             at,
             operator,
             operand,
-        } => unary(alloc, at, operator, child(alloc, operand, scope)?),
+        } => typed_unary(alloc, at, operator, operand, scope),
         Tree::Binary {
             at,
             operator,
@@ -121,9 +119,9 @@ fn typed<'s>(alloc: Global, tree: Tree, scope: Scope<'s>) -> Result<Operand<'s>,
             yes,
             no,
         } => typed_choice(alloc, at, condition, yes, no, scope),
-        Tree::List { at, items } => list(alloc, at, typed_items(alloc, items.items, scope)?),
-        Tree::Len { at, list } => len_of(alloc, at, child(alloc, list, scope)?),
-        Tree::IsNil { operand, .. } => is_nil_of(alloc, child(alloc, operand, scope)?),
+        Tree::List { at, items } => typed_list(alloc, at, items.items, scope),
+        Tree::Len { at, list } => typed_len(alloc, at, list, scope),
+        Tree::IsNil { at, operand } => typed_is_nil(alloc, at, operand, scope),
         Tree::Default {
             at,
             operand,
@@ -151,6 +149,83 @@ fn child<'s>(
 {
     let operand = typed(alloc, Box::into_inner(tree), scope)?;
     Ok(Box::new(alloc, operand)?)
+}
+
+/// A field of a record.
+#[cycle(typed)]
+fn typed_field<'s>(
+    alloc: Global,
+    at: usize,
+    owner: Box<Tree>,
+    name: Text,
+    scope: Scope<'s>,
+) -> Result<Operand<'s>, TypeError>
+    ensures { Gives is_memory operand_view result
+        (typed_in scope.entry (FieldAt at (expression_of owner.value) name)) }
+{
+    let owner = child(alloc, owner, scope)?;
+    field_of(alloc, at, name, owner)
+}
+
+/// A sign or `not` before its operand.
+#[cycle(typed)]
+fn typed_unary<'s>(
+    alloc: Global,
+    at: usize,
+    operator: Unary,
+    operand: Box<Tree>,
+    scope: Scope<'s>,
+) -> Result<Operand<'s>, TypeError>
+    ensures { Gives is_memory operand_view result
+        (typed_in scope.entry (UnaryAt at operator (expression_of operand.value))) }
+{
+    let operand = child(alloc, operand, scope)?;
+    unary(alloc, at, operator, operand)
+}
+
+/// A list literal.
+#[cycle(typed)]
+fn typed_list<'s>(
+    alloc: Global,
+    at: usize,
+    items: Vec<Tree>,
+    scope: Scope<'s>,
+) -> Result<Operand<'s>, TypeError>
+    ensures { Gives is_memory operand_view result
+        (typed_in scope.entry (ListAt at (expressions (map expression_of items.items)))) }
+{
+    let items = typed_items(alloc, items, scope)?;
+    list(alloc, at, items)
+}
+
+/// How many items a list has.
+#[cycle(typed)]
+fn typed_len<'s>(
+    alloc: Global,
+    at: usize,
+    list: Box<Tree>,
+    scope: Scope<'s>,
+) -> Result<Operand<'s>, TypeError>
+    ensures { Gives is_memory operand_view result
+        (typed_in scope.entry (LenAt at (expression_of list.value))) }
+{
+    let list = child(alloc, list, scope)?;
+    len_of(alloc, at, list)
+}
+
+/// Whether an operand is nil.
+#[cycle(typed)]
+fn typed_is_nil<'s>(
+    alloc: Global,
+    at: usize,
+    operand: Box<Tree>,
+    scope: Scope<'s>,
+) -> Result<Operand<'s>, TypeError>
+    ensures { Gives is_memory operand_view result
+        (typed_in scope.entry (IsNilAt at (expression_of operand.value))) }
+{
+    let operand = child(alloc, operand, scope)?;
+    is_nil_of(alloc, operand)
 }
 
 /// An item of a list, at an index.
