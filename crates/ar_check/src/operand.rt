@@ -71,7 +71,14 @@ pub(crate) fn plain_tree(
 pub(crate) fn made_plain(alloc: Global, operand: Box<Operand<'_>>) -> Result<Box<Typed>, AllocError>
     ensures { IfOk result (λ made. typed_view made.value ≡ made_plain (operand_view operand.entry.value)) }
 {
-    let Operand { tree, kind } = Box::into_inner(operand);
+    whole_plain(alloc, Box::into_inner(operand))
+}
+
+/// An operand that stands below no other, made plain.
+pub(crate) fn whole_plain(alloc: Global, operand: Operand<'_>) -> Result<Box<Typed>, AllocError>
+    ensures { IfOk result (λ made. typed_view made.value ≡ made_plain (operand_view operand.entry)) }
+{
+    let Operand { tree, kind } = operand;
     plain_tree(alloc, &kind, tree)
 }
 

@@ -24,7 +24,7 @@ use crate::error::TypeError;
 use crate::list::{Item, list};
 use crate::operand::{
     Kind, Operand, as_truth, common, field_kind, is_truth, item_kind, item_shape, made_plain,
-    plain_kind, plain_tree, scalar, turned, turned_both, turns, without_nil,
+    plain_kind, scalar, turned, turned_both, turns, whole_plain, without_nil,
 };
 use crate::operators::{binary, is_nil_of, truth, unary, where_wanted};
 use ar_condition::tree::{Binary, Literal, Tree, Unary};
@@ -76,8 +76,7 @@ pub fn check(alloc: Global, tree: Tree, shape: &Shape) -> Result<Typed, TypeErro
 fn plain_condition(alloc: Global, condition: Operand<'_>) -> Result<Typed, AllocError>
     ensures { IfOk result (λ made. typed_view made ≡ made_plain (operand_view condition.entry)) }
 {
-    let Operand { tree, kind } = condition;
-    Ok(Box::into_inner(plain_tree(alloc, &kind, tree)?))
+    Ok(Box::into_inner(whole_plain(alloc, condition)?))
 }
 
 /// What the names of a condition stand for at a place.
@@ -341,14 +340,12 @@ fn typed_item(alloc: Global, tree: Tree, scope: Scope<'_>) -> Result<Item, TypeE
     let at = tree.place();
     let operand = typed(alloc, tree, scope)?;
     let scalar = scalar(&operand);
-    let Operand { tree, kind } = operand;
-    let tree = plain_tree(alloc, &kind, tree)?;
+    let tree = whole_plain(alloc, operand)?;
     Ok(Item { at, scalar, tree })
 }
 
 /// What a predicate says of the items of a list: whether it is a truth value, and its tree.
 #[cycle(typed)]
-#[tactic(auto, using(crate::proofs::Freely::gives_freely), unfolding(crate::specs::Check::over_items))]
 fn typed_body(
     alloc: Global,
     at: usize,
