@@ -10,8 +10,8 @@ use ar_value::operator::{BinaryOperator, Predicate, Scalar, UnaryOperator};
 use ar_value::text::Text;
 use std::alloc::{AllocError, Global};
 
-/// A tree that stands below another.
-fn node(alloc: Global, tree: Typed) -> Result<Box<Typed>, AllocError>
+/// A tree in a box of its own, which is let go in one step.
+pub(crate) fn node(alloc: Global, tree: Typed) -> Result<Box<Typed>, AllocError>
     ensures { IfOk result (λ node. typed_view node.value ≡ typed_view tree) }
 {
     Ok(Box::new(alloc, tree)?)

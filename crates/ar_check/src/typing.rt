@@ -380,7 +380,7 @@ fn in_predicate<'s>(scope: Scope<'s>, item: &'s Shape, around: usize) -> Scope<'
 fn measured_of(alloc: Global, shape: &Shape) -> Result<Operand<'_>, TypeError>
     ensures { Gives is_memory operand_view result (given typed.result (shaped (shape_view shape.now))) }
 {
-    let tree = Box::new(alloc, Typed::Result)?;
+    let tree = build::node(alloc, Typed::Result)?;
     let kind = Kind::Declared(shape);
     Ok(Operand { tree, kind })
 }
@@ -390,7 +390,7 @@ fn item_of<'s>(alloc: Global, at: usize, item: Option<&'s Shape>) -> Result<Oper
     ensures { Gives is_memory operand_view result
         (innermost at (option_map (λ shape. shape_view shape.now) item.entry)) }
 {
-    let tree = Box::new(alloc, Typed::Item)?;
+    let tree = build::node(alloc, Typed::Item)?;
     let kind = innermost_kind(at, item)?;
     Ok(Operand { tree, kind })
 }
@@ -416,7 +416,7 @@ fn literal_of<'s>(alloc: Global, literal: Literal) -> Result<Operand<'s>, TypeEr
         Literal::Decimal(_) => Kind::Made(Shape::Decimal),
         Literal::Text(_) => Kind::Made(Shape::Text),
     };
-    let tree = Box::new(alloc, Typed::Literal(literal))?;
+    let tree = build::node(alloc, Typed::Literal(literal))?;
     Ok(Operand { tree, kind })
 }
 
