@@ -71,11 +71,11 @@ pub(crate) fn plain_tree(
 pub(crate) fn made_plain(alloc: Global, operand: Box<Operand<'_>>) -> Result<Box<Typed>, AllocError>
     ensures { IfOk result (λ made. typed_view made.value ≡ made_plain (operand_view operand.entry.value)) }
 {
-    whole_plain(alloc, Box::into_inner(operand))
+    into_plain_tree(alloc, Box::into_inner(operand))
 }
 
-/// An operand that stands below no other, made plain.
-pub(crate) fn whole_plain(alloc: Global, operand: Operand<'_>) -> Result<Box<Typed>, AllocError>
+/// An operand's tree, made plain.
+pub(crate) fn into_plain_tree(alloc: Global, operand: Operand<'_>) -> Result<Box<Typed>, AllocError>
     ensures { IfOk result (λ made. typed_view made.value ≡ made_plain (operand_view operand.entry)) }
 {
     let Operand { tree, kind } = operand;

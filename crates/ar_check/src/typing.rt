@@ -23,8 +23,8 @@ use crate::build::{self, choice, field, predicate};
 use crate::error::TypeError;
 use crate::list::{Item, list};
 use crate::operand::{
-    Kind, Operand, as_truth, common, field_kind, is_truth, item_kind, item_shape, made_plain,
-    plain_kind, scalar, turned, turned_both, turns, whole_plain, without_nil,
+    Kind, Operand, as_truth, common, field_kind, into_plain_tree, is_truth, item_kind, item_shape,
+    made_plain, plain_kind, scalar, turned, turned_both, turns, without_nil,
 };
 use crate::operators::{binary, is_nil_of, truth, unary, where_wanted};
 use ar_condition::tree::{Binary, Literal, Tree, Unary};
@@ -76,7 +76,7 @@ pub fn check(alloc: Global, tree: Tree, shape: &Shape) -> Result<Typed, TypeErro
 fn plain_condition(alloc: Global, condition: Operand<'_>) -> Result<Typed, AllocError>
     ensures { IfOk result (λ made. typed_view made ≡ made_plain (operand_view condition.entry)) }
 {
-    Ok(Box::into_inner(whole_plain(alloc, condition)?))
+    Ok(Box::into_inner(into_plain_tree(alloc, condition)?))
 }
 
 /// What the names of a condition stand for at a place.
@@ -135,7 +135,7 @@ fn typed<'s>(alloc: Global, tree: Tree, scope: Scope<'s>) -> Result<Operand<'s>,
     }
 }
 
-/// A tree below another. It is boxed, so that it can be let go in one step where one beside it has a
+/// A tree below another. Its operand is boxed, and so let go in one step where a tree beside it has a
 /// fault.
 #[cycle(typed)]
 fn child<'s>(
@@ -340,7 +340,7 @@ fn typed_item(alloc: Global, tree: Tree, scope: Scope<'_>) -> Result<Item, TypeE
     let at = tree.place();
     let operand = typed(alloc, tree, scope)?;
     let scalar = scalar(&operand);
-    let tree = whole_plain(alloc, operand)?;
+    let tree = into_plain_tree(alloc, operand)?;
     Ok(Item { at, scalar, tree })
 }
 
