@@ -274,7 +274,6 @@ fn shape_of<'a>(kind: &'a Kind<'_>) -> Option<&'a Shape>
 }
 
 /// The kind that two have in common. Of two that are the same no shape is copied that is lent.
-#[tactic(auto, using(crate::proofs::Operands::common_of_nil, crate::proofs::Operands::common_of_same))]
 pub(crate) fn common<'s>(
     alloc: Global,
     left: &Kind<'s>,
@@ -335,7 +334,6 @@ pub(crate) fn both_plain(
 }
 
 /// The trees of two operands, each turned beside the other.
-#[tactic(auto, using(crate::proofs::Turns::turned_is))]
 pub(crate) fn turned_both(
     alloc: Global,
     left: Box<Operand<'_>>,

@@ -60,7 +60,6 @@ fn number_kind<'s>(numbers: Numbers) -> Kind<'s>
 }
 
 /// A sign or `not` before its operand.
-#[tactic(auto, using(crate::proofs::Freely::gives_freely))]
 pub(crate) fn unary<'s>(
     alloc: Global,
     at: usize,
@@ -193,7 +192,6 @@ fn compare<'s>(
     }
 }
 
-#[tactic(auto, using(crate::proofs::Freely::gives_freely))]
 fn equate<'s>(
     alloc: Global,
     at: usize,
@@ -289,7 +287,6 @@ fn contains<'s>(
 }
 
 /// Whether a plain list of these scalars has an operand among its items.
-#[tactic(auto, using(crate::proofs::Freely::gives_freely))]
 fn member<'s>(
     alloc: Global,
     at: usize,
@@ -333,7 +330,6 @@ fn calculate<'s>(
 }
 
 /// Arithmetic on plain operands of these numbers.
-#[tactic(auto, using(crate::proofs::Freely::gives_freely))]
 fn calculate_on<'s>(
     alloc: Global,
     at: usize,

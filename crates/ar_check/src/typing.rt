@@ -443,7 +443,6 @@ fn field_of<'s>(
     Ok(Operand { tree, kind })
 }
 
-#[tactic(auto, using(crate::proofs::Freely::gives_freely))]
 fn index_of<'s>(
     alloc: Global,
     at: usize,
@@ -489,7 +488,6 @@ fn len_of<'s>(alloc: Global, at: usize, list: Box<Operand<'_>>) -> Result<Operan
 }
 
 /// One of two branches, which have their common kind.
-#[tactic(auto, using(crate::proofs::Freely::gives_freely))]
 fn choice_of<'s>(
     alloc: Global,
     at: usize,
@@ -525,7 +523,6 @@ fn choice_tree(
 }
 
 /// An operand, or what stands in where it is nil.
-#[tactic(auto, using(crate::proofs::Turns::turned_is))]
 fn default_of<'s>(
     alloc: Global,
     at: usize,
