@@ -10,6 +10,13 @@ use ar_value::operator::{BinaryOperator, Predicate, Scalar, UnaryOperator};
 use ar_value::text::Text;
 use std::alloc::{AllocError, Global};
 
+/// A tree in a box of its own, which is let go in one step.
+pub(crate) fn node(alloc: Global, tree: Typed) -> Result<Box<Typed>, AllocError>
+    ensures { IfOk result (λ node. typed_view node.value ≡ typed_view tree) }
+{
+    Ok(Box::new(alloc, tree)?)
+}
+
 pub(crate) fn unary(
     alloc: Global,
     operator: UnaryOperator,
@@ -17,7 +24,7 @@ pub(crate) fn unary(
 ) -> Result<Box<Typed>, AllocError>
     ensures { IfOk result (λ tree. typed_view tree.value ≡ typed.unary operator (typed_view operand.value)) }
 {
-    Ok(Box::new(alloc, Typed::Unary { operator, operand })?)
+    node(alloc, Typed::Unary { operator, operand })
 }
 
 pub(crate) fn binary(
@@ -29,20 +36,20 @@ pub(crate) fn binary(
     ensures { IfOk result (λ tree. typed_view tree.value
         ≡ typed.binary operator (typed_view left.value) (typed_view right.value)) }
 {
-    Ok(Box::new(
+    node(
         alloc,
         Typed::Binary {
             operator,
             left,
             right,
         },
-    )?)
+    )
 }
 
 pub(crate) fn field(alloc: Global, owner: Box<Typed>, name: Text) -> Result<Box<Typed>, AllocError>
     ensures { IfOk result (λ tree. typed_view tree.value ≡ typed.field (typed_view owner.value) name) }
 {
-    Ok(Box::new(alloc, Typed::Field { owner, name })?)
+    node(alloc, Typed::Field { owner, name })
 }
 
 pub(crate) fn both(
@@ -53,7 +60,7 @@ pub(crate) fn both(
     ensures { IfOk result
         (λ tree. typed_view tree.value ≡ typed.both (typed_view left.value) (typed_view right.value)) }
 {
-    Ok(Box::new(alloc, Typed::And { left, right })?)
+    node(alloc, Typed::And { left, right })
 }
 
 pub(crate) fn either(
@@ -64,7 +71,7 @@ pub(crate) fn either(
     ensures { IfOk result
         (λ tree. typed_view tree.value ≡ typed.either (typed_view left.value) (typed_view right.value)) }
 {
-    Ok(Box::new(alloc, Typed::Or { left, right })?)
+    node(alloc, Typed::Or { left, right })
 }
 
 pub(crate) fn choice(
@@ -76,7 +83,7 @@ pub(crate) fn choice(
     ensures { IfOk result (λ tree. typed_view tree.value
         ≡ typed.choice (typed_view condition.value) (typed_view yes.value) (typed_view no.value)) }
 {
-    Ok(Box::new(alloc, Typed::Choice { condition, yes, no })?)
+    node(alloc, Typed::Choice { condition, yes, no })
 }
 
 pub(crate) fn listed(scalar: Scalar, items: Vec<Typed>) -> Typed
@@ -97,12 +104,12 @@ pub(crate) fn predicate(
     ensures { IfOk result
         (λ tree. typed_view tree.value ≡ typed.predicate predicate (typed_view list.value) (typed_view body.value)) }
 {
-    Ok(Box::new(
+    node(
         alloc,
         Typed::Predicate {
             predicate,
             list,
             body,
         },
-    )?)
+    )
 }

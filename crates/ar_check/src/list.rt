@@ -39,7 +39,7 @@ pub(crate) fn list<'s>(alloc: Global, at: usize, items: Vec<Item>) -> Result<Ope
         return Err(TypeError::NoCommonKind(at));
     };
     let kind = list_kind(alloc, scalar, items.len())?;
-    let tree = Box::new(alloc, listed(scalar, turned(alloc, scalar, items)?))?;
+    let tree = build::node(alloc, listed(scalar, turned(alloc, scalar, items)?))?;
     Ok(Operand { tree, kind })
 }
 

@@ -68,7 +68,14 @@ pub(crate) fn plain_tree(
 }
 
 /// An operand made plain.
-pub(crate) fn made_plain(alloc: Global, operand: Operand<'_>) -> Result<Box<Typed>, AllocError>
+pub(crate) fn made_plain(alloc: Global, operand: Box<Operand<'_>>) -> Result<Box<Typed>, AllocError>
+    ensures { IfOk result (λ made. typed_view made.value ≡ made_plain (operand_view operand.entry.value)) }
+{
+    into_plain_tree(alloc, Box::into_inner(operand))
+}
+
+/// An operand's tree, made plain.
+pub(crate) fn into_plain_tree(alloc: Global, operand: Operand<'_>) -> Result<Box<Typed>, AllocError>
     ensures { IfOk result (λ made. typed_view made.value ≡ made_plain (operand_view operand.entry)) }
 {
     let Operand { tree, kind } = operand;
@@ -76,19 +83,19 @@ pub(crate) fn made_plain(alloc: Global, operand: Operand<'_>) -> Result<Box<Type
 }
 
 /// An operand's tree, where its kind is known.
-pub(crate) fn into_tree(operand: Operand<'_>) -> Box<Typed>
-    ensures { typed_view result.value ≡ (operand_view operand.entry).tree }
+pub(crate) fn into_tree(operand: Box<Operand<'_>>) -> Box<Typed>
+    ensures { typed_view result.value ≡ (operand_view operand.entry.value).tree }
 {
-    operand.tree
+    Box::into_inner(operand).tree
 }
 
 /// Whether an operand is a truth value once it is plain, and its tree made plain.
 pub(crate) fn as_truth(
     alloc: Global,
-    operand: Operand<'_>,
+    operand: Box<Operand<'_>>,
 ) -> Result<(bool, Box<Typed>), AllocError>
-    ensures truth { IfOk result (λ made. made.0 ≡ is_truth (operand_view operand.entry)) }
-    ensures tree { IfOk result (λ made. typed_view made.1.value ≡ made_plain (operand_view operand.entry)) }
+    ensures truth { IfOk result (λ made. made.0 ≡ is_truth (operand_view operand.entry.value)) }
+    ensures tree { IfOk result (λ made. typed_view made.1.value ≡ made_plain (operand_view operand.entry.value)) }
 {
     let is_truth = is_truth(&operand);
     Ok((is_truth, made_plain(alloc, operand)?))
@@ -267,7 +274,6 @@ fn shape_of<'a>(kind: &'a Kind<'_>) -> Option<&'a Shape>
 }
 
 /// The kind that two have in common. Of two that are the same no shape is copied that is lent.
-#[tactic(auto, using(crate::proofs::Operands::common_of_nil, crate::proofs::Operands::common_of_same))]
 pub(crate) fn common<'s>(
     alloc: Global,
     left: &Kind<'s>,
@@ -316,11 +322,11 @@ pub(crate) fn turned(alloc: Global, turns: bool, tree: Box<Typed>) -> Result<Box
 /// The trees of two operands, made plain.
 pub(crate) fn both_plain(
     alloc: Global,
-    left: Operand<'_>,
-    right: Operand<'_>,
+    left: Box<Operand<'_>>,
+    right: Box<Operand<'_>>,
 ) -> Result<(Box<Typed>, Box<Typed>), AllocError>
-    ensures left { IfOk result (λ trees. typed_view trees.0.value ≡ made_plain (operand_view left.entry)) }
-    ensures right { IfOk result (λ trees. typed_view trees.1.value ≡ made_plain (operand_view right.entry)) }
+    ensures left { IfOk result (λ trees. typed_view trees.0.value ≡ made_plain (operand_view left.entry.value)) }
+    ensures right { IfOk result (λ trees. typed_view trees.1.value ≡ made_plain (operand_view right.entry.value)) }
 {
     let first = made_plain(alloc, left)?;
     let second = made_plain(alloc, right)?;
@@ -328,16 +334,17 @@ pub(crate) fn both_plain(
 }
 
 /// The trees of two operands, each turned beside the other.
-#[tactic(auto, using(crate::proofs::Turns::turned_is))]
 pub(crate) fn turned_both(
     alloc: Global,
-    left: Operand<'_>,
-    right: Operand<'_>,
+    left: Box<Operand<'_>>,
+    right: Box<Operand<'_>>,
 ) -> Result<(Box<Typed>, Box<Typed>), AllocError>
     ensures left { IfOk result (λ trees. typed_view trees.0.value
-        ≡ turned (operand_view right.entry).kind (operand_view left.entry).kind (operand_view left.entry).tree) }
+        ≡ turned (operand_view right.entry.value).kind (operand_view left.entry.value).kind
+        (operand_view left.entry.value).tree) }
     ensures right { IfOk result (λ trees. typed_view trees.1.value
-        ≡ turned (operand_view left.entry).kind (operand_view right.entry).kind (operand_view right.entry).tree) }
+        ≡ turned (operand_view left.entry.value).kind (operand_view right.entry.value).kind
+        (operand_view right.entry.value).tree) }
 {
     let turns_left = turns(&right.kind, &left.kind);
     let turns_right = turns(&left.kind, &right.kind);

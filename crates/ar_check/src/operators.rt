@@ -60,14 +60,13 @@ fn number_kind<'s>(numbers: Numbers) -> Kind<'s>
 }
 
 /// A sign or `not` before its operand.
-#[tactic(auto, using(crate::proofs::Freely::gives_freely))]
 pub(crate) fn unary<'s>(
     alloc: Global,
     at: usize,
     operator: Unary,
-    operand: Operand<'_>,
+    operand: Box<Operand<'_>>,
 ) -> Result<Operand<'s>, TypeError>
-    ensures { Gives is_memory operand_view result (unary_of at operator (operand_view operand.entry)) }
+    ensures { Gives is_memory operand_view result (unary_of at operator (operand_view operand.entry.value)) }
 {
     let wanted = is_truth(&operand);
     let numbers = numbers(&operand);
@@ -107,11 +106,11 @@ pub(crate) fn binary<'s>(
     operator: Binary,
     nil_left: bool,
     nil_right: bool,
-    left: Operand<'_>,
-    right: Operand<'_>,
+    left: Box<Operand<'_>>,
+    right: Box<Operand<'_>>,
 ) -> Result<Operand<'s>, TypeError>
     ensures { Gives is_memory operand_view result
-        (binary_of at operator nil_left nil_right (operand_view left.entry) (operand_view right.entry)) }
+        (binary_of at operator nil_left nil_right (operand_view left.entry.value) (operand_view right.entry.value)) }
 {
     match operator {
         Binary::Or => either_of(alloc, at, left, right),
@@ -133,10 +132,11 @@ pub(crate) fn binary<'s>(
 fn either_of<'s>(
     alloc: Global,
     at: usize,
-    left: Operand<'_>,
-    right: Operand<'_>,
+    left: Box<Operand<'_>>,
+    right: Box<Operand<'_>>,
 ) -> Result<Operand<'s>, TypeError>
-    ensures { Gives is_memory operand_view result (either_of at (operand_view left.entry) (operand_view right.entry)) }
+    ensures { Gives is_memory operand_view result
+        (either_of at (operand_view left.entry.value) (operand_view right.entry.value)) }
 {
     let wanted = is_truth(&left) && is_truth(&right);
     let (left, right) = both_plain(alloc, left, right)?;
@@ -147,10 +147,11 @@ fn either_of<'s>(
 fn both_of<'s>(
     alloc: Global,
     at: usize,
-    left: Operand<'_>,
-    right: Operand<'_>,
+    left: Box<Operand<'_>>,
+    right: Box<Operand<'_>>,
 ) -> Result<Operand<'s>, TypeError>
-    ensures { Gives is_memory operand_view result (both_of at (operand_view left.entry) (operand_view right.entry)) }
+    ensures { Gives is_memory operand_view result
+        (both_of at (operand_view left.entry.value) (operand_view right.entry.value)) }
 {
     let wanted = is_truth(&left) && is_truth(&right);
     let (left, right) = both_plain(alloc, left, right)?;
@@ -171,11 +172,12 @@ fn compare<'s>(
     comparison: Comparison,
     nil_left: bool,
     nil_right: bool,
-    left: Operand<'_>,
-    right: Operand<'_>,
+    left: Box<Operand<'_>>,
+    right: Box<Operand<'_>>,
 ) -> Result<Operand<'s>, TypeError>
     ensures { Gives is_memory operand_view result
-        (comparison_of at comparison nil_left nil_right (operand_view left.entry) (operand_view right.entry)) }
+        (comparison_of at comparison nil_left nil_right
+        (operand_view left.entry.value) (operand_view right.entry.value)) }
 {
     match comparison {
         Comparison::Equal => equate(alloc, at, nil_left, nil_right, left, right),
@@ -190,17 +192,16 @@ fn compare<'s>(
     }
 }
 
-#[tactic(auto, using(crate::proofs::Freely::gives_freely))]
 fn equate<'s>(
     alloc: Global,
     at: usize,
     nil_left: bool,
     nil_right: bool,
-    left: Operand<'_>,
-    right: Operand<'_>,
+    left: Box<Operand<'_>>,
+    right: Box<Operand<'_>>,
 ) -> Result<Operand<'s>, TypeError>
     ensures { Gives is_memory operand_view result
-        (equality_of at nil_left nil_right (operand_view left.entry) (operand_view right.entry)) }
+        (equality_of at nil_left nil_right (operand_view left.entry.value) (operand_view right.entry.value)) }
 {
     let sides = (scalar(&left), scalar(&right));
     let (left, right) = (into_tree(left), into_tree(right));
@@ -218,9 +219,12 @@ fn equate<'s>(
 }
 
 /// Whether an operand is nil.
-pub(crate) fn is_nil_of<'s>(alloc: Global, operand: Operand<'_>) -> Result<Operand<'s>, TypeError>
+pub(crate) fn is_nil_of<'s>(
+    alloc: Global,
+    operand: Box<Operand<'_>>,
+) -> Result<Operand<'s>, TypeError>
     ensures { Gives is_memory operand_view result
-        (given (typed.unary unary.IsNil (operand_view operand.entry).tree) truth_kind) }
+        (given (typed.unary unary.IsNil (operand_view operand.entry.value).tree) truth_kind) }
 {
     tests_nil(alloc, into_tree(operand))
 }
@@ -248,11 +252,11 @@ fn order<'s>(
     alloc: Global,
     at: usize,
     order: Order,
-    left: Operand<'_>,
-    right: Operand<'_>,
+    left: Box<Operand<'_>>,
+    right: Box<Operand<'_>>,
 ) -> Result<Operand<'s>, TypeError>
     ensures { Gives is_memory operand_view result
-        (ordering_of at order (operand_view left.entry) (operand_view right.entry)) }
+        (ordering_of at order (operand_view left.entry.value) (operand_view right.entry.value)) }
 {
     let sides = (numbers(&left), numbers(&right));
     let (left, right) = both_plain(alloc, left, right)?;
@@ -269,10 +273,11 @@ fn order<'s>(
 fn contains<'s>(
     alloc: Global,
     at: usize,
-    operand: Operand<'_>,
-    list: Operand<'_>,
+    operand: Box<Operand<'_>>,
+    list: Box<Operand<'_>>,
 ) -> Result<Operand<'s>, TypeError>
-    ensures { Gives is_memory operand_view result (in_of at (operand_view operand.entry) (operand_view list.entry)) }
+    ensures { Gives is_memory operand_view result
+        (in_of at (operand_view operand.entry.value) (operand_view list.entry.value)) }
 {
     let item = item_scalar(at, &list.kind);
     let of = scalar(&operand);
@@ -282,7 +287,6 @@ fn contains<'s>(
 }
 
 /// Whether a plain list of these scalars has an operand among its items.
-#[tactic(auto, using(crate::proofs::Freely::gives_freely))]
 fn member<'s>(
     alloc: Global,
     at: usize,
@@ -311,11 +315,11 @@ fn calculate<'s>(
     alloc: Global,
     at: usize,
     operator: Arithmetic,
-    left: Operand<'_>,
-    right: Operand<'_>,
+    left: Box<Operand<'_>>,
+    right: Box<Operand<'_>>,
 ) -> Result<Operand<'s>, TypeError>
     ensures { Gives is_memory operand_view result
-        (calculation_of at operator (operand_view left.entry) (operand_view right.entry)) }
+        (calculation_of at operator (operand_view left.entry.value) (operand_view right.entry.value)) }
 {
     let sides = (numbers(&left), numbers(&right));
     let (left, right) = both_plain(alloc, left, right)?;
@@ -326,7 +330,6 @@ fn calculate<'s>(
 }
 
 /// Arithmetic on plain operands of these numbers.
-#[tactic(auto, using(crate::proofs::Freely::gives_freely))]
 fn calculate_on<'s>(
     alloc: Global,
     at: usize,

@@ -7,10 +7,10 @@ ghost use Rattle.ar_value.specs.Fits.{fits};
 ghost use Rattle.ar_value.specs.Kind.{shaped};
 ghost use Rattle.ar_value.specs.Value.{Value};
 ghost use Rattle.ar_value.specs.View.{shape_view};
-ghost use Rattle.ar_condition.specs.Expression.{expressions, BinaryAt, ChoiceAt, DefaultAt, IndexAt, PredicateAt};
+ghost use Rattle.ar_condition.specs.Expression.{expressions, BinaryAt, ChoiceAt, DefaultAt, FieldAt, IndexAt, IsNilAt, LenAt, ListAt, PredicateAt, UnaryAt};
 ghost use Rattle.ar_condition.specs.Views.{expression_of};
 ghost use Rattle.ar_check.specs.Basics.{literal_kind};
-ghost use Rattle.ar_check.specs.Check.{checked, choice_tree, default_kind, default_of, default_tree, field_of, index_of, innermost, is_nil_literal, len_of, over_items, plain_kind, predicate_kind, predicate_of};
+ghost use Rattle.ar_check.specs.Check.{checked, choice_tree, default_kind, default_of, default_tree, field_of, given, index_of, innermost, is_nil_literal, len_of, over_items, plain_kind, predicate_kind, predicate_of};
 ghost use Rattle.ar_condition.specs.Meaning.{IsTruthOrFault, mean};
 ghost use Rattle.ar_check.specs.Operand.{made_plain, operand};
 ghost use Rattle.ar_check.specs.Private.Inside.{choice_between, inside, item_in, item_view, items_in, kind_view, operand_view, turned_where, typed_in};
@@ -23,11 +23,11 @@ use crate::build::{self, choice, field, predicate};
 use crate::error::TypeError;
 use crate::list::{Item, list};
 use crate::operand::{
-    Kind, Operand, as_truth, common, field_kind, is_truth, item_kind, item_shape, made_plain,
-    plain_kind, scalar, turned, turned_both, turns, without_nil,
+    Kind, Operand, as_truth, common, field_kind, into_plain_tree, is_truth, item_kind, item_shape,
+    made_plain, plain_kind, scalar, turned, turned_both, turns, without_nil,
 };
 use crate::operators::{binary, is_nil_of, truth, unary, where_wanted};
-use ar_condition::tree::{Binary, Literal, Tree};
+use ar_condition::tree::{Binary, Literal, Tree, Unary};
 use ar_condition::typed::Typed;
 use ar_value::operator::{BinaryOperator, Predicate, Scalar, UnaryOperator};
 use ar_value::shape::Shape;
@@ -76,7 +76,7 @@ pub fn check(alloc: Global, tree: Tree, shape: &Shape) -> Result<Typed, TypeErro
 fn plain_condition(alloc: Global, condition: Operand<'_>) -> Result<Typed, AllocError>
     ensures { IfOk result (λ made. typed_view made ≡ made_plain (operand_view condition.entry)) }
 {
-    Ok(Box::into_inner(made_plain(alloc, condition)?))
+    Ok(Box::into_inner(into_plain_tree(alloc, condition)?))
 }
 
 /// What the names of a condition stand for at a place.
@@ -92,23 +92,20 @@ struct Scope<'s> {
 
 /// A tree where `result` has a shape, and so has the innermost item, inside so many predicates.
 #[cycle(typed)]
-#[tactic(auto, using(crate::proofs::Freely::gives_freely))]
 fn typed<'s>(alloc: Global, tree: Tree, scope: Scope<'s>) -> Result<Operand<'s>, TypeError>
     ensures { Gives is_memory operand_view result (typed_in scope.entry (expression_of tree)) }
 {
     match tree {
-        Tree::Result { .. } => Ok(measured_of(alloc, scope.measured)?),
+        Tree::Result { .. } => measured_of(alloc, scope.measured),
         Tree::Item { at } => item_of(alloc, at, scope.item),
-        Tree::Literal { literal, .. } => Ok(literal_of(alloc, literal)?),
-        Tree::Field { at, owner, name } => {
-            field_of(alloc, at, name, child(alloc, owner, scope)?)
-        }
+        Tree::Literal { literal, .. } => literal_of(alloc, literal),
+        Tree::Field { at, owner, name } => typed_field(alloc, at, owner, name, scope),
         Tree::Index { at, list, index } => typed_index(alloc, at, list, index, scope),
         Tree::Unary {
             at,
             operator,
             operand,
-        } => unary(alloc, at, operator, child(alloc, operand, scope)?),
+        } => typed_unary(alloc, at, operator, operand, scope),
         Tree::Binary {
             at,
             operator,
@@ -121,9 +118,9 @@ fn typed<'s>(alloc: Global, tree: Tree, scope: Scope<'s>) -> Result<Operand<'s>,
             yes,
             no,
         } => typed_choice(alloc, at, condition, yes, no, scope),
-        Tree::List { at, items } => list(alloc, at, typed_items(alloc, items.items, scope)?),
-        Tree::Len { at, list } => len_of(alloc, at, child(alloc, list, scope)?),
-        Tree::IsNil { operand, .. } => is_nil_of(alloc, child(alloc, operand, scope)?),
+        Tree::List { at, items } => typed_list(alloc, at, items.items, scope),
+        Tree::Len { at, list } => typed_len(alloc, at, list, scope),
+        Tree::IsNil { at, operand } => typed_is_nil(alloc, at, operand, scope),
         Tree::Default {
             at,
             operand,
@@ -138,12 +135,96 @@ fn typed<'s>(alloc: Global, tree: Tree, scope: Scope<'s>) -> Result<Operand<'s>,
     }
 }
 
-/// A tree below another.
+/// A tree below another. Its operand is boxed, and so let go in one step where a tree beside it has a
+/// fault.
 #[cycle(typed)]
-fn child<'s>(alloc: Global, tree: Box<Tree>, scope: Scope<'s>) -> Result<Operand<'s>, TypeError>
-    ensures { Gives is_memory operand_view result (typed_in scope.entry (expression_of tree.value)) }
+fn child<'s>(
+    alloc: Global,
+    tree: Box<Tree>,
+    scope: Scope<'s>,
+) -> Result<Box<Operand<'s>>, TypeError>
+    ensures { Gives is_memory (λ made. operand_view made.value) result
+        (typed_in scope.entry (expression_of tree.value)) }
 {
-    typed(alloc, Box::into_inner(tree), scope)
+    let operand = typed(alloc, Box::into_inner(tree), scope)?;
+    Ok(Box::new(alloc, operand)?)
+}
+
+/// A field of a record.
+#[cycle(typed)]
+fn typed_field<'s>(
+    alloc: Global,
+    at: usize,
+    owner: Box<Tree>,
+    name: Text,
+    scope: Scope<'s>,
+) -> Result<Operand<'s>, TypeError>
+    ensures { Gives is_memory operand_view result
+        (typed_in scope.entry (FieldAt at (expression_of owner.value) name)) }
+{
+    let owner = child(alloc, owner, scope)?;
+    field_of(alloc, at, name, owner)
+}
+
+/// A sign or `not` before its operand.
+#[cycle(typed)]
+fn typed_unary<'s>(
+    alloc: Global,
+    at: usize,
+    operator: Unary,
+    operand: Box<Tree>,
+    scope: Scope<'s>,
+) -> Result<Operand<'s>, TypeError>
+    ensures { Gives is_memory operand_view result
+        (typed_in scope.entry (UnaryAt at operator (expression_of operand.value))) }
+{
+    let operand = child(alloc, operand, scope)?;
+    unary(alloc, at, operator, operand)
+}
+
+/// A list literal.
+#[cycle(typed)]
+fn typed_list<'s>(
+    alloc: Global,
+    at: usize,
+    items: Vec<Tree>,
+    scope: Scope<'s>,
+) -> Result<Operand<'s>, TypeError>
+    ensures { Gives is_memory operand_view result
+        (typed_in scope.entry (ListAt at (expressions (map expression_of items.items)))) }
+{
+    let items = typed_items(alloc, items, scope)?;
+    list(alloc, at, items)
+}
+
+/// How many items a list has.
+#[cycle(typed)]
+fn typed_len<'s>(
+    alloc: Global,
+    at: usize,
+    list: Box<Tree>,
+    scope: Scope<'s>,
+) -> Result<Operand<'s>, TypeError>
+    ensures { Gives is_memory operand_view result
+        (typed_in scope.entry (LenAt at (expression_of list.value))) }
+{
+    let list = child(alloc, list, scope)?;
+    len_of(alloc, at, list)
+}
+
+/// Whether an operand is nil.
+#[cycle(typed)]
+fn typed_is_nil<'s>(
+    alloc: Global,
+    at: usize,
+    operand: Box<Tree>,
+    scope: Scope<'s>,
+) -> Result<Operand<'s>, TypeError>
+    ensures { Gives is_memory operand_view result
+        (typed_in scope.entry (IsNilAt at (expression_of operand.value))) }
+{
+    let operand = child(alloc, operand, scope)?;
+    is_nil_of(alloc, operand)
 }
 
 /// An item of a list, at an index.
@@ -259,13 +340,12 @@ fn typed_item(alloc: Global, tree: Tree, scope: Scope<'_>) -> Result<Item, TypeE
     let at = tree.place();
     let operand = typed(alloc, tree, scope)?;
     let scalar = scalar(&operand);
-    let tree = made_plain(alloc, operand)?;
+    let tree = into_plain_tree(alloc, operand)?;
     Ok(Item { at, scalar, tree })
 }
 
 /// What a predicate says of the items of a list: whether it is a truth value, and its tree.
 #[cycle(typed)]
-#[tactic(auto, using(crate::proofs::Freely::gives_freely), unfolding(crate::specs::Check::over_items))]
 fn typed_body(
     alloc: Global,
     at: usize,
@@ -297,10 +377,10 @@ fn in_predicate<'s>(scope: Scope<'s>, item: &'s Shape, around: usize) -> Scope<'
     }
 }
 
-fn measured_of(alloc: Global, shape: &Shape) -> Result<Operand<'_>, AllocError>
-    ensures { IfOk result (λ made. operand_view made ≡ operand typed.result (shaped (shape_view shape.now))) }
+fn measured_of(alloc: Global, shape: &Shape) -> Result<Operand<'_>, TypeError>
+    ensures { Gives is_memory operand_view result (given typed.result (shaped (shape_view shape.now))) }
 {
-    let tree = Box::new(alloc, Typed::Result)?;
+    let tree = build::node(alloc, Typed::Result)?;
     let kind = Kind::Declared(shape);
     Ok(Operand { tree, kind })
 }
@@ -310,7 +390,7 @@ fn item_of<'s>(alloc: Global, at: usize, item: Option<&'s Shape>) -> Result<Oper
     ensures { Gives is_memory operand_view result
         (innermost at (option_map (λ shape. shape_view shape.now) item.entry)) }
 {
-    let tree = Box::new(alloc, Typed::Item)?;
+    let tree = build::node(alloc, Typed::Item)?;
     let kind = innermost_kind(at, item)?;
     Ok(Operand { tree, kind })
 }
@@ -326,8 +406,8 @@ fn innermost_kind(at: usize, item: Option<&Shape>) -> Result<Kind<'_>, TypeError
     }
 }
 
-fn literal_of<'s>(alloc: Global, literal: Literal) -> Result<Operand<'s>, AllocError>
-    ensures { IfOk result (λ made. operand_view made ≡ operand (typed.literal literal) (literal_kind literal)) }
+fn literal_of<'s>(alloc: Global, literal: Literal) -> Result<Operand<'s>, TypeError>
+    ensures { Gives is_memory operand_view result (given (typed.literal literal) (literal_kind literal)) }
 {
     let kind = match &literal {
         Literal::Nil => Kind::Nil,
@@ -336,7 +416,7 @@ fn literal_of<'s>(alloc: Global, literal: Literal) -> Result<Operand<'s>, AllocE
         Literal::Decimal(_) => Kind::Made(Shape::Decimal),
         Literal::Text(_) => Kind::Made(Shape::Text),
     };
-    let tree = Box::new(alloc, Typed::Literal(literal))?;
+    let tree = build::node(alloc, Typed::Literal(literal))?;
     Ok(Operand { tree, kind })
 }
 
@@ -354,24 +434,23 @@ fn field_of<'s>(
     alloc: Global,
     at: usize,
     name: Text,
-    owner: Operand<'s>,
+    owner: Box<Operand<'s>>,
 ) -> Result<Operand<'s>, TypeError>
-    ensures { Gives is_memory operand_view result (field_of at name (operand_view owner.entry)) }
+    ensures { Gives is_memory operand_view result (field_of at name (operand_view owner.entry.value)) }
 {
     let kind = field_kind(alloc, at, name.as_str(), &owner.kind)?;
     let tree = field(alloc, made_plain(alloc, owner)?, name)?;
     Ok(Operand { tree, kind })
 }
 
-#[tactic(auto, using(crate::proofs::Freely::gives_freely))]
 fn index_of<'s>(
     alloc: Global,
     at: usize,
-    list: Operand<'s>,
-    position: Operand<'_>,
+    list: Box<Operand<'s>>,
+    position: Box<Operand<'_>>,
 ) -> Result<Operand<'s>, TypeError>
     ensures { Gives is_memory operand_view result
-        (index_of at (operand_view list.entry) (operand_view position.entry)) }
+        (index_of at (operand_view list.entry.value) (operand_view position.entry.value)) }
 {
     let kind = item_kind(alloc, at, &list.kind)?;
     let wanted = matches!(scalar(&position), Some(Scalar::Whole));
@@ -382,11 +461,12 @@ fn index_of<'s>(
 /// The tree of an item, of a plain list at a plain index.
 fn index_tree(
     alloc: Global,
-    list: Operand<'_>,
-    position: Operand<'_>,
+    list: Box<Operand<'_>>,
+    position: Box<Operand<'_>>,
 ) -> Result<Box<Typed>, AllocError>
     ensures { IfOk result (λ tree. typed_view tree.value
-        ≡ typed.binary binary.Index (made_plain (operand_view list.entry)) (made_plain (operand_view position.entry))) }
+        ≡ typed.binary binary.Index (made_plain (operand_view list.entry.value))
+        (made_plain (operand_view position.entry.value))) }
 {
     let list = made_plain(alloc, list)?;
     build::binary(
@@ -398,8 +478,8 @@ fn index_tree(
 }
 
 #[tactic(auto, using(crate::proofs::Freely::gives_freely))]
-fn len_of<'s>(alloc: Global, at: usize, list: Operand<'_>) -> Result<Operand<'s>, TypeError>
-    ensures { Gives is_memory operand_view result (len_of at (operand_view list.entry)) }
+fn len_of<'s>(alloc: Global, at: usize, list: Box<Operand<'_>>) -> Result<Operand<'s>, TypeError>
+    ensures { Gives is_memory operand_view result (len_of at (operand_view list.entry.value)) }
 {
     item_shape(at, &list.kind)?;
     let tree = build::unary(alloc, UnaryOperator::Len, made_plain(alloc, list)?)?;
@@ -408,16 +488,16 @@ fn len_of<'s>(alloc: Global, at: usize, list: Operand<'_>) -> Result<Operand<'s>
 }
 
 /// One of two branches, which have their common kind.
-#[tactic(auto, using(crate::proofs::Freely::gives_freely))]
 fn choice_of<'s>(
     alloc: Global,
     at: usize,
     condition: (bool, Box<Typed>),
-    yes: Operand<'s>,
-    no: Operand<'s>,
+    yes: Box<Operand<'s>>,
+    no: Box<Operand<'s>>,
 ) -> Result<Operand<'s>, TypeError>
     ensures { Gives is_memory operand_view result
-        (choice_between at condition.0 (typed_view condition.1.value) (operand_view yes.entry) (operand_view no.entry)) }
+        (choice_between at condition.0 (typed_view condition.1.value)
+        (operand_view yes.entry.value) (operand_view no.entry.value)) }
 {
     let kind = common(alloc, &yes.kind, &no.kind);
     let (wanted, condition) = condition;
@@ -432,35 +512,34 @@ fn choice_of<'s>(
 fn choice_tree(
     alloc: Global,
     condition: Box<Typed>,
-    yes: Operand<'_>,
-    no: Operand<'_>,
+    yes: Box<Operand<'_>>,
+    no: Box<Operand<'_>>,
 ) -> Result<Box<Typed>, AllocError>
     ensures { IfOk result (λ tree. typed_view tree.value
-        ≡ choice_tree (typed_view condition.value) (operand_view yes.entry) (operand_view no.entry)) }
+        ≡ choice_tree (typed_view condition.value) (operand_view yes.entry.value) (operand_view no.entry.value)) }
 {
     let (yes, no) = turned_both(alloc, yes, no)?;
     choice(alloc, condition, yes, no)
 }
 
 /// An operand, or what stands in where it is nil.
-#[tactic(auto, using(crate::proofs::Turns::turned_is))]
 fn default_of<'s>(
     alloc: Global,
     at: usize,
-    first: Operand<'s>,
-    other: Operand<'s>,
+    first: Box<Operand<'s>>,
+    other: Box<Operand<'s>>,
 ) -> Result<Operand<'s>, TypeError>
     ensures { Gives is_memory operand_view result
-        (default_of at (operand_view first.entry) (operand_view other.entry)) }
+        (default_of at (operand_view first.entry.value) (operand_view other.entry.value)) }
 {
-    let Operand { tree, kind } = first;
+    let Operand { tree, kind } = Box::into_inner(first);
     let plain = without_nil(kind);
     let turns_first = turns(&other.kind, &plain);
     let turns_other = turns(&plain, &other.kind);
     let Operand {
         tree: other,
         kind: of_other,
-    } = other;
+    } = Box::into_inner(other);
     let kind = default_kind(alloc, plain, of_other);
     let tree = default_tree(alloc, turned(alloc, turns_first, tree)?, turns_other, other)?;
     match kind? {
@@ -503,11 +582,11 @@ fn predicate_of<'s>(
     alloc: Global,
     at: usize,
     over: Predicate,
-    list: Operand<'s>,
+    list: Box<Operand<'s>>,
     body: (bool, Box<Typed>),
 ) -> Result<Operand<'s>, TypeError>
     ensures { Gives is_memory operand_view result
-        (predicate_of at over (operand_view list.entry) body.0 (typed_view body.1.value)) }
+        (predicate_of at over (operand_view list.entry.value) body.0 (typed_view body.1.value)) }
 {
     let kind = predicate_kind(alloc, over, &list.kind)?;
     let (wanted, body) = body;

@@ -1,7 +1,9 @@
 use Rattle.ar_value.specs.View.{shape_view}
-use Rattle.std.proofs.Common.{option_map}
+use Rattle.std.proofs.Common.{arith, option_map, rules}
 use Rattle.std.proofs.lemmas.Result.{err_from_is_err_and}
+use Rattle.ar_check.specs.Check.{over_items}
 use Rattle.ar_check.specs.Memory.{is_memory}
+use Rattle.ar_check.proofs.Freely.{gives_freely}
 use Rattle.ar_check.proofs.Items.{ended, fails_unless, len_next, next_left}
 use Rattle.ar_check.proofs.typing.+typed.Goals as goal
 
@@ -27,3 +29,24 @@ pub typed_items-returns : goal.typed_items-returns
 typed_items-returns t c =
     let inv = c.loop-tree.invariant in
     ended (shape_view c.args.scope.measured.now) (option_map (λ shape. shape_view shape.now) c.args.scope.item) c.args.scope.around _ _ _ _ inv.3 inv.2 c.in-None.ensures.steps.0
+
+pub typed_predicate-returns : goal.typed_predicate-returns
+typed_predicate-returns t c =
+    let body = rw c.deref.ensures at c.in_ok-body.ensures in
+    rw (c.in_ok-list.ensures, body) c.predicate_of.ensures
+
+pub typed_body-returns-in_err-shape : goal.typed_body-returns-in_err-shape
+unfolding over_items
+typed_body-returns-in_err-shape t c = grind (arith, gives_freely)
+
+pub typed_body-returns-then-scope-ge-MOST_PREDICATES : goal.typed_body-returns-then-scope-ge-MOST_PREDICATES
+unfolding over_items
+typed_body-returns-then-scope-ge-MOST_PREDICATES t c = search rules
+
+pub typed_body-returns-in_err-child : goal.typed_body-returns-in_err-child
+unfolding over_items
+typed_body-returns-in_err-child t c = search rules
+
+pub typed_body-returns : goal.typed_body-returns
+unfolding over_items
+typed_body-returns t c = search rules

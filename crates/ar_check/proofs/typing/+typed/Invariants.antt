@@ -32,6 +32,21 @@ decreases-typed_items l = 4 * goal.size-typed_items l + 2
 abbrev pub decreases-typed_body : goal.decreases-typed_body
 decreases-typed_body l = 4 * goal.size-typed_body l + 2
 
+abbrev pub decreases-typed_field : goal.decreases-typed_field
+decreases-typed_field l = 4 * goal.size-typed_field l + 3
+
+abbrev pub decreases-typed_unary : goal.decreases-typed_unary
+decreases-typed_unary l = 4 * goal.size-typed_unary l + 3
+
+abbrev pub decreases-typed_list : goal.decreases-typed_list
+decreases-typed_list l = 4 * goal.size-typed_list l + 3
+
+abbrev pub decreases-typed_len : goal.decreases-typed_len
+decreases-typed_len l = 4 * goal.size-typed_len l + 3
+
+abbrev pub decreases-typed_is_nil : goal.decreases-typed_is_nil
+decreases-typed_is_nil l = 4 * goal.size-typed_is_nil l + 3
+
 abbrev pub decreases-typed_index : goal.decreases-typed_index
 decreases-typed_index l = 4 * max (size-Tree l.list.value) (size-Tree l.index.value) + 3
 
