@@ -58,6 +58,7 @@ given_on_top None kinds = Err IllKinded
 
 -- ---- what is sent on, where the next place has a number
 
+-- what stands above the floor once an operation was performed that goes on to the next place
 abbrev pub performed : Option (List Kind) → Result (List Kind) Reason
 performed (Some kinds) = Ok kinds
 performed None = Err IllKinded
