@@ -18,21 +18,22 @@ use ar_cell::{BundleName, Double, LookFault, Posted, Receipt, RunCell, Snapshot,
 use std::alloc::{AllocError, Global};
 use std::sync::{Mutex, Wait};
 
-#[cfg(test)]
-mod tests;
-
 /// The most workers that a board has seats for.
 pub const MOST_WORKERS: usize = 16;
 
 /// The runs of a bundle, to which workers post from threads of their own. They are kept in four cells,
-/// each under a lock.
+/// each under a lock. Posts and looks take the lock of their run; who holds one keeps workers waiting.
 #[derive(Drop)]
 pub struct Board<'b, M: BundleName, L: LockNames> {
     bundle: &'b Bundle,
-    first: Mutex<RunCell<'b, M, First<L>>>,
-    second: Mutex<RunCell<'b, M, Second<L>>>,
-    third: Mutex<RunCell<'b, M, Third<L>>>,
-    fourth: Mutex<RunCell<'b, M, Fourth<L>>>,
+    /// Runs 0, 4, 8 and so on.
+    pub first: Mutex<RunCell<'b, M, First<L>>>,
+    /// Runs 1, 5, 9 and so on.
+    pub second: Mutex<RunCell<'b, M, Second<L>>>,
+    /// Runs 2, 6, 10 and so on.
+    pub third: Mutex<RunCell<'b, M, Third<L>>>,
+    /// Runs 3, 7, 11 and so on.
+    pub fourth: Mutex<RunCell<'b, M, Fourth<L>>>,
     room: Room,
     ghost named: { bundle.now ≡ M.bundle },
     ghost histories: { length room.histories.items ≡ length M.bundle.runs },

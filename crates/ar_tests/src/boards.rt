@@ -1,12 +1,14 @@
 //! Boards, by the names that contracts give their bundle and their locks: posts and looks by seats, and
 //! what closing gives.
 
-ghost use Rattle.std.specs.Prelude.{◌≡◌, ◌≤◌, length};
+ghost use Rattle.std.specs.Prelude.{◌≡◌, ◌<◌, ◌≤◌, Some, length};
+ghost use Rattle.ar_bundle.specs.Bundle.{found};
 
 use crate::cells::TWO_RUNS;
+use ar_board::locks::First;
 use ar_board::{Blanks, Board, LockNames, Lost, Seat};
-use ar_bundle::{Bundle, Histories, History};
-use ar_cell::BundleName;
+use ar_bundle::{Bundle, Finding, Histories, History};
+use ar_cell::{BundleName, Receipt, RunCell};
 use ar_document::read_bundle;
 use std::alloc::Global;
 use std::fmt::{Debug, Write};
@@ -21,12 +23,58 @@ enum Call {
     Post(usize, u64),
     /// It looks at a run.
     Look(usize, usize),
+    /// It looks at run 0 while it holds the lock of that run, and posts number 1 and looks at run 1
+    /// meanwhile.
+    Hold(usize),
 }
 
 /// Writes an answer, a line.
 fn put_line<T: Debug>(text: &mut String, answer: &T) -> Result<(), Fail> {
     writeln!(text, "{answer:?}")?;
     Ok(())
+}
+
+/// A receipt that no seat has.
+const ELSEWHERE: &[Receipt] = &[Receipt {
+    run: 0,
+    number: 0,
+    place: 1,
+}];
+
+/// Writes what the cell of the first lock shows of run 0 to a worker: with these receipts, with none, and
+/// with one of another place.
+fn put_shown<M: BundleName, L: LockNames>(
+    alloc: Global,
+    cell: &RunCell<'_, M, First<L>>,
+    worker: usize,
+    receipts: &[Receipt],
+    text: &mut String,
+) -> Result<(), Fail>
+    requires worker { worker < M.workers }
+    requires runs { 1 ≤ length M.bundle.runs }
+{
+    put_line(text, &cell.show(alloc, 0, worker, receipts))?;
+    put_line(text, &cell.show(alloc, 0, worker, &[]))?;
+    put_line(text, &cell.show(alloc, 0, worker, ELSEWHERE))
+}
+
+/// Writes what the first lock's cell shows of run 0 while the lock is held, and what comes of posting
+/// number 1 and looking at run 1 meanwhile.
+fn put_held<M: BundleName, L: LockNames>(
+    rt: &impl Wait,
+    alloc: Global,
+    board: &Board<'_, M, L>,
+    seat: &mut Seat<M, L>,
+    finding: Finding,
+    text: &mut String,
+) -> Result<(), Fail>
+    requires sizes { (2 ≤ length M.bundle.runs) × (2 ≤ length M.bundle.entries) }
+    requires finding { found M.bundle 1 ≡ Some finding }
+{
+    let cell = board.first.lock(rt);
+    put_shown::<M, L>(alloc, &cell, seat.worker(), seat.receipts(), text)?;
+    put_line(text, &board.post(rt, seat, 1, finding))?;
+    put_line(text, &board.look(rt, alloc, seat, 1))
 }
 
 /// Writes what comes of a call by the seat of a worker that is there.
@@ -50,7 +98,14 @@ fn put_answer<M: BundleName, L: LockNames>(
         Call::Look(seat, run) if seat < seats.len() && run < bundle.runs().len() => {
             put_line(text, &board.look(rt, alloc, &seats[seat], run))
         }
-        Call::Post(..) | Call::Look(..) => Err(Fail::from("expected what is there")),
+        Call::Hold(seat)
+            if seat < seats.len() && bundle.runs().len() >= 2 && bundle.events() >= 2 => {
+            let finding = bundle.finding(alloc, 1)?;
+            put_held(rt, alloc, board, &mut seats[seat], finding, text)
+        }
+        Call::Post(..) | Call::Look(..) | Call::Hold(_) => {
+            Err(Fail::from("expected what is there"))
+        }
     }
 }
 
@@ -191,6 +246,26 @@ fn two_seats(rt: HostRuntime) -> Result<(), Fail> {
 Ok(Snapshot { phase: Successful, metrics: [Successful], posts: [1, 0] })
 Err(Double)
 Ok(Posted { place: 0, effect: Closed(Successful) })
+0 / 1 / "
+    );
+    Ok(())
+}
+
+/// A look answers what the cell shows while the lock is held, and a run under another lock is posted to
+/// and looked at meanwhile.
+#[test]
+fn held_lock(rt: HostRuntime) -> Result<(), Fail> {
+    let calls = [Call::Post(0, 0), Call::Look(0, 0), Call::Hold(0)];
+    let held = on_two_runs(&rt, rt.alloc(), 1, &calls)?;
+    assert_eq!(rt;
+        held.as_str(),
+        "Ok(Posted { place: 0, effect: Closed(Successful) })
+Ok(Snapshot { phase: Successful, metrics: [Successful], posts: [1] })
+Ok(Snapshot { phase: Successful, metrics: [Successful], posts: [1] })
+Err(Stale(1))
+Err(Stale(1))
+Ok(Posted { place: 0, effect: Closed(Successful) })
+Ok(Snapshot { phase: Successful, metrics: [Successful], posts: [1] })
 0 / 1 / "
     );
     Ok(())

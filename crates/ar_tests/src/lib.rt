@@ -1,29 +1,24 @@
-//! Tests of the libraries that need Rust: that calls succeed with ample memory on inputs as large as may
-//! be, what is lent and given back, cells and boards. What takes data and gives data stands as cases in
-//! files.
+//! Tests that need Rust: cells, boards and the queue, readers and writers in memory, workers that wait for
+//! each other, and calls of the laws. What takes data and gives data stands as cases in files, and
+//! documents as large as may be are given to the program (`tests/workers`).
 //!
-//! - `values`: shapes and values of as many items and levels as may be, and refused growths
-//! - `phases`: runs of as many events as may be
-//! - `templates`: arguments, and parts of templates that are given back
-//! - `code`: code that is given back, and images with a byte less or another one
-//! - `bundles`: plain runs of as many events as may be, and lists that are given back
-//! - `boards`: posts and looks by the seats of a board, and what closing it gives
 //! - `cells`: what a board keeps under a lock: posts, and looks with receipts
+//! - `boards`: posts and looks by the seats of a board, and what closing it gives
+//! - `queues`: how many places a queue has
+//! - `workers`: runs with workers, two of which judge at once
+//! - `commands`: commands on inputs that come a byte at a time, that can't be read, and that are kept
+//! - `laws`: laws
 #![tactic(auto)]
 
 #[cfg(test)]
 mod boards;
 #[cfg(test)]
-mod bundles;
-#[cfg(test)]
 mod cells;
 #[cfg(test)]
-mod code;
+mod commands;
 #[cfg(test)]
-mod phases;
+mod laws;
 #[cfg(test)]
 mod queues;
 #[cfg(test)]
-mod templates;
-#[cfg(test)]
-mod values;
+mod workers;
