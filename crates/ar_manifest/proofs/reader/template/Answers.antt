@@ -1,0 +1,33 @@
+use Rattle.std.proofs.lemmas.Result.{err_from_is_err_and}
+use Rattle.serde_json.specs.View.{view}
+use Rattle.ar_manifest.specs.Template.{template_of}
+use Rattle.ar_manifest.proofs.Parts.{arguments_refused, head_refused, metrics_refused, template_made}
+use Rattle.ar_manifest.proofs.Steps.{refuses_same}
+use Rattle.ar_manifest.proofs.reader.template.Goals as goal
+
+pub returns-in_err-name-clause-exact : goal.returns-in_err-name-clause-exact
+returns-in_err-name-clause-exact c =
+    let error = err_from_is_err_and c.from_residual.result c.from_residual.ensures.1 in
+    let d = view c.args.json.now in
+    rw (error.1, error.2) (refuses_same c.in_err-name.field-0.0 (template_of d) (head_refused d c.in_err-name.field-0.0 c.in_err-name.ensures))
+
+pub returns-in_err-arguments-clause-exact : goal.returns-in_err-arguments-clause-exact
+returns-in_err-arguments-clause-exact c =
+    let error = err_from_is_err_and c.from_residual-in_err-arguments.result c.from_residual-in_err-arguments.ensures.1 in
+    let refused = rw c.member_of_member.ensures at c.in_err-arguments.ensures.exact in
+    rw (error.1, error.2) (arguments_refused (view c.args.json.now) c.in_ok-name.name.now c.in_ok-name.ensures c.in_err-arguments.field-0.0 refused)
+
+pub returns-in_err-held-clause-exact : goal.returns-in_err-held-clause-exact
+returns-in_err-held-clause-exact c =
+    let error = err_from_is_err_and c.from_residual-in_err-held.result c.from_residual-in_err-held.ensures.1 in
+    let made = rw c.member_of_member.ensures at c.in_ok-arguments.ensures.exact in
+    let refused = rw c.in_err-held.ensures.err at c.marked_metrics.ensures.exact in
+    rw (error.1, error.2) (metrics_refused (view c.args.json.now) c.in_ok-name.name.now c.in_ok-name.ensures c.in_ok-arguments.arguments made c.in_err-held.field-0.0 refused)
+
+pub returns-clause-exact : goal.returns-clause-exact
+returns-clause-exact c =
+    let made = rw c.member_of_member.ensures at c.in_ok-arguments.ensures.exact in
+    let marked = rw c.in_ok-held.ensures.ok.0 at c.marked_metrics.ensures.exact in
+    let is = template_made (view c.args.json.now) c.in_ok-name.name.now c.in_ok-name.ensures c.in_ok-arguments.arguments made _ marked in
+    let copied = rw c.in_ok-held-2.ensures.ok.0 at c.of.ensures in
+    rw (c.in_ok-held-2.ensures.ok.1, c.in_ok-held.ensures.ok.1, copied) is
