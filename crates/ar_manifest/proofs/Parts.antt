@@ -9,7 +9,7 @@ use Rattle.ar_manifest.specs.Binding.{RunArguments}
 use Rattle.ar_manifest.specs.Bound.{bound_condition, bound_limit, bound_metric, effective_count}
 use Rattle.ar_manifest.specs.DryRun.{with_dry_run}
 use Rattle.ar_manifest.specs.Private.BoundParts.{bound_conditions, bound_limits}
-use Rattle.ar_manifest.specs.Private.Early.{counted_of}
+use Rattle.ar_manifest.specs.Private.Early.{counted_of, first_counted}
 use Rattle.ar_manifest.specs.Private.Made.{marked_metrics, two_limits}
 use Rattle.ar_manifest.specs.Refusals.{is_memory}
 use Rattle.ar_manifest.specs.Template.{TemplateArguments, arguments_of, head_of, limit_or, metric_limits, metric_of, template_of}
@@ -94,6 +94,9 @@ module _ (d : Data) where
       → (metrics : List Metric) → marked_metrics d ≡ Ok metrics → template_of d ≡ Ok (template_with name arguments metrics)
   template_made name named arguments made metrics marked =
       sym (behind_arguments name named arguments made) ∙ ap (λ (answer : Result (List Metric) ManifestError). answer >>= λ found. Ok (template_with name arguments found)) marked
+
+  pub counted_refused : (name : List ℕ) → head_of d ≡ Ok name → (refusal : ManifestError) → first_counted d ≡ Err refusal → counted_of d ≡ Err refusal
+  counted_refused name named refusal refused = sym (ap (λ head. head >>= λ found. counted_of d) named) ∙ refused
 
 -- ---- the limits of a metric
 

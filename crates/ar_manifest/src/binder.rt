@@ -3,7 +3,7 @@
 ghost use Rattle.std.specs.Prelude.{◌≡◌, [], None, Ok};
 ghost use Rattle.ar_value.specs.Answer.{Gives, Refuses, each_behind};
 ghost use Rattle.ar_manifest.specs.Refusals.{is_memory};
-ghost use Rattle.ar_manifest.specs.Private.BoundParts.{bound_conditions, bound_limits};
+ghost use Rattle.ar_manifest.specs.Private.BoundParts.{bound_conditions, bound_limits, limit_in};
 ghost use Rattle.ar_manifest.specs.Bound.{IsNumber, IsPlain, RefusesFirst, bound_condition, bound_limit, bound_metric, bound_of, next_bound};
 
 use crate::arguments::{Args, Arguments};
@@ -56,6 +56,15 @@ fn condition(
     }
 }
 
+/// A text as a limit, bound.
+fn limit_in(alloc: Global, scope: &Scope, text: &str) -> Result<u32, ManifestError>
+    ensures { Gives is_memory (λ limit. limit) result
+        (limit_in scope.now.arguments.now scope.now.own.now scope.now.metric text.now) }
+{
+    let bound = scope.text(alloc, text)?;
+    limit_of_text(bound.as_str(), scope.metric)
+}
+
 /// A limit, bound.
 #[tactic(auto, unfolding(crate::specs::Bound::bound_limit))]
 fn limit(alloc: Global, scope: &Scope, limit: &Option<Limit>) -> Result<Option<u32>, ManifestError>
@@ -66,12 +75,9 @@ fn limit(alloc: Global, scope: &Scope, limit: &Option<Limit>) -> Result<Option<u
 {
     match limit {
         None => Ok(None),
-        Some(Limit::Whole(number)) => Ok(Some(limit_of_number(*number, scope.metric)?)),
+        Some(Limit::Whole(number)) => limit_of_number(*number, scope.metric).map(Some),
         Some(Limit::OtherNumber) => Err(ManifestError::BadLimit(scope.metric)),
-        Some(Limit::Text(text)) => {
-            let bound = scope.text(alloc, text.as_str())?;
-            Ok(Some(limit_of_text(bound.as_str(), scope.metric)?))
-        }
+        Some(Limit::Text(text)) => limit_in(alloc, scope, text.as_str()).map(Some),
     }
 }
 

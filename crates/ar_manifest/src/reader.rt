@@ -14,7 +14,7 @@ ghost use Rattle.ar_manifest.specs.Template.{HasNoArguments, argument_of, argume
 use crate::arguments::Arguments;
 use crate::dry_run::with_dry_run;
 use crate::error::ManifestError;
-use crate::holding::{add, beside};
+use crate::holding::{add, beside, unless};
 use crate::template::{Limit, Metric, MetricLimits, Metrics, Template};
 use ar_json::members::{list_of, member, member_of_member, text_member, text_or};
 use ar_value::Text;
@@ -178,10 +178,8 @@ fn metric(alloc: Global, json: &Json, earlier: &[Metric]) -> Result<Metric, Mani
     let i = earlier.len();
     let name = new_name(json, earlier)?;
     let metric = named_metric(alloc, json, name, i)?;
-    if member(json, "consecutiveSuccessLimit").is_some() {
-        return Err(ManifestError::Unsupported(i));
-    }
-    Ok(metric)
+    let is_refused = member(json, "consecutiveSuccessLimit").is_some();
+    unless(metric, is_refused, ManifestError::Unsupported(i))
 }
 
 /// The metrics of a JSON list.
@@ -256,7 +254,6 @@ fn argument(
 }
 
 /// The arguments of a JSON list.
-#[tactic(auto, using(crate::proofs::Steps::step_more, crate::proofs::Steps::step_fault, crate::proofs::Steps::step_end))]
 fn listed_arguments(alloc: Global, list: &[Json]) -> Result<Arguments<Option<Text>>, ManifestError>
     ensures exact { Gives is_memory (λ arguments. arguments) result
         (each_behind argument_of [] (map (λ json. view json) list.now)) }

@@ -3,7 +3,7 @@ use Rattle.std.proofs.lemmas.Result.{err_from_is_err_and}
 use Rattle.ar_value.specs.Answer.{Unless}
 use Rattle.ar_manifest.specs.Refusals.{is_memory}
 use Rattle.ar_manifest.specs.Bound.{IsPlain, next_bound}
-use Rattle.ar_manifest.proofs.First.{at_first, bound_first, refused_item}
+use Rattle.ar_manifest.proofs.First.{at_first, bound_first, none_first, refused_item}
 use Rattle.ar_manifest.proofs.Steps.{step_end, step_fault, step_more}
 use Rattle.ar_manifest.proofs.binder.metrics.Goals as goal
 
@@ -49,3 +49,7 @@ loop-metric-preserved c =
 
 pub returns-clause-exact : goal.returns-clause-exact
 returns-clause-exact c = step_end (λ metric. metric) (next_bound c.args.arguments.now c.args.own.now) c.args.list.now c.loop-metric.metric-index c.loop-metric.metrics.items _ c.from.result (omega arith) c.from.ensures c.loop-metric.invariant.so_far
+
+pub returns-clause-first : goal.returns-clause-first
+returns-clause-first c = λ first rest is_list plain refusal refused.
+    absurd (none_first c.args.arguments.now c.args.own.now c.args.list.now c.loop-metric.metric-index c.loop-metric.invariant.stays c.loop-metric-test.false first rest is_list refusal refused)

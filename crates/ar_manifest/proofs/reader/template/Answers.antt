@@ -1,7 +1,8 @@
+use Rattle.std.proofs.Common.{◌≡◌, Err, Ok, refl, sym, ◌∙◌}
 use Rattle.std.proofs.lemmas.Result.{err_from_is_err_and}
 use Rattle.serde_json.specs.View.{view}
 use Rattle.ar_manifest.specs.Template.{template_of}
-use Rattle.ar_manifest.proofs.Parts.{arguments_refused, head_refused, metrics_refused, template_made}
+use Rattle.ar_manifest.proofs.Parts.{arguments_refused, counted_refused, head_refused, metrics_refused, template_made}
 use Rattle.ar_manifest.proofs.Steps.{refuses_same}
 use Rattle.ar_manifest.proofs.reader.template.Goals as goal
 
@@ -31,3 +32,20 @@ returns-clause-exact c =
     let is = template_made (view c.args.json.now) c.in_ok-name.name.now c.in_ok-name.ensures c.in_ok-arguments.arguments made _ marked in
     let copied = rw c.in_ok-held-2.ensures.ok.0 at c.of.ensures in
     rw (c.in_ok-held-2.ensures.ok.1, c.in_ok-held.ensures.ok.1, copied) is
+
+pub returns-clause-head : goal.returns-clause-head
+returns-clause-head c = λ refusal refused. absurd (let impossible = sym c.in_ok-name.ensures ∙ refused in cc)
+
+pub returns-in_err-held-clause-counted : goal.returns-in_err-held-clause-counted
+returns-in_err-held-clause-counted c = λ none refusal refused.
+    let error = err_from_is_err_and c.from_residual-in_err-held.result c.from_residual-in_err-held.ensures.1 in
+    let told : c.marked_metrics.result ≡ Err refusal = c.marked_metrics.ensures.counted refusal (counted_refused (view c.args.json.now) c.in_ok-name.name.now c.in_ok-name.ensures refusal refused) in
+    let fault : c.marked_metrics.result ≡ Err c.in_err-held.field-0.0 = c.in_err-held.ensures.err in
+    let same : c.in_err-held.field-0.0 ≡ refusal = cc in
+    rw (error.1, error.2, same) refl
+
+pub returns-clause-counted : goal.returns-clause-counted
+returns-clause-counted c = λ none refusal refused.
+    let told : c.marked_metrics.result ≡ Err refusal = c.marked_metrics.ensures.counted refusal (counted_refused (view c.args.json.now) c.in_ok-name.name.now c.in_ok-name.ensures refusal refused) in
+    let made : c.marked_metrics.result ≡ Ok c.in_ok-held.held.1 = c.in_ok-held.ensures.ok.0 in
+    absurd (let impossible : Ok c.in_ok-held.held.1 ≡ Err refusal = sym made ∙ told in cc)
