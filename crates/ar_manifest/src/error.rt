@@ -7,6 +7,36 @@ use std::alloc::{AllocError, AllocFailed};
 use std::fmt;
 use thiserror::Error;
 
+const WRONG_VERSION: &str = "WrongVersion: expected `apiVersion` \"argoproj.io/v1alpha1\"";
+
+const WRONG_KIND: &str =
+    "WrongKind: expected `kind` \"AnalysisTemplate\" or \"ClusterAnalysisTemplate\"";
+
+const NAME_MISSING: &str = "NameMissing: expected a text `metadata.name` that isn't empty";
+
+const NO_METRICS: &str = "NoMetrics: expected a list `spec.metrics` of at least one metric";
+
+const TOO_MANY_METRICS: &str = "TooManyMetrics: expected at most 64 metrics";
+
+const METRIC_NAME_MISSING: &str = "MetricNameMissing: expected a text `name`";
+
+const DOUBLE_METRIC: &str = "DoubleMetric: expected a name that no earlier metric has";
+
+const BAD_FIELD: &str =
+    "BadField: expected texts for conditions and `interval`, numbers or texts for limits";
+
+const UNSUPPORTED: &str = "Unsupported: expected no `consecutiveSuccessLimit`";
+
+const OPEN_BRACES: &str = "OpenBraces: expected }} behind {{";
+
+const UNKNOWN_ARG: &str = "UnknownArg: expected {{args.NAME}} with a name of `spec.args`";
+
+const NO_VALUE: &str = "NoValue: expected a value for the argument, from the run or the template";
+
+const BAD_LIMIT: &str = "BadLimit: expected a limit of 0 to 1000000000 in one to ten digits";
+
+const INTERVAL_MISSING: &str = "IntervalMissing: expected an `interval` beside a `count` above 1";
+
 /// What is said of a refusal.
 #[derive(Clone, Copy)]
 enum Words {
@@ -75,42 +105,23 @@ pub enum ManifestError {
 impl ManifestError {
     fn words(self) -> Words {
         match self {
-            ManifestError::WrongVersion => Words::Plain(
-                "WrongVersion: expected `apiVersion` \"argoproj.io/v1alpha1\"",
-            ),
-            ManifestError::WrongKind => Words::Plain(
-                "WrongKind: expected `kind` \"AnalysisTemplate\" or \"ClusterAnalysisTemplate\"",
-            ),
-            ManifestError::NameMissing => Words::Plain(
-                "NameMissing: expected a text `metadata.name` that isn't empty",
-            ),
+            ManifestError::WrongVersion => Words::Plain(WRONG_VERSION),
+            ManifestError::WrongKind => Words::Plain(WRONG_KIND),
+            ManifestError::NameMissing => Words::Plain(NAME_MISSING),
             ManifestError::BadArgs(number) => Words::Around(
                 "spec.args: BadArgs: expected a list, and of argument ",
                 number,
                 " a text `name` of its own and no `value` but a text",
             ),
-            ManifestError::NoMetrics => Words::Plain(
-                "NoMetrics: expected a list `spec.metrics` of at least one metric",
-            ),
-            ManifestError::TooManyMetrics => Words::Plain(
-                "TooManyMetrics: expected at most 64 metrics",
-            ),
+            ManifestError::NoMetrics => Words::Plain(NO_METRICS),
+            ManifestError::TooManyMetrics => Words::Plain(TOO_MANY_METRICS),
             ManifestError::MetricNameMissing(number) => Words::OfMetric(
                 number,
-                "MetricNameMissing: expected a text `name`",
+                METRIC_NAME_MISSING,
             ),
-            ManifestError::DoubleMetric(number) => Words::OfMetric(
-                number,
-                "DoubleMetric: expected a name that no earlier metric has",
-            ),
-            ManifestError::BadField(number) => Words::OfMetric(
-                number,
-                "BadField: expected texts for conditions and `interval`, numbers or texts for limits",
-            ),
-            ManifestError::Unsupported(number) => Words::OfMetric(
-                number,
-                "Unsupported: expected no `consecutiveSuccessLimit`",
-            ),
+            ManifestError::DoubleMetric(number) => Words::OfMetric(number, DOUBLE_METRIC),
+            ManifestError::BadField(number) => Words::OfMetric(number, BAD_FIELD),
+            ManifestError::Unsupported(number) => Words::OfMetric(number, UNSUPPORTED),
             ManifestError::BadDryRun(number) => Words::Around(
                 "spec.dryRun: BadDryRun: expected a list, and of item ",
                 number,
@@ -121,26 +132,11 @@ impl ManifestError {
                 number,
                 "].metricName: UnknownDryRun: expected a metric's whole name, or `.*` for all, and no other regular expression; no metric has the name",
             ),
-            ManifestError::OpenBraces(number) => Words::OfMetric(
-                number,
-                "OpenBraces: expected }} behind {{",
-            ),
-            ManifestError::UnknownArg(number) => Words::OfMetric(
-                number,
-                "UnknownArg: expected {{args.NAME}} with a name of `spec.args`",
-            ),
-            ManifestError::NoValue(number) => Words::OfMetric(
-                number,
-                "NoValue: expected a value for the argument, from the run or the template",
-            ),
-            ManifestError::BadLimit(number) => Words::OfMetric(
-                number,
-                "BadLimit: expected a limit of 0 to 1000000000 in one to ten digits",
-            ),
-            ManifestError::IntervalMissing(number) => Words::OfMetric(
-                number,
-                "IntervalMissing: expected an `interval` beside a `count` above 1",
-            ),
+            ManifestError::OpenBraces(number) => Words::OfMetric(number, OPEN_BRACES),
+            ManifestError::UnknownArg(number) => Words::OfMetric(number, UNKNOWN_ARG),
+            ManifestError::NoValue(number) => Words::OfMetric(number, NO_VALUE),
+            ManifestError::BadLimit(number) => Words::OfMetric(number, BAD_LIMIT),
+            ManifestError::IntervalMissing(number) => Words::OfMetric(number, INTERVAL_MISSING),
             ManifestError::OutOfMemory => Words::Plain("out of memory"),
         }
     }
