@@ -8,17 +8,15 @@ use std::alloc::{AllocError, AllocFailed};
 use std::fmt;
 use thiserror::Error;
 
-/// What is said of a fault.
+/// What is said of a fault, before what is said of its cause.
 #[derive(Clone, Copy)]
 enum Words {
     /// On the whole of a part.
     Plain(&'static str),
     /// Before and behind the number of what is at fault.
     Around(&'static str, usize, &'static str),
-    OfManifest(ManifestError),
-    OfShape(usize, ShapeError),
-    OfRun(usize, ManifestError),
-    OfMetric(usize, usize, BuildError),
+    /// Before the fault of a metric of a run.
+    OfMetric(usize, usize),
 }
 
 impl fmt::Display for Words {
@@ -26,12 +24,7 @@ impl fmt::Display for Words {
         match *self {
             Words::Plain(words) => f.write_str(words),
             Words::Around(before, number, behind) => write!(f, "{}{}{}", before, number, behind),
-            Words::OfManifest(error) => write!(f, "manifest: {}", error),
-            Words::OfShape(metric, error) => write!(f, "shapes: metric {}: {}", metric, error),
-            Words::OfRun(run, error) => write!(f, "run {}, {}", run, error),
-            Words::OfMetric(run, metric, error) => {
-                write!(f, "run {}, metric {}, {}", run, metric, error)
-            }
+            Words::OfMetric(run, metric) => write!(f, "run {}, metric {}, ", run, metric),
         }
     }
 }
@@ -80,13 +73,13 @@ impl BundleError {
             BundleError::Utf8OrJson => Words::Plain(
                 "document: Utf8OrJson: expected one JSON value in UTF-8",
             ),
-            BundleError::Manifest(error) => Words::OfManifest(error),
+            BundleError::Manifest(_) => Words::Plain("manifest: "),
             BundleError::ShapeMissing(number) => Words::Around(
                 "shapes: metric ",
                 number,
                 ": ShapeMissing: expected a shape in `shapes` for each metric, by its name",
             ),
-            BundleError::Shapes(metric, error) => Words::OfShape(metric, error),
+            BundleError::Shapes(metric, _) => Words::Around("shapes: metric ", metric, ": "),
             BundleError::Runs => Words::Plain(
                 "runs: Runs: expected a list of 1 to 64 runs, each with a text `name` and no `args` but texts by name",
             ),
@@ -95,8 +88,8 @@ impl BundleError {
                 number,
                 "]: DoubleRun: an earlier run has the name, too",
             ),
-            BundleError::Bind(run, error) => Words::OfRun(run, error),
-            BundleError::Build(run, metric, error) => Words::OfMetric(run, metric, error),
+            BundleError::Bind(run, _) => Words::Around("run ", run, ", "),
+            BundleError::Build(run, metric, _) => Words::OfMetric(run, metric),
             BundleError::TooManyMeasurements => Words::Plain(
                 "measurements: TooManyMeasurements: expected at most 100000 entries",
             ),
@@ -122,7 +115,13 @@ impl BundleError {
 
 impl fmt::Display for BundleError {
     fn fmt<W: fmt::Write>(&self, f: &mut fmt::Formatter<W>) -> fmt::Result {
-        self.words().fmt(f)
+        self.words().fmt(f)?;
+        match self {
+            BundleError::Manifest(error) | BundleError::Bind(_, error) => error.fmt(f),
+            BundleError::Shapes(_, error) => error.fmt(f),
+            BundleError::Build(_, _, error) => error.fmt(f),
+            _ => Ok(()),
+        }
     }
 }
 
