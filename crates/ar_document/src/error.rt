@@ -8,6 +8,16 @@ use std::alloc::{AllocError, AllocFailed};
 use std::fmt;
 use thiserror::Error;
 
+const TOO_LARGE: &str = "document: TooLarge: expected at most 16777216 bytes";
+
+const UTF8_OR_JSON: &str = "document: Utf8OrJson: expected one JSON value in UTF-8";
+
+const RUNS: &str =
+    "runs: Runs: expected a list of 1 to 64 runs, each with a text `name` and no `args` but texts by name";
+
+const TOO_MANY_MEASUREMENTS: &str =
+    "measurements: TooManyMeasurements: expected at most 100000 entries";
+
 /// What is said of a fault, before what is said of its cause.
 #[derive(Clone, Copy)]
 enum Words {
@@ -67,12 +77,8 @@ pub enum BundleError {
 impl BundleError {
     fn words(self) -> Words {
         match self {
-            BundleError::TooLarge => Words::Plain(
-                "document: TooLarge: expected at most 16777216 bytes",
-            ),
-            BundleError::Utf8OrJson => Words::Plain(
-                "document: Utf8OrJson: expected one JSON value in UTF-8",
-            ),
+            BundleError::TooLarge => Words::Plain(TOO_LARGE),
+            BundleError::Utf8OrJson => Words::Plain(UTF8_OR_JSON),
             BundleError::Manifest(_) => Words::Plain("manifest: "),
             BundleError::ShapeMissing(number) => Words::Around(
                 "shapes: metric ",
@@ -80,9 +86,7 @@ impl BundleError {
                 ": ShapeMissing: expected a shape in `shapes` for each metric, by its name",
             ),
             BundleError::Shapes(metric, _) => Words::Around("shapes: metric ", metric, ": "),
-            BundleError::Runs => Words::Plain(
-                "runs: Runs: expected a list of 1 to 64 runs, each with a text `name` and no `args` but texts by name",
-            ),
+            BundleError::Runs => Words::Plain(RUNS),
             BundleError::DoubleRun(number) => Words::Around(
                 "runs[",
                 number,
@@ -90,9 +94,7 @@ impl BundleError {
             ),
             BundleError::Bind(run, _) => Words::Around("run ", run, ", "),
             BundleError::Build(run, metric, _) => Words::OfMetric(run, metric),
-            BundleError::TooManyMeasurements => Words::Plain(
-                "measurements: TooManyMeasurements: expected at most 100000 entries",
-            ),
+            BundleError::TooManyMeasurements => Words::Plain(TOO_MANY_MEASUREMENTS),
             BundleError::BadEntry(number) => Words::Around(
                 "measurements[",
                 number,
