@@ -7,54 +7,13 @@ use std::alloc::{AllocError, AllocFailed};
 use std::fmt;
 use thiserror::Error;
 
-const WRONG_VERSION: &str = "WrongVersion: expected `apiVersion` \"argoproj.io/v1alpha1\"";
-
-const WRONG_KIND: &str =
-    "WrongKind: expected `kind` \"AnalysisTemplate\" or \"ClusterAnalysisTemplate\"";
-
-const NAME_MISSING: &str = "NameMissing: expected a text `metadata.name` that isn't empty";
-
-const NO_METRICS: &str = "NoMetrics: expected a list `spec.metrics` of at least one metric";
-
-const TOO_MANY_METRICS: &str = "TooManyMetrics: expected at most 64 metrics";
-
-const METRIC_NAME_MISSING: &str = "MetricNameMissing: expected a text `name`";
-
-const DOUBLE_METRIC: &str = "DoubleMetric: expected a name that no earlier metric has";
-
-const BAD_FIELD: &str =
-    "BadField: expected texts for conditions and `interval`, numbers or texts for limits";
-
-const UNSUPPORTED: &str = "Unsupported: expected no `consecutiveSuccessLimit`";
-
-const OPEN_BRACES: &str = "OpenBraces: expected }} behind {{";
-
-const UNKNOWN_ARG: &str = "UnknownArg: expected {{args.NAME}} with a name of `spec.args`";
-
-const NO_VALUE: &str = "NoValue: expected a value for the argument, from the run or the template";
-
-const BAD_LIMIT: &str = "BadLimit: expected a limit of 0 to 1000000000 in one to ten digits";
-
-const INTERVAL_MISSING: &str = "IntervalMissing: expected an `interval` beside a `count` above 1";
-
-/// What is said of a refusal.
+/// Words on a metric.
 #[derive(Clone, Copy)]
-enum Words {
-    /// On the whole of a template.
-    Plain(&'static str),
-    /// On the metric with a number.
-    OfMetric(usize, &'static str),
-    /// Before and behind the number of an argument or an item.
-    Around(&'static str, usize, &'static str),
-}
+struct OfMetric(usize, &'static str);
 
-impl fmt::Display for Words {
+impl fmt::Display for OfMetric {
     fn fmt<W: fmt::Write>(&self, f: &mut fmt::Formatter<W>) -> fmt::Result {
-        match *self {
-            Words::Plain(words) => f.write_str(words),
-            Words::OfMetric(number, words) => write!(f, "metric {}: {}", number, words),
-            Words::Around(before, number, behind) => write!(f, "{}{}{}", before, number, behind),
-        }
+        write!(f, "metric {}: {}", self.0, self.1)
     }
 }
 
@@ -63,89 +22,61 @@ impl fmt::Display for Words {
 #[derive(Clone, Copy, Debug, Error)]
 pub enum ManifestError {
     /// `apiVersion` is another value.
+    #[error("WrongVersion: expected `apiVersion` \"argoproj.io/v1alpha1\"")]
     WrongVersion,
     /// `kind` is another value.
+    #[error("WrongKind: expected `kind` \"AnalysisTemplate\" or \"ClusterAnalysisTemplate\"")]
     WrongKind,
     /// `metadata.name` is no text, or an empty one.
+    #[error("NameMissing: expected a text `metadata.name` that isn't empty")]
     NameMissing,
     /// The argument has no name, that of an earlier argument, or a value that is no text; or
     /// `spec.args` is no list, and the number is 0.
+    #[error("spec.args: BadArgs: expected a list, and of argument {0} a text `name` of its own and no `value` but a text")]
     BadArgs(usize),
     /// `spec.metrics` is no list, or an empty one.
+    #[error("NoMetrics: expected a list `spec.metrics` of at least one metric")]
     NoMetrics,
     /// `spec.metrics` has more than 64 metrics.
+    #[error("TooManyMetrics: expected at most 64 metrics")]
     TooManyMetrics,
     /// The metric has no text `name`.
+    #[error("{}", OfMetric(*.0, "MetricNameMissing: expected a text `name`"))]
     MetricNameMissing(usize),
     /// An earlier metric has the metric's name.
+    #[error("{}", OfMetric(*.0, "DoubleMetric: expected a name that no earlier metric has"))]
     DoubleMetric(usize),
     /// A condition or `interval` is no text, or a limit is neither a number nor a text.
+    #[error("{}", OfMetric(*.0, "BadField: expected texts for conditions and `interval`, numbers or texts for limits"))]
     BadField(usize),
     /// The metric has `consecutiveSuccessLimit`.
+    #[error("{}", OfMetric(*.0, "Unsupported: expected no `consecutiveSuccessLimit`"))]
     Unsupported(usize),
     /// The item of `spec.dryRun` has no text `metricName`, or an empty one; or `spec.dryRun` is no
     /// list, and the number is 0.
+    #[error("spec.dryRun: BadDryRun: expected a list, and of item {0} a text `metricName` that isn't empty")]
     BadDryRun(usize),
     /// The item of `spec.dryRun` names no metric.
+    #[error("spec.dryRun[{0}].metricName: UnknownDryRun: expected a metric's whole name, or `.*` for all, and no other regular expression; no metric has the name")]
     UnknownDryRun(usize),
     /// In a text of the metric, `{{` stands without a `}}` behind it.
+    #[error("{}", OfMetric(*.0, "OpenBraces: expected }} behind {{"))]
     OpenBraces(usize),
     /// In a text of the metric, what stands in braces names no argument of the template.
+    #[error("{}", OfMetric(*.0, "UnknownArg: expected {{args.NAME}} with a name of `spec.args`"))]
     UnknownArg(usize),
     /// A text of the metric names an argument that neither the run nor the template gives a value.
+    #[error("{}", OfMetric(*.0, "NoValue: expected a value for the argument, from the run or the template"))]
     NoValue(usize),
     /// A limit, its arguments replaced, isn't one.
+    #[error("{}", OfMetric(*.0, "BadLimit: expected a limit of 0 to 1000000000 in one to ten digits"))]
     BadLimit(usize),
     /// The metric has a `count` above 1 and no `interval`.
+    #[error("{}", OfMetric(*.0, "IntervalMissing: expected an `interval` beside a `count` above 1"))]
     IntervalMissing(usize),
     /// A growth of memory was refused.
+    #[error("out of memory")]
     OutOfMemory,
-}
-
-impl ManifestError {
-    fn words(self) -> Words {
-        match self {
-            ManifestError::WrongVersion => Words::Plain(WRONG_VERSION),
-            ManifestError::WrongKind => Words::Plain(WRONG_KIND),
-            ManifestError::NameMissing => Words::Plain(NAME_MISSING),
-            ManifestError::BadArgs(number) => Words::Around(
-                "spec.args: BadArgs: expected a list, and of argument ",
-                number,
-                " a text `name` of its own and no `value` but a text",
-            ),
-            ManifestError::NoMetrics => Words::Plain(NO_METRICS),
-            ManifestError::TooManyMetrics => Words::Plain(TOO_MANY_METRICS),
-            ManifestError::MetricNameMissing(number) => Words::OfMetric(
-                number,
-                METRIC_NAME_MISSING,
-            ),
-            ManifestError::DoubleMetric(number) => Words::OfMetric(number, DOUBLE_METRIC),
-            ManifestError::BadField(number) => Words::OfMetric(number, BAD_FIELD),
-            ManifestError::Unsupported(number) => Words::OfMetric(number, UNSUPPORTED),
-            ManifestError::BadDryRun(number) => Words::Around(
-                "spec.dryRun: BadDryRun: expected a list, and of item ",
-                number,
-                " a text `metricName` that isn't empty",
-            ),
-            ManifestError::UnknownDryRun(number) => Words::Around(
-                "spec.dryRun[",
-                number,
-                "].metricName: UnknownDryRun: expected a metric's whole name, or `.*` for all, and no other regular expression; no metric has the name",
-            ),
-            ManifestError::OpenBraces(number) => Words::OfMetric(number, OPEN_BRACES),
-            ManifestError::UnknownArg(number) => Words::OfMetric(number, UNKNOWN_ARG),
-            ManifestError::NoValue(number) => Words::OfMetric(number, NO_VALUE),
-            ManifestError::BadLimit(number) => Words::OfMetric(number, BAD_LIMIT),
-            ManifestError::IntervalMissing(number) => Words::OfMetric(number, INTERVAL_MISSING),
-            ManifestError::OutOfMemory => Words::Plain("out of memory"),
-        }
-    }
-}
-
-impl fmt::Display for ManifestError {
-    fn fmt<W: fmt::Write>(&self, f: &mut fmt::Formatter<W>) -> fmt::Result {
-        self.words().fmt(f)
-    }
 }
 
 impl From<AllocError> for ManifestError {
