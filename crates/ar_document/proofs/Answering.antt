@@ -1,12 +1,19 @@
 -- What is answered for a document.
-use Rattle.std.proofs.Common.{◌≤◌, List, length, Err, sym, subst}
+use Rattle.std.proofs.Common.{◌≡◌, ◌≤◌, List, length, Result, Ok, Err, sym, subst}
+use Rattle.std.specs.Prelude.{IfErr}
 use Rattle.std.specs.List.{AllByRecursion}
 use Rattle.serde_json.specs.Data.{Data}
-use Rattle.ar_value.specs.Answer.{Unless}
+use Rattle.ar_value.specs.Answer.{Gives, Unless}
+use Rattle.ar_value.proofs.Steps.{leads}
+use Rattle.ar_document.specs.Entries.{Entry, entries_in}
+use Rattle.ar_document.specs.Private.Parts.{IfRefused}
 use Rattle.ar_bundle.specs.Bundle.{IsBundle, IsEntry, bundle_of, most_events}
 use Rattle.ar_bundle.specs.declared.bundle.EventPart.{EventPart}
 use Rattle.ar_bundle.specs.declared.bundle.RunPart.{RunPart}
 use Rattle.ar_document.specs.Document.{IsFaultOf, Reads, UnlessMemory, is_memory}
+use Rattle.ar_document.specs.Document as documents
+use Rattle.ar_document.specs.Opening.{Opened as Parts, opened_of}
+use Rattle.ar_document.specs.Private.Made.{RefusesMade, of_entry, of_run}
 use Rattle.ar_document.specs.Private.Opened.{IsOpened, opened_view}
 use Rattle.ar_document.specs.Parts.{AreParts}
 use Rattle.ar_document.specs.declared.error.BundleError.{BundleError}
@@ -30,3 +37,15 @@ parts_are_bundle opened parts entries is are few all =
       runs = are_runs opened opened.runs.items parts are;
       entries = subst (λ n. AllByRecursion (IsEntry opened.metrics.items n) entries) (sym many) all;
     }
+
+-- what refuses the parts or the entries of what was opened is the document's first fault
+pub made_refused : (opened : Parts) (document : Data) → opened_of document ≡ Ok opened → (error : BundleError) → RefusesMade opened document error → IsFaultOf document error
+made_refused opened document opens error (of_run refused) = documents.of_run opened opens refused
+made_refused opened document opens error (of_entry parts are refused) = documents.of_entry opened opens parts are refused
+
+-- what refuses the entries, where all runs have their parts
+pub entries_refused : {A B : Type 0} (opened : Parts) (document : Data) (parts : List RunPart) → AreParts opened opened.runs parts → (seen : B → List Entry) (read : Result B BundleError)
+    → Gives is_memory seen read (entries_in opened document) → (result : Result A BundleError) → IfErr result (λ refusal. read ≡ Err refusal) → IfRefused result (RefusesMade opened document)
+entries_refused opened document parts are seen read gives (Ok made) refused = tt
+entries_refused {B = B} opened document parts are seen read gives (Err refusal) refused =
+    leads (is_memory refusal) (of_entry parts are) (subst (λ (answer : Result B BundleError). Gives is_memory seen answer (entries_in opened document)) refused gives)

@@ -1,4 +1,5 @@
 -- Definitions of private contracts, which follow the code: a reader need not believe them.
+pub mod Made
 pub mod Naming
 pub mod Opened
 pub mod Parts

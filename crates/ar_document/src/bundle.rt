@@ -1,27 +1,45 @@
 //! Bundles of documents.
 
-ghost use Rattle.std.specs.Prelude.{◌≡◌, ◌<◌, Err, length};
+ghost use Rattle.std.specs.Prelude.{◌≡◌, ◌<◌, Err, IfOk, length};
 ghost use Rattle.serde_json.specs.View.{view};
 ghost use Rattle.ar_document.specs.Document.{Reads, ReadsInput, UnlessMemory};
+ghost use Rattle.ar_document.specs.Private.Made.{IsMade, RefusesMade};
+ghost use Rattle.ar_document.specs.Private.Opened.{IsOpened, opened_view};
+ghost use Rattle.ar_document.specs.Private.Parts.{IfRefused};
 ghost use Rattle.ar_json.specs.Document.{most_bytes};
 ghost use Rattle.ar_document.specs.declared.error.BundleError.TheVariants.{TooLarge};
 
 use crate::entries::read_entries;
 use crate::error::BundleError;
-use crate::opening::open;
+use crate::holding::beside;
+use crate::opening::{Opened, open};
 use crate::parts::parts_of;
-use ar_bundle::Bundle;
+use ar_bundle::{Bundle, EventPart, RunPart};
 use ar_json::read_json;
 use serde_json::Value as Json;
 use std::alloc::Global;
+
+/// The parts of a document's runs, and its entries.
+fn parts_and_entries(
+    alloc: Global,
+    opened: &Opened,
+    document: &Json,
+) -> Result<(Vec<RunPart>, Vec<EventPart>), BundleError>
+    requires { IsOpened opened.now }
+    ensures made { IfOk result (λ made. IsMade opened.now (view document.now) made.0.items made.1.items) }
+    ensures refused { IfRefused result (RefusesMade (opened_view opened.now) (view document.now)) }
+{
+    let parts = parts_of(alloc, opened)?;
+    beside(parts, read_entries(alloc, opened, document))
+}
 
 /// The bundle of a JSON document.
 fn bundle_of(alloc: Global, document: &Json) -> Result<Bundle, BundleError>
     ensures { UnlessMemory result (Reads (view document.now)) }
 {
     let opened = open(alloc, document)?;
-    let parts = parts_of(alloc, &opened)?;
-    let entries = read_entries(alloc, &opened, document)?;
+    let made = parts_and_entries(alloc, &opened, document);
+    let (opened, (parts, entries)) = beside(opened, made)?;
     Ok(Bundle::of_parts(opened.into_metrics(), parts, entries))
 }
 

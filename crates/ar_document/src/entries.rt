@@ -18,6 +18,7 @@ ghost use Rattle.ar_document.specs.Private.Opened.{IsOpened, opened_view};
 ghost use Rattle.ar_document.specs.declared.error.BundleError.TheVariants.{OutOfMemory, UnknownRun};
 
 use crate::error::BundleError;
+use crate::holding::add;
 use crate::names::Numbers;
 use crate::opening::Opened;
 use ar_bundle::{EventPart, What};
@@ -223,7 +224,7 @@ fn entries_of(alloc: Global, opened: &Opened, items: &[Json]) -> Result<Vec<Even
     let mut entries = Vec::with_capacity(alloc, items.len())?;
     for (number, item) in items.iter().enumerate() {
         let entry = entry_of(alloc, opened, number, item)?;
-        entries.push(entry)?;
+        add(&mut entries, entry)?;
     }
     Ok(entries)
 }

@@ -14,6 +14,7 @@ ghost use Rattle.ar_document.specs.Private.Naming.{AreNumbers};
 ghost use Rattle.ar_document.specs.Private.Opened.{IsOpened, metric_names, opened_view};
 
 use crate::error::BundleError;
+use crate::holding::{add, beside};
 use crate::names::{Numbers, add_name};
 use crate::runs::{Run, read_runs};
 use ar_bundle::MetricPart;
@@ -23,6 +24,7 @@ use ar_value::shared_shape::SharedShape;
 use ar_value::text::Text;
 use serde_json::Value as Json;
 use std::alloc::{AllocError, Global};
+use std::mem;
 
 /// A document's template, its metrics with their shapes, its runs as they are written, and the
 /// numbers of metrics and runs by their names.
@@ -40,6 +42,8 @@ impl Opened {
     pub(crate) fn into_metrics(self) -> Vec<MetricPart>
         ensures { result ≡ self.metrics }
     {
+        let held = (self.template, self.runs, self.run_numbers);
+        mem::drop((held, self.metric_numbers));
         self.metrics
     }
 }
@@ -107,7 +111,7 @@ fn metrics_of(
     let mut parts = Vec::with_capacity(alloc, metrics.len())?;
     for (number, metric) in metrics.iter().enumerate() {
         let part = metric_of(alloc, shapes, metric, number)?;
-        parts.push(part)?;
+        add(&mut parts, part)?;
     }
     Ok(parts)
 }
@@ -123,6 +127,22 @@ fn numbers_of(alloc: Global, metrics: &[MetricPart]) -> Result<Numbers, AllocErr
     Ok(numbers)
 }
 
+/// The metrics of a template with their shapes, and their numbers by their names.
+fn numbered_metrics(
+    alloc: Global,
+    shapes: Option<&Json>,
+    metrics: &[Metric],
+) -> Result<(Vec<MetricPart>, Numbers), BundleError>
+    ensures exact { Gives is_memory (λ made. map metric_view made.0.items) result
+        (metrics_in (option_map (λ json. view json.now) shapes.entry) metrics.now) }
+    ensures each { IfOk result (λ made. length made.0.items ≡ length metrics.now) }
+    ensures numbers { IfOk result (λ made. AreNumbers (metric_names (map metric_view made.0.items)) made.1) }
+{
+    let parts = metrics_of(alloc, shapes, metrics)?;
+    let numbers = numbers_of(alloc, &parts);
+    Ok(beside(parts, numbers)?)
+}
+
 /// A document's template, metrics and runs.
 #[tactic(auto, using(crate::proofs::Templates::few_metrics), unfolding(crate::specs::Opening::opened_of))]
 pub(crate) fn open(alloc: Global, document: &Json) -> Result<Opened, BundleError>
@@ -130,9 +150,11 @@ pub(crate) fn open(alloc: Global, document: &Json) -> Result<Opened, BundleError
     ensures opened { IfOk result IsOpened }
 {
     let template = template_of(alloc, document)?;
-    let metrics = metrics_of(alloc, document.get("shapes"), template.metrics.as_slice())?;
-    let (runs, run_numbers) = read_runs(alloc, document)?;
-    let metric_numbers = numbers_of(alloc, &metrics)?;
+    let metrics = numbered_metrics(alloc, document.get("shapes"), template.metrics.as_slice());
+    let held = beside(template, metrics)?;
+    let (held, runs) = beside(held, read_runs(alloc, document))?;
+    let (template, (metrics, metric_numbers)) = held;
+    let (runs, run_numbers) = runs;
     Ok(Opened {
         template,
         metrics,

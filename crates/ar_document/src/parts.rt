@@ -17,6 +17,7 @@ ghost use Rattle.ar_document.specs.Private.Parts.{IfRefused, RefusesJudge, Refus
 ghost use Rattle.ar_document.specs.declared.error.BundleError.TheVariants.{Bind};
 
 use crate::error::BundleError;
+use crate::holding::{add, beside};
 use crate::opening::Opened;
 use crate::runs::Run;
 use ar_bundle::{Judges, MetricPart, RunLimits, RunPart};
@@ -70,7 +71,7 @@ fn judges_of(
     let mut judges = Vec::with_capacity(alloc, metrics.len())?;
     for (number, metric) in metrics.iter().enumerate() {
         let judge = judge_of(alloc, run, number, metric, &bound[number])?;
-        judges.push(judge)?;
+        add(&mut judges, judge)?;
     }
     Ok(Judges::from(judges))
 }
@@ -98,6 +99,22 @@ fn all_limits(alloc: Global, bound: &[BoundMetric]) -> Result<RunLimits, AllocEr
     Ok(RunLimits::from(limits))
 }
 
+/// A judge and limits for each metric.
+fn judges_and_limits(
+    alloc: Global,
+    run: usize,
+    metrics: &[MetricPart],
+    bound: &[BoundMetric],
+) -> Result<(Judges, RunLimits), BundleError>
+    requires { length bound.now ≡ length metrics.now }
+    ensures built { IfOk result (λ made. AreJudges (map metric_view metrics.now) bound.now made.0) }
+    ensures limits { IfOk result (λ made. made.1 ≡ map limits_of bound.now) }
+    ensures refused { IfRefused result (RefusesJudges run metrics.now bound.now) }
+{
+    let judges = judges_of(alloc, run, metrics, bound)?;
+    Ok(beside(judges, all_limits(alloc, bound))?)
+}
+
 /// The part of the run with a number.
 fn part_of(alloc: Global, opened: &Opened, run: &Run, number: usize) -> Result<RunPart, BundleError>
     requires { IsOpened opened.now }
@@ -105,12 +122,12 @@ fn part_of(alloc: Global, opened: &Opened, run: &Run, number: usize) -> Result<R
     ensures refused { IfRefused result (RefusesRun (opened_view opened.now) number run.now) }
 {
     let bound = bound(alloc, &opened.template, run, number)?;
-    let judges = judges_of(alloc, number, &opened.metrics, bound.metrics())?;
-    let limits = all_limits(alloc, bound.metrics())?;
+    let judged = judges_and_limits(alloc, number, &opened.metrics, bound.metrics())?;
+    let (judged, name) = beside(judged, Text::of(alloc, run.name.as_str()))?;
     Ok(RunPart {
-        name: Text::of(alloc, run.name.as_str())?,
-        judges,
-        limits,
+        name,
+        judges: judged.0,
+        limits: judged.1,
     })
 }
 
@@ -123,7 +140,7 @@ pub(crate) fn parts_of(alloc: Global, opened: &Opened) -> Result<Vec<RunPart>, B
     let mut parts = Vec::with_capacity(alloc, opened.runs.len())?;
     for (number, run) in opened.runs.iter().enumerate() {
         let part = part_of(alloc, opened, run, number)?;
-        parts.push(part)?;
+        add(&mut parts, part)?;
     }
     Ok(parts)
 }

@@ -6,10 +6,12 @@ ghost use Rattle.ar_value.specs.Answer.{Gives, each_behind, holds_or};
 ghost use Rattle.ar_bundle.specs.Bundle.{most_runs};
 ghost use Rattle.ar_document.specs.Document.{is_memory};
 ghost use Rattle.ar_document.specs.Opening.{are_new, names_of, number_of, own_arguments, run_items, run_of, runs_in, texts_by_name};
+ghost use Rattle.ar_document.specs.Private.Made.{with_text};
 ghost use Rattle.ar_document.specs.Private.Naming.{AreNumbers};
 ghost use Rattle.ar_document.specs.declared.error.BundleError.TheVariants.{DoubleRun};
 
 use crate::error::BundleError;
+use crate::holding::{add, beside};
 use crate::names::{Numbers, add_name};
 use ar_json::members::list_of;
 use ar_manifest::Args;
@@ -28,16 +30,24 @@ pub struct Run {
     pub own: Args,
 }
 
+/// Adds a text by its name.
+fn add_text(alloc: Global, own: &mut Args, name: &str, json: &Json) -> Result<(), BundleError>
+    ensures { Gives is_memory (λ _. own.new) result (with_text own.old name.now (view json.now)) }
+{
+    let Json::String(text) = json else {
+        return Err(BundleError::Runs);
+    };
+    let text = Text::of(alloc, text)?;
+    Ok(own.insert(alloc, name, text)?)
+}
+
 /// Texts by name.
 fn texts_by_name(alloc: Global, members: &Map<String, Json>) -> Result<Args, BundleError>
     ensures { Gives is_memory (λ own. own) result (texts_by_name [] (members_view members.now.entries)) }
 {
     let mut own = Args::new(alloc);
     for (name, json) in members.iter() {
-        let Json::String(text) = json else {
-            return Err(BundleError::Runs);
-        };
-        own.insert(alloc, name.as_str(), Text::of(alloc, text)?)?;
+        add_text(alloc, &mut own, name.as_str(), json)?;
     }
     Ok(own)
 }
@@ -61,10 +71,8 @@ fn run_of(alloc: Global, item: &Json) -> Result<Run, BundleError>
         .and_then(Json::as_str)
         .ok_or(BundleError::Runs)?;
     let own = own_arguments(alloc, item.get("args"))?;
-    Ok(Run {
-        name: Text::of(alloc, name)?,
-        own,
-    })
+    let (own, name) = beside(own, Text::of(alloc, name))?;
+    Ok(Run { name, own })
 }
 
 /// The items of `runs`, 1 to 64 of them.
@@ -85,7 +93,6 @@ fn run_items(document: &Json) -> Result<&[Json], BundleError>
 }
 
 /// The runs of a document, whose names may still be the same.
-#[tactic(auto, using(crate::proofs::Steps::step_more, crate::proofs::Steps::step_fault, crate::proofs::Steps::step_end))]
 fn runs_of(alloc: Global, items: &[Json]) -> Result<Vec<Run>, BundleError>
     ensures exact { Gives is_memory (λ runs. runs.items) result
         (each_behind (λ earlier. run_of) [] (map (λ json. view json) items.now)) }
@@ -93,7 +100,8 @@ fn runs_of(alloc: Global, items: &[Json]) -> Result<Vec<Run>, BundleError>
 {
     let mut runs = Vec::with_capacity(alloc, items.len())?;
     for item in items {
-        runs.push(run_of(alloc, item)?)?;
+        let made = run_of(alloc, item)?;
+        add(&mut runs, made)?;
     }
     Ok(runs)
 }
@@ -137,6 +145,6 @@ pub(crate) fn read_runs(alloc: Global, document: &Json) -> Result<(Vec<Run>, Num
 {
     let items = run_items(document)?;
     let runs = runs_of(alloc, items)?;
-    let numbers = numbers_of(alloc, &runs)?;
-    Ok((runs, numbers))
+    let numbers = numbers_of(alloc, &runs);
+    beside(runs, numbers)
 }

@@ -8,6 +8,7 @@ pub mod First
 pub mod LimitTexts
 pub mod Lists
 pub mod Memory
+pub mod Parts
 pub mod Spaces
 pub mod Steps
 pub mod TextParts

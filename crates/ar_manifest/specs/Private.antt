@@ -1,2 +1,4 @@
 -- What only the proofs of the code use.
 pub mod Early
+pub mod Made
+pub mod BoundParts

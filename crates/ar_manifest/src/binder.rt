@@ -3,12 +3,14 @@
 ghost use Rattle.std.specs.Prelude.{◌≡◌, [], None, Ok};
 ghost use Rattle.ar_value.specs.Answer.{Gives, Refuses, each_behind};
 ghost use Rattle.ar_manifest.specs.Refusals.{is_memory};
+ghost use Rattle.ar_manifest.specs.Private.BoundParts.{bound_conditions, bound_limits, limit_in};
 ghost use Rattle.ar_manifest.specs.Bound.{IsNumber, IsPlain, RefusesFirst, bound_condition, bound_limit, bound_metric, bound_of, next_bound};
 
 use crate::arguments::{Args, Arguments};
 use crate::binding::Scope;
 use crate::bound::{Bound, BoundMetric};
 use crate::error::ManifestError;
+use crate::holding::{add, beside};
 use crate::limit::{effective_count, limit_of_number, limit_of_text};
 use crate::template::{Limit, Metric, Template};
 use ar_value::Text;
@@ -22,6 +24,15 @@ const INCONCLUSIVE: u32 = 0;
 
 /// `consecutiveErrorLimit`, where a metric has none.
 const CONSECUTIVE_ERRORS: u32 = 4;
+
+/// The limits of a metric, bound.
+#[derive(Clone, Copy)]
+struct BoundLimits {
+    failure: u32,
+    inconclusive: u32,
+    consecutive_error: u32,
+    count: Option<u32>,
+}
 
 /// A condition, bound. An empty one counts as missing.
 #[tactic(auto, unfolding(crate::specs::Bound::bound_condition))]
@@ -45,6 +56,15 @@ fn condition(
     }
 }
 
+/// A text as a limit, bound.
+fn limit_in(alloc: Global, scope: &Scope, text: &str) -> Result<u32, ManifestError>
+    ensures { Gives is_memory (λ limit. limit) result
+        (limit_in scope.now.arguments.now scope.now.own.now scope.now.metric text.now) }
+{
+    let bound = scope.text(alloc, text)?;
+    limit_of_text(bound.as_str(), scope.metric)
+}
+
 /// A limit, bound.
 #[tactic(auto, unfolding(crate::specs::Bound::bound_limit))]
 fn limit(alloc: Global, scope: &Scope, limit: &Option<Limit>) -> Result<Option<u32>, ManifestError>
@@ -55,44 +75,70 @@ fn limit(alloc: Global, scope: &Scope, limit: &Option<Limit>) -> Result<Option<u
 {
     match limit {
         None => Ok(None),
-        Some(Limit::Whole(number)) => Ok(Some(limit_of_number(*number, scope.metric)?)),
+        Some(Limit::Whole(number)) => limit_of_number(*number, scope.metric).map(Some),
         Some(Limit::OtherNumber) => Err(ManifestError::BadLimit(scope.metric)),
-        Some(Limit::Text(text)) => {
-            let bound = scope.text(alloc, text.as_str())?;
-            Ok(Some(limit_of_text(bound.as_str(), scope.metric)?))
-        }
+        Some(Limit::Text(text)) => limit_in(alloc, scope, text.as_str()).map(Some),
     }
 }
 
+/// The conditions of a metric, bound.
+fn conditions(
+    alloc: Global,
+    scope: &Scope,
+    metric: &Metric,
+) -> Result<(Option<Text>, Option<Text>), ManifestError>
+    ensures exact { Gives is_memory (λ bound. bound) result
+        (bound_conditions scope.now.arguments.now scope.now.own.now scope.now.metric metric.now) }
+    ensures plain { IsPlain scope.now.arguments.now scope.now.own.now scope.now.metric metric.now
+        → result ≡ Ok (None, None) }
+{
+    let success = condition(alloc, scope, &metric.success_condition)?;
+    beside(success, condition(alloc, scope, &metric.failure_condition))
+}
+
+/// The limits of a metric, bound.
+fn limits(alloc: Global, scope: &Scope, metric: &Metric) -> Result<BoundLimits, ManifestError>
+    ensures exact { Gives is_memory (λ bound. bound) result
+        (bound_limits scope.now.arguments.now scope.now.own.now scope.now.metric metric.now) }
+    ensures plain { IsPlain scope.now.arguments.now scope.now.own.now scope.now.metric metric.now
+        → Refuses result (bound_limits scope.now.arguments.now scope.now.own.now scope.now.metric metric.now) }
+{
+    let count = limit(alloc, scope, &metric.limits.count)?;
+    let failure = limit(alloc, scope, &metric.limits.failure)?;
+    let inconclusive = limit(alloc, scope, &metric.limits.inconclusive)?;
+    let consecutive_error = limit(alloc, scope, &metric.limits.consecutive_error)?;
+    let count = effective_count(count, metric.has_interval, scope.metric)?;
+    Ok(BoundLimits {
+        failure: failure.unwrap_or(FAILURES),
+        inconclusive: inconclusive.unwrap_or(INCONCLUSIVE),
+        consecutive_error: consecutive_error.unwrap_or(CONSECUTIVE_ERRORS),
+        count,
+    })
+}
+
 /// A metric, bound.
-#[tactic(auto, unfolding(crate::specs::Bound::bound_metric))]
 fn metric(alloc: Global, scope: &Scope, metric: &Metric) -> Result<BoundMetric, ManifestError>
     ensures exact { Gives is_memory (λ bound. bound) result
         (bound_metric scope.now.arguments.now scope.now.own.now scope.now.metric metric.now) }
     ensures plain { IsPlain scope.now.arguments.now scope.now.own.now scope.now.metric metric.now
         → Refuses result (bound_metric scope.now.arguments.now scope.now.own.now scope.now.metric metric.now) }
 {
-    let success_condition = condition(alloc, scope, &metric.success_condition)?;
-    let failure_condition = condition(alloc, scope, &metric.failure_condition)?;
-    let count = limit(alloc, scope, &metric.limits.count)?;
-    let failure_limit = limit(alloc, scope, &metric.limits.failure)?;
-    let inconclusive_limit = limit(alloc, scope, &metric.limits.inconclusive)?;
-    let consecutive_error_limit = limit(alloc, scope, &metric.limits.consecutive_error)?;
-    let count = effective_count(count, metric.has_interval, scope.metric)?;
+    let held = conditions(alloc, scope, metric)?;
+    let (held, limits) = beside(held, limits(alloc, scope, metric))?;
+    let (held, name) = beside(held, Text::of(alloc, metric.name.as_str()))?;
     Ok(BoundMetric {
-        name: Text::of(alloc, metric.name.as_str())?,
-        success_condition,
-        failure_condition,
-        failure_limit: failure_limit.unwrap_or(FAILURES),
-        inconclusive_limit: inconclusive_limit.unwrap_or(INCONCLUSIVE),
-        consecutive_error_limit: consecutive_error_limit.unwrap_or(CONSECUTIVE_ERRORS),
-        count,
+        name,
+        success_condition: held.0,
+        failure_condition: held.1,
+        failure_limit: limits.failure,
+        inconclusive_limit: limits.inconclusive,
+        consecutive_error_limit: limits.consecutive_error,
+        count: limits.count,
         dry: metric.dry,
     })
 }
 
 /// The metrics, bound one after another.
-#[tactic(auto, using(crate::proofs::Steps::step_more, crate::proofs::Steps::step_fault))]
 fn metrics(
     alloc: Global,
     list: &[Metric],
@@ -111,7 +157,7 @@ fn metrics(
             metric: metrics.len(),
         };
         let bound = self::metric(alloc, &scope, metric)?;
-        metrics.push(bound)?;
+        add(&mut metrics, bound)?;
     }
     Ok(Bound::from(metrics))
 }

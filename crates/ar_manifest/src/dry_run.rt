@@ -51,7 +51,6 @@ fn name<'a>(
 }
 
 /// The names of a JSON list.
-#[tactic(auto, using(crate::proofs::Steps::step_more, crate::proofs::Steps::step_fault, crate::proofs::Steps::step_end))]
 fn listed_names<'a>(
     alloc: Global,
     list: &'a [Json],

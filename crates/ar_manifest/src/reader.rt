@@ -7,12 +7,14 @@ ghost use Rattle.serde_json.specs.View.{number_view, view};
 ghost use Rattle.ar_value.specs.Answer.{Gives, Refuses, each_behind};
 ghost use Rattle.ar_manifest.specs.Refusals.{is_memory};
 ghost use Rattle.ar_manifest.specs.Arguments.{value_of};
-ghost use Rattle.ar_manifest.specs.Private.Early.{first_counted};
+ghost use Rattle.ar_manifest.specs.Private.Early.{counted_of, first_counted};
+ghost use Rattle.ar_manifest.specs.Private.Made.{marked_metrics, two_limits};
 ghost use Rattle.ar_manifest.specs.Template.{HasNoArguments, argument_of, arguments_of, counted_metrics, has_text_or, head_of, is_kind, is_named, is_text, limit_or, lists_nothing, metric_limits, metric_of, named_metric, new_name, number_limit, template_name, template_of};
 
 use crate::arguments::Arguments;
 use crate::dry_run::with_dry_run;
 use crate::error::ManifestError;
+use crate::holding::{add, beside, unless};
 use crate::template::{Limit, Metric, MetricLimits, Metrics, Template};
 use ar_json::members::{list_of, member, member_of_member, text_member, text_or};
 use ar_value::Text;
@@ -69,18 +71,62 @@ fn has_text_or(found: Option<&Json>, refusal: ManifestError) -> Result<bool, Man
     }
 }
 
+/// Two limits of a metric, by their names.
+fn two_limits(
+    alloc: Global,
+    json: &Json,
+    first: &str,
+    second: &str,
+    refusal: ManifestError,
+) -> Result<(Option<Limit>, Option<Limit>), ManifestError>
+    ensures { Gives is_memory (λ made. made) result (two_limits refusal first.now second.now (view json.now)) }
+{
+    let held = limit_or(alloc, member(json, first), refusal)?;
+    beside(held, limit_or(alloc, member(json, second), refusal))
+}
+
 /// The limits of a metric.
 #[tactic(auto, unfolding(crate::specs::Template::metric_limits))]
 fn metric_limits(alloc: Global, json: &Json, i: usize) -> Result<MetricLimits, ManifestError>
     ensures { Gives is_memory (λ made. made) result (metric_limits i (view json.now)) }
 {
     let refusal = ManifestError::BadField(i);
+    let held = two_limits(alloc, json, "count", "failureLimit", refusal)?;
+    let others = two_limits(
+        alloc,
+        json,
+        "inconclusiveLimit",
+        "consecutiveErrorLimit",
+        refusal,
+    );
+    let (held, others) = beside(held, others)?;
     Ok(MetricLimits {
-        count: limit_or(alloc, member(json, "count"), refusal)?,
-        failure: limit_or(alloc, member(json, "failureLimit"), refusal)?,
-        inconclusive: limit_or(alloc, member(json, "inconclusiveLimit"), refusal)?,
-        consecutive_error: limit_or(alloc, member(json, "consecutiveErrorLimit"), refusal)?,
+        count: held.0,
+        failure: held.1,
+        inconclusive: others.0,
+        consecutive_error: others.1,
     })
+}
+
+/// Copies of a metric's name and conditions.
+fn copied_texts(
+    alloc: Global,
+    name: &str,
+    success: Option<&str>,
+    failure: Option<&str>,
+) -> Result<(Text, (Option<Text>, Option<Text>)), AllocError>
+    ensures { IfOk result (λ copies. copies ≡ (
+      name.now,
+      (
+        option_map (λ text. text.now) success.entry,
+        option_map (λ text. text.now) failure.entry,
+      ),
+    )) }
+{
+    let success = copied(alloc, success)?;
+    let conditions = beside(success, copied(alloc, failure))?;
+    let (conditions, name) = beside(conditions, Text::of(alloc, name))?;
+    Ok((name, conditions))
 }
 
 /// The metric of a name.
@@ -89,12 +135,14 @@ fn named_metric(alloc: Global, json: &Json, name: &str, i: usize) -> Result<Metr
     ensures { Gives is_memory (λ made. made) result (named_metric i name.now (view json.now)) }
 {
     let refusal = ManifestError::BadField(i);
-    let success_condition = copied(alloc, text_or(member(json, "successCondition"), refusal)?)?;
-    let failure_condition = copied(alloc, text_or(member(json, "failureCondition"), refusal)?)?;
+    let success = text_or(member(json, "successCondition"), refusal)?;
+    let failure = text_or(member(json, "failureCondition"), refusal)?;
     let has_interval = has_text_or(member(json, "interval"), refusal)?;
     let limits = metric_limits(alloc, json, i)?;
+    let (limits, texts) = beside(limits, copied_texts(alloc, name, success, failure))?;
+    let (name, (success_condition, failure_condition)) = texts;
     Ok(Metric {
-        name: Text::of(alloc, name)?,
+        name,
         success_condition,
         failure_condition,
         has_interval,
@@ -130,14 +178,11 @@ fn metric(alloc: Global, json: &Json, earlier: &[Metric]) -> Result<Metric, Mani
     let i = earlier.len();
     let name = new_name(json, earlier)?;
     let metric = named_metric(alloc, json, name, i)?;
-    if member(json, "consecutiveSuccessLimit").is_some() {
-        return Err(ManifestError::Unsupported(i));
-    }
-    Ok(metric)
+    let is_refused = member(json, "consecutiveSuccessLimit").is_some();
+    unless(metric, is_refused, ManifestError::Unsupported(i))
 }
 
 /// The metrics of a JSON list.
-#[tactic(auto, using(crate::proofs::Steps::step_more, crate::proofs::Steps::step_fault, crate::proofs::Steps::step_end))]
 fn metrics(alloc: Global, list: &[Json]) -> Result<Vec<Metric>, ManifestError>
     ensures { Gives is_memory (λ made. made.items) result
         (each_behind metric_of [] (map (λ json. view json) list.now)) }
@@ -145,7 +190,7 @@ fn metrics(alloc: Global, list: &[Json]) -> Result<Vec<Metric>, ManifestError>
     let mut metrics = Vec::new(alloc);
     for json in list {
         let metric = metric(alloc, json, &metrics)?;
-        metrics.push(metric)?;
+        add(&mut metrics, metric)?;
     }
     Ok(metrics)
 }
@@ -209,7 +254,6 @@ fn argument(
 }
 
 /// The arguments of a JSON list.
-#[tactic(auto, using(crate::proofs::Steps::step_more, crate::proofs::Steps::step_fault, crate::proofs::Steps::step_end))]
 fn listed_arguments(alloc: Global, list: &[Json]) -> Result<Arguments<Option<Text>>, ManifestError>
     ensures exact { Gives is_memory (λ arguments. arguments) result
         (each_behind argument_of [] (map (λ json. view json) list.now)) }
@@ -287,8 +331,17 @@ fn head(json: &Json) -> Result<&str, ManifestError>
     template_name(json).ok_or(ManifestError::NameMissing)
 }
 
+/// The metrics of a template, dry where it says so.
+fn marked_metrics(alloc: Global, json: &Json) -> Result<Metrics, ManifestError>
+    ensures exact { Gives is_memory (λ metrics. metrics) result (marked_metrics (view json.now)) }
+    ensures counted { Refuses result (counted_of (view json.now)) }
+{
+    let list = counted_metrics(member_of_member(json, "spec", "metrics"))?;
+    let metrics = metrics(alloc, list)?;
+    with_dry_run(alloc, member_of_member(json, "spec", "dryRun"), metrics)
+}
+
 /// The template that a JSON document is.
-#[tactic(auto, unfolding(crate::specs::Template::template_of))]
 pub(crate) fn template(alloc: Global, json: &Json) -> Result<Template, ManifestError>
     ensures exact { Gives is_memory (λ template. template) result (template_of (view json.now)) }
     ensures head { Refuses result (head_of (view json.now)) }
@@ -296,13 +349,11 @@ pub(crate) fn template(alloc: Global, json: &Json) -> Result<Template, ManifestE
 {
     let name = head(json)?;
     let arguments = arguments_of(alloc, member_of_member(json, "spec", "args"))?;
-    let list = counted_metrics(member_of_member(json, "spec", "metrics"))?;
-    let metrics = metrics(alloc, list)?;
-    let found = member_of_member(json, "spec", "dryRun");
-    let metrics = with_dry_run(alloc, found, metrics)?;
+    let held = beside(arguments, marked_metrics(alloc, json))?;
+    let (held, name) = beside(held, Text::of(alloc, name))?;
     Ok(Template {
-        name: Text::of(alloc, name)?,
-        arguments,
-        metrics,
+        name,
+        arguments: held.0,
+        metrics: held.1,
     })
 }

@@ -23,8 +23,8 @@ loop-number-preserved c =
     let step = with_shape (option_map (λ json. view json.now) c.args.shapes) in
     let makes = c.in_ok-part.ensures (map metric_view c.loop-number.parts.items) (length-map c.loop-number.parts.items metric_view ∙ c.loop-number.invariant.each) in
     record {
-      made = step_more (λ (metric : Metric). metric) metric_view step c.args.metrics.now c.loop-number.number c.loop-number.parts.items _ c.index-metrics-number.result c.in_ok-part.part c.push.new.self.items c.loop-number-test.true c.index-metrics-number.is makes c.in_ok-push.ensures.items c.loop-number.invariant.made;
-      each = omega (arith, c.in_ok-push.ensures.len, c.loop-number.invariant.each);
+      made = step_more (λ (metric : Metric). metric) metric_view step c.args.metrics.now c.loop-number.number c.loop-number.parts.items _ c.index-metrics-number.result c.in_ok-part.part c.add.new.list.items c.loop-number-test.true c.index-metrics-number.is makes c.in_ok-add.ensures.items c.loop-number.invariant.made;
+      each = omega (arith, c.in_ok-add.ensures.len, c.loop-number.invariant.each);
     }
 
 pub returns-clause-exact : goal.returns-clause-exact

@@ -1,15 +1,20 @@
-use Rattle.std.proofs.Common.{rules, ◌≡◌, ◌≤◌, length, ◌∙◌, ap, subst, sym}
+use Rattle.std.proofs.Common.{◌≡◌, ◌≤◌, length, ◌∙◌, ap, subst, sym}
 use Rattle.serde_json.specs.View.{view}
 use Rattle.ar_document.proofs.Templates.{few_metrics_in}
 use Rattle.ar_document.proofs.opening.open.Goals as goal
 
 pub returns-clause-opened : goal.returns-clause-opened
 returns-clause-opened c =
-    let each : length c.in_ok-metrics.metrics.items ≡ length c.in_ok-template.template.metrics = c.in_ok-metrics.ensures.each ∙ ap length c.as_slice.ensures in
-    record {
+    let made = rw c.in_ok-held.ensures.ok.0 at c.numbered_metrics-metrics.ensures.each in
+    let numbers = rw c.in_ok-held.ensures.ok.0 at c.numbered_metrics-metrics.ensures.numbers in
+    let few_runs = rw c.in_ok-held-2.ensures.ok.0 at c.read_runs.ensures.few in
+    let run_numbers = rw c.in_ok-held-2.ensures.ok.0 at c.read_runs.ensures.numbers in
+    let each : length c.in_ok-held.held.1.0.items ≡ length c.in_ok-template.template.metrics = made ∙ ap length c.as_slice.ensures in
+    rw (c.in_ok-held-2.ensures.ok.1, c.in_ok-held.ensures.ok.1)
+    (record {
       each = each;
       few_metrics = subst (λ n. n ≤ 64) (sym each) (few_metrics_in (view c.args.document.now) c.in_ok-template.template c.in_ok-template.ensures);
-      few_runs = c.in_ok-runs.ensures.few;
-      run_numbers = c.in_ok-runs.ensures.numbers;
-      metric_numbers = search (rules, c.in_ok-metric_numbers.ensures);
-    }
+      few_runs = few_runs;
+      run_numbers = run_numbers;
+      metric_numbers = numbers;
+    })

@@ -6,16 +6,16 @@ use Rattle.ar_value.proofs.Steps.{leads}
 use Rattle.ar_document.proofs.Templates.{bound_is, bound_many}
 use Rattle.ar_document.proofs.parts.part_of.Goals as goal
 
-pub judges_of-requires : goal.judges_of-requires
-judges_of-requires c =
+pub judges_and_limits-requires : goal.judges_and_limits-requires
+judges_and_limits-requires c =
     let is = bound_is c.args.opened.now.template c.args.run.now.own c.in_ok-bound.bound c.args.number c.in_ok-bound.ensures in
     let many = bound_many c.args.opened.now.template c.args.run.now.own c.in_ok-bound.bound is in
     search (rules, many)
 
-pub returns-in_err-judges-clause-refused : goal.returns-in_err-judges-clause-refused
-returns-in_err-judges-clause-refused c =
-    let error = err_from_is_err_and c.from_residual-in_err-judges.result c.from_residual-in_err-judges.ensures.1 in
+pub returns-in_err-judged-clause-refused : goal.returns-in_err-judged-clause-refused
+returns-in_err-judged-clause-refused c =
+    let error = err_from_is_err_and c.from_residual-in_err-judged.result c.from_residual-in_err-judged.ensures.1 in
     let is = bound_is c.args.opened.now.template c.args.run.now.own c.in_ok-bound.bound c.args.number c.in_ok-bound.ensures in
-    let refuses = run_refused c.args.opened.now c.args.number c.args.run.now c.in_ok-bound.bound c.in_err-judges.field-0.0 is in
-    let told = leads (is_memory c.in_err-judges.field-0.0) refuses in
+    let refuses = run_refused c.args.opened.now c.args.number c.args.run.now c.in_ok-bound.bound c.in_err-judged.field-0.0 is in
+    let told = leads (is_memory c.in_err-judged.field-0.0) refuses in
     rw (error.1, error.2) (search (rules, told))

@@ -1,10 +1,10 @@
-use Rattle.std.proofs.Common.{arith, ◌≡◌, Err, length, refl}
+use Rattle.std.proofs.Common.{arith, ◌≡◌, ◌+◌, Ok, Err, length, length-append, refl}
 use Rattle.std.proofs.lemmas.Result.{err_from_is_err_and}
 use Rattle.ar_value.specs.Answer.{Unless}
 use Rattle.ar_manifest.specs.Refusals.{is_memory}
 use Rattle.ar_manifest.specs.Bound.{IsPlain, next_bound}
-use Rattle.ar_manifest.proofs.First.{at_first, refused_item}
-use Rattle.ar_manifest.proofs.Steps.{step_end, step_fault}
+use Rattle.ar_manifest.proofs.First.{at_first, bound_first, none_first, refused_item}
+use Rattle.ar_manifest.proofs.Steps.{step_end, step_fault, step_more}
 use Rattle.ar_manifest.proofs.binder.metrics.Goals as goal
 
 pub returns-in_err-bound-clause-exact : goal.returns-in_err-bound-clause-exact
@@ -34,5 +34,22 @@ returns-in_err-bound-clause-first c = λ first rest is_list plain refusal refuse
     let same : c.in_err-bound.field-0.0 ≡ refusal = cc in
     rw (error.1, error.2, same) refl
 
+pub loop-metric-preserved : goal.loop-metric-preserved
+loop-metric-preserved c =
+    let number : c.len.result ≡ length c.loop-metric.metrics.items = omega arith in
+    let place : c.len.result ≡ c.loop-metric.metric-index = omega (arith, c.loop-metric.invariant.count) in
+    let makes : next_bound c.args.arguments.now c.args.own.now c.loop-metric.metrics.items c.metric-item.result ≡ Ok c.in_ok-bound.bound = rw (← number) c.in_ok-bound.ensures.exact in
+    let grown : length c.add.new.list.items ≡ length c.loop-metric.metrics.items + 1 = rw c.in_ok-add.ensures (length-append _ _) in
+    record {
+      so_far = step_more (λ metric. metric) (next_bound c.args.arguments.now c.args.own.now) c.args.list.now c.loop-metric.metric-index c.loop-metric.metrics.items _ c.metric-item.result c.in_ok-bound.bound c.add.new.list.items c.loop-metric-test.true c.metric-item.is makes c.in_ok-add.ensures c.loop-metric.invariant.so_far;
+      count = omega (arith, grown, c.loop-metric.invariant.count);
+      stays = λ first rest is_list refusal refused. absurd
+          (bound_first c.args.arguments.now c.args.own.now c.args.list.now c.loop-metric.metric-index c.loop-metric.invariant.stays c.metric-item.result c.len.result c.in_ok-bound.bound place c.metric-item.is c.in_ok-bound.ensures.exact first rest is_list refusal refused);
+    }
+
 pub returns-clause-exact : goal.returns-clause-exact
 returns-clause-exact c = step_end (λ metric. metric) (next_bound c.args.arguments.now c.args.own.now) c.args.list.now c.loop-metric.metric-index c.loop-metric.metrics.items _ c.from.result (omega arith) c.from.ensures c.loop-metric.invariant.so_far
+
+pub returns-clause-first : goal.returns-clause-first
+returns-clause-first c = λ first rest is_list plain refusal refused.
+    absurd (none_first c.args.arguments.now c.args.own.now c.args.list.now c.loop-metric.metric-index c.loop-metric.invariant.stays c.loop-metric-test.false first rest is_list refusal refused)
