@@ -1,12 +1,12 @@
 -- What calls on numbers and texts answer.
-use Rattle.std.specs.Prelude.{ℕ, ℤ, Bool, List, [], codes, ◌++◌, if◌then◌else◌, int_lt, Option, Some, None, option_and_then, Result, Ok, Err, ⊤}
+use Rattle.std.specs.Prelude.{◌≡◌, ℕ, ℤ, true, Bool, List, [], codes, ◌++◌, if◌then◌else◌, int_lt, Option, Some, None, option_and_then, Result, Ok, Err, ⊤, string_bytes}
 use Rattle.std.specs.declared.cmp.Ordering.{Ordering}
 use Rattle.std.specs.declared.cmp.Ordering.TheVariants.{Less, Equal, Greater}
 use Rattle.std.specs.Ordering.{int_cmp}
 use Rattle.std.specs.Str.{bytes_eq}
 use Rattle.serde_json.specs.Data.{Data, string}
 use Rattle.serde_json.specs.Find.{as_i64, as_number}
-use Rattle.ar_value.specs.Answer.{◌>>=◌, Gives, there_or}
+use Rattle.ar_value.specs.Answer.{◌>>=◌, Unless, there_or}
 use Rattle.ar_value.specs.Arithmetic.{decimal_of_whole, decimal_product, difference, negation, product, quotient, remainder, sum}
 use Rattle.ar_value.specs.Decimal.{order}
 use Rattle.ar_value.specs.DecimalText.{decimal_of}
@@ -15,13 +15,15 @@ use Rattle.ar_value.specs.declared.decimal.Number.TheVariants.{Whole, Decimal}
 use Rattle.ar_value.specs.declared.fault.Fault.{Fault}
 use Rattle.ar_cases.specs.declared.fault.CaseFault.{CaseFault}
 use Rattle.ar_cases.specs.declared.fault.CaseFault.TheVariants.{Member}
+use Rattle.ar_cases.specs.declared.output.Output.{Output}
 use Rattle.ar_cases.specs.Calls.{arithmetic_calls, is_one_of}
 use Rattle.ar_cases.specs.Members.{decimal_member, is_memory, json_member, or_member, text_member, whole_member}
 use Rattle.ar_cases.specs.Printing.{fault_name, number_text, quoted, truth_text}
 
--- the answer stands behind what was there, or the case is refused
-abbrev pub Answers : Result ⊤ CaseFault → (earlier later : List ℕ) → (answer : Result (List ℕ) CaseFault) → Type 0
-Answers written earlier later answer = Gives is_memory (λ (written : ⊤). later) written (answer >>= λ text. Ok (earlier ++ text))
+-- the answer stands behind what was there, unless memory ran out, or the case is refused
+abbrev pub Answers : Result ⊤ CaseFault → (earlier later : Output) → (answer : Result (List ℕ) CaseFault) → Type 0
+Answers (Ok written) earlier later answer = later.is_whole ≡ true → (earlier.is_whole ≡ true) × ((answer >>= λ text. Ok (string_bytes earlier.text ++ text)) ≡ Ok (string_bytes later.text))
+Answers (Err fault) earlier later answer = Unless (is_memory fault) (answer ≡ Err fault)
 
 -- a text spells a decimal; what is no text has to be a whole
 abbrev pub operand_in : Data → Result Number CaseFault
