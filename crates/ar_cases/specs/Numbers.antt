@@ -38,7 +38,7 @@ ordering_text Less = codes "less"
 ordering_text Equal = codes "equal"
 ordering_text Greater = codes "greater"
 
-abbrev pub compare_answer : (case : Data) → Result (List ℕ) CaseFault
+unfoldable pub compare_answer : (case : Data) → Result (List ℕ) CaseFault
 compare_answer case = do
   left ← operand_member (codes "left") case
   right ← operand_member (codes "right") case
@@ -79,7 +79,7 @@ abbrev pub result_with : (call : List ℕ) → (left : Number) → (case : Data)
 result_with call (Whole left) case = whole_member (codes "right") case >>= λ right. Ok (whole_result call left right)
 result_with call (Decimal left) case = decimal_member (codes "right") case >>= λ right. there_or Member (decimal_result call left right)
 
-abbrev pub result_answer : (call : List ℕ) → (case : Data) → Result (List ℕ) CaseFault
+unfoldable pub result_answer : (call : List ℕ) → (case : Data) → Result (List ℕ) CaseFault
 result_answer call case = do
   left ← operand_member (codes "left") case
   outcome ← result_with call left case
@@ -89,16 +89,16 @@ abbrev pub negated : Number → Result Number Fault
 negated (Whole operand) = whole_number (negation operand)
 negated (Decimal operand) = decimal_number (negation operand)
 
-abbrev pub negate_answer : (case : Data) → Result (List ℕ) CaseFault
+unfoldable pub negate_answer : (case : Data) → Result (List ℕ) CaseFault
 negate_answer case = operand_member (codes "operand") case >>= λ operand. Ok (outcome_text (negated operand))
 
-abbrev pub to_decimal_answer : (case : Data) → Result (List ℕ) CaseFault
+unfoldable pub to_decimal_answer : (case : Data) → Result (List ℕ) CaseFault
 to_decimal_answer case = whole_member (codes "operand") case >>= λ operand. Ok (outcome_text (decimal_number (decimal_of_whole operand)))
 
-abbrev pub text_answer : (case : Data) → Result (List ℕ) CaseFault
+unfoldable pub text_answer : (case : Data) → Result (List ℕ) CaseFault
 text_answer case = text_member (codes "text") case >>= λ text. Ok (quoted text)
 
-abbrev pub same_text_answer : (case : Data) → Result (List ℕ) CaseFault
+unfoldable pub same_text_answer : (case : Data) → Result (List ℕ) CaseFault
 same_text_answer case = do
   left ← text_member (codes "left") case
   right ← text_member (codes "right") case
@@ -107,7 +107,7 @@ same_text_answer case = do
 abbrev pub below_text : (is_below : Bool) → List ℕ
 below_text is_below = if is_below then codes ", below" else []
 
-abbrev pub order_answer : (case : Data) → Result (List ℕ) CaseFault
+unfoldable pub order_answer : (case : Data) → Result (List ℕ) CaseFault
 order_answer case = do
   left ← decimal_member (codes "left") case
   right ← decimal_member (codes "right") case

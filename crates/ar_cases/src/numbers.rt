@@ -90,6 +90,7 @@ fn put_ordering(out: &mut Output, ordering: Ordering)
     }
 }
 
+#[tactic(auto, unfolding(crate::specs::Numbers::compare_answer))]
 fn put_compare(case: &Json, out: &mut Output) -> Written
     ensures { Answers result out.old out.new (compare_answer (view case.now)) }
 {
@@ -100,6 +101,7 @@ fn put_compare(case: &Json, out: &mut Output) -> Written
 }
 
 /// How decimals are ordered, and whether the left one is below the right one.
+#[tactic(auto, unfolding(crate::specs::Numbers::order_answer))]
 fn put_order(case: &Json, out: &mut Output) -> Written
     ensures { Answers result out.old out.new (order_answer (view case.now)) }
 {
@@ -127,6 +129,7 @@ fn put_outcome(out: &mut Output, outcome: Result<Number, Fault>)
     }
 }
 
+#[tactic(auto, unfolding(crate::specs::Numbers::result_answer))]
 fn put_result(call: &str, case: &Json, out: &mut Output) -> Written
     ensures { Answers result out.old out.new (result_answer call.now (view case.now)) }
 {
@@ -190,6 +193,7 @@ fn of_decimals(call: &str, left: Decimal, right: Decimal) -> Option<Result<Numbe
     }
 }
 
+#[tactic(auto, unfolding(crate::specs::Numbers::negate_answer))]
 fn put_negated(case: &Json, out: &mut Output) -> Written
     ensures { Answers result out.old out.new (negate_answer (view case.now)) }
 {
@@ -208,6 +212,7 @@ fn negated(operand: Number) -> Result<Number, Fault>
 }
 
 /// A whole as a decimal.
+#[tactic(auto, unfolding(crate::specs::Numbers::to_decimal_answer))]
 fn put_to_decimal(case: &Json, out: &mut Output) -> Written
     ensures { Answers result out.old out.new (to_decimal_answer (view case.now)) }
 {
@@ -217,6 +222,7 @@ fn put_to_decimal(case: &Json, out: &mut Output) -> Written
 }
 
 /// A text that was copied, given back and taken again.
+#[tactic(auto, unfolding(crate::specs::Numbers::text_answer))]
 fn put_text(alloc: Global, case: &Json, out: &mut Output) -> Written
     ensures { Answers result out.old out.new (text_answer (view case.now)) }
 {
@@ -226,6 +232,7 @@ fn put_text(alloc: Global, case: &Json, out: &mut Output) -> Written
     Ok(())
 }
 
+#[tactic(auto, unfolding(crate::specs::Numbers::same_text_answer))]
 fn put_same_text(alloc: Global, case: &Json, out: &mut Output) -> Written
     ensures { Answers result out.old out.new (same_text_answer (view case.now)) }
 {

@@ -1,6 +1,6 @@
 //! Texts, numbers, shapes, values and refusals as they are printed.
 
-ghost use Rattle.std.specs.Prelude.{◌≡◌, ◌<◌, ◌++◌, ◌==◌, [], None, IfOk, IfSome, codes, decimal, false, flat_map, if◌then◌else◌, map, nat_lt, not, string_bytes, true};
+ghost use Rattle.std.specs.Prelude.{◌≡◌, ◌<◌, ◌++◌, ◌==◌, [], None, IfSome, codes, decimal, false, flat_map, if◌then◌else◌, map, nat_lt, not, string_bytes, true};
 ghost use Rattle.std.specs.Char.{encode_utf8};
 ghost use Rattle.std.specs.Fmt.{signed_decimal};
 ghost use Rattle.std.specs.Str.{chars};
@@ -21,7 +21,7 @@ use ar_value::shape::FieldShape;
 use ar_value::value::Field;
 use ar_value::{Decimal, Fault, Number, Shape, Value};
 use serde_json::Value as Json;
-use std::alloc::{AllocError, Global};
+use std::alloc::Global;
 use std::fmt::{Debug, Display};
 
 /// A text as a JSON string.
@@ -176,30 +176,35 @@ pub fn put_refusal<E: Debug + Display + Drop>(
     ensures named { is_true (codes "words") (view case.now) ≡ false → IfSome (E.debug_output refusal)
         (λ name. Writes out.old out.new name) }
 {
-    match refusal_text(alloc, case, &refusal) {
-        Ok(text) => out.put(text.as_str()),
+    match format!(in alloc; "{refusal:?}") {
+        Ok(name) => put_named(alloc, case, out, name.as_str(), &refusal),
         Err(_) => out.lose(),
     }
 }
 
-fn refusal_text<E: Debug + Display>(
-    alloc: Global,
-    case: &Json,
-    refusal: &E,
-) -> Result<String, AllocError>
+/// A refusal whose name is known.
+fn put_named<E: Display>(alloc: Global, case: &Json, out: &mut Output, name: &str, refusal: &E)
+    ensures behind { Extends out.old out.new }
     ensures words { is_true (codes "words") (view case.now) ≡ true → IfSome (E.output refusal.now)
-        (λ words. IfOk result (λ text. string_bytes text ≡ words)) }
-    ensures named { is_true (codes "words") (view case.now) ≡ false → IfSome (E.debug_output refusal.now)
-        (λ name. IfOk result (λ text. string_bytes text ≡ name)) }
+        (λ words. Writes out.old out.new words) }
+    ensures named { is_true (codes "words") (view case.now) ≡ false → Writes out.old out.new name.now }
 {
-    let name = format!(in alloc; "{refusal:?}")?;
-    if name.as_str().contains("OutOfMemory") {
-        return Err(AllocError);
-    }
-    if members::is_true(case, "words") {
-        format!(in alloc; "{refusal}")
+    if name.contains("OutOfMemory") {
+        out.lose();
+    } else if members::is_true(case, "words") {
+        put_words(alloc, out, refusal);
     } else {
-        Ok(name)
+        out.put(name);
+    }
+}
+
+fn put_words<E: Display>(alloc: Global, out: &mut Output, refusal: &E)
+    ensures behind { Extends out.old out.new }
+    ensures words { IfSome (E.output refusal.now) (λ words. Writes out.old out.new words) }
+{
+    match format!(in alloc; "{refusal}") {
+        Ok(words) => out.put(words.as_str()),
+        Err(_) => out.lose(),
     }
 }
 
