@@ -31,8 +31,8 @@ pub(crate) fn put(alloc: Global, call: &str, case: &Json, out: &mut Output) -> O
 
 /// A condition that can be run: its text, and what it says of the value.
 fn put_condition(alloc: Global, case: &Json, out: &mut Output) -> Written {
-    let shape = members::shape(alloc, case, "shape")?;
     let text = members::text(case, "condition")?;
+    let shape = members::shape(alloc, case, "shape")?;
     match Condition::build(alloc, text, shape) {
         Ok(condition) => put_answered(alloc, case, &condition, out),
         Err(refusal) => {
