@@ -1,10 +1,12 @@
 -- The answer of a call, given as a text of its own.
-use Rattle.std.proofs.Common.{◌≡◌, List, [], ◌++◌, ℕ, Bool, true, false, Option, Some, None, Result, Ok, Err, subst}
-use Rattle.std.specs.Prelude.{IfSome, IsSomeAnd}
-use Rattle.ar_value.specs.Answer.{◌>>=◌, Unless}
+use Rattle.std.proofs.Common.{◌≡◌, List, [], ◌++◌, ℕ, Bool, true, false, Option, Some, None, Result, Ok, Err, refl, subst, string_bytes}
+use Rattle.std.specs.Prelude.{IfSome, IsSomeAnd, ⊤}
+use Rattle.ar_value.specs.Answer.{◌>>=◌, Gives}
 use Rattle.ar_cases.specs.declared.fault.CaseFault.{CaseFault}
+use Rattle.ar_cases.specs.declared.output.Output.{Output}
 use Rattle.ar_cases.specs.Members.{is_memory}
 use Rattle.ar_cases.specs.Numbers.{Answers}
+use Rattle.ar_cases.specs.Output.{Holds, finished}
 
 abbrev Answer : Type 0
 Answer = Result (List ℕ) CaseFault
@@ -18,17 +20,14 @@ alone : (answer : Answer) (later : List ℕ) → (answer >>= λ text. Ok ([] ++ 
 alone (Ok text) later is = is
 alone (Err fault) later is = absurd (cc)
 
-alone_refused : (answer : Answer) (fault : CaseFault) (memory : Bool) → Unless memory ((answer >>= λ text. Ok ([] ++ text)) ≡ Err fault) → Unless memory (answer ≡ Err fault)
-alone_refused answer fault true is = tt
-alone_refused (Ok text) fault false is = absurd (cc)
-alone_refused (Err other) fault false is = is
+given : (answer : Answer) (written : Result ⊤ CaseFault) (earlier later : Output) → Holds earlier [] → Answers written earlier later answer → Gives is_memory string_bytes (finished later.is_whole later.text written) answer
+given answer written earlier later holds said = by later.is_whole refl written said where
+  by : (whole : Bool) → later.is_whole ≡ whole → (written : Result ⊤ CaseFault) → Answers written earlier later answer → Gives is_memory string_bytes (finished whole later.text written) answer
+  by false is written said = tt
+  by true is (Ok written) said = alone answer (string_bytes later.text) (subst (λ bytes. (answer >>= λ text. Ok (bytes ++ text)) ≡ Ok (string_bytes later.text)) holds.1 (said is).1)
+  by true is (Err fault) said = said
 
--- what is written behind nothing is the answer
-pub given : (defined : Option Answer) (earlier later : List ℕ) → earlier ≡ [] → IfSome defined (λ answer. Answers (Ok tt) earlier later answer) → IfSome defined (λ answer. answer ≡ Ok later)
-given None earlier later none said = tt
-given (Some answer) earlier later none said = alone answer later (subst (λ earlier. Answers (Ok tt) earlier later answer) none said)
-
--- and what is refused there is refused
-pub refused : (defined : Option Answer) (fault : CaseFault) (earlier later : List ℕ) → earlier ≡ [] → IfSome defined (λ answer. Answers (Err fault) earlier later answer) → IfSome defined (λ answer. Unless (is_memory fault) (answer ≡ Err fault))
-refused None fault earlier later none said = tt
-refused (Some answer) fault earlier later none said = alone_refused answer fault (is_memory fault) (subst (λ earlier. Answers (Err fault) earlier later answer) none said)
+-- what is written behind nothing is the answer, and what is refused there is refused
+pub gives : (defined : Option Answer) (written : Result ⊤ CaseFault) (earlier later : Output) → Holds earlier [] → IfSome defined (λ answer. Answers written earlier later answer) → IfSome defined (λ answer. Gives is_memory string_bytes (finished later.is_whole later.text written) answer)
+gives None written earlier later holds said = tt
+gives (Some answer) written earlier later holds said = given answer written earlier later holds said

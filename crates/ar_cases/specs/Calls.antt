@@ -24,6 +24,11 @@ code_calls = codes "decode" ∷ codes "compile" ∷ codes "verify" ∷ codes "ru
 abbrev pub is_one_of : (names : List (List ℕ)) → (call : List ℕ) → Bool
 is_one_of names call = list_any (bytes_eq call) names
 
+-- the calls that aren't on numbers or texts
+abbrev pub is_other_call : (call : List ℕ) → Bool
+is_other_call call =
+    is_one_of shape_calls call || (is_one_of template_calls call || (is_one_of condition_calls call || is_one_of code_calls call))
+
 abbrev pub is_call : (call : List ℕ) → Bool
 is_call call =
     is_one_of number_calls call || (is_one_of shape_calls call || (is_one_of template_calls call || (is_one_of condition_calls call || is_one_of code_calls call)))

@@ -1,3 +1,4 @@
+pub mod Output
 pub mod Faults
 pub mod Members
 pub mod Printing

@@ -1,12 +1,12 @@
 -- What calls on numbers and texts answer.
-use Rattle.std.specs.Prelude.{ℕ, ℤ, Bool, List, [], codes, ◌++◌, if◌then◌else◌, int_lt, Option, Some, None, option_and_then, Result, Ok, Err, ⊤}
+use Rattle.std.specs.Prelude.{◌≡◌, ℕ, ℤ, true, Bool, List, [], codes, ◌++◌, if◌then◌else◌, int_lt, Option, Some, None, option_and_then, Result, Ok, Err, ⊤, string_bytes}
 use Rattle.std.specs.declared.cmp.Ordering.{Ordering}
 use Rattle.std.specs.declared.cmp.Ordering.TheVariants.{Less, Equal, Greater}
 use Rattle.std.specs.Ordering.{int_cmp}
 use Rattle.std.specs.Str.{bytes_eq}
 use Rattle.serde_json.specs.Data.{Data, string}
 use Rattle.serde_json.specs.Find.{as_i64, as_number}
-use Rattle.ar_value.specs.Answer.{◌>>=◌, Gives, there_or}
+use Rattle.ar_value.specs.Answer.{◌>>=◌, Unless, there_or}
 use Rattle.ar_value.specs.Arithmetic.{decimal_of_whole, decimal_product, difference, negation, product, quotient, remainder, sum}
 use Rattle.ar_value.specs.Decimal.{order}
 use Rattle.ar_value.specs.DecimalText.{decimal_of}
@@ -15,13 +15,15 @@ use Rattle.ar_value.specs.declared.decimal.Number.TheVariants.{Whole, Decimal}
 use Rattle.ar_value.specs.declared.fault.Fault.{Fault}
 use Rattle.ar_cases.specs.declared.fault.CaseFault.{CaseFault}
 use Rattle.ar_cases.specs.declared.fault.CaseFault.TheVariants.{Member}
+use Rattle.ar_cases.specs.declared.output.Output.{Output}
 use Rattle.ar_cases.specs.Calls.{arithmetic_calls, is_one_of}
 use Rattle.ar_cases.specs.Members.{decimal_member, is_memory, json_member, or_member, text_member, whole_member}
 use Rattle.ar_cases.specs.Printing.{fault_name, number_text, quoted, truth_text}
 
--- the answer stands behind what was there, or the case is refused
-abbrev pub Answers : Result ⊤ CaseFault → (earlier later : List ℕ) → (answer : Result (List ℕ) CaseFault) → Type 0
-Answers written earlier later answer = Gives is_memory (λ (written : ⊤). later) written (answer >>= λ text. Ok (earlier ++ text))
+-- the answer stands behind what was there, unless memory ran out, or the case is refused
+abbrev pub Answers : Result ⊤ CaseFault → (earlier later : Output) → (answer : Result (List ℕ) CaseFault) → Type 0
+Answers (Ok written) earlier later answer = later.is_whole ≡ true → (earlier.is_whole ≡ true) × ((answer >>= λ text. Ok (string_bytes earlier.text ++ text)) ≡ Ok (string_bytes later.text))
+Answers (Err fault) earlier later answer = Unless (is_memory fault) (answer ≡ Err fault)
 
 -- a text spells a decimal; what is no text has to be a whole
 abbrev pub operand_in : Data → Result Number CaseFault
@@ -36,7 +38,7 @@ ordering_text Less = codes "less"
 ordering_text Equal = codes "equal"
 ordering_text Greater = codes "greater"
 
-abbrev pub compare_answer : (case : Data) → Result (List ℕ) CaseFault
+unfoldable pub compare_answer : (case : Data) → Result (List ℕ) CaseFault
 compare_answer case = do
   left ← operand_member (codes "left") case
   right ← operand_member (codes "right") case
@@ -77,7 +79,7 @@ abbrev pub result_with : (call : List ℕ) → (left : Number) → (case : Data)
 result_with call (Whole left) case = whole_member (codes "right") case >>= λ right. Ok (whole_result call left right)
 result_with call (Decimal left) case = decimal_member (codes "right") case >>= λ right. there_or Member (decimal_result call left right)
 
-abbrev pub result_answer : (call : List ℕ) → (case : Data) → Result (List ℕ) CaseFault
+unfoldable pub result_answer : (call : List ℕ) → (case : Data) → Result (List ℕ) CaseFault
 result_answer call case = do
   left ← operand_member (codes "left") case
   outcome ← result_with call left case
@@ -87,16 +89,16 @@ abbrev pub negated : Number → Result Number Fault
 negated (Whole operand) = whole_number (negation operand)
 negated (Decimal operand) = decimal_number (negation operand)
 
-abbrev pub negate_answer : (case : Data) → Result (List ℕ) CaseFault
+unfoldable pub negate_answer : (case : Data) → Result (List ℕ) CaseFault
 negate_answer case = operand_member (codes "operand") case >>= λ operand. Ok (outcome_text (negated operand))
 
-abbrev pub to_decimal_answer : (case : Data) → Result (List ℕ) CaseFault
+unfoldable pub to_decimal_answer : (case : Data) → Result (List ℕ) CaseFault
 to_decimal_answer case = whole_member (codes "operand") case >>= λ operand. Ok (outcome_text (decimal_number (decimal_of_whole operand)))
 
-abbrev pub text_answer : (case : Data) → Result (List ℕ) CaseFault
+unfoldable pub text_answer : (case : Data) → Result (List ℕ) CaseFault
 text_answer case = text_member (codes "text") case >>= λ text. Ok (quoted text)
 
-abbrev pub same_text_answer : (case : Data) → Result (List ℕ) CaseFault
+unfoldable pub same_text_answer : (case : Data) → Result (List ℕ) CaseFault
 same_text_answer case = do
   left ← text_member (codes "left") case
   right ← text_member (codes "right") case
@@ -105,7 +107,7 @@ same_text_answer case = do
 abbrev pub below_text : (is_below : Bool) → List ℕ
 below_text is_below = if is_below then codes ", below" else []
 
-abbrev pub order_answer : (case : Data) → Result (List ℕ) CaseFault
+unfoldable pub order_answer : (case : Data) → Result (List ℕ) CaseFault
 order_answer case = do
   left ← decimal_member (codes "left") case
   right ← decimal_member (codes "right") case

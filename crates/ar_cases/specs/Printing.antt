@@ -1,5 +1,5 @@
 -- How texts, numbers, values, answers, runs and shapes are printed: as bytes in UTF-8.
-use Rattle.std.specs.Prelude.{◌≡◌, ℕ, zero, suc, ◌*◌, ◌/◌, ◌%◌, ◌==◌, nat_lt, ℤ, unsigned_abs, Bool, true, false, if◌then◌else◌, List, [], ◌∷◌, ◌++◌, codes, decimal, flat_map, Result, Ok, Err, ⊤}
+use Rattle.std.specs.Prelude.{ℕ, zero, suc, ◌*◌, ◌/◌, ◌%◌, ◌==◌, nat_lt, ℤ, unsigned_abs, Bool, true, false, if◌then◌else◌, List, [], ◌∷◌, ◌++◌, codes, decimal, flat_map, Result, Ok, Err}
 use Rattle.std.specs.Char.{digit_char, encode_utf8}
 use Rattle.std.specs.Fmt.{signed_decimal}
 use Rattle.std.specs.Int.{is_negative}
@@ -13,15 +13,8 @@ use Rattle.ar_value.specs.Value.{Value, Items, Fields}
 use Rattle.ar_value.specs.Value as values
 use Rattle.ar_value.specs.declared.decimal.Number.{Number}
 use Rattle.ar_value.specs.declared.decimal.Number.TheVariants.{Whole, Decimal}
-use Rattle.ar_cases.specs.declared.fault.CaseFault.{CaseFault}
-use Rattle.ar_cases.specs.declared.fault.CaseFault.TheVariants.{OutOfMemory}
 use Rattle.ar_value.specs.declared.fault.Fault.{Fault}
 use Rattle.ar_value.specs.declared.fault.Fault.TheVariants.{IndexOutOfRange, NilOperand, Overflow, DivisionByZero}
-
--- what is written stands behind what was there, or memory is wanting
-abbrev pub Appends : Result ⊤ CaseFault → (earlier later text : List ℕ) → Type 0
-Appends (Ok written) earlier later text = later ≡ earlier ++ text
-Appends (Err fault) earlier later text = fault ≡ OutOfMemory
 
 -- ---- texts
 
@@ -144,9 +137,3 @@ abbrev mutual
   pub field_shapes_text : (first : Bool) → FieldShapes → List ℕ
   field_shapes_text first shapes.no_fields = []
   field_shapes_text first (shapes.field name shape others) = (between first (codes ",") ++ (quoted name ++ (codes ":" ++ shape_text shape))) ++ field_shapes_text false others
-
--- ---- refusals
-
--- a text that has another in front
-abbrev pub Extends : (earlier later : List ℕ) → Type 0
-Extends earlier later = (added : List ℕ) × (later ≡ earlier ++ added)

@@ -1,13 +1,14 @@
 //! Calls on the code of the stack machine.
 
-ghost use Rattle.std.specs.Prelude.{◌≡◌, None, is_some, true};
+ghost use Rattle.std.specs.Prelude.{◌≡◌, is_some, true};
 ghost use Rattle.ar_value.specs.Fits.{fits};
 ghost use Rattle.ar_value.specs.View.{shape_view, value_view};
 ghost use Rattle.ar_cases.specs.Calls.{is_one_of, code_calls};
 
 use crate::fault::{CaseFault, Written};
 use crate::members;
-use crate::printing::{put_between, put_ended, put_lines, put_quoted, put_refusal};
+use crate::output::Output;
+use crate::printing::{put_ended, put_lines, put_quoted, put_refusal};
 use ar_check::check;
 use ar_code::{Code, decode, encode, listing};
 use ar_compile::{CompileError, compile, in_limits};
@@ -15,17 +16,15 @@ use ar_condition::Typed;
 use ar_machine::{Outcome, run};
 use ar_syntax::parse;
 use ar_tested::{Ended, run_tested};
-use ar_value::Value;
+use ar_value::{Shape, Value};
 use ar_verified::{Cause, Refused, Verified};
 use ar_verify::verify;
 use serde_json::Value as Json;
 use std::alloc::{AllocError, Global};
-use std::fmt::Write;
 
 /// Writes what a call on this subject answers; `None` for a call on another one.
-pub(crate) fn put(alloc: Global, call: &str, case: &Json, out: &mut String) -> Option<Written>
+pub(crate) fn put(alloc: Global, call: &str, case: &Json, out: &mut Output) -> Option<Written>
     ensures known { is_some result ≡ is_one_of code_calls call.now }
-    ensures kept { result ≡ None → out.new ≡ out.old }
 {
     match call {
         "decode" => Some(put_decoded(alloc, case, out)),
@@ -37,45 +36,52 @@ pub(crate) fn put(alloc: Global, call: &str, case: &Json, out: &mut String) -> O
 }
 
 /// The code of an image: its own image, its texts, its names and its listing, or the refusal.
-fn put_decoded(alloc: Global, case: &Json, out: &mut String) -> Written {
+fn put_decoded(alloc: Global, case: &Json, out: &mut Output) -> Written {
     match decode(alloc, &members::bytes(alloc, case, "image")?) {
         Ok(code) => put_code(alloc, out, &code),
-        Err(refusal) => put_refusal(alloc, case, out, &refusal),
+        Err(refusal) => put_refusal(alloc, case, out, refusal),
     }
-}
-
-fn put_code(alloc: Global, out: &mut String, code: &Code) -> Written {
-    put_bytes(out, &encode(alloc, code)?)?;
-    put_tables(out, code)?;
-    put_lines(out, listing(alloc, code)?.as_str())
-}
-
-fn put_tables(out: &mut String, code: &Code) -> Written {
-    out.push_str(" / texts=")?;
-    put_texts(out, code.texts())?;
-    out.push_str(" names=")?;
-    put_texts(out, code.names())?;
-    write!(out, " operations={} / ", code.ops().len())?;
     Ok(())
 }
 
-fn put_texts(out: &mut String, texts: &[String]) -> Written {
-    out.push_str("[")?;
-    let mut first = true;
-    for text in texts.iter() {
-        put_between(out, first, ",")?;
-        first = false;
-        put_quoted(out, text.as_str())?;
-    }
-    out.push_str("]")?;
-    Ok(())
+fn put_code(alloc: Global, out: &mut Output, code: &Code) {
+    put_image(alloc, out, code);
+    put_texts(out, " / texts=", code.texts());
+    put_texts(out, " names=", code.names());
+    write!(out, " operations={} / ", code.ops().len());
+    put_listing(alloc, out, code);
 }
 
-fn put_bytes(out: &mut String, bytes: &[u8]) -> Written {
+fn put_image(alloc: Global, out: &mut Output, code: &Code) {
+    match encode(alloc, code) {
+        Ok(bytes) => put_bytes(out, &bytes),
+        Err(_) => out.lose(),
+    }
+}
+
+fn put_bytes(out: &mut Output, bytes: &[u8]) {
     for byte in bytes {
-        write!(out, "{byte:02x}")?;
+        write!(out, "{byte:02x}");
     }
-    Ok(())
+}
+
+fn put_listing(alloc: Global, out: &mut Output, code: &Code) {
+    match listing(alloc, code) {
+        Ok(lines) => put_lines(out, lines.as_str()),
+        Err(_) => out.lose(),
+    }
+}
+
+fn put_texts(out: &mut Output, name: &str, texts: &[String]) {
+    out.put(name);
+    out.put("[");
+    let mut separator = "";
+    for text in texts {
+        out.put(separator);
+        separator = ",";
+        put_quoted(out, text.as_str());
+    }
+    out.put("]");
 }
 
 /// The typed tree of a condition that has kinds under a shape.
@@ -100,11 +106,12 @@ fn compiled(alloc: Global, case: &Json) -> Result<Result<Code, CompileError>, Ca
     }
 }
 
-fn put_compiled(alloc: Global, case: &Json, out: &mut String) -> Written {
+fn put_compiled(alloc: Global, case: &Json, out: &mut Output) -> Written {
     match compiled(alloc, case)? {
-        Ok(code) => put_lines(out, listing(alloc, &code)?.as_str()),
-        Err(refusal) => put_refusal(alloc, case, out, &refusal),
+        Ok(code) => put_listing(alloc, out, &code),
+        Err(refusal) => put_refusal(alloc, case, out, refusal),
     }
+    Ok(())
 }
 
 /// The code of the member `image`, or else of `condition` under `shape`.
@@ -118,20 +125,10 @@ fn code_of(alloc: Global, case: &Json) -> Result<Code, CaseFault> {
     }
 }
 
-fn put_cause(out: &mut String, cause: Cause) -> Written {
-    match cause {
-        Cause::Fault { place, reason } => {
-            write!(out, "{reason:?} at {place}")?;
-            Ok(())
-        }
-        Cause::OutOfMemory => Err(CaseFault::OutOfMemory),
-    }
-}
-
 /// The verdict on code, and how the runs of the values end, where there are any: of verified code as `run`
 /// ends them, which has to be how `run_tested` ends with just the fuel that they cost; of other code with
 /// the case's fuel.
-fn put_verified(alloc: Global, case: &Json, out: &mut String) -> Written {
+fn put_verified(alloc: Global, case: &Json, out: &mut Output) -> Written {
     let code = code_of(alloc, case)?;
     let shape = members::shape(alloc, case, "shape")?;
     match verify(alloc, code, shape) {
@@ -140,48 +137,54 @@ fn put_verified(alloc: Global, case: &Json, out: &mut String) -> Written {
     }
 }
 
-fn put_accepted(alloc: Global, case: &Json, verified: &Verified, out: &mut String) -> Written {
+fn put_accepted(alloc: Global, case: &Json, verified: &Verified, out: &mut Output) -> Written {
     write!(
         out,
         "accepted operations={} depth={} budget={}",
         verified.code().ops().len(),
         verified.depth(),
         verified.budget()
-    )?;
-    put_runs(alloc, case, verified, out)
+    );
+    for json in members::list_or_none(case, "values")? {
+        let value = members::value_of(alloc, json, verified.shape())?;
+        put_run(alloc, verified, &value, out);
+    }
+    Ok(())
 }
 
-fn put_refused(alloc: Global, case: &Json, refused: &Refused, out: &mut String) -> Written {
-    put_cause(out, refused.cause)?;
+fn put_refused(alloc: Global, case: &Json, refused: &Refused, out: &mut Output) -> Written {
+    match refused.cause {
+        Cause::Fault { place, reason } => write!(out, "{reason:?} at {place}"),
+        Cause::OutOfMemory => out.lose(),
+    }
     put_tested_runs(alloc, case, &refused.code, out)
 }
 
 /// How a run of any code ends with so much fuel.
-fn put_tested(alloc: Global, case: &Json, out: &mut String) -> Written {
+fn put_tested(alloc: Global, case: &Json, out: &mut Output) -> Written {
     let code = code_of(alloc, case)?;
     let shape = members::shape(alloc, case, "shape")?;
     let value = members::value(alloc, case, shape.get())?;
     put_tested_run(alloc, case, &code, &value, out)
 }
 
-fn put_runs(alloc: Global, case: &Json, verified: &Verified, out: &mut String) -> Written {
-    for json in members::list_or_none(case, "values")? {
-        let value = members::value_of(alloc, json, verified.shape())?;
-        put_one_run(alloc, verified, &value, out)?;
-    }
-    Ok(())
-}
-
-fn put_one_run(alloc: Global, verified: &Verified, value: &Value, out: &mut String) -> Written
+fn put_run(alloc: Global, verified: &Verified, value: &Value, out: &mut Output)
     requires { fits (value_view value.now) (shape_view verified.now.shape) ≡ true }
 {
-    let outcome = run(alloc, verified, value)?;
-    out.push_str(" / ")?;
-    put_ended(out, Ended::Done(outcome))?;
-    if !takes_just(alloc, verified.code(), value, outcome)? {
-        out.push_str(", but not with just this fuel")?;
+    out.put(" / ");
+    match run(alloc, verified, value) {
+        Ok(outcome) => put_outcome(alloc, verified.code(), value, outcome, out),
+        Err(_) => out.lose(),
     }
-    Ok(())
+}
+
+fn put_outcome(alloc: Global, code: &Code, value: &Value, outcome: Outcome, out: &mut Output) {
+    put_ended(out, Ended::Done(outcome));
+    match takes_just(alloc, code, value, outcome) {
+        Ok(true) => {}
+        Ok(false) => out.put(", but not with just this fuel"),
+        Err(_) => out.lose(),
+    }
 }
 
 /// Whether a run of a code ends so with just the fuel that it costs, and with less not at all.
@@ -196,14 +199,25 @@ fn takes_just(
     Ok(with_all == Ended::Done(outcome) && with_less == Ended::Spent)
 }
 
-fn put_tested_runs(alloc: Global, case: &Json, code: &Code, out: &mut String) -> Written {
+fn put_tested_runs(alloc: Global, case: &Json, code: &Code, out: &mut Output) -> Written {
     let shape = members::shape(alloc, case, "shape")?;
     for json in members::list_or_none(case, "values")? {
-        let value = members::value_of(alloc, json, shape.get())?;
-        out.push_str(" / ")?;
-        put_tested_run(alloc, case, code, &value, out)?;
+        put_tested_value(alloc, case, code, shape.get(), json, out)?;
     }
     Ok(())
+}
+
+fn put_tested_value(
+    alloc: Global,
+    case: &Json,
+    code: &Code,
+    shape: &Shape,
+    json: &Json,
+    out: &mut Output,
+) -> Written {
+    let value = members::value_of(alloc, json, shape)?;
+    out.put(" / ");
+    put_tested_run(alloc, case, code, &value, out)
 }
 
 /// How a run of any code ends with the case's fuel.
@@ -212,8 +226,9 @@ fn put_tested_run(
     case: &Json,
     code: &Code,
     value: &Value,
-    out: &mut String,
+    out: &mut Output,
 ) -> Written {
     let fuel = members::number(case, "fuel")?;
-    put_ended(out, run_tested(alloc, code, value, fuel)?)
+    put_ended(out, run_tested(alloc, code, value, fuel)?);
+    Ok(())
 }

@@ -1,11 +1,12 @@
 //! Calls on conditions as texts: tokens, trees, and trees whose kinds are known.
 
-ghost use Rattle.std.specs.Prelude.{◌≡◌, None, is_some};
+ghost use Rattle.std.specs.Prelude.{◌≡◌, is_some};
 ghost use Rattle.ar_cases.specs.Calls.{is_one_of, condition_calls};
 
 use crate::fault::Written;
 use crate::members;
-use crate::printing::{put_between, put_decimal, put_pair, put_quoted, put_refusal};
+use crate::output::Output;
+use crate::printing::{put_decimal, put_pair, put_quoted, put_refusal};
 use crate::trees::put_tree;
 use crate::typed::put_typed;
 use ar_check::check;
@@ -13,12 +14,10 @@ use ar_condition::Tree;
 use ar_syntax::{Token, TokenKind, parse, tokens};
 use serde_json::Value as Json;
 use std::alloc::Global;
-use std::fmt::Write;
 
 /// Writes what a call on this subject answers; `None` for a call on another one.
-pub(crate) fn put(alloc: Global, call: &str, case: &Json, out: &mut String) -> Option<Written>
+pub(crate) fn put(alloc: Global, call: &str, case: &Json, out: &mut Output) -> Option<Written>
     ensures known { is_some result ≡ is_one_of condition_calls call.now }
-    ensures kept { result ≡ None → out.new ≡ out.old }
 {
     match call {
         "tokens" => Some(put_tokens(alloc, case, out)),
@@ -28,65 +27,67 @@ pub(crate) fn put(alloc: Global, call: &str, case: &Json, out: &mut String) -> O
     }
 }
 
-fn put_tokens(alloc: Global, case: &Json, out: &mut String) -> Written {
+fn put_tokens(alloc: Global, case: &Json, out: &mut Output) -> Written {
     match tokens(alloc, members::text(case, "condition")?) {
         Ok(tokens) => put_all_tokens(out, tokens.as_slice()),
-        Err(refusal) => put_refusal(alloc, case, out, &refusal),
+        Err(refusal) => put_refusal(alloc, case, out, refusal),
     }
-}
-
-fn put_all_tokens(out: &mut String, tokens: &[Token]) -> Written {
-    out.push_str("[")?;
-    let mut first = true;
-    for token in tokens.iter() {
-        put_between(out, first, ", ")?;
-        first = false;
-        write!(out, "{}-{} ", token.span.start, token.span.end)?;
-        put_token(out, &token.kind)?;
-    }
-    out.push_str("]")?;
     Ok(())
 }
 
-fn put_token(out: &mut String, kind: &TokenKind) -> Written {
-    match kind {
+fn put_all_tokens(out: &mut Output, tokens: &[Token]) {
+    out.put("[");
+    let mut separator = "";
+    for token in tokens {
+        out.put(separator);
+        separator = ", ";
+        put_token(out, token);
+    }
+    out.put("]");
+}
+
+fn put_token(out: &mut Output, token: &Token) {
+    write!(out, "{}-{} ", token.span.start, token.span.end);
+    match &token.kind {
         TokenKind::Word(word) => put_pair(out, "word", word.letters()),
         TokenKind::Name(name) => put_pair(out, "name", name.as_str()),
-        TokenKind::Whole(whole) => {
-            write!(out, "whole {whole}")?;
-            Ok(())
-        }
+        TokenKind::Whole(whole) => write!(out, "whole {whole}"),
         TokenKind::Decimal(decimal) => {
-            out.push_str("decimal ")?;
-            put_decimal(out, *decimal)
+            out.put("decimal ");
+            put_decimal(out, *decimal);
         }
         TokenKind::Text(text) => {
-            out.push_str("text ")?;
-            put_quoted(out, text.as_str())
+            out.put("text ");
+            put_quoted(out, text.as_str());
         }
         TokenKind::Sign(sign) => put_pair(out, "sign", sign.spelling()),
     }
 }
 
-fn put_parsed(alloc: Global, case: &Json, out: &mut String) -> Written {
+fn put_parsed(alloc: Global, case: &Json, out: &mut Output) -> Written {
     match parse(alloc, members::text(case, "condition")?) {
         Ok(tree) => put_tree(out, &tree),
-        Err(refusal) => put_refusal(alloc, case, out, &refusal),
+        Err(refusal) => put_refusal(alloc, case, out, refusal),
     }
+    Ok(())
 }
 
-/// The typed tree of a condition that can be parsed.
-fn put_checked(alloc: Global, case: &Json, out: &mut String) -> Written {
+/// The typed tree of a condition that can be parsed. The shape is looked at behind the condition.
+fn put_checked(alloc: Global, case: &Json, out: &mut Output) -> Written {
     match parse(alloc, members::text(case, "condition")?) {
-        Ok(tree) => put_typed_of(alloc, case, tree, out),
-        Err(refusal) => put_refusal(alloc, case, out, &refusal),
+        Ok(tree) => put_typed_of(alloc, case, Box::new(alloc, tree)?, out),
+        Err(refusal) => {
+            put_refusal(alloc, case, out, refusal);
+            Ok(())
+        }
     }
 }
 
-fn put_typed_of(alloc: Global, case: &Json, tree: Tree, out: &mut String) -> Written {
+fn put_typed_of(alloc: Global, case: &Json, tree: Box<Tree>, out: &mut Output) -> Written {
     let shape = members::shape(alloc, case, "shape")?;
-    match check(alloc, tree, shape.get()) {
+    match check(alloc, Box::into_inner(tree), shape.get()) {
         Ok(typed) => put_typed(out, &typed),
-        Err(refusal) => put_refusal(alloc, case, out, &refusal),
+        Err(refusal) => put_refusal(alloc, case, out, refusal),
     }
+    Ok(())
 }

@@ -6,7 +6,6 @@ ghost use Rattle.ar_cases.specs.declared.fault.LineFault.TheVariants.{Case};
 ghost use Rattle.ar_cases.specs.Faults.{status_of};
 
 use std::alloc::{AllocError, AllocFailed};
-use std::fmt;
 use thiserror::Error;
 
 /// Why a case isn't answered.
@@ -19,7 +18,7 @@ pub enum CaseFault {
     OutOfMemory,
 }
 
-/// The answer was written, or the case isn't answered.
+/// The answer was written, as far as memory lasted, or the case isn't answered.
 pub type Written = Result<(), CaseFault>;
 
 /// Why a line isn't answered.
@@ -68,15 +67,6 @@ impl<T: Drop> From<AllocFailed<T>> for CaseFault {
     ghost from_gives = { λ _ e. e ≡ OutOfMemory };
 
     fn from(_error: AllocFailed<T>) -> CaseFault {
-        CaseFault::OutOfMemory
-    }
-}
-
-/// A write into a text fails for want of memory alone.
-impl From<fmt::Error> for CaseFault {
-    ghost from_gives = { λ _ e. e ≡ OutOfMemory };
-
-    fn from(_error: fmt::Error) -> CaseFault {
         CaseFault::OutOfMemory
     }
 }

@@ -5,6 +5,7 @@
 //!
 //! - [`fault`]: why a case or a line isn't answered
 //! - [`members`]: the members of a case
+//! - [`output`]: the text of an answer, written piece by piece while memory lasts
 //! - [`printing`]: texts, numbers, shapes, values and refusals as they are printed
 //! - `numbers`, `shapes`, `templates`, `conditions`, `codes`: the calls, by their subjects
 //! - `trees`, `typed`: conditions as written and as typed, printed
@@ -12,14 +13,15 @@
 //! What is proved, of every case: which names are those of calls (`specs/Calls`); what a call on numbers
 //! or texts answers, `decimal` and `digits` aside (`specs/Numbers`); what the members of a case are, or
 //! that they are refused (`specs/Members`); how texts, numbers, values, shapes, lines and what a condition
-//! says are printed (`specs/Printing`); and the exit statuses (`specs/Faults`). What the other calls answer,
-//! and how trees, tokens, templates and code are printed, is only tested, by the suite.
+//! says are printed (`specs/Printing`); that pieces of an answer stand one behind another, and none is left
+//! out (`specs/Output`); and the exit statuses (`specs/Faults`). What the other calls answer, and how trees,
+//! tokens, templates and code are printed, is only tested, by the suite.
 #![tactic(auto)]
 
 ghost use Rattle.std.specs.Prelude.{◌≡◌, IfSome, IsSomeAnd, is_some, string_bytes};
 ghost use Rattle.serde_json.specs.View.{view};
 ghost use Rattle.ar_value.specs.Answer.{Gives};
-ghost use Rattle.ar_cases.specs.Calls.{is_call};
+ghost use Rattle.ar_cases.specs.Calls.{is_call, is_other_call};
 ghost use Rattle.ar_cases.specs.Members.{is_memory};
 ghost use Rattle.ar_cases.specs.Numbers.{Answers, number_answer};
 
@@ -28,6 +30,7 @@ mod conditions;
 pub mod fault;
 pub mod members;
 mod numbers;
+pub mod output;
 pub mod printing;
 mod shapes;
 mod templates;
@@ -35,6 +38,7 @@ mod trees;
 mod typed;
 
 use crate::fault::{CaseFault, Written};
+use crate::output::Output;
 use serde_json::Value as Json;
 use std::alloc::Global;
 
@@ -45,22 +49,27 @@ pub fn answer(alloc: Global, call: &str, case: &Json) -> Option<Result<String, C
     ensures exact { IfSome (number_answer call.now (view case.now))
         (λ answer. IsSomeAnd result (λ given. Gives is_memory string_bytes given answer)) }
 {
-    let mut out = String::new(alloc);
-    match put(alloc, call, case, &mut out)? {
-        Ok(()) => Some(Ok(out)),
-        Err(fault) => Some(Err(fault)),
-    }
+    let mut out = Output::new(alloc);
+    let written = put(alloc, call, case, &mut out)?;
+    Some(out.finish(written))
 }
 
 #[tactic(auto, using(crate::proofs::Given::no_number))]
-fn put(alloc: Global, call: &str, case: &Json, out: &mut String) -> Option<Written>
+fn put(alloc: Global, call: &str, case: &Json, out: &mut Output) -> Option<Written>
     ensures known { is_some result ≡ is_call call.now }
     ensures exact { IfSome (number_answer call.now (view case.now)) (λ answer. IsSomeAnd result
-        (λ written. Answers written (string_bytes out.old) (string_bytes out.new) answer)) }
+        (λ written. Answers written out.old out.new answer)) }
 {
-    if let Some(written) = numbers::put(alloc, call, case, out) {
-        return Some(written);
+    match numbers::put(alloc, call, case, out) {
+        Some(written) => Some(written),
+        None => put_other(alloc, call, case, out),
     }
+}
+
+/// What a call answers that isn't one on numbers.
+fn put_other(alloc: Global, call: &str, case: &Json, out: &mut Output) -> Option<Written>
+    ensures known { is_some result ≡ is_other_call call.now }
+{
     if let Some(written) = shapes::put(alloc, call, case, out) {
         return Some(written);
     }

@@ -32,6 +32,14 @@ pub fn text<'a>(case: &'a Json, name: &str) -> Result<&'a str, CaseFault>
     json(case, name)?.as_str().ok_or(CaseFault::Member)
 }
 
+/// The text at a place of a list.
+pub(crate) fn text_at(list: &Json, place: usize) -> Result<&str, CaseFault> {
+    list.get(place)
+        .ok_or(CaseFault::Member)?
+        .as_str()
+        .ok_or(CaseFault::Member)
+}
+
 pub fn list<'a>(case: &'a Json, name: &str) -> Result<&'a [Json], CaseFault>
     ensures { Gives (λ _. false) (λ list. map (λ item. view item) list.now) result
         (list_member name.now (view case.now)) }
@@ -117,8 +125,16 @@ pub fn shape(alloc: Global, case: &Json, name: &str) -> Result<SharedShape, Case
 fn shape_of(alloc: Global, json: &Json) -> Result<SharedShape, CaseFault>
     ensures { Gives is_memory shape_view result (shape_in (view json.now)) }
 {
+    let shape = own_shape(alloc, json)?;
+    Ok(SharedShape::new(alloc, shape)?)
+}
+
+/// Likewise, as a shape of the caller's own.
+pub(crate) fn own_shape(alloc: Global, json: &Json) -> Result<Shape, CaseFault>
+    ensures { Gives is_memory shape_view result (shape_in (view json.now)) }
+{
     match read_shape(alloc, json) {
-        Ok(shape) => Ok(SharedShape::new(alloc, shape)?),
+        Ok(shape) => Ok(shape),
         Err(ShapeError::OutOfMemory) => Err(CaseFault::OutOfMemory),
         Err(_) => Err(CaseFault::Member),
     }

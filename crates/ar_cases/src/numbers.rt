@@ -1,31 +1,31 @@
 //! Calls on numbers and texts.
 
-ghost use Rattle.std.specs.Prelude.{◌≡◌, None, IfSome, IsSomeAnd, false, is_some, string_bytes};
+ghost use Rattle.std.specs.Prelude.{◌≡◌, IfOk, IfSome, IsSomeAnd, false, is_some, true};
 ghost use Rattle.std.specs.Char.{is_ascii_digit};
 ghost use Rattle.std.specs.List.{list_all};
+ghost use Rattle.std.specs.Str.{bytes_eq};
 ghost use Rattle.ar_cases.specs.Calls.{is_one_of, number_calls};
 ghost use Rattle.serde_json.specs.View.{view};
 ghost use Rattle.ar_value.specs.Answer.{Gives};
 ghost use Rattle.ar_cases.specs.Numbers.{Answers, below_text, compare_answer, decimal_number, decimal_result, negate_answer, negated, number_answer, order_answer, ordering_text, outcome_text, result_answer, result_with, same_text_answer, text_answer, to_decimal_answer, whole_number, whole_result};
-ghost use Rattle.ar_cases.specs.Printing.{Appends};
+ghost use Rattle.ar_cases.specs.Output.{Writes};
 
 use crate::fault::{CaseFault, Written};
 use crate::members;
+use crate::output::Output;
 use crate::printing::{
-    fault_name, put_decimal, put_number, put_quoted, put_refusal, put_str, put_truth,
+    fault_name, put_decimal, put_number, put_or_none, put_quoted, put_refusal, put_truth,
 };
 use ar_value::{Decimal, Fault, Number, Text, compare, digits, whole};
 use serde_json::Value as Json;
-use std::alloc::Global;
+use std::alloc::{AllocError, Global};
 use std::cmp::Ordering;
-use std::fmt::Write;
 
 /// Writes what a call on this subject answers; `None` for a call on another one.
-pub(crate) fn put(alloc: Global, call: &str, case: &Json, out: &mut String) -> Option<Written>
+pub(crate) fn put(alloc: Global, call: &str, case: &Json, out: &mut Output) -> Option<Written>
     ensures known { is_some result ≡ is_one_of number_calls call.now }
-    ensures kept { result ≡ None → out.new ≡ out.old }
     ensures exact { IfSome (number_answer call.now (view case.now)) (λ answer. IsSomeAnd result
-        (λ written. Answers written (string_bytes out.old) (string_bytes out.new) answer)) }
+        (λ written. Answers written out.old out.new answer)) }
 {
     match call {
         "compare" => Some(put_compare(case, out)),
@@ -44,10 +44,33 @@ pub(crate) fn put(alloc: Global, call: &str, case: &Json, out: &mut String) -> O
 }
 
 /// A decimal text.
-fn put_decimal_of(alloc: Global, case: &Json, out: &mut String) -> Written {
+fn put_decimal_of(alloc: Global, case: &Json, out: &mut Output) -> Written {
     match Decimal::of_text(members::text(case, "text")?) {
         Ok(decimal) => put_decimal(out, decimal),
-        Err(refusal) => put_refusal(alloc, case, out, &refusal),
+        Err(refusal) => put_refusal(alloc, case, out, refusal),
+    }
+    Ok(())
+}
+
+/// The number that digits spell, or the millionths where there are digits behind a point, too.
+fn put_digits(case: &Json, out: &mut Output) -> Written {
+    let whole = digits_of(members::text(case, "digits")?)?;
+    let found = match case.get("fraction").and_then(Json::as_str) {
+        Some(behind) => digits::millionths(whole, digits_of(behind)?),
+        None => digits::number(whole),
+    };
+    put_or_none(out, found);
+    Ok(())
+}
+
+/// The bytes of a text that has only digits.
+fn digits_of(text: &str) -> Result<&[u8], CaseFault>
+    ensures { IfOk result (λ digits. list_all is_ascii_digit digits.now ≡ true) }
+{
+    if are_digits(text) {
+        Ok(text.as_bytes())
+    } else {
+        Err(CaseFault::Member)
     }
 }
 
@@ -57,77 +80,62 @@ fn are_digits(text: &str) -> bool
     text.as_bytes().iter().all(|byte| byte.is_ascii_digit())
 }
 
-/// The number that digits spell, or the millionths where there are digits behind a point, too.
-fn put_digits(case: &Json, out: &mut String) -> Written {
-    let digits = members::text(case, "digits")?;
-    let behind = case.get("fraction").and_then(Json::as_str);
-    if !are_digits(digits) || !are_digits(behind.unwrap_or("")) {
-        return Err(CaseFault::Member);
-    }
-    let found = match behind {
-        Some(behind) => digits::millionths(digits.as_bytes(), behind.as_bytes()),
-        None => digits::number(digits.as_bytes()),
-    };
-    match found {
-        Some(number) => write!(out, "{number}")?,
-        None => out.push_str("none")?,
-    }
-    Ok(())
-}
-
-fn put_ordering(out: &mut String, ordering: Ordering) -> Written
-    ensures { Appends result (string_bytes out.old) (string_bytes out.new) (ordering_text ordering) }
+fn put_ordering(out: &mut Output, ordering: Ordering)
+    ensures { Writes out.old out.new (ordering_text ordering) }
 {
     match ordering {
-        Ordering::Less => put_str(out, "less"),
-        Ordering::Equal => put_str(out, "equal"),
-        Ordering::Greater => put_str(out, "greater"),
+        Ordering::Less => out.put("less"),
+        Ordering::Equal => out.put("equal"),
+        Ordering::Greater => out.put("greater"),
     }
 }
 
-fn put_compare(case: &Json, out: &mut String) -> Written
-    ensures { Answers result (string_bytes out.old) (string_bytes out.new) (compare_answer (view case.now)) }
+#[tactic(auto, unfolding(crate::specs::Numbers::compare_answer))]
+fn put_compare(case: &Json, out: &mut Output) -> Written
+    ensures { Answers result out.old out.new (compare_answer (view case.now)) }
 {
     let left = members::operand(case, "left")?;
     let right = members::operand(case, "right")?;
-    put_ordering(out, compare(left, right))
+    put_ordering(out, compare(left, right));
+    Ok(())
 }
 
 /// How decimals are ordered, and whether the left one is below the right one.
-fn put_order(case: &Json, out: &mut String) -> Written
-    ensures { Answers result (string_bytes out.old) (string_bytes out.new) (order_answer (view case.now)) }
+#[tactic(auto, unfolding(crate::specs::Numbers::order_answer))]
+fn put_order(case: &Json, out: &mut Output) -> Written
+    ensures { Answers result out.old out.new (order_answer (view case.now)) }
 {
     let left = members::decimal(case, "left")?;
     let right = members::decimal(case, "right")?;
-    put_ordering(out, left.cmp(&right))?;
-    put_below(out, left < right)
+    put_ordering(out, left.cmp(&right));
+    put_below(out, left < right);
+    Ok(())
 }
 
-fn put_below(out: &mut String, is_below: bool) -> Written
-    ensures { Appends result (string_bytes out.old) (string_bytes out.new) (below_text is_below) }
+fn put_below(out: &mut Output, is_below: bool)
+    ensures { Writes out.old out.new (below_text is_below) }
 {
     if is_below {
-        put_str(out, ", below")
-    } else {
-        Ok(())
+        out.put(", below");
     }
 }
 
-fn put_outcome(out: &mut String, outcome: Result<Number, Fault>) -> Written
-    ensures { Appends result (string_bytes out.old) (string_bytes out.new) (outcome_text outcome) }
+fn put_outcome(out: &mut Output, outcome: Result<Number, Fault>)
+    ensures { Writes out.old out.new (outcome_text outcome) }
 {
     match outcome {
         Ok(number) => put_number(out, number),
-        Err(fault) => put_str(out, fault_name(fault)),
+        Err(fault) => out.put(fault_name(fault)),
     }
 }
 
-fn put_result(call: &str, case: &Json, out: &mut String) -> Written
-    ensures { Answers result (string_bytes out.old) (string_bytes out.new)
-        (result_answer call.now (view case.now)) }
+#[tactic(auto, unfolding(crate::specs::Numbers::result_answer))]
+fn put_result(call: &str, case: &Json, out: &mut Output) -> Written
+    ensures { Answers result out.old out.new (result_answer call.now (view case.now)) }
 {
     let left = members::operand(case, "left")?;
-    put_outcome(out, result_with(call, left, case)?)
+    put_outcome(out, result_with(call, left, case)?);
+    Ok(())
 }
 
 fn result_with(call: &str, left: Number, case: &Json) -> Result<Result<Number, Fault>, CaseFault>
@@ -185,11 +193,13 @@ fn of_decimals(call: &str, left: Decimal, right: Decimal) -> Option<Result<Numbe
     }
 }
 
-fn put_negated(case: &Json, out: &mut String) -> Written
-    ensures { Answers result (string_bytes out.old) (string_bytes out.new) (negate_answer (view case.now)) }
+#[tactic(auto, unfolding(crate::specs::Numbers::negate_answer))]
+fn put_negated(case: &Json, out: &mut Output) -> Written
+    ensures { Answers result out.old out.new (negate_answer (view case.now)) }
 {
     let operand = members::operand(case, "operand")?;
-    put_outcome(out, negated(operand))
+    put_outcome(out, negated(operand));
+    Ok(())
 }
 
 fn negated(operand: Number) -> Result<Number, Fault>
@@ -202,26 +212,40 @@ fn negated(operand: Number) -> Result<Number, Fault>
 }
 
 /// A whole as a decimal.
-fn put_to_decimal(case: &Json, out: &mut String) -> Written
-    ensures { Answers result (string_bytes out.old) (string_bytes out.new) (to_decimal_answer (view case.now)) }
+#[tactic(auto, unfolding(crate::specs::Numbers::to_decimal_answer))]
+fn put_to_decimal(case: &Json, out: &mut Output) -> Written
+    ensures { Answers result out.old out.new (to_decimal_answer (view case.now)) }
 {
     let operand = members::whole(case, "operand")?;
-    put_outcome(out, decimal_number(Decimal::of_whole(operand)))
+    put_outcome(out, decimal_number(Decimal::of_whole(operand)));
+    Ok(())
 }
 
 /// A text that was copied, given back and taken again.
-fn put_text(alloc: Global, case: &Json, out: &mut String) -> Written
-    ensures { Answers result (string_bytes out.old) (string_bytes out.new) (text_answer (view case.now)) }
+#[tactic(auto, unfolding(crate::specs::Numbers::text_answer))]
+fn put_text(alloc: Global, case: &Json, out: &mut Output) -> Written
+    ensures { Answers result out.old out.new (text_answer (view case.now)) }
 {
     let copy = Text::of(alloc, members::text(case, "text")?)?;
     let again = Text::from(copy.into_string());
-    put_quoted(out, again.as_str())
+    put_quoted(out, again.as_str());
+    Ok(())
 }
 
-fn put_same_text(alloc: Global, case: &Json, out: &mut String) -> Written
-    ensures { Answers result (string_bytes out.old) (string_bytes out.new) (same_text_answer (view case.now)) }
+#[tactic(auto, unfolding(crate::specs::Numbers::same_text_answer))]
+fn put_same_text(alloc: Global, case: &Json, out: &mut Output) -> Written
+    ensures { Answers result out.old out.new (same_text_answer (view case.now)) }
 {
-    let left = Text::of(alloc, members::text(case, "left")?)?;
-    let right = Text::of(alloc, members::text(case, "right")?)?;
-    put_truth(out, left == right)
+    let left = members::text(case, "left")?;
+    let right = members::text(case, "right")?;
+    put_truth(out, are_same(alloc, left, right)?);
+    Ok(())
+}
+
+fn are_same(alloc: Global, left: &str, right: &str) -> Result<bool, AllocError>
+    ensures { IfOk result (λ same. same ≡ bytes_eq left.now right.now) }
+{
+    let left = Text::of(alloc, left)?;
+    let right = Text::of(alloc, right)?;
+    Ok(left == right)
 }

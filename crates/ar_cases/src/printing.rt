@@ -1,6 +1,6 @@
 //! Texts, numbers, shapes, values and refusals as they are printed.
 
-ghost use Rattle.std.specs.Prelude.{◌≡◌, ◌<◌, ◌++◌, ◌==◌, [], IfErr, IfSome, OnErr, OnOk, codes, decimal, false, flat_map, if◌then◌else◌, map, nat_lt, not, string_bytes, true};
+ghost use Rattle.std.specs.Prelude.{◌≡◌, ◌<◌, ◌++◌, ◌==◌, [], None, IfSome, codes, decimal, false, flat_map, if◌then◌else◌, map, nat_lt, not, string_bytes, true};
 ghost use Rattle.std.specs.Char.{encode_utf8};
 ghost use Rattle.std.specs.Fmt.{signed_decimal};
 ghost use Rattle.std.specs.Str.{chars};
@@ -9,12 +9,12 @@ ghost use Rattle.ar_value.specs.Shape.{field_shapes_of, list, object, optional};
 ghost use Rattle.ar_value.specs.Value as values;
 ghost use Rattle.ar_value.specs.Value.{fields_of, items_of};
 ghost use Rattle.ar_value.specs.View.{field_shape_view, field_view, shape_view, value_view};
-ghost use Rattle.ar_cases.specs.declared.fault.CaseFault.TheVariants.{OutOfMemory};
 ghost use Rattle.ar_cases.specs.Members.{is_true};
-ghost use Rattle.ar_cases.specs.Printing.{Appends, Extends, answer_text, between, code_escape, decimal_text, done_text, ended_text, escaped, fault_name, field_shapes_text, fields_text, fraction_text, items_text, lines_text, number_text, quoted, shape_text, truth_text, value_text};
+ghost use Rattle.ar_cases.specs.Output.{Extends, Writes};
+ghost use Rattle.ar_cases.specs.Printing.{answer_text, between, code_escape, decimal_text, done_text, ended_text, escaped, fault_name, field_shapes_text, fields_text, fraction_text, items_text, lines_text, number_text, quoted, shape_text, truth_text, value_text};
 
-use crate::fault::{CaseFault, Written};
 use crate::members;
+use crate::output::Output;
 use ar_machine::{Answer, Outcome};
 use ar_tested::Ended;
 use ar_value::shape::FieldShape;
@@ -22,136 +22,133 @@ use ar_value::value::Field;
 use ar_value::{Decimal, Fault, Number, Shape, Value};
 use serde_json::Value as Json;
 use std::alloc::Global;
-use std::fmt::{Debug, Display, Write};
+use std::fmt::{Debug, Display};
 
 /// A text as a JSON string.
 #[tactic(auto, unfolding(crate::specs::Printing::quoted))]
-pub fn put_quoted(out: &mut String, text: &str) -> Written
-    ensures { Appends result (string_bytes out.old) (string_bytes out.new) (quoted text.now) }
+pub fn put_quoted(out: &mut Output, text: &str)
+    ensures { Writes out.old out.new (quoted text.now) }
 {
-    out.push_str("\"")?;
-    put_escaped(out, text)?;
-    put_str(out, "\"")
+    out.put("\"");
+    put_escaped(out, text);
+    out.put("\"")
 }
 
-fn put_escaped(out: &mut String, text: &str) -> Written
-    ensures { Appends result (string_bytes out.old) (string_bytes out.new) (flat_map escaped (chars text.now)) }
+fn put_escaped(out: &mut Output, text: &str)
+    ensures { Writes out.old out.new (flat_map escaped (chars text.now)) }
 {
     for character in text.chars() {
-        put_character(out, character)?;
+        put_character(out, character);
     }
-    Ok(())
 }
 
-fn put_character(out: &mut String, character: char) -> Written
-    ensures { Appends result (string_bytes out.old) (string_bytes out.new) (escaped character) }
+fn put_character(out: &mut Output, character: char)
+    ensures { Writes out.old out.new (escaped character) }
 {
     match character {
-        '"' => put_str(out, "\\\""),
-        '\\' => put_str(out, "\\\\"),
-        '\n' => put_str(out, "\\n"),
-        '\r' => put_str(out, "\\r"),
-        '\t' => put_str(out, "\\t"),
+        '"' => out.put("\\\""),
+        '\\' => out.put("\\\\"),
+        '\n' => out.put("\\n"),
+        '\r' => out.put("\\r"),
+        '\t' => out.put("\\t"),
         _ => put_other(out, character),
     }
 }
 
 /// A character without an escape of its own.
 #[tactic(auto, using(crate::proofs::Escapes::control))]
-fn put_other(out: &mut String, character: char) -> Written
-    ensures { Appends result (string_bytes out.old) (string_bytes out.new)
+fn put_other(out: &mut Output, character: char)
+    ensures { Writes out.old out.new
         (if nat_lt character 32 then code_escape character else encode_utf8 character) }
 {
     if character <= '\u{1f}' {
-        write!(out, "\\u00{:02x}", u32::from(character))?;
+        write!(out, "\\u00{:02x}", u32::from(character));
     } else {
-        out.push(character)?;
+        out.put_character(character);
     }
-    Ok(())
-}
-
-pub fn put_str(out: &mut String, text: &str) -> Written
-    ensures kept { OnErr result (string_bytes out.new ≡ string_bytes out.old) }
-    ensures text { Appends result (string_bytes out.old) (string_bytes out.new) text.now }
-{
-    out.push_str(text)?;
-    Ok(())
 }
 
 /// Two words with a blank between them.
-pub(crate) fn put_pair(out: &mut String, first: &str, second: &str) -> Written
-    ensures { Appends result (string_bytes out.old) (string_bytes out.new) (first.now ++ (codes " " ++ second.now)) }
+pub(crate) fn put_pair(out: &mut Output, first: &str, second: &str)
+    ensures { Writes out.old out.new (first.now ++ (codes " " ++ second.now)) }
 {
-    write!(out, "{first} {second}")?;
-    Ok(())
+    write!(out, "{first} {second}");
+}
+
+/// What is shown, or that there is none.
+pub fn put_or_none<D: Display + Drop>(out: &mut Output, found: Option<D>)
+    ensures none { found ≡ None → Writes out.old out.new (codes "none") }
+    ensures some { IfSome found (λ shown. IfSome (D.output shown) (λ text. Writes out.old out.new text)) }
+{
+    match found {
+        Some(shown) => write!(out, "{shown}"),
+        None => out.put("none"),
+    }
 }
 
 /// What stands before each item of a list but the first.
-pub fn put_between(out: &mut String, first: bool, separator: &str) -> Written
-    ensures { Appends result (string_bytes out.old) (string_bytes out.new) (between first separator.now) }
+pub(crate) fn put_between(out: &mut Output, first: bool, separator: &str)
+    ensures { Writes out.old out.new (between first separator.now) }
 {
     if !first {
-        out.push_str(separator)?;
+        out.put(separator);
     }
-    Ok(())
 }
 
 /// Lines, with ` / ` between each and the next.
 #[tactic(auto, unfolding(crate::specs::Printing::lines_text))]
-pub fn put_lines(out: &mut String, lines: &str) -> Written
-    ensures { Appends result (string_bytes out.old) (string_bytes out.new) (lines_text lines.now) }
+pub fn put_lines(out: &mut Output, lines: &str)
+    ensures { Writes out.old out.new (lines_text lines.now) }
 {
     let mut ended = false;
     for character in lines.chars() {
-        put_line_part(out, ended, character)?;
+        put_line_part(out, ended, character);
         ended = character == '\n';
     }
-    Ok(())
 }
 
 /// A character of lines, behind the end of a line or not.
-fn put_line_part(out: &mut String, ended: bool, character: char) -> Written
-    ensures { Appends result (string_bytes out.old) (string_bytes out.new)
+fn put_line_part(out: &mut Output, ended: bool, character: char)
+    ensures { Writes out.old out.new
         (between (not ended) (codes " / ") ++ (if character == 10 then [] else encode_utf8 character)) }
 {
-    put_between(out, !ended, " / ")?;
+    put_between(out, !ended, " / ");
     if character != '\n' {
-        out.push(character)?;
+        out.put_character(character);
     }
-    Ok(())
 }
 
 /// A decimal with at least one digit behind its point, and no zero behind that one at its end.
 #[tactic(auto, unfolding(crate::specs::Printing::decimal_text))]
-pub(crate) fn put_decimal(out: &mut String, decimal: Decimal) -> Written
-    ensures { Appends result (string_bytes out.old) (string_bytes out.new) (decimal_text decimal) }
+pub(crate) fn put_decimal(out: &mut Output, decimal: Decimal)
+    ensures { Writes out.old out.new (decimal_text decimal) }
 {
     let millionths = decimal.millionths();
     let size = millionths.unsigned_abs();
     let sign = if millionths < 0 { "-" } else { "" };
-    write!(out, "{sign}{}.", size / 1_000_000)?;
+    write!(out, "{sign}{}.", size / 1_000_000);
     put_fraction(out, size % 1_000_000, 6)
 }
 
 /// Millionths below one, without the zeros at their end.
 #[tactic(auto, using(crate::proofs::Fractions::last_digit, crate::proofs::Fractions::more_digits, std::proofs::Common::append_assoc))]
-fn put_fraction(out: &mut String, millionths: u64, places: u32) -> Written
+fn put_fraction(out: &mut Output, millionths: u64, places: u32)
     requires { millionths < 1000000 }
-    ensures { Appends result (string_bytes out.old) (string_bytes out.new) (fraction_text places millionths) }
+    ensures { Writes out.old out.new (fraction_text places millionths) }
 {
     if places == 0 {
-        return Ok(());
+        return;
     }
-    write!(out, "{}", millionths / 100_000)?;
+    write!(out, "{}", millionths / 100_000);
     let left = millionths % 100_000;
     if left == 0 {
-        return Ok(());
+        return;
     }
     put_fraction(out, left * 10, places - 1)
 }
 
-pub(crate) fn put_number(out: &mut String, number: Number) -> Written
-    ensures { Appends result (string_bytes out.old) (string_bytes out.new) (number_text number) }
+pub(crate) fn put_number(out: &mut Output, number: Number)
+    ensures { Writes out.old out.new (number_text number) }
 {
     match number {
         Number::Whole(whole) => put_whole(out, whole),
@@ -159,41 +156,55 @@ pub(crate) fn put_number(out: &mut String, number: Number) -> Written
     }
 }
 
-pub(crate) fn put_whole(out: &mut String, whole: i64) -> Written
-    ensures { Appends result (string_bytes out.old) (string_bytes out.new) (signed_decimal whole) }
+pub(crate) fn put_whole(out: &mut Output, whole: i64)
+    ensures { Writes out.old out.new (signed_decimal whole) }
 {
-    write!(out, "{whole}")?;
-    Ok(())
+    write!(out, "{whole}");
 }
 
-/// A refusal by its name with its numbers, or in its own words where the case wants these.
-///
-/// # Errors
-///
-/// Want of memory, also where that is what the refusal tells of; nothing was written then.
-pub fn put_refusal<E: Debug + Display>(
+/// A refusal by its name with its numbers, or in its own words where the case wants these. Memory ran out
+/// where that is what the refusal tells of.
+pub fn put_refusal<E: Debug + Display + Drop>(
     alloc: Global,
     case: &Json,
-    out: &mut String,
-    refusal: &E,
-) -> Written
-    ensures memory { IfErr result (λ fault. fault ≡ OutOfMemory) }
-    ensures behind { OnOk result (Extends (string_bytes out.old) (string_bytes out.new)) }
-    ensures kept { OnErr result (string_bytes out.new ≡ string_bytes out.old) }
-    ensures words { is_true (codes "words") (view case.now) ≡ true → IfSome (E.output refusal.now)
-        (λ words. OnOk result (string_bytes out.new ≡ string_bytes out.old ++ words)) }
-    ensures named { is_true (codes "words") (view case.now) ≡ false → IfSome (E.debug_output refusal.now)
-        (λ name. OnOk result (string_bytes out.new ≡ string_bytes out.old ++ name)) }
+    out: &mut Output,
+    refusal: E,
+)
+    ensures behind { Extends out.old out.new }
+    ensures words { is_true (codes "words") (view case.now) ≡ true → IfSome (E.output refusal)
+        (λ words. Writes out.old out.new words) }
+    ensures named { is_true (codes "words") (view case.now) ≡ false → IfSome (E.debug_output refusal)
+        (λ name. Writes out.old out.new name) }
 {
-    let name = format!(in alloc; "{refusal:?}")?;
-    if name.as_str().contains("OutOfMemory") {
-        return Err(CaseFault::OutOfMemory);
+    match format!(in alloc; "{refusal:?}") {
+        Ok(name) => put_named(alloc, case, out, name.as_str(), &refusal),
+        Err(_) => out.lose(),
     }
-    if members::is_true(case, "words") {
-        let words = format!(in alloc; "{refusal}")?;
-        put_str(out, words.as_str())
+}
+
+/// A refusal whose name is known.
+fn put_named<E: Display>(alloc: Global, case: &Json, out: &mut Output, name: &str, refusal: &E)
+    ensures behind { Extends out.old out.new }
+    ensures words { is_true (codes "words") (view case.now) ≡ true → IfSome (E.output refusal.now)
+        (λ words. Writes out.old out.new words) }
+    ensures named { is_true (codes "words") (view case.now) ≡ false → Writes out.old out.new name.now }
+{
+    if name.contains("OutOfMemory") {
+        out.lose();
+    } else if members::is_true(case, "words") {
+        put_words(alloc, out, refusal);
     } else {
-        put_str(out, name.as_str())
+        out.put(name);
+    }
+}
+
+fn put_words<E: Display>(alloc: Global, out: &mut Output, refusal: &E)
+    ensures behind { Extends out.old out.new }
+    ensures words { IfSome (E.output refusal.now) (λ words. Writes out.old out.new words) }
+{
+    match format!(in alloc; "{refusal}") {
+        Ok(words) => out.put(words.as_str()),
+        Err(_) => out.lose(),
     }
 }
 
@@ -209,8 +220,8 @@ pub(crate) fn fault_name(fault: Fault) -> &'static str
 }
 
 /// What a condition says of a value.
-pub fn put_answer(out: &mut String, answer: Answer) -> Written
-    ensures { Appends result (string_bytes out.old) (string_bytes out.new) (answer_text answer) }
+pub fn put_answer(out: &mut Output, answer: Answer)
+    ensures { Writes out.old out.new (answer_text answer) }
 {
     match answer {
         Ok(truth) => put_truth(out, truth),
@@ -219,38 +230,36 @@ pub fn put_answer(out: &mut String, answer: Answer) -> Written
 }
 
 /// How a run of code ends.
-pub(crate) fn put_ended(out: &mut String, ended: Ended) -> Written
-    ensures { Appends result (string_bytes out.old) (string_bytes out.new) (ended_text ended) }
+pub(crate) fn put_ended(out: &mut Output, ended: Ended)
+    ensures { Writes out.old out.new (ended_text ended) }
 {
     match ended {
         Ended::Done(outcome) => put_done(out, outcome),
         Ended::Stuck(place) => put_stuck(out, place),
-        Ended::Spent => put_str(out, "spent"),
+        Ended::Spent => out.put("spent"),
     }
 }
 
-fn put_done(out: &mut String, outcome: Outcome) -> Written
-    ensures { Appends result (string_bytes out.old) (string_bytes out.new) (done_text outcome) }
+fn put_done(out: &mut Output, outcome: Outcome)
+    ensures { Writes out.old out.new (done_text outcome) }
 {
-    put_answer(out, outcome.answer)?;
-    write!(out, " cost={}", outcome.cost)?;
-    Ok(())
+    put_answer(out, outcome.answer);
+    write!(out, " cost={}", outcome.cost);
 }
 
-fn put_stuck(out: &mut String, place: usize) -> Written
-    ensures { Appends result (string_bytes out.old) (string_bytes out.new) (codes "stuck " ++ decimal place) }
+fn put_stuck(out: &mut Output, place: usize)
+    ensures { Writes out.old out.new (codes "stuck " ++ decimal place) }
 {
-    write!(out, "stuck {place}")?;
-    Ok(())
+    write!(out, "stuck {place}");
 }
 
 /// A value as JSON, but for decimals, which are written as numbers with a point.
 #[cycle(put_value)]
-pub(crate) fn put_value(out: &mut String, value: &Value) -> Written
-    ensures { Appends result (string_bytes out.old) (string_bytes out.new) (value_text (value_view value.now)) }
+pub(crate) fn put_value(out: &mut Output, value: &Value)
+    ensures { Writes out.old out.new (value_text (value_view value.now)) }
 {
     match value {
-        Value::Nil => put_str(out, "null"),
+        Value::Nil => out.put("null"),
         Value::Bool(truth) => put_truth(out, *truth),
         Value::Whole(whole) => put_whole(out, *whole),
         Value::Decimal(decimal) => put_decimal(out, *decimal),
@@ -260,95 +269,93 @@ pub(crate) fn put_value(out: &mut String, value: &Value) -> Written
     }
 }
 
-pub(crate) fn put_truth(out: &mut String, truth: bool) -> Written
-    ensures { Appends result (string_bytes out.old) (string_bytes out.new) (truth_text truth) }
+pub(crate) fn put_truth(out: &mut Output, truth: bool)
+    ensures { Writes out.old out.new (truth_text truth) }
 {
     if truth {
-        put_str(out, "true")
+        out.put("true")
     } else {
-        put_str(out, "false")
+        out.put("false")
     }
 }
 
 #[cycle(put_value)]
-fn put_list_value(out: &mut String, items: &[Value]) -> Written
-    ensures { Appends result (string_bytes out.old) (string_bytes out.new)
+fn put_list_value(out: &mut Output, items: &[Value])
+    ensures { Writes out.old out.new
         (value_text (values.list (items_of (map value_view items.now)))) }
 {
-    out.push_str("[")?;
-    put_items(out, items)?;
-    put_str(out, "]")
+    out.put("[");
+    put_items(out, items);
+    out.put("]")
 }
 
 #[cycle(put_value)]
 #[tactic(auto, using(crate::proofs::Joined::next_item, crate::proofs::Joined::no_item))]
-fn put_items(out: &mut String, items: &[Value]) -> Written
-    ensures { Appends result (string_bytes out.old) (string_bytes out.new)
+fn put_items(out: &mut Output, items: &[Value])
+    ensures { Writes out.old out.new
         (items_text true (items_of (map value_view items.now))) }
 {
     let mut first = true;
     for item in items {
-        put_item(out, first, item)?;
+        put_item(out, first, item);
         first = false;
     }
-    Ok(())
 }
 
 #[cycle(put_value)]
-fn put_item(out: &mut String, first: bool, item: &Value) -> Written
-    ensures { Appends result (string_bytes out.old) (string_bytes out.new)
+fn put_item(out: &mut Output, first: bool, item: &Value)
+    ensures { Writes out.old out.new
         (between first (codes ",") ++ value_text (value_view item.now)) }
 {
-    put_between(out, first, ",")?;
+    put_between(out, first, ",");
     put_value(out, item)
 }
 
 #[cycle(put_value)]
-fn put_object(out: &mut String, fields: &[Field]) -> Written
-    ensures { Appends result (string_bytes out.old) (string_bytes out.new)
+fn put_object(out: &mut Output, fields: &[Field])
+    ensures { Writes out.old out.new
         (value_text (values.object (fields_of (map field_view fields.now)))) }
 {
-    out.push_str("{")?;
-    put_fields(out, fields)?;
-    put_str(out, "}")
+    out.put("{");
+    put_fields(out, fields);
+    out.put("}")
 }
 
 #[cycle(put_value)]
 #[tactic(auto, using(crate::proofs::Joined::next_field, crate::proofs::Joined::no_field))]
-fn put_fields(out: &mut String, fields: &[Field]) -> Written
-    ensures { Appends result (string_bytes out.old) (string_bytes out.new)
+fn put_fields(out: &mut Output, fields: &[Field])
+    ensures { Writes out.old out.new
         (fields_text true (fields_of (map field_view fields.now))) }
 {
     let mut first = true;
     for field in fields {
-        put_field(out, first, field)?;
+        put_field(out, first, field);
         first = false;
     }
-    Ok(())
 }
 
 #[cycle(put_value)]
-fn put_field(out: &mut String, first: bool, field: &Field) -> Written
-    ensures { Appends result (string_bytes out.old) (string_bytes out.new)
+fn put_field(out: &mut Output, first: bool, field: &Field)
+    ensures { Writes out.old out.new
         (between first (codes ",") ++ (quoted (field_view field.now).0
         ++ (codes ":" ++ value_text (field_view field.now).1))) }
 {
-    put_between(out, first, ",")?;
-    put_quoted(out, field.name.as_str())?;
-    out.push_str(":")?;
+    put_between(out, first, ",");
+    put_quoted(out, field.name.as_str());
+    out.put(":");
     put_value(out, &field.value)
 }
 
 /// A shape as the JSON that declares it.
 #[cycle(put_shape)]
-pub fn put_shape(out: &mut String, shape: &Shape) -> Written
-    ensures { Appends result (string_bytes out.old) (string_bytes out.new) (shape_text (shape_view shape.now)) }
+pub fn put_shape(out: &mut Output, shape: &Shape)
+    ensures { Writes out.old out.new (shape_text (shape_view shape.now)) }
 {
     match shape {
-        Shape::Bool => put_str(out, "\"bool\""),
-        Shape::Whole => put_str(out, "\"whole\""),
-        Shape::Decimal => put_str(out, "\"decimal\""),
-        Shape::Text => put_str(out, "\"text\""),
+        Shape::Bool => out.put("\"bool\""),
+        Shape::Whole => out.put("\"whole\""),
+        Shape::Decimal => out.put("\"decimal\""),
+        Shape::Text => out.put("\"text\""),
         Shape::List { item, max } => put_list(out, item, *max),
         Shape::Object(fields) => put_record(out, &fields.items),
         Shape::Optional(plain) => put_optional(out, plain),
@@ -356,58 +363,56 @@ pub fn put_shape(out: &mut String, shape: &Shape) -> Written
 }
 
 #[cycle(put_shape)]
-fn put_list(out: &mut String, item: &Shape, max: usize) -> Written
-    ensures { Appends result (string_bytes out.old) (string_bytes out.new)
+fn put_list(out: &mut Output, item: &Shape, max: usize)
+    ensures { Writes out.old out.new
         (shape_text (list (shape_view item.now) max)) }
 {
-    out.push_str("{\"list\":")?;
-    put_shape(out, item)?;
-    write!(out, ",\"max\":{max}}}")?;
-    Ok(())
+    out.put("{\"list\":");
+    put_shape(out, item);
+    write!(out, ",\"max\":{max}}}");
 }
 
 #[cycle(put_shape)]
-fn put_optional(out: &mut String, plain: &Shape) -> Written
-    ensures { Appends result (string_bytes out.old) (string_bytes out.new)
+fn put_optional(out: &mut Output, plain: &Shape)
+    ensures { Writes out.old out.new
         (shape_text (optional (shape_view plain.now))) }
 {
-    out.push_str("{\"optional\":")?;
-    put_shape(out, plain)?;
-    put_str(out, "}")
+    out.put("{\"optional\":");
+    put_shape(out, plain);
+    out.put("}")
 }
 
 #[cycle(put_shape)]
-fn put_record(out: &mut String, fields: &[FieldShape]) -> Written
-    ensures { Appends result (string_bytes out.old) (string_bytes out.new)
+fn put_record(out: &mut Output, fields: &[FieldShape])
+    ensures { Writes out.old out.new
         (shape_text (object (field_shapes_of (map field_shape_view fields.now)))) }
 {
-    out.push_str("{\"record\":{")?;
-    put_field_shapes(out, fields)?;
-    put_str(out, "}}")
+    out.put("{\"record\":{");
+    put_field_shapes(out, fields);
+    out.put("}}")
 }
 
 #[cycle(put_shape)]
 #[tactic(auto, using(crate::proofs::Joined::next_field_shape, crate::proofs::Joined::no_field_shape))]
-fn put_field_shapes(out: &mut String, fields: &[FieldShape]) -> Written
-    ensures { Appends result (string_bytes out.old) (string_bytes out.new)
+fn put_field_shapes(out: &mut Output, fields: &[FieldShape])
+    ensures { Writes out.old out.new
         (field_shapes_text true (field_shapes_of (map field_shape_view fields.now))) }
 {
     let mut first = true;
     for field in fields {
-        put_field_shape(out, first, field)?;
+        put_field_shape(out, first, field);
         first = false;
     }
-    Ok(())
 }
 
 #[cycle(put_shape)]
-fn put_field_shape(out: &mut String, first: bool, field: &FieldShape) -> Written
-    ensures { Appends result (string_bytes out.old) (string_bytes out.new)
+fn put_field_shape(out: &mut Output, first: bool, field: &FieldShape)
+    ensures { Writes out.old out.new
         (between first (codes ",") ++ (quoted (field_shape_view field.now).0
         ++ (codes ":" ++ shape_text (field_shape_view field.now).1))) }
 {
-    put_between(out, first, ",")?;
-    put_quoted(out, field.name.as_str())?;
-    out.push_str(":")?;
+    put_between(out, first, ",");
+    put_quoted(out, field.name.as_str());
+    out.put(":");
     put_shape(out, &field.shape)
 }

@@ -1,16 +1,14 @@
 //! Conditions as written, printed: a node as `(operator@place child child)`, a leaf as `leaf@place`.
 
-use crate::fault::Written;
-use crate::printing::{put_decimal, put_quoted, put_str, put_whole};
+use crate::output::Output;
+use crate::printing::{put_decimal, put_quoted, put_truth, put_whole};
 use ar_condition::tree::{Binary, Comparison, Literal, Tree, Unary};
 use ar_value::operator::Predicate;
-use std::fmt::Write;
 
-pub(crate) fn put_literal(out: &mut String, literal: &Literal) -> Written {
+pub(crate) fn put_literal(out: &mut Output, literal: &Literal) {
     match literal {
-        Literal::Nil => put_str(out, "nil"),
-        Literal::Bool(true) => put_str(out, "true"),
-        Literal::Bool(false) => put_str(out, "false"),
+        Literal::Nil => out.put("nil"),
+        Literal::Bool(truth) => put_truth(out, *truth),
         Literal::Whole(whole) => put_whole(out, *whole),
         Literal::Decimal(decimal) => put_decimal(out, *decimal),
         Literal::Text(text) => put_quoted(out, text.as_str()),
@@ -79,63 +77,52 @@ fn word(tree: &Tree) -> &'static str {
     }
 }
 
-fn put_place(out: &mut String, tree: &Tree) -> Written {
-    write!(out, "@{}", tree.place())?;
-    Ok(())
+fn put_place(out: &mut Output, tree: &Tree) {
+    write!(out, "@{}", tree.place());
 }
 
-fn put_leaf(out: &mut String, tree: &Tree) -> Written {
-    out.push_str(word(tree))?;
-    put_place(out, tree)
-}
-
-fn open(out: &mut String, tree: &Tree) -> Written {
-    out.push_str("(")?;
-    put_leaf(out, tree)
-}
-
-fn close(out: &mut String) -> Written {
-    out.push_str(")")?;
-    Ok(())
+fn put_leaf(out: &mut Output, tree: &Tree) {
+    out.put(word(tree));
+    put_place(out, tree);
 }
 
 /// A tree with a blank before it.
 #[cycle(put_tree)]
-fn put_child(out: &mut String, tree: &Tree) -> Written {
-    out.push_str(" ")?;
-    put_tree(out, tree)
+fn put_child(out: &mut Output, tree: &Tree) {
+    out.put(" ");
+    put_tree(out, tree);
 }
 
 #[cycle(put_tree)]
-fn put_children(out: &mut String, trees: &[Tree]) -> Written {
-    for tree in trees {
-        put_child(out, tree)?;
-    }
-    Ok(())
-}
-
-#[cycle(put_tree)]
-pub(crate) fn put_tree(out: &mut String, tree: &Tree) -> Written {
+pub(crate) fn put_tree(out: &mut Output, tree: &Tree) {
     match tree {
         Tree::Result { .. } | Tree::Item { .. } => put_leaf(out, tree),
         Tree::Literal { literal, .. } => {
-            put_literal(out, literal)?;
-            put_place(out, tree)
+            put_literal(out, literal);
+            put_place(out, tree);
         }
+        _ => {
+            out.put("(");
+            put_leaf(out, tree);
+            put_parts(out, tree);
+            out.put(")");
+        }
+    }
+}
+
+/// The parts of a node, each behind a blank; a leaf has none.
+#[cycle(put_tree)]
+fn put_parts(out: &mut Output, tree: &Tree) {
+    match tree {
+        Tree::Result { .. } | Tree::Item { .. } | Tree::Literal { .. } => {}
         Tree::Field { owner, name, .. } => {
-            open(out, tree)?;
-            put_child(out, owner)?;
-            out.push_str(" ")?;
-            put_quoted(out, name.as_str())?;
-            close(out)
+            put_child(out, owner);
+            out.put(" ");
+            put_quoted(out, name.as_str());
         }
         Tree::Unary { operand, .. }
         | Tree::IsNil { operand, .. }
-        | Tree::Len { list: operand, .. } => {
-            open(out, tree)?;
-            put_child(out, operand)?;
-            close(out)
-        }
+        | Tree::Len { list: operand, .. } => put_child(out, operand),
         Tree::Binary { left, right, .. }
         | Tree::Index {
             list: left,
@@ -152,10 +139,8 @@ pub(crate) fn put_tree(out: &mut String, tree: &Tree) -> Written {
             body: right,
             ..
         } => {
-            open(out, tree)?;
-            put_child(out, left)?;
-            put_child(out, right)?;
-            close(out)
+            put_child(out, left);
+            put_child(out, right);
         }
         Tree::Choice {
             condition,
@@ -163,16 +148,14 @@ pub(crate) fn put_tree(out: &mut String, tree: &Tree) -> Written {
             no,
             ..
         } => {
-            open(out, tree)?;
-            put_child(out, condition)?;
-            put_child(out, yes)?;
-            put_child(out, no)?;
-            close(out)
+            put_child(out, condition);
+            put_child(out, yes);
+            put_child(out, no);
         }
         Tree::List { items, .. } => {
-            open(out, tree)?;
-            put_children(out, &items.items)?;
-            close(out)
+            for item in &items.items {
+                put_child(out, item);
+            }
         }
     }
 }

@@ -1,8 +1,8 @@
 //! Conditions as typed, printed: a node as `(operator kinds child child)`. What the check puts in is written
 //! out: `plain` where nil is a fault, `decimal` where a whole is turned.
 
-use crate::fault::Written;
-use crate::printing::{put_pair, put_quoted, put_str};
+use crate::output::Output;
+use crate::printing::{put_pair, put_quoted};
 use crate::trees::{predicate_name, put_literal};
 use ar_condition::typed::Typed;
 use ar_value::operator::{
@@ -70,22 +70,22 @@ fn compared_name(numbers: Compared) -> &'static str {
     }
 }
 
-fn put_unary(out: &mut String, operator: UnaryOperator) -> Written {
+fn put_unary(out: &mut Output, operator: UnaryOperator) {
     match operator {
-        UnaryOperator::Len => put_str(out, "len"),
-        UnaryOperator::Need => put_str(out, "plain"),
-        UnaryOperator::IsNil => put_str(out, "isNil"),
-        UnaryOperator::ToDecimal => put_str(out, "decimal"),
-        UnaryOperator::Not => put_str(out, "not"),
+        UnaryOperator::Len => out.put("len"),
+        UnaryOperator::Need => out.put("plain"),
+        UnaryOperator::IsNil => out.put("isNil"),
+        UnaryOperator::ToDecimal => out.put("decimal"),
+        UnaryOperator::Not => out.put("not"),
         UnaryOperator::Negate(numbers) => put_pair(out, "negative", numbers_name(numbers)),
     }
 }
 
-fn put_binary(out: &mut String, operator: BinaryOperator) -> Written {
+fn put_binary(out: &mut Output, operator: BinaryOperator) {
     match operator {
-        BinaryOperator::Index => put_str(out, "index"),
-        BinaryOperator::Default => put_str(out, "default"),
-        BinaryOperator::IsIn => put_str(out, "in"),
+        BinaryOperator::Index => out.put("index"),
+        BinaryOperator::Default => out.put("default"),
+        BinaryOperator::IsIn => out.put("in"),
         BinaryOperator::Wholes(operator) => put_pair(out, arithmetic_sign(operator), "wholes"),
         BinaryOperator::Decimals(operator) => put_pair(out, decimal_sign(operator), "decimals"),
         BinaryOperator::Compare(numbers, order) => {
@@ -96,63 +96,53 @@ fn put_binary(out: &mut String, operator: BinaryOperator) -> Written {
 }
 
 /// The words of a node.
-fn put_words(out: &mut String, typed: &Typed) -> Written {
+fn put_words(out: &mut Output, typed: &Typed) {
     match typed {
-        Typed::Result => put_str(out, "result"),
-        Typed::Item => put_str(out, "#"),
+        Typed::Result => out.put("result"),
+        Typed::Item => out.put("#"),
         Typed::Literal(literal) => put_literal(out, literal),
-        Typed::Field { .. } => put_str(out, "field"),
+        Typed::Field { .. } => out.put("field"),
         Typed::Unary { operator, .. } => put_unary(out, *operator),
         Typed::Binary { operator, .. } => put_binary(out, *operator),
-        Typed::And { .. } => put_str(out, "and"),
-        Typed::Or { .. } => put_str(out, "or"),
-        Typed::Choice { .. } => put_str(out, "choice"),
+        Typed::And { .. } => out.put("and"),
+        Typed::Or { .. } => out.put("or"),
+        Typed::Choice { .. } => out.put("choice"),
         Typed::List { scalar, .. } => put_pair(out, "list", scalar_name(*scalar)),
-        Typed::Predicate { predicate, .. } => put_str(out, predicate_name(*predicate)),
+        Typed::Predicate { predicate, .. } => out.put(predicate_name(*predicate)),
     }
-}
-
-fn open(out: &mut String, typed: &Typed) -> Written {
-    out.push_str("(")?;
-    put_words(out, typed)
-}
-
-fn close(out: &mut String) -> Written {
-    out.push_str(")")?;
-    Ok(())
 }
 
 /// A tree with a blank before it.
 #[cycle(put_typed)]
-fn put_child(out: &mut String, typed: &Typed) -> Written {
-    out.push_str(" ")?;
-    put_typed(out, typed)
+fn put_child(out: &mut Output, typed: &Typed) {
+    out.put(" ");
+    put_typed(out, typed);
 }
 
 #[cycle(put_typed)]
-fn put_children(out: &mut String, items: &[Typed]) -> Written {
-    for item in items {
-        put_child(out, item)?;
-    }
-    Ok(())
-}
-
-#[cycle(put_typed)]
-pub(crate) fn put_typed(out: &mut String, typed: &Typed) -> Written {
+pub(crate) fn put_typed(out: &mut Output, typed: &Typed) {
     match typed {
         Typed::Result | Typed::Item | Typed::Literal(_) => put_words(out, typed),
+        _ => {
+            out.put("(");
+            put_words(out, typed);
+            put_parts(out, typed);
+            out.put(")");
+        }
+    }
+}
+
+/// The parts of a node, each behind a blank; a leaf has none.
+#[cycle(put_typed)]
+fn put_parts(out: &mut Output, typed: &Typed) {
+    match typed {
+        Typed::Result | Typed::Item | Typed::Literal(_) => {}
         Typed::Field { owner, name } => {
-            open(out, typed)?;
-            put_child(out, owner)?;
-            out.push_str(" ")?;
-            put_quoted(out, name.as_str())?;
-            close(out)
+            put_child(out, owner);
+            out.put(" ");
+            put_quoted(out, name.as_str());
         }
-        Typed::Unary { operand, .. } => {
-            open(out, typed)?;
-            put_child(out, operand)?;
-            close(out)
-        }
+        Typed::Unary { operand, .. } => put_child(out, operand),
         Typed::Binary { left, right, .. }
         | Typed::And { left, right }
         | Typed::Or { left, right }
@@ -161,22 +151,18 @@ pub(crate) fn put_typed(out: &mut String, typed: &Typed) -> Written {
             body: right,
             ..
         } => {
-            open(out, typed)?;
-            put_child(out, left)?;
-            put_child(out, right)?;
-            close(out)
+            put_child(out, left);
+            put_child(out, right);
         }
         Typed::Choice { condition, yes, no } => {
-            open(out, typed)?;
-            put_child(out, condition)?;
-            put_child(out, yes)?;
-            put_child(out, no)?;
-            close(out)
+            put_child(out, condition);
+            put_child(out, yes);
+            put_child(out, no);
         }
         Typed::List { items, .. } => {
-            open(out, typed)?;
-            put_children(out, &items.items)?;
-            close(out)
+            for item in &items.items {
+                put_child(out, item);
+            }
         }
     }
 }

@@ -3,20 +3,20 @@
 ghost use Rattle.std.specs.Prelude.{◌≡◌, IfOk};
 
 use crate::documents::input_of;
-use crate::phases::put_effect;
+use crate::phases::{number_at, put_effect};
 use ar_bundle::{Bundle, Entry};
 use ar_cases::fault::{CaseFault, Written};
 use ar_cases::members;
-use ar_cases::printing::{put_between, put_refusal, put_str};
+use ar_cases::output::Output;
+use ar_cases::printing::{put_or_none, put_refusal};
 use ar_core::{CoreState, CoreStep, Moved, core_run, core_run_ordered, core_step};
 use ar_document::read_bundle;
 use ar_report::phase_name;
 use serde_json::Value as Json;
 use std::alloc::{AllocError, Global};
-use std::fmt::Write;
 
 /// Writes what a call on this subject answers; `None` for a call on another one.
-pub(crate) fn put(alloc: Global, call: &str, case: &Json, out: &mut String) -> Option<Written> {
+pub(crate) fn put(alloc: Global, call: &str, case: &Json, out: &mut Output) -> Option<Written> {
     match call {
         "core" => Some(put_core(alloc, case, out)),
         _ => None,
@@ -72,25 +72,37 @@ fn run<'b>(
     }
 }
 
-fn put_core(alloc: Global, case: &Json, out: &mut String) -> Written {
+fn put_core(alloc: Global, case: &Json, out: &mut Output) -> Written {
     match read_bundle(alloc, &input_of(alloc, case)?) {
         Ok(bundle) => put_steps(alloc, case, &bundle, out),
-        Err(refusal) => put_refusal(alloc, case, out, &refusal),
+        Err(refusal) => {
+            put_refusal(alloc, case, out, refusal);
+            Ok(())
+        }
     }
+}
+
+fn put_steps(alloc: Global, case: &Json, bundle: &Bundle, out: &mut Output) -> Written {
+    let making = making_of(case).ok_or(CaseFault::Member)?;
+    let steps = steps_of(alloc, case)?;
+    put_states(alloc, bundle, making, &steps, out)
 }
 
 /// What each step did, and the state behind them; behind it that of `core_run` or `core_run_ordered`, where
 /// it is another.
-fn put_steps(alloc: Global, case: &Json, bundle: &Bundle, out: &mut String) -> Written {
-    let making = making_of(case).ok_or(CaseFault::Member)?;
-    let steps = steps_of(alloc, case)?;
-    let mut stepped = String::new(alloc);
-    put_stepped(alloc, bundle, making, &steps, out, &mut stepped)?;
-    out.push_str(stepped.as_str())?;
-    let mut run = String::new(alloc);
-    put_run(alloc, bundle, making, &steps, &mut run)?;
+fn put_states(
+    alloc: Global,
+    bundle: &Bundle,
+    making: Making,
+    steps: &[CoreStep],
+    out: &mut Output,
+) -> Written {
+    let stepped = stepped(alloc, bundle, making, steps, out)?;
+    let run = state_behind(alloc, bundle, making, steps)?;
+    out.put(stepped.as_str());
     if run.as_str() != stepped.as_str() {
-        write!(out, " / core_run{}", run.as_str())?;
+        out.put(" / core_run");
+        out.put(run.as_str());
     }
     Ok(())
 }
@@ -112,15 +124,15 @@ fn making_of(case: &Json) -> Option<Making> {
 
 /// The text `put`, or a list of `take` or `post` and a worker.
 fn step_of(item: &Json) -> Option<CoreStep> {
-    if let Some(text) = item.as_str() {
-        return if text == "put" {
-            Some(CoreStep::Put)
-        } else {
-            None
-        };
+    match item.as_str() {
+        Some("put") => Some(CoreStep::Put),
+        Some(_) => None,
+        None => worker_step(item.get(0usize)?.as_str()?, number_at(item, 1)?),
     }
-    let worker = usize::try_from(item.get(1usize)?.as_u64()?).ok()?;
-    match item.get(0usize)?.as_str()? {
+}
+
+fn worker_step(name: &str, worker: usize) -> Option<CoreStep> {
+    match name {
         "take" => Some(CoreStep::Take(worker)),
         "post" => Some(CoreStep::Post(worker)),
         _ => None,
@@ -135,43 +147,54 @@ fn steps_of(alloc: Global, case: &Json) -> Result<Vec<CoreStep>, CaseFault> {
     Ok(steps)
 }
 
-/// Makes the steps one by one: what each did goes to `moves`, the last state to `state`.
-fn put_stepped(
+/// Makes the steps one by one: what each did is written, and the last state is given.
+fn stepped(
     alloc: Global,
     bundle: &Bundle,
     making: Making,
     steps: &[CoreStep],
-    moves: &mut String,
-    state: &mut String,
-) -> Written {
+    out: &mut Output,
+) -> Result<String, CaseFault> {
     let mut core = opened(alloc, bundle, making)?;
-    put_moves(&mut core, steps, moves)?;
-    put_state(bundle, &core, making.ordered, state)
+    put_moves(&mut core, steps, out);
+    state_text(alloc, bundle, &core, making.ordered)
 }
 
 /// The state to which all steps in one call come.
-fn put_run(
+fn state_behind(
     alloc: Global,
     bundle: &Bundle,
     making: Making,
     steps: &[CoreStep],
-    state: &mut String,
-) -> Written {
+) -> Result<String, CaseFault> {
     let core = run(alloc, bundle, making, steps)?;
-    put_state(bundle, &core, making.ordered, state)
+    state_text(alloc, bundle, &core, making.ordered)
 }
 
-fn put_moves(core: &mut CoreState<'_>, steps: &[CoreStep], out: &mut String) -> Written
+fn state_text(
+    alloc: Global,
+    bundle: &Bundle,
+    core: &CoreState<'_>,
+    ordered: bool,
+) -> Result<String, CaseFault>
+    requires { core.now.bundle ≡ bundle.now }
+{
+    let mut state = Output::new(alloc);
+    put_state(bundle, core, ordered, &mut state);
+    state.finish(Ok(()))
+}
+
+fn put_moves(core: &mut CoreState<'_>, steps: &[CoreStep], out: &mut Output)
     ensures { core.new.bundle ≡ core.old.bundle }
 {
-    out.push_str("[")?;
-    let mut first = true;
+    out.put("[");
+    let mut separator = "";
     for step in steps {
-        put_between(out, first, ", ")?;
-        first = false;
-        put_str(out, moved_name(core_step(core, *step)))?;
+        out.put(separator);
+        separator = ", ";
+        out.put(moved_name(core_step(core, *step)));
     }
-    put_str(out, "]")
+    out.put("]");
 }
 
 fn moved_name(moved: Moved) -> &'static str {
@@ -183,78 +206,63 @@ fn moved_name(moved: Moved) -> &'static str {
 
 /// The next number, the queue, the hands, the parked numbers of an ordered core, and each run with its
 /// history.
-fn put_state(bundle: &Bundle, core: &CoreState<'_>, ordered: bool, out: &mut String) -> Written
+fn put_state(bundle: &Bundle, core: &CoreState<'_>, ordered: bool, out: &mut Output)
     requires { core.now.bundle ≡ bundle.now }
 {
-    write!(out, " / next={} queue=[", core.next())?;
-    put_queue(core, out)?;
-    out.push_str("] hands=[")?;
-    put_hands(core.hands(), out)?;
-    out.push_str("]")?;
+    write!(out, " / next={}", core.next());
+    put_queue(core, out);
+    put_hands(core.hands(), out);
     if ordered {
-        put_parked(core.parked(), out)?;
+        put_parked(core.parked(), out);
     }
     for run in 0..bundle.runs().len() {
-        write!(
-            out,
-            " / run {run} {}:",
-            phase_name(core.run_state(run).phase())
-        )?;
-        put_history(core.history(run), out)?;
+        write!(out, " / run {run} ");
+        out.put(phase_name(core.run_state(run).phase()));
+        put_history(core.history(run), out);
     }
-    Ok(())
 }
 
-fn put_queue(core: &CoreState<'_>, out: &mut String) -> Written {
-    let mut first = true;
+fn put_queue(core: &CoreState<'_>, out: &mut Output) {
+    out.put(" queue=[");
+    let mut separator = "";
     for number in core.queue().iter() {
-        put_between(out, first, ", ")?;
-        first = false;
-        write!(out, "{number}")?;
+        write!(out, "{separator}{number}");
+        separator = ", ";
     }
-    Ok(())
+    out.put("]");
 }
 
-fn put_hands(hands: &[Option<u64>], out: &mut String) -> Written {
-    let mut first = true;
+fn put_hands(hands: &[Option<u64>], out: &mut Output) {
+    out.put(" hands=[");
+    let mut separator = "";
     for hand in hands {
-        put_between(out, first, ", ")?;
-        first = false;
-        put_hand(*hand, out)?;
+        out.put(separator);
+        separator = ", ";
+        put_or_none(out, *hand);
     }
-    Ok(())
+    out.put("]");
 }
 
 /// The numbers that are parked.
-fn put_parked(parked: &[bool], out: &mut String) -> Written {
-    out.push_str(" parked=[")?;
-    let mut first = true;
+fn put_parked(parked: &[bool], out: &mut Output) {
+    out.put(" parked=[");
+    let mut separator = "";
     for (number, is_parked) in parked.iter().enumerate() {
         if *is_parked {
-            put_between(out, first, ", ")?;
-            first = false;
-            write!(out, "{number}")?;
+            write!(out, "{separator}{number}");
+            separator = ", ";
         }
     }
-    put_str(out, "]")
-}
-
-fn put_hand(hand: Option<u64>, out: &mut String) -> Written {
-    match hand {
-        Some(number) => write!(out, "{number}")?,
-        None => out.push_str("none")?,
-    }
-    Ok(())
+    out.put("]");
 }
 
 /// The number of each entry, and what it did to its run.
-fn put_history(history: &[Entry], out: &mut String) -> Written {
-    let mut first = true;
+fn put_history(history: &[Entry], out: &mut Output) {
+    out.put(":");
+    let mut separator = " ";
     for entry in history {
-        put_between(out, first, ",")?;
-        first = false;
-        write!(out, " {} ", entry.number)?;
-        put_effect(out, entry.effect)?;
+        write!(out, "{separator}{} ", entry.number);
+        separator = ", ";
+        put_effect(out, entry.effect);
     }
-    Ok(())
 }

@@ -2,13 +2,13 @@
 
 use ar_cases::fault::{CaseFault, Written};
 use ar_cases::members;
+use ar_cases::output::Output;
 use ar_command_line::{UsageError, command_of};
 use serde_json::Value as Json;
 use std::alloc::Global;
-use std::fmt::Write;
 
 /// Writes what a call on this subject answers; `None` for a call on another one.
-pub(crate) fn put(alloc: Global, call: &str, case: &Json, out: &mut String) -> Option<Written> {
+pub(crate) fn put(alloc: Global, call: &str, case: &Json, out: &mut Output) -> Option<Written> {
     match call {
         "command_of" => Some(put_command(alloc, case, out)),
         _ => None,
@@ -16,12 +16,12 @@ pub(crate) fn put(alloc: Global, call: &str, case: &Json, out: &mut String) -> O
 }
 
 /// The command that words ask for, or why they ask for none.
-fn put_command(alloc: Global, case: &Json, out: &mut String) -> Written {
+fn put_command(alloc: Global, case: &Json, out: &mut Output) -> Written {
     let words = words_of(alloc, members::list(case, "command")?)?;
     match command_of(alloc, words) {
-        Ok(command) => write!(out, "{command:?}")?,
-        Err(UsageError::OutOfMemory) => return Err(CaseFault::OutOfMemory),
-        Err(error) => write!(out, "{error:?}")?,
+        Ok(command) => write!(out, "{command:?}"),
+        Err(UsageError::OutOfMemory) => out.lose(),
+        Err(error) => write!(out, "{error:?}"),
     }
     Ok(())
 }
@@ -29,8 +29,12 @@ fn put_command(alloc: Global, case: &Json, out: &mut String) -> Written {
 fn words_of(alloc: Global, items: &[Json]) -> Result<Vec<String>, CaseFault> {
     let mut words = Vec::new(alloc);
     for item in items {
-        let word = item.as_str().ok_or(CaseFault::Member)?;
-        words.push(word.to_string(alloc)?)?;
+        add_word(alloc, &mut words, item)?;
     }
     Ok(words)
+}
+
+fn add_word(alloc: Global, words: &mut Vec<String>, item: &Json) -> Written {
+    let word = item.as_str().ok_or(CaseFault::Member)?;
+    Ok(words.push(word.to_string(alloc)?)?)
 }

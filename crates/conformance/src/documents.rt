@@ -4,18 +4,18 @@ use crate::judges::put_verdict;
 use ar_bundle::{Bundle, Finding, MetricPart, RunPart};
 use ar_cases::fault::{CaseFault, Written};
 use ar_cases::members;
-use ar_cases::printing::{put_between, put_lines, put_quoted, put_refusal, put_shape, put_str};
+use ar_cases::output::Output;
+use ar_cases::printing::{put_lines, put_or_none, put_quoted, put_refusal, put_shape};
 use ar_document::read_bundle;
 use ar_json::read_json;
-use ar_limits::{Event, Limits, Mark};
+use ar_limits::{Event, Limits, Mark, Phase};
 use ar_plain::run_plain;
 use ar_report::{check_text, list_text, phase_name, report, run_phases};
 use serde_json::Value as Json;
-use std::alloc::Global;
-use std::fmt::Write;
+use std::alloc::{AllocError, Global};
 
 /// Writes what a call on this subject answers; `None` for a call on another one.
-pub(crate) fn put(alloc: Global, call: &str, case: &Json, out: &mut String) -> Option<Written> {
+pub(crate) fn put(alloc: Global, call: &str, case: &Json, out: &mut Output) -> Option<Written> {
     match call {
         "read_json" => Some(put_json(alloc, case, out)),
         "read_bundle" | "findings" | "limits" | "report" | "run_phases" | "bounds" | "list" => {
@@ -35,94 +35,117 @@ pub(crate) fn input_of(alloc: Global, case: &Json) -> Result<Vec<u8>, CaseFault>
     Ok(input)
 }
 
-fn put_json(alloc: Global, case: &Json, out: &mut String) -> Written {
+fn put_json(alloc: Global, case: &Json, out: &mut Output) -> Written {
     match read_json(alloc, &input_of(alloc, case)?) {
-        Ok(json) => {
-            out.push_str(json.to_string(alloc)?.as_str())?;
-            Ok(())
-        }
-        Err(refusal) => put_refusal(alloc, case, out, &refusal),
+        Ok(json) => put_read(alloc, &json, out),
+        Err(refusal) => put_refusal(alloc, case, out, refusal),
+    }
+    Ok(())
+}
+
+fn put_read(alloc: Global, json: &Json, out: &mut Output) {
+    match json.to_string(alloc) {
+        Ok(text) => out.put(text.as_str()),
+        Err(_) => out.lose(),
     }
 }
 
-fn put_document(alloc: Global, call: &str, case: &Json, out: &mut String) -> Written {
+fn put_document(alloc: Global, call: &str, case: &Json, out: &mut Output) -> Written {
     match read_bundle(alloc, &input_of(alloc, case)?) {
         Ok(bundle) => put_bundle(alloc, call, &bundle, out),
-        Err(refusal) => put_refusal(alloc, case, out, &refusal),
+        Err(refusal) => {
+            put_refusal(alloc, case, out, refusal);
+            Ok(())
+        }
     }
 }
 
-fn put_bundle(alloc: Global, call: &str, bundle: &Bundle, out: &mut String) -> Written {
+fn put_bundle(alloc: Global, call: &str, bundle: &Bundle, out: &mut Output) -> Written {
     match call {
-        "read_bundle" => put_parts(bundle, out),
         "findings" => put_findings(alloc, bundle, out),
-        "limits" => put_limits(bundle, out),
         "report" => put_report(alloc, bundle, out),
         "run_phases" => put_phases(alloc, bundle, out),
-        "bounds" => put_lines(out, check_text(alloc, bundle)?.as_str()),
-        _ => put_lines(out, list_text(alloc, bundle)?.as_str()),
+        _ => {
+            put_shown(alloc, call, bundle, out);
+            Ok(())
+        }
+    }
+}
+
+/// What is shown of a bundle without its findings.
+fn put_shown(alloc: Global, call: &str, bundle: &Bundle, out: &mut Output) {
+    match call {
+        "read_bundle" => put_parts(bundle, out),
+        "limits" => put_limits(bundle.runs(), out),
+        "bounds" => put_text(check_text(alloc, bundle), out),
+        _ => put_text(list_text(alloc, bundle), out),
+    }
+}
+
+fn put_text(text: Result<String, AllocError>, out: &mut Output) {
+    match text {
+        Ok(text) => put_lines(out, text.as_str()),
+        Err(_) => out.lose(),
     }
 }
 
 /// The metrics with their shapes, the names of runs, and how many entries there are.
-fn put_parts(bundle: &Bundle, out: &mut String) -> Written {
-    out.push_str("metrics={")?;
-    put_metrics(bundle.metrics(), out)?;
-    out.push_str("} runs=[")?;
-    put_names(bundle.runs(), out)?;
-    write!(out, "] entries={}", bundle.events())?;
-    Ok(())
+fn put_parts(bundle: &Bundle, out: &mut Output) {
+    put_metrics(bundle.metrics(), out);
+    put_names(bundle.runs(), out);
+    write!(out, " entries={}", bundle.events());
 }
 
-fn put_metrics(metrics: &[MetricPart], out: &mut String) -> Written {
-    let mut first = true;
+fn put_metrics(metrics: &[MetricPart], out: &mut Output) {
+    out.put("metrics={");
+    let mut separator = "";
     for metric in metrics {
-        put_between(out, first, ",")?;
-        first = false;
-        put_quoted(out, metric.name.as_str())?;
-        out.push_str(":")?;
-        put_shape(out, metric.shape.get())?;
+        out.put(separator);
+        separator = ",";
+        put_quoted(out, metric.name.as_str());
+        out.put(":");
+        put_shape(out, metric.shape.get());
     }
-    Ok(())
+    out.put("}");
 }
 
-fn put_names(runs: &[RunPart], out: &mut String) -> Written {
-    let mut first = true;
+fn put_names(runs: &[RunPart], out: &mut Output) {
+    out.put(" runs=[");
+    let mut separator = "";
     for run in runs {
-        put_between(out, first, ",")?;
-        first = false;
-        put_quoted(out, run.name.as_str())?;
+        out.put(separator);
+        separator = ",";
+        put_quoted(out, run.name.as_str());
     }
-    Ok(())
+    out.put("]");
 }
 
 /// The run of each entry, what the entry comes to, and what it is to the run.
-fn put_findings(alloc: Global, bundle: &Bundle, out: &mut String) -> Written {
-    let mut first = true;
+fn put_findings(alloc: Global, bundle: &Bundle, out: &mut Output) -> Written {
+    let mut separator = "";
     for number in 0..bundle.events() {
-        put_between(out, first, " / ")?;
-        first = false;
         let finding = bundle.finding(alloc, number)?;
-        write!(out, "run {}: ", bundle.run_of(number))?;
-        put_finding(out, finding)?;
-        put_event(out, bundle.event(number, finding))?;
+        out.put(separator);
+        separator = " / ";
+        write!(out, "run {}: ", bundle.run_of(number));
+        put_finding(out, finding);
+        put_event(out, bundle.event(number, finding));
     }
     Ok(())
 }
 
-fn put_finding(out: &mut String, finding: Finding) -> Written {
+fn put_finding(out: &mut Output, finding: Finding) {
     match finding {
         Finding::Judged(verdict) => put_verdict(out, verdict),
-        Finding::Stop => put_str(out, "stop"),
+        Finding::Stop => out.put("stop"),
     }
 }
 
-fn put_event(out: &mut String, event: Event) -> Written {
+fn put_event(out: &mut Output, event: Event) {
     match event {
-        Event::Mark(metric, mark) => write!(out, ", metric {metric} {}", mark_name(mark))?,
-        Event::Stop => out.push_str(", stop")?,
+        Event::Mark(metric, mark) => write!(out, ", metric {metric} {}", mark_name(mark)),
+        Event::Stop => out.put(", stop"),
     }
-    Ok(())
 }
 
 fn mark_name(mark: Mark) -> &'static str {
@@ -135,49 +158,50 @@ fn mark_name(mark: Mark) -> &'static str {
 }
 
 /// The limits of each metric of each run.
-fn put_limits(bundle: &Bundle, out: &mut String) -> Written {
-    let mut first = true;
-    for run in bundle.runs().iter() {
-        put_between(out, first, " / ")?;
-        first = false;
-        write!(out, "run {}:", run.name.as_str())?;
-        put_run_limits(out, run.limits.as_slice())?;
+fn put_limits(runs: &[RunPart], out: &mut Output) {
+    let mut separator = "run ";
+    for run in runs {
+        out.put(separator);
+        separator = " / run ";
+        out.put(run.name.as_str());
+        out.put(":");
+        put_run_limits(out, run.limits.as_slice());
     }
-    Ok(())
 }
 
-fn put_run_limits(out: &mut String, limits: &[Limits]) -> Written {
+fn put_run_limits(out: &mut Output, limits: &[Limits]) {
     for limits in limits {
         write!(
             out,
             " {},{},{},",
             limits.failure, limits.inconclusive, limits.consecutive_error
-        )?;
-        match limits.count {
-            Some(count) => write!(out, "{count}")?,
-            None => out.push_str("none")?,
-        }
+        );
+        put_or_none(out, limits.count);
         if limits.dry {
-            out.push_str(",dry")?;
+            out.put(",dry");
         }
     }
+}
+
+#[tactic(auto, using(crate::proofs::Reporting::lawful))]
+fn put_report(alloc: Global, bundle: &Bundle, out: &mut Output) -> Written {
+    let histories = run_plain(alloc, bundle)?;
+    put_text(report(alloc, bundle, &histories), out);
     Ok(())
 }
 
 #[tactic(auto, using(crate::proofs::Reporting::lawful))]
-fn put_report(alloc: Global, bundle: &Bundle, out: &mut String) -> Written {
+fn put_phases(alloc: Global, bundle: &Bundle, out: &mut Output) -> Written {
     let histories = run_plain(alloc, bundle)?;
-    put_lines(out, report(alloc, bundle, &histories)?.as_str())
+    put_each_phase(&run_phases(alloc, bundle, &histories)?, out);
+    Ok(())
 }
 
-#[tactic(auto, using(crate::proofs::Reporting::lawful))]
-fn put_phases(alloc: Global, bundle: &Bundle, out: &mut String) -> Written {
-    let histories = run_plain(alloc, bundle)?;
-    let mut first = true;
-    for phase in run_phases(alloc, bundle, &histories)?.iter() {
-        put_between(out, first, ", ")?;
-        first = false;
-        out.push_str(phase_name(*phase))?;
+fn put_each_phase(phases: &[Phase], out: &mut Output) {
+    let mut separator = "";
+    for phase in phases {
+        out.put(separator);
+        separator = ", ";
+        out.put(phase_name(*phase));
     }
-    Ok(())
 }

@@ -7,81 +7,87 @@ ghost use Rattle.ar_value.specs.View.{shape_view};
 
 use ar_cases::fault::{CaseFault, Written};
 use ar_cases::members;
-use ar_cases::printing::{put_answer, put_quoted, put_refusal, put_str};
+use ar_cases::output::Output;
+use ar_cases::printing::{put_answer, put_quoted, put_refusal};
 use ar_json::{ShapeError, ShapeFault, read_shape, read_value};
 use ar_judge::{BuildCause, Cause, Condition, Judge, Sample, Verdict};
 use ar_manifest::BoundMetric;
 use ar_report::fault_name;
 use ar_tested::{Ended, run_tested};
-use ar_value::{Fault, Shape, SharedShape, Text};
+use ar_value::{Fault, Shape, SharedShape, Text, Value};
 use ar_verified::Verified;
 use serde_json::Value as Json;
 use std::alloc::Global;
-use std::fmt::Write;
 
 /// Writes what a call on this subject answers; `None` for a call on another one.
-pub(crate) fn put(alloc: Global, call: &str, case: &Json, out: &mut String) -> Option<Written> {
+pub(crate) fn put(alloc: Global, call: &str, case: &Json, out: &mut Output) -> Option<Written> {
     match call {
         "condition" => Some(put_condition(alloc, case, out)),
         "run_condition" => Some(put_run(alloc, case, out)),
-        "judge" => Some(put_judged(alloc, case, out)),
-        "judge_code" => Some(put_judge(alloc, case, out)),
+        "judge" | "judge_code" => Some(put_judge(alloc, call, case, out)),
         _ => None,
     }
 }
 
 /// A condition that can be run: its text, and what it says of the value.
-fn put_condition(alloc: Global, case: &Json, out: &mut String) -> Written {
-    let shape = members::shape(alloc, case, "shape")?;
+fn put_condition(alloc: Global, case: &Json, out: &mut Output) -> Written {
     let text = members::text(case, "condition")?;
+    let shape = members::shape(alloc, case, "shape")?;
     match Condition::build(alloc, text, shape) {
         Ok(condition) => put_answered(alloc, case, &condition, out),
-        Err(refusal) => put_refusal(alloc, case, out, &refusal),
+        Err(refusal) => {
+            put_refusal(alloc, case, out, refusal);
+            Ok(())
+        }
     }
 }
 
-fn put_answered(alloc: Global, case: &Json, condition: &Condition, out: &mut String) -> Written {
-    put_quoted(out, condition.text())?;
-    out.push_str(" ")?;
+fn put_answered(alloc: Global, case: &Json, condition: &Condition, out: &mut Output) -> Written {
     let value = members::value(alloc, case, condition.verified().shape())?;
-    put_answer(out, condition.answer(alloc, &value)?)
+    put_quoted(out, condition.text());
+    out.put(" ");
+    put_answer(out, condition.answer(alloc, &value)?);
+    Ok(())
 }
 
 /// What a condition says of a value, as its code comes to on the machine that is tested with its budget as
 /// fuel; or which part of the case is refused, and why.
-fn put_run(alloc: Global, case: &Json, out: &mut String) -> Written {
+fn put_run(alloc: Global, case: &Json, out: &mut Output) -> Written {
     match read_shape(alloc, members::json(case, "shape")?) {
         Ok(shape) => put_run_under(alloc, case, SharedShape::new(alloc, shape)?, out),
         Err(ShapeError::OutOfMemory) => Err(CaseFault::OutOfMemory),
         Err(refusal) => {
-            write!(out, "shape: {refusal}")?;
+            write!(out, "shape: {refusal}");
             Ok(())
         }
     }
 }
 
-fn put_run_under(alloc: Global, case: &Json, shape: SharedShape, out: &mut String) -> Written {
+fn put_run_under(alloc: Global, case: &Json, shape: SharedShape, out: &mut Output) -> Written {
     match Condition::build(alloc, members::text(case, "condition")?, shape) {
         Ok(condition) => put_run_of(alloc, case, condition.verified(), out),
         Err(BuildCause::OutOfMemory) => Err(CaseFault::OutOfMemory),
         Err(refusal) => {
-            write!(out, "condition{refusal}")?;
+            write!(out, "condition{refusal}");
             Ok(())
         }
     }
 }
 
-fn put_run_of(alloc: Global, case: &Json, verified: &Verified, out: &mut String) -> Written {
+fn put_run_of(alloc: Global, case: &Json, verified: &Verified, out: &mut Output) -> Written {
     match read_value(alloc, members::json(case, "value")?, verified.shape()) {
-        Ok(value) => match run_tested(alloc, verified.code(), &value, verified.budget())? {
-            Ended::Done(outcome) => put_answer(out, outcome.answer),
-            Ended::Stuck(_) | Ended::Spent => put_str(out, "no answer within the budget"),
-        },
-        Err(ShapeFault::OutOfMemory) => Err(CaseFault::OutOfMemory),
-        Err(fault) => {
-            write!(out, "value: {fault}")?;
-            Ok(())
-        }
+        Ok(value) => put_run_on(alloc, verified, &value, out),
+        Err(ShapeFault::OutOfMemory) => out.lose(),
+        Err(fault) => write!(out, "value: {fault}"),
+    }
+    Ok(())
+}
+
+fn put_run_on(alloc: Global, verified: &Verified, value: &Value, out: &mut Output) {
+    match run_tested(alloc, verified.code(), value, verified.budget()) {
+        Ok(Ended::Done(outcome)) => put_answer(out, outcome.answer),
+        Ok(Ended::Stuck(_) | Ended::Spent) => out.put("no answer within the budget"),
+        Err(_) => out.lose(),
     }
 }
 
@@ -121,79 +127,105 @@ fn sample_of(alloc: Global, case: &Json, shape: &Shape) -> Result<Sample, CaseFa
     }
 }
 
-#[tactic(auto, using(crate::proofs::Suiting::of_shape))]
-fn put_judged(alloc: Global, case: &Json, out: &mut String) -> Written {
+fn put_judge(alloc: Global, call: &str, case: &Json, out: &mut Output) -> Written {
     let shape = members::shape(alloc, case, "shape")?;
-    match Judge::build(alloc, &metric_of(alloc, case)?, &shape) {
-        Ok(judge) => put_verdict_of(alloc, case, shape.get(), &judge, out),
-        Err(refusal) => put_refusal(alloc, case, out, &refusal),
+    let metric = metric_of(alloc, case)?;
+    put_built(alloc, call, case, &shape, &metric, out)
+}
+
+#[tactic(auto, using(crate::proofs::Suiting::of_shape))]
+fn put_built(
+    alloc: Global,
+    call: &str,
+    case: &Json,
+    shape: &SharedShape,
+    metric: &BoundMetric,
+    out: &mut Output,
+) -> Written {
+    match Judge::build(alloc, metric, shape) {
+        Ok(judge) => put_judge_of(alloc, call, case, shape.get(), &judge, out),
+        Err(refusal) => {
+            put_refusal(alloc, case, out, refusal);
+            Ok(())
+        }
     }
 }
 
-/// The verdict of a judge of the shape.
+/// The verdict of a judge of the shape, or the bounds of the code of each condition.
+fn put_judge_of(
+    alloc: Global,
+    call: &str,
+    case: &Json,
+    shape: &Shape,
+    judge: &Judge,
+    out: &mut Output,
+) -> Written
+    requires { JudgesShape (shape_view shape.now) judge.now }
+{
+    if call == "judge" {
+        return put_verdict_of(alloc, case, shape, judge, out);
+    }
+    put_both_bounds(out, judge);
+    Ok(())
+}
+
 #[tactic(auto, using(crate::proofs::Suiting::suits))]
 fn put_verdict_of(
     alloc: Global,
     case: &Json,
     shape: &Shape,
     judge: &Judge,
-    out: &mut String,
+    out: &mut Output,
 ) -> Written
     requires { JudgesShape (shape_view shape.now) judge.now }
 {
     let sample = sample_of(alloc, case, shape)?;
-    put_verdict(out, judge.judge(alloc, &sample)?)
-}
-
-pub(crate) fn put_verdict(out: &mut String, verdict: Verdict) -> Written {
-    match verdict {
-        Verdict::Successful => put_str(out, "Successful"),
-        Verdict::Failed => put_str(out, "Failed"),
-        Verdict::Inconclusive => put_str(out, "Inconclusive"),
-        Verdict::Error(Cause::Provider) => put_str(out, "Error provider"),
-        Verdict::Error(Cause::Shape(fault)) => {
-            write!(out, "Error shape {fault:?}")?;
-            Ok(())
-        }
-        Verdict::Error(Cause::Success(fault)) => put_fault(out, "success", fault),
-        Verdict::Error(Cause::Failure(fault)) => put_fault(out, "failure", fault),
-    }
-}
-
-fn put_fault(out: &mut String, condition: &str, fault: Fault) -> Written {
-    write!(out, "Error {condition} {}", fault_name(fault))?;
+    put_verdict(out, judge.judge(alloc, &sample)?);
     Ok(())
 }
 
-/// The bounds of the code of each condition.
-fn put_judge(alloc: Global, case: &Json, out: &mut String) -> Written {
-    let shape = members::shape(alloc, case, "shape")?;
-    match Judge::build(alloc, &metric_of(alloc, case)?, &shape) {
-        Ok(judge) => put_both_bounds(out, &judge),
-        Err(refusal) => put_refusal(alloc, case, out, &refusal),
+pub(crate) fn put_verdict(out: &mut Output, verdict: Verdict) {
+    match verdict {
+        Verdict::Successful => out.put("Successful"),
+        Verdict::Failed => out.put("Failed"),
+        Verdict::Inconclusive => out.put("Inconclusive"),
+        Verdict::Error(cause) => put_cause(out, cause),
     }
 }
 
-fn put_both_bounds(out: &mut String, judge: &Judge) -> Written {
-    put_bounds(out, "success", judge.success())?;
-    out.push_str(" / ")?;
-    put_bounds(out, "failure", judge.failure())
+fn put_cause(out: &mut Output, cause: Cause) {
+    match cause {
+        Cause::Provider => out.put("Error provider"),
+        Cause::Shape(fault) => write!(out, "Error shape {fault:?}"),
+        Cause::Success(fault) => put_fault(out, "Error success ", fault),
+        Cause::Failure(fault) => put_fault(out, "Error failure ", fault),
+    }
 }
 
-fn put_bounds(out: &mut String, name: &str, verified: Option<&Verified>) -> Written {
-    out.push_str(name)?;
+fn put_fault(out: &mut Output, condition: &str, fault: Fault) {
+    out.put(condition);
+    out.put(fault_name(fault));
+}
+
+fn put_both_bounds(out: &mut Output, judge: &Judge) {
+    out.put("success");
+    put_bounds(out, judge.success());
+    out.put(" / failure");
+    put_bounds(out, judge.failure());
+}
+
+fn put_bounds(out: &mut Output, verified: Option<&Verified>) {
     match verified {
         Some(verified) => put_bounds_of(out, verified),
-        None => put_str(out, " none"),
+        None => out.put(" none"),
     }
 }
 
-fn put_bounds_of(out: &mut String, verified: &Verified) -> Written {
+fn put_bounds_of(out: &mut Output, verified: &Verified) {
     write!(
         out,
         " depth={} budget={}",
         verified.depth(),
         verified.budget()
-    )?;
-    Ok(())
+    );
 }

@@ -18,6 +18,7 @@ mod judges;
 mod phases;
 
 use ar_cases::fault::{CaseFault, LineFault, Written};
+use ar_cases::output::Output;
 use ar_cases::{answer, members};
 use serde_json::Value as Json;
 use std::alloc::Global;
@@ -63,13 +64,20 @@ fn print_answer<R: AllocGlobal + Print>(rt: &R, line: &str) -> Result<(), LineFa
 
 /// The answer to a line.
 fn answer_of(alloc: Global, line: &str) -> Result<String, LineFault> {
-    let case = match Json::from_str(alloc, line) {
-        Ok(case) => case,
-        Err(error) if error.is_memory() => return Err(LineFault::Case(CaseFault::OutOfMemory)),
-        Err(_) => return Err(LineFault::NoJson),
-    };
-    let call = members::text(&case, "call")?;
-    match answer_to(alloc, call, &case) {
+    answer_to_case(alloc, &case_of(alloc, line)?)
+}
+
+fn case_of(alloc: Global, line: &str) -> Result<Json, LineFault> {
+    match Json::from_str(alloc, line) {
+        Ok(case) => Ok(case),
+        Err(error) if error.is_memory() => Err(LineFault::Case(CaseFault::OutOfMemory)),
+        Err(_) => Err(LineFault::NoJson),
+    }
+}
+
+fn answer_to_case(alloc: Global, case: &Json) -> Result<String, LineFault> {
+    let call = members::text(case, "call")?;
+    match answer_to(alloc, call, case) {
         Some(Ok(answer)) => Ok(answer),
         Some(Err(fault)) => Err(LineFault::Case(fault)),
         None => Err(LineFault::UnknownCall),
@@ -86,14 +94,12 @@ fn answer_to(alloc: Global, call: &str, case: &Json) -> Option<Result<String, Ca
 
 /// What a call of this program's own subjects answers.
 fn own_answer(alloc: Global, call: &str, case: &Json) -> Option<Result<String, CaseFault>> {
-    let mut out = String::new(alloc);
-    match put(alloc, call, case, &mut out)? {
-        Ok(()) => Some(Ok(out)),
-        Err(fault) => Some(Err(fault)),
-    }
+    let mut out = Output::new(alloc);
+    let written = put(alloc, call, case, &mut out)?;
+    Some(out.finish(written))
 }
 
-fn put(alloc: Global, call: &str, case: &Json, out: &mut String) -> Option<Written> {
+fn put(alloc: Global, call: &str, case: &Json, out: &mut Output) -> Option<Written> {
     if let Some(written) = phases::put(alloc, call, case, out) {
         return Some(written);
     }

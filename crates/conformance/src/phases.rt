@@ -2,15 +2,14 @@
 
 use ar_cases::fault::{CaseFault, Written};
 use ar_cases::members;
-use ar_cases::printing::{put_between, put_str};
-use ar_limits::{Effect, Event, Limits, MOST_EVENTS, Mark, Phase, RunState};
+use ar_cases::output::Output;
+use ar_limits::{Counts, Effect, Event, Limits, MOST_EVENTS, Mark, Phase, RunState};
 use ar_report::phase_name;
 use serde_json::Value as Json;
 use std::alloc::Global;
-use std::fmt::Write;
 
 /// Writes what a call on this subject answers; `None` for a call on another one.
-pub(crate) fn put(alloc: Global, call: &str, case: &Json, out: &mut String) -> Option<Written> {
+pub(crate) fn put(alloc: Global, call: &str, case: &Json, out: &mut Output) -> Option<Written> {
     match call {
         "phase" => Some(put_phase(case, out)),
         "positive_counts" => Some(put_positive(alloc, case, out)),
@@ -38,14 +37,14 @@ fn phase_of(name: &str) -> Option<Phase> {
 }
 
 /// Whether a phase is complete, and whether it is so without success.
-fn put_phase(case: &Json, out: &mut String) -> Written {
+fn put_phase(case: &Json, out: &mut Output) -> Written {
     let phase = phase_of(members::text(case, "phase")?).ok_or(CaseFault::Member)?;
     write!(
         out,
         "complete={} unsuccessful={}",
         phase.is_complete(),
         phase.is_unsuccessful()
-    )?;
+    );
     Ok(())
 }
 
@@ -83,9 +82,9 @@ fn all_limits(alloc: Global, case: &Json) -> Result<Vec<Limits>, CaseFault> {
     Ok(limits)
 }
 
-fn put_positive(alloc: Global, case: &Json, out: &mut String) -> Written {
+fn put_positive(alloc: Global, case: &Json, out: &mut Output) -> Written {
     let limits = all_limits(alloc, case)?;
-    write!(out, "{}", Limits::have_positive_counts(&limits))?;
+    write!(out, "{}", Limits::have_positive_counts(&limits));
     Ok(())
 }
 
@@ -101,15 +100,20 @@ fn mark_of(name: &str) -> Option<Mark> {
 
 /// The text `stop`, or a list of a metric's number and a mark.
 fn event_of(item: &Json) -> Option<Event> {
-    if let Some(text) = item.as_str() {
-        return if text == "stop" {
-            Some(Event::Stop)
-        } else {
-            None
-        };
+    match item.as_str() {
+        Some("stop") => Some(Event::Stop),
+        Some(_) => None,
+        None => mark_event(number_at(item, 0)?, item.get(1usize)?.as_str()?),
     }
-    let metric = usize::try_from(item.get(0usize)?.as_u64()?).ok()?;
-    Some(Event::Mark(metric, mark_of(item.get(1usize)?.as_str()?)?))
+}
+
+fn mark_event(metric: usize, mark: &str) -> Option<Event> {
+    Some(Event::Mark(metric, mark_of(mark)?))
+}
+
+/// The number at a place of a list.
+pub(crate) fn number_at(list: &Json, place: usize) -> Option<usize> {
+    usize::try_from(list.get(place)?.as_u64()?).ok()
 }
 
 /// Applies an event, where the run takes one more and has its metric.
@@ -126,45 +130,46 @@ fn apply(state: &mut RunState, event: Event) -> Option<Effect> {
     }
 }
 
-pub(crate) fn put_effect(out: &mut String, effect: Effect) -> Written {
+pub(crate) fn put_effect(out: &mut Output, effect: Effect) {
     match effect {
-        Effect::Applied => put_str(out, "applied"),
-        Effect::Late => put_str(out, "late"),
+        Effect::Applied => out.put("applied"),
+        Effect::Late => out.put("late"),
         Effect::Closed(phase) => {
-            out.push_str("closed ")?;
-            put_str(out, phase_name(phase))
+            out.put("closed ");
+            out.put(phase_name(phase));
         }
     }
 }
 
 /// Applies all events, and writes what each did.
-fn put_effects(case: &Json, state: &mut RunState, out: &mut String) -> Written {
-    let mut first = true;
-    for item in members::list(case, "events")?.iter() {
-        put_between(out, first, ", ")?;
-        first = false;
-        let event = event_of(item).ok_or(CaseFault::Member)?;
-        let effect = apply(state, event).ok_or(CaseFault::Member)?;
-        put_effect(out, effect)?;
+fn put_effects(events: &[Json], state: &mut RunState, out: &mut Output) -> Option<()> {
+    let mut separator = "";
+    for item in events {
+        out.put(separator);
+        separator = ", ";
+        put_effect(out, apply(state, event_of(item)?)?);
     }
-    Ok(())
+    Some(())
 }
 
-fn put_metrics(state: &RunState, out: &mut String) -> Written {
+fn put_metrics(state: &RunState, out: &mut Output) {
     for metric in 0..state.metrics() {
-        let counts = state.counts(metric);
-        write!(
-            out,
-            " / metric {} successful={} failed={} inconclusive={} error={} consecutiveError={}",
-            phase_name(state.metric_phase(metric)),
-            counts.successful,
-            counts.failed,
-            counts.inconclusive,
-            counts.error,
-            counts.succession,
-        )?;
+        out.put(" / metric ");
+        out.put(phase_name(state.metric_phase(metric)));
+        put_counts(state.counts(metric), out);
     }
-    Ok(())
+}
+
+fn put_counts(counts: Counts, out: &mut Output) {
+    put_count(out, " successful=", counts.successful);
+    put_count(out, " failed=", counts.failed);
+    put_count(out, " inconclusive=", counts.inconclusive);
+    put_count(out, " error=", counts.error);
+    put_count(out, " consecutiveError=", counts.succession);
+}
+
+fn put_count(out: &mut Output, name: &str, count: u64) {
+    write!(out, "{name}{count}");
 }
 
 /// The run of limits before any event.
@@ -178,18 +183,16 @@ fn opened(alloc: Global, case: &Json) -> Result<RunState, CaseFault> {
 
 /// The effect of each event, then the phase of the run, how many events it was handed, and the phase and
 /// the counts of each metric.
-fn put_phases(alloc: Global, case: &Json, out: &mut String) -> Written {
+fn put_phases(alloc: Global, case: &Json, out: &mut Output) -> Written {
     put_run(case, &mut opened(alloc, case)?, out)
 }
 
-fn put_run(case: &Json, state: &mut RunState, out: &mut String) -> Written {
-    out.push_str("[")?;
-    put_effects(case, state, out)?;
-    write!(
-        out,
-        "] / run {} handed={}",
-        phase_name(state.phase()),
-        state.handed()
-    )?;
-    put_metrics(state, out)
+fn put_run(case: &Json, state: &mut RunState, out: &mut Output) -> Written {
+    out.put("[");
+    put_effects(members::list(case, "events")?, state, out).ok_or(CaseFault::Member)?;
+    out.put("] / run ");
+    out.put(phase_name(state.phase()));
+    write!(out, " handed={}", state.handed());
+    put_metrics(state, out);
+    Ok(())
 }

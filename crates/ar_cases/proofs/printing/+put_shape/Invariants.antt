@@ -6,4 +6,4 @@ use Rattle.ar_cases.proofs.printing.+put_shape.Given as goal
 
 -- the fields so far stand before those that are left
 abbrev pub invariant-put_field_shapes-loop-field : goal.invariant-put_field_shapes-loop-field
-invariant-put_field_shapes-loop-field l = string_bytes l.out ++ field_shapes_text l.first (field_shapes_of (map field_shape_view (drop l.field-index l.fields))) ≡ string_bytes l.initial.out ++ field_shapes_text true (field_shapes_of (map field_shape_view l.fields))
+invariant-put_field_shapes-loop-field l = l.out.is_whole ≡ true → (l.initial.out.is_whole ≡ true) × (string_bytes l.out.text ++ field_shapes_text l.first (field_shapes_of (map field_shape_view (drop l.field-index l.fields))) ≡ string_bytes l.initial.out.text ++ field_shapes_text true (field_shapes_of (map field_shape_view l.fields)))

@@ -6,8 +6,8 @@ use Rattle.ar_cases.proofs.printing.+put_value.Given as goal
 
 -- the items so far stand before those that are left
 abbrev pub invariant-put_items-loop-item : goal.invariant-put_items-loop-item
-invariant-put_items-loop-item l = string_bytes l.out ++ items_text l.first (items_of (map value_view (drop l.item-index l.items))) ≡ string_bytes l.initial.out ++ items_text true (items_of (map value_view l.items))
+invariant-put_items-loop-item l = l.out.is_whole ≡ true → (l.initial.out.is_whole ≡ true) × (string_bytes l.out.text ++ items_text l.first (items_of (map value_view (drop l.item-index l.items))) ≡ string_bytes l.initial.out.text ++ items_text true (items_of (map value_view l.items)))
 
 -- likewise
 abbrev pub invariant-put_fields-loop-field : goal.invariant-put_fields-loop-field
-invariant-put_fields-loop-field l = string_bytes l.out ++ fields_text l.first (fields_of (map field_view (drop l.field-index l.fields))) ≡ string_bytes l.initial.out ++ fields_text true (fields_of (map field_view l.fields))
+invariant-put_fields-loop-field l = l.out.is_whole ≡ true → (l.initial.out.is_whole ≡ true) × (string_bytes l.out.text ++ fields_text l.first (fields_of (map field_view (drop l.field-index l.fields))) ≡ string_bytes l.initial.out.text ++ fields_text true (fields_of (map field_view l.fields)))

@@ -8,13 +8,16 @@ use Rattle.ar_cases.proofs.Lines.{next_character, no_character}
 use Rattle.ar_cases.proofs.printing.put_lines.Goals as goal
 
 pub loop-character-preserved : goal.loop-character-preserved
-loop-character-preserved c =
+loop-character-preserved c = λ whole.
+    let part = c.put_line_part.ensures whole in
+    let so_far = c.loop-character.invariant part.0 in
     let turn = YieldsList-turn (YieldsList-from_chars c.args.lines.now c.utf8.lines cc) c.loop-character.yielded _ c.loop-character.yielded_by _ _ c.in-Some.character c.in-Some.is c.next.ensures.steps in
-    let more = next_character (chars c.args.lines.now) (length c.loop-character.yielded) c.in-Some.character c.loop-character.ended (string_bytes c.loop-character.out) (string_bytes c.args.out.now ++ in_one_line (chars c.args.lines.now)) turn c.loop-character.invariant in
-    rw (length_push c.loop-character.yielded c.in-Some.character, c.in_ok-put_line_part.ensures) more
+    let more = next_character (chars c.args.lines.now) (length c.loop-character.yielded) c.in-Some.character c.loop-character.ended (string_bytes c.loop-character.out.text) (string_bytes c.args.out.now.text ++ in_one_line (chars c.args.lines.now)) turn so_far.1 in
+    (so_far.0, rw (length_push c.loop-character.yielded c.in-Some.character, part.1) more)
 
 pub returns : goal.returns
 unfolding lines_text
-returns c =
+returns c = λ whole.
+    let so_far = c.loop-character.invariant whole in
     let end = YieldsList-end (YieldsList-from_chars c.args.lines.now c.utf8.lines cc) c.loop-character.yielded _ c.loop-character.yielded_by _ _ c.in-None.is c.next.ensures.steps in
-    no_character (chars c.args.lines.now) (length c.loop-character.yielded) c.loop-character.ended (string_bytes c.loop-character.out) (string_bytes c.args.out.now ++ in_one_line (chars c.args.lines.now)) (omega (arith, end.1)) c.loop-character.invariant
+    (so_far.0, no_character (chars c.args.lines.now) (length c.loop-character.yielded) c.loop-character.ended (string_bytes c.loop-character.out.text) (string_bytes c.args.out.now.text ++ in_one_line (chars c.args.lines.now)) (omega (arith, end.1)) so_far.1)

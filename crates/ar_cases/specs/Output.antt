@@ -1,0 +1,23 @@
+-- What is written of an answer, piece by piece, while memory lasts.
+use Rattle.std.specs.Prelude.{◌≡◌, ℕ, Bool, false, true, List, ◌++◌, string_bytes, Result, Ok, Err, ⊤}
+use Rattle.ar_cases.specs.declared.fault.CaseFault.{CaseFault}
+use Rattle.ar_cases.specs.declared.fault.CaseFault.TheVariants.{OutOfMemory}
+use Rattle.ar_cases.specs.declared.output.Output.{Output}
+
+-- all pieces are there, and they make the text
+abbrev pub Holds : Output → (text : List ℕ) → Type 0
+Holds output text = (output.is_whole ≡ true) × (string_bytes output.text ≡ text)
+
+-- where all pieces are there afterwards, they were before, and one more stands behind them
+abbrev pub Writes : (earlier later : Output) → (text : List ℕ) → Type 0
+Writes earlier later text = later.is_whole ≡ true → (earlier.is_whole ≡ true) × (string_bytes later.text ≡ string_bytes earlier.text ++ text)
+
+-- likewise, with some text
+abbrev pub Extends : (earlier later : Output) → Type 0
+Extends earlier later = later.is_whole ≡ true → (earlier.is_whole ≡ true) × ((text : List ℕ) × (string_bytes later.text ≡ string_bytes earlier.text ++ text))
+
+-- what is given of it in the end: want of memory goes before what is refused
+abbrev pub finished : {A : Type 0} → (is_whole : Bool) → (text : A) → (written : Result ⊤ CaseFault) → Result A CaseFault
+finished false text written = Err OutOfMemory
+finished true text (Ok written) = Ok text
+finished true text (Err fault) = Err fault
