@@ -1,5 +1,6 @@
 -- What is written of an answer, piece by piece, while memory lasts.
-use Rattle.std.specs.Prelude.{◌≡◌, ℕ, Bool, false, true, List, ◌++◌, string_bytes, Result, Ok, Err, ⊤}
+use Rattle.std.specs.Global.{Global}
+use Rattle.std.specs.Prelude.{◌≡◌, ℕ, Bool, false, true, List, ◌++◌, String, string_bytes, Result, Ok, Err, ⊤}
 use Rattle.ar_cases.specs.declared.fault.CaseFault.{CaseFault}
 use Rattle.ar_cases.specs.declared.fault.CaseFault.TheVariants.{OutOfMemory}
 use Rattle.ar_cases.specs.declared.output.Output.{Output}
@@ -16,8 +17,16 @@ Writes earlier later text = later.is_whole ≡ true → (earlier.is_whole ≡ tr
 abbrev pub Extends : (earlier later : Output) → Type 0
 Extends earlier later = later.is_whole ≡ true → (earlier.is_whole ≡ true) × ((text : List ℕ) × (string_bytes later.text ≡ string_bytes earlier.text ++ text))
 
--- what is given of it in the end: want of memory goes before what is refused
+-- a piece is missing
+abbrev pub IsLost : Output → Type 0
+IsLost output = output.is_whole ≡ false
+
+-- what is given of a text of which all pieces are there, or not: want of memory goes before what is refused
 abbrev pub finished : {A : Type 0} → (is_whole : Bool) → (text : A) → (written : Result ⊤ CaseFault) → Result A CaseFault
 finished false text written = Err OutOfMemory
 finished true text (Ok written) = Ok text
 finished true text (Err fault) = Err fault
+
+-- what is given of it in the end
+abbrev pub given_of : (output : Output) → (written : Result ⊤ CaseFault) → Result (String Global) CaseFault
+given_of output written = finished output.is_whole output.text written

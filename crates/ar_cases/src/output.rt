@@ -1,8 +1,8 @@
 //! What is written of an answer.
 
-ghost use Rattle.std.specs.Prelude.{◌≡◌, [], IfSome, false};
+ghost use Rattle.std.specs.Prelude.{◌≡◌, [], IfSome};
 ghost use Rattle.std.specs.Char.{encode_utf8};
-ghost use Rattle.ar_cases.specs.Output.{Holds, Writes, finished};
+ghost use Rattle.ar_cases.specs.Output.{Holds, IsLost, Writes, given_of};
 
 use crate::fault::{CaseFault, Written};
 use std::alloc::Global;
@@ -55,7 +55,7 @@ impl Output {
 
     /// Memory ran out.
     pub fn lose(&mut self)
-        ensures { self.new.is_whole ≡ false }
+        ensures { IsLost self.new }
     {
         self.is_whole = false;
     }
@@ -63,7 +63,7 @@ impl Output {
     /// The text with all of its pieces, or why the case isn't answered: want of memory goes before other
     /// faults.
     pub fn finish(self, written: Written) -> Result<String, CaseFault>
-        ensures { result ≡ finished self.is_whole self.text written }
+        ensures { result ≡ given_of self written }
     {
         if !self.is_whole {
             return Err(CaseFault::OutOfMemory);
