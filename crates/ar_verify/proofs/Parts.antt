@@ -9,7 +9,7 @@ use Rattle.ar_value.specs.declared.shape.Shape.{Shape as Shape_, List as ListSha
 use Rattle.ar_value.proofs.Views.{shape_view-list}
 use Rattle.ar_verified.specs.Effects.{family_in, family_of, is_number, is_scalar, item_kind, length_kind, member_kind, of_one_family, truth, where_taken}
 use Rattle.ar_verify.specs.Private.Kinds.{is_list, list_in, list_parts, longest}
-use Rattle.ar_verify.specs.Private.Parts.{child}
+use Rattle.ar_verify.specs.Private.Roots.{child}
 
 pub plain_already : (shape : Shape) → is_optional shape ≡ false → plain shape ≡ shape
 plain_already (optional shape) h = absurd cc

@@ -8,7 +8,7 @@ use Rattle.ar_value.specs.Shape.{Shape, FieldShapes, object, optional, field_sha
 use Rattle.ar_value.specs.View.{field_shape_view, shape_view}
 use Rattle.ar_value.specs.declared.shape.FieldShape.{FieldShape, out-FieldShape}
 use Rattle.ar_value.proofs.Views.{field_shape_view-name, field_shape_view-shape}
-use Rattle.ar_verify.specs.Private.Parts.{child, field_or, nth_field, part_at}
+use Rattle.ar_verify.specs.Private.Roots.{child, field_or, nth_field, part_at}
 
 -- ---- step by step
 

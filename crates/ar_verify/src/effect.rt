@@ -11,9 +11,10 @@ ghost use Rattle.ar_verify.specs.Private.Stacks.{Leaves, TakesScalar, from_top};
 
 use crate::kind::{Kind, given_part, given_shape, is_scalar};
 use crate::operators::{apply_binary, apply_unary, field_of};
-use crate::part::{INNER, Part};
+use crate::part::INNER;
+use crate::root::Part;
 use crate::stack::pop;
-use crate::whole::{ShapeName, Whole};
+use crate::whole::{Names, Whole};
 use ar_op::code::Code;
 use ar_op::op::{Op, Source};
 use ar_value::operator::{BinaryOperator, Scalar, UnaryOperator};
@@ -21,14 +22,14 @@ use ar_value::shape::Shape;
 use std::alloc::{AllocError, Global};
 
 /// The kind of a scalar.
-fn scalar<M: ShapeName>(alloc: Global, scalar: Scalar) -> Result<Option<Kind<M>>, AllocError>
+fn scalar<M: Names>(alloc: Global, scalar: Scalar) -> Result<Option<Kind<M>>, AllocError>
     ensures { IfOk result (λ given. option_map kind_view given ≡ Some (shaped (scalar_shape scalar))) }
 {
     given_shape(alloc, scalar_shape(scalar))
 }
 
 /// The kind of the measured value.
-fn measured_kind<M: ShapeName>(
+fn measured_kind<M: Names>(
     alloc: Global,
     measured: &Whole<M>,
 ) -> Result<Option<Kind<M>>, AllocError>
@@ -38,10 +39,7 @@ fn measured_kind<M: ShapeName>(
 }
 
 /// The kind of the items of a list, if there is one.
-fn item_kind<M: ShapeName>(
-    alloc: Global,
-    list: Option<&Part<M>>,
-) -> Result<Option<Kind<M>>, AllocError>
+fn item_kind<M: Names>(alloc: Global, list: Option<&Part<M>>) -> Result<Option<Kind<M>>, AllocError>
     ensures { IfOk result (λ given. option_map kind_view given
         ≡ option_map (λ list. shaped (list_view list.now).0) list.entry) }
 {
@@ -52,7 +50,7 @@ fn item_kind<M: ShapeName>(
 }
 
 /// What is pushed, where the innermost loop, if there is one, is over a list.
-fn pushed<M: ShapeName>(
+fn pushed<M: Names>(
     alloc: Global,
     measured: &Whole<M>,
     here: Option<&Part<M>>,
@@ -73,7 +71,7 @@ fn pushed<M: ShapeName>(
 }
 
 /// Takes an operand.
-fn unary<M: ShapeName>(
+fn unary<M: Names>(
     alloc: Global,
     operator: UnaryOperator,
     kinds: &mut Vec<Kind<M>>,
@@ -88,7 +86,7 @@ fn unary<M: ShapeName>(
 }
 
 /// Takes the left operand, where the right one is taken.
-fn binary_with<M: ShapeName>(
+fn binary_with<M: Names>(
     alloc: Global,
     operator: BinaryOperator,
     right: &Kind<M>,
@@ -104,7 +102,7 @@ fn binary_with<M: ShapeName>(
 }
 
 /// Takes two operands, the right one from the top.
-fn binary<M: ShapeName>(
+fn binary<M: Names>(
     alloc: Global,
     operator: BinaryOperator,
     kinds: &mut Vec<Kind<M>>,
@@ -132,7 +130,7 @@ fn name_at(names: &[String], number: u32) -> Option<&str>
 }
 
 /// Takes a record and gives its field, by the number of the name.
-fn field<M: ShapeName>(
+fn field<M: Names>(
     alloc: Global,
     code: &Code,
     number: u32,
@@ -162,7 +160,7 @@ fn scalar_shape(scalar: Scalar) -> Shape
 }
 
 /// Takes an operand off the top and says whether it was a scalar of a kind.
-pub(crate) fn takes_scalar<M: ShapeName>(scalar: Scalar, kinds: &mut Vec<Kind<M>>) -> bool
+pub(crate) fn takes_scalar<M: Names>(scalar: Scalar, kinds: &mut Vec<Kind<M>>) -> bool
     ensures { TakesScalar scalar (from_top kinds.old.items) (from_top kinds.new.items) result }
 {
     match pop(kinds) {
@@ -173,7 +171,7 @@ pub(crate) fn takes_scalar<M: ShapeName>(scalar: Scalar, kinds: &mut Vec<Kind<M>
 
 /// Takes so many scalars of a kind and gives the list of them.
 #[tactic(auto, using(crate::proofs::Tops::scalar_refused, crate::proofs::Tops::all_taken))]
-fn make_list<M: ShapeName>(
+fn make_list<M: Names>(
     alloc: Global,
     scalar: Scalar,
     count: u8,
@@ -195,7 +193,7 @@ fn make_list<M: ShapeName>(
 }
 
 /// Takes the operands of an operation that goes on to the next place, and gives what it makes of them.
-pub(crate) fn apply<M: ShapeName>(
+pub(crate) fn apply<M: Names>(
     alloc: Global,
     code: &Code,
     measured: &Whole<M>,

@@ -7,10 +7,12 @@ ghost use Rattle.ar_value.specs.Shape.{list};
 ghost use Rattle.ar_value.specs.View.{shape_view};
 ghost use Rattle.ar_verified.specs.Effects.{family_in, family_of, is_scalar};
 ghost use Rattle.ar_verify.specs.Private.Kinds.{is_list, kind_view, list_in, list_parts, list_view, parts_view, shape_in};
-ghost use Rattle.ar_verify.specs.Private.Parts.{child, part_view};
+ghost use Rattle.ar_verify.specs.Private.Parts.{part_view};
+ghost use Rattle.ar_verify.specs.Private.Roots.{child, shape_or};
 
-use crate::part::{INNER, Part, are_one, child};
-use crate::whole::ShapeName;
+use crate::part::{INNER, are_one, child, name_part};
+use crate::root::{Name, Part};
+use crate::whole::Names;
 use ar_value::kind;
 use ar_value::operator::{Family, Scalar};
 use ar_value::sameness::are_same_shapes;
@@ -20,7 +22,7 @@ use std::rc::Rc;
 
 /// The kind of an operand: that of the literal `nil`, or a shape.
 #[derive(Drop)]
-pub(crate) enum Kind<M: ShapeName> {
+pub(crate) enum Kind<M: Names> {
     Nil,
     Shape(Rc<Part<M>>),
 }
@@ -33,7 +35,7 @@ pub(crate) struct ListParts<'a> {
     pub most: usize,
 }
 
-impl<M: ShapeName> Kind<M> {
+impl<M: Names> Kind<M> {
     /// The kind of operands of a shape that stands alone.
     pub(crate) fn made(alloc: Global, shape: Shape) -> Result<Kind<M>, AllocError>
         ensures { IfOk result (λ kind. kind_view kind ≡ shaped (shape_view shape)) }
@@ -59,17 +61,28 @@ impl<M: ShapeName> Kind<M> {
             Kind::Shape(shape) => Ok(Kind::Shape(shape.clone()?)),
         }
     }
+
+    /// Gives its shape a name, where that is known by nothing yet and dear to compare.
+    pub(crate) fn name(&mut self, alloc: Global, name: Name) -> Result<(), AllocError>
+        requires { M.arriving name.place name.index ≡ shape_or (kind_view self.old) }
+        ensures { kind_view self.new ≡ kind_view self.old }
+    {
+        match self {
+            Kind::Nil => Ok(()),
+            Kind::Shape(part) => name_part(alloc, name, part),
+        }
+    }
 }
 
 /// A kind once more, as an operation gives it.
-pub(crate) fn given_again<M: ShapeName>(kind: &Kind<M>) -> Result<Option<Kind<M>>, AllocError>
+pub(crate) fn given_again<M: Names>(kind: &Kind<M>) -> Result<Option<Kind<M>>, AllocError>
     ensures { IfOk result (λ given. option_map kind_view given ≡ Some (kind_view kind.now)) }
 {
     Ok(Some(kind.share()?))
 }
 
 /// The kind of a shape that stands alone, as an operation gives it.
-pub(crate) fn given_shape<M: ShapeName>(
+pub(crate) fn given_shape<M: Names>(
     alloc: Global,
     shape: Shape,
 ) -> Result<Option<Kind<M>>, AllocError>
@@ -79,7 +92,7 @@ pub(crate) fn given_shape<M: ShapeName>(
 }
 
 /// The kind of a part of a shape, by its number, as an operation gives it.
-pub(crate) fn given_part<M: ShapeName>(
+pub(crate) fn given_part<M: Names>(
     alloc: Global,
     whole: &Part<M>,
     number: usize,
@@ -90,7 +103,7 @@ pub(crate) fn given_part<M: ShapeName>(
     Ok(Some(Kind::Shape(whole.child(alloc, number)?)))
 }
 
-fn are_same<M: ShapeName>(left: &Kind<M>, right: &Kind<M>) -> bool
+fn are_same<M: Names>(left: &Kind<M>, right: &Kind<M>) -> bool
     ensures { Decides result (kind_view left.now ≡ kind_view right.now) }
 {
     match left {
@@ -104,7 +117,7 @@ fn are_same<M: ShapeName>(left: &Kind<M>, right: &Kind<M>) -> bool
 
 /// The kind of nil and of what fits a shape.
 #[tactic(auto, using(crate::proofs::Parts::nil_already))]
-fn nil_or<M: ShapeName>(alloc: Global, shape: &Rc<Part<M>>) -> Result<Option<Kind<M>>, AllocError>
+fn nil_or<M: Names>(alloc: Global, shape: &Rc<Part<M>>) -> Result<Option<Kind<M>>, AllocError>
     ensures { IfOk result
         (λ kind. option_map kind_view kind ≡ Some (shaped (or_nil (part_view shape.now.value)))) }
 {
@@ -116,7 +129,7 @@ fn nil_or<M: ShapeName>(alloc: Global, shape: &Rc<Part<M>>) -> Result<Option<Kin
 }
 
 /// The merge of shapes, where there is one.
-fn merge_shapes<M: ShapeName>(
+fn merge_shapes<M: Names>(
     alloc: Global,
     left: &Shape,
     right: &Shape,
@@ -131,7 +144,7 @@ fn merge_shapes<M: ShapeName>(
 }
 
 /// The merge of kinds that differ.
-fn merge_different<M: ShapeName>(
+fn merge_different<M: Names>(
     alloc: Global,
     left: &Kind<M>,
     right: &Kind<M>,
@@ -148,7 +161,7 @@ fn merge_different<M: ShapeName>(
 /// The kind of what has the one kind or the other, where there is one: of a kind and itself that kind,
 /// which is shared.
 #[tactic(auto, using(crate::proofs::Joins::merged_with_itself))]
-pub(crate) fn merge<M: ShapeName>(
+pub(crate) fn merge<M: Names>(
     alloc: Global,
     left: &Kind<M>,
     right: &Kind<M>,
@@ -173,7 +186,7 @@ fn is_scalar_shape(scalar: Scalar, shape: &Shape) -> bool
     }
 }
 
-pub(crate) fn is_scalar<M: ShapeName>(scalar: Scalar, kind: &Kind<M>) -> bool
+pub(crate) fn is_scalar<M: Names>(scalar: Scalar, kind: &Kind<M>) -> bool
     ensures { result ≡ is_scalar scalar (kind_view kind.now) }
 {
     match kind {
@@ -194,7 +207,7 @@ pub(crate) fn family_of(shape: &Shape) -> Option<Family>
 }
 
 /// The family of a scalar that may be nil.
-pub(crate) fn family_in<M: ShapeName>(kind: &Kind<M>) -> Option<Family>
+pub(crate) fn family_in<M: Names>(kind: &Kind<M>) -> Option<Family>
     ensures { result ≡ family_in (kind_view kind.now) }
 {
     match kind {
@@ -218,7 +231,7 @@ fn list_parts(shape: &Shape) -> Option<ListParts<'_>>
 }
 
 /// What the kind says of a list, where it is that of one.
-pub(crate) fn list_in<'a, M: ShapeName>(kind: &'a Kind<M>) -> Option<ListParts<'a>>
+pub(crate) fn list_in<'a, M: Names>(kind: &'a Kind<M>) -> Option<ListParts<'a>>
     ensures { option_map parts_view result ≡ list_in (kind_view kind.now) }
 {
     list_parts(kind.shape()?)
@@ -240,7 +253,7 @@ fn is_list(shape: &Shape) -> bool
 
 /// The shape of a list, where the kind is that of one.
 #[tactic(auto, using(crate::proofs::Parts::of_a_list, crate::proofs::Parts::of_no_list))]
-pub(crate) fn as_list<M: ShapeName>(kind: &Kind<M>) -> Option<&Part<M>>
+pub(crate) fn as_list<M: Names>(kind: &Kind<M>) -> Option<&Part<M>>
     ensures { option_map (λ list. list_view list.now) result ≡ list_in (kind_view kind.now) }
 {
     match kind {
@@ -257,7 +270,7 @@ pub(crate) fn as_list<M: ShapeName>(kind: &Kind<M>) -> Option<&Part<M>>
 
 /// Likewise, of a kind that isn't needed any more.
 #[tactic(auto, using(crate::proofs::Parts::of_a_list, crate::proofs::Parts::of_no_list))]
-pub(crate) fn into_list<M: ShapeName>(kind: Kind<M>) -> Option<Rc<Part<M>>>
+pub(crate) fn into_list<M: Names>(kind: Kind<M>) -> Option<Rc<Part<M>>>
     ensures { option_map (λ list. list_view list.value) result ≡ list_in (kind_view kind) }
 {
     match kind {
@@ -275,7 +288,7 @@ pub(crate) fn into_list<M: ShapeName>(kind: Kind<M>) -> Option<Rc<Part<M>>>
 /// The shape of a list of the same items, and of as many at most. That of a list is shared; no other
 /// is meant.
 #[tactic(auto, using(crate::proofs::Parts::list_itself, crate::proofs::Parts::made_like))]
-pub(crate) fn list_like<M: ShapeName>(
+pub(crate) fn list_like<M: Names>(
     alloc: Global,
     of: &Rc<Part<M>>,
 ) -> Result<Rc<Part<M>>, AllocError>

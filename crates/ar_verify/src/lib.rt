@@ -8,8 +8,8 @@
 //! - `verifier`: the passes, one after the other
 //! - `places`: whether the places that operations name are as they should be; `loops`: whether loops
 //!   lie one in another
-//! - `whole`: the shape of the measured value; `part`: parts of shapes, which share the whole; `kind`,
-//!   `stack`: kinds of operands; `operators`, `effect`: what operations give of them
+//! - `whole`: the shape of the measured value; `root`, `part`: parts of shapes, which share the whole;
+//!   `kind`, `stack`: kinds of operands; `operators`, `effect`: what operations give of them
 //! - `operands`, `sending`, `arrivals`: what operations send on, and what arrives at each place
 //! - `budget`: what a run may cost at most
 //! - `failure`: why an operation sends nothing on
@@ -25,6 +25,7 @@ mod operands;
 mod operators;
 mod part;
 mod places;
+mod root;
 mod sending;
 mod stack;
 mod verifier;

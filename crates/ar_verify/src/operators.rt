@@ -11,7 +11,7 @@ use crate::kind::{
     merge,
 };
 use crate::part::{INNER, field_number, plain};
-use crate::whole::ShapeName;
+use crate::whole::Names;
 use ar_value::kind;
 use ar_value::operator::{
     Arithmetic, BinaryOperator, Compared, Family, Numbers, Scalar, UnaryOperator,
@@ -20,7 +20,7 @@ use ar_value::shape::Shape;
 use std::alloc::{AllocError, Global};
 
 /// The kind of a shape, where the operands are taken.
-fn where_taken<M: ShapeName>(
+fn where_taken<M: Names>(
     alloc: Global,
     is_taken: bool,
     shape: Shape,
@@ -35,7 +35,7 @@ fn where_taken<M: ShapeName>(
 }
 
 /// The field of a record, by its name.
-pub(crate) fn field_of<M: ShapeName>(
+pub(crate) fn field_of<M: Names>(
     alloc: Global,
     name: &str,
     operand: &Kind<M>,
@@ -52,7 +52,7 @@ pub(crate) fn field_of<M: ShapeName>(
 }
 
 #[tactic(auto, using(crate::proofs::Parts::item_by_list))]
-fn item<M: ShapeName>(
+fn item<M: Names>(
     alloc: Global,
     list: &Kind<M>,
     index: &Kind<M>,
@@ -70,13 +70,13 @@ fn item<M: ShapeName>(
 }
 
 #[tactic(auto, using(crate::proofs::Parts::length_of_list))]
-fn length<M: ShapeName>(alloc: Global, list: &Kind<M>) -> Result<Option<Kind<M>>, AllocError>
+fn length<M: Names>(alloc: Global, list: &Kind<M>) -> Result<Option<Kind<M>>, AllocError>
     ensures { IfOk result (λ given. option_map kind_view given ≡ length_kind (kind_view list.now)) }
 {
     where_taken(alloc, list_in(list).is_some(), Shape::Whole)
 }
 
-fn needed<M: ShapeName>(alloc: Global, operand: &Kind<M>) -> Result<Option<Kind<M>>, AllocError>
+fn needed<M: Names>(alloc: Global, operand: &Kind<M>) -> Result<Option<Kind<M>>, AllocError>
     ensures { IfOk result (λ given. option_map kind_view given ≡ needed_kind (kind_view operand.now)) }
 {
     match operand {
@@ -86,7 +86,7 @@ fn needed<M: ShapeName>(alloc: Global, operand: &Kind<M>) -> Result<Option<Kind<
 }
 
 /// The kind of what isn't nil, or of what stands for it.
-fn default<M: ShapeName>(
+fn default<M: Names>(
     alloc: Global,
     operand: &Kind<M>,
     other: &Kind<M>,
@@ -116,7 +116,7 @@ fn decimal_shape(alloc: Global, shape: &Shape) -> Result<Option<Shape>, AllocErr
     }
 }
 
-fn decimal<M: ShapeName>(alloc: Global, operand: &Kind<M>) -> Result<Option<Kind<M>>, AllocError>
+fn decimal<M: Names>(alloc: Global, operand: &Kind<M>) -> Result<Option<Kind<M>>, AllocError>
     ensures { IfOk result (λ given. option_map kind_view given ≡ decimal_kind (kind_view operand.now)) }
 {
     match operand.shape() {
@@ -147,7 +147,7 @@ fn of_one_family(family: Option<Family>, other: Option<Family>) -> bool
 }
 
 #[tactic(auto, using(crate::proofs::Parts::member_of_list))]
-fn member<M: ShapeName>(
+fn member<M: Names>(
     alloc: Global,
     operand: &Kind<M>,
     list: &Kind<M>,
@@ -177,7 +177,7 @@ fn quotient(operator: Arithmetic) -> Shape
     }
 }
 
-fn same<M: ShapeName>(scalar: Scalar, operand: &Kind<M>) -> Result<Option<Kind<M>>, AllocError>
+fn same<M: Names>(scalar: Scalar, operand: &Kind<M>) -> Result<Option<Kind<M>>, AllocError>
     ensures { IfOk result (λ given. option_map kind_view given ≡ same_kind scalar (kind_view operand.now)) }
 {
     if is_scalar(scalar, operand) {
@@ -187,10 +187,7 @@ fn same<M: ShapeName>(scalar: Scalar, operand: &Kind<M>) -> Result<Option<Kind<M
     }
 }
 
-fn negative<M: ShapeName>(
-    numbers: Numbers,
-    operand: &Kind<M>,
-) -> Result<Option<Kind<M>>, AllocError>
+fn negative<M: Names>(numbers: Numbers, operand: &Kind<M>) -> Result<Option<Kind<M>>, AllocError>
     ensures { IfOk result (λ given. option_map kind_view given ≡ negative_kind numbers (kind_view operand.now)) }
 {
     match numbers {
@@ -200,7 +197,7 @@ fn negative<M: ShapeName>(
 }
 
 #[tactic(auto, using(crate::proofs::Parts::number_is_either))]
-fn is_compared<M: ShapeName>(numbers: Compared, operand: &Kind<M>) -> bool
+fn is_compared<M: Names>(numbers: Compared, operand: &Kind<M>) -> bool
     ensures { result ≡ is_compared numbers (kind_view operand.now) }
 {
     match numbers {
@@ -213,7 +210,7 @@ fn is_compared<M: ShapeName>(numbers: Compared, operand: &Kind<M>) -> bool
 }
 
 /// What an operator gives of one operand.
-pub(crate) fn apply_unary<M: ShapeName>(
+pub(crate) fn apply_unary<M: Names>(
     alloc: Global,
     operator: UnaryOperator,
     operand: &Kind<M>,
@@ -230,19 +227,19 @@ pub(crate) fn apply_unary<M: ShapeName>(
     }
 }
 
-fn are_scalars<M: ShapeName>(scalar: Scalar, left: &Kind<M>, right: &Kind<M>) -> bool
+fn are_scalars<M: Names>(scalar: Scalar, left: &Kind<M>, right: &Kind<M>) -> bool
     ensures { result ≡ (is_scalar scalar (kind_view left.now) && is_scalar scalar (kind_view right.now)) }
 {
     is_scalar(scalar, left) && is_scalar(scalar, right)
 }
 
-fn are_compared<M: ShapeName>(numbers: Compared, left: &Kind<M>, right: &Kind<M>) -> bool
+fn are_compared<M: Names>(numbers: Compared, left: &Kind<M>, right: &Kind<M>) -> bool
     ensures { result ≡ (is_compared numbers (kind_view left.now) && is_compared numbers (kind_view right.now)) }
 {
     is_compared(numbers, left) && is_compared(numbers, right)
 }
 
-fn are_in_family<M: ShapeName>(family: Family, left: &Kind<M>, right: &Kind<M>) -> bool
+fn are_in_family<M: Names>(family: Family, left: &Kind<M>, right: &Kind<M>) -> bool
     ensures { result ≡ (is_family family (family_in (kind_view left.now))
         && is_family family (family_in (kind_view right.now))) }
 {
@@ -250,7 +247,7 @@ fn are_in_family<M: ShapeName>(family: Family, left: &Kind<M>, right: &Kind<M>) 
 }
 
 /// What an operator gives of two operands.
-pub(crate) fn apply_binary<M: ShapeName>(
+pub(crate) fn apply_binary<M: Names>(
     alloc: Global,
     operator: BinaryOperator,
     left: &Kind<M>,

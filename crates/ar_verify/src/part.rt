@@ -1,32 +1,20 @@
-//! Parts of shapes. They share the whole, and are known by the way to them, so none is copied.
+//! Parts of shapes. They share the whole, so none is copied. They are known by the way to them in the measured
+//! value's shape, or by the place at which they arrived first.
 
 ghost use Rattle.std.specs.Prelude.{◌≡◌, ◌++◌, ◌∷◌, [], true, IfOk, Some, map, option_map};
 ghost use Rattle.ar_value.specs.Kind.{plain, shaped};
 ghost use Rattle.ar_value.specs.Shape.{field_shapes_of, shape_named};
 ghost use Rattle.ar_value.specs.View.{field_shape_view, shape_view};
 ghost use Rattle.ar_verified.specs.Effects.{field_kind};
-ghost use Rattle.ar_verify.specs.Private.Parts.{part_view, child, field_or, nth_field, part_at, root_view};
+ghost use Rattle.ar_verify.specs.Private.Parts.{part_view};
+ghost use Rattle.ar_verify.specs.Private.Roots.{child, field_or, nth_field, part_at, root_view};
 
-use crate::whole::{ShapeName, Whole};
+use crate::root::{Name, Part, Root};
+use crate::whole::{Names, Whole};
 use ar_value::kind;
 use ar_value::shape::{FieldShape, Shape};
 use std::alloc::{AllocError, Global};
 use std::rc::Rc;
-
-/// A whole shape: that of the measured value, or one that is shared by all that are a part of it.
-#[derive(Drop)]
-pub(crate) enum Root<M: ShapeName> {
-    Measured(Whole<M>),
-    Made(Rc<Shape>),
-}
-
-/// A part of a shape, by the numbers of the parts on the way to it. It is held in an [`Rc`], which is
-/// shared and let go in one step.
-#[derive(Drop)]
-pub(crate) struct Part<M: ShapeName> {
-    pub root: Root<M>,
-    pub path: Vec<usize>,
-}
 
 /// The number of what a list or an optional shape is of.
 pub(crate) const INNER: usize = 0;
@@ -67,6 +55,14 @@ fn follow<'a>(whole: &'a Shape, path: &[usize]) -> &'a Shape
     shape
 }
 
+fn copied(alloc: Global, path: &[usize]) -> Result<Vec<usize>, AllocError>
+    ensures { IfOk result (λ copied. copied.items ≡ path.now) }
+{
+    let mut copied = Vec::with_capacity(alloc, path.len())?;
+    copied.extend_from_slice(path)?;
+    Ok(copied)
+}
+
 /// One step more.
 fn longer(alloc: Global, path: &[usize], number: usize) -> Result<Vec<usize>, AllocError>
     ensures { IfOk result (λ longer. longer.items ≡ path.now ++ number ∷ []) }
@@ -77,33 +73,18 @@ fn longer(alloc: Global, path: &[usize], number: usize) -> Result<Vec<usize>, Al
     Ok(longer)
 }
 
-impl<M: ShapeName> Root<M> {
-    fn get(&self) -> &Shape
-        ensures { shape_view result.now ≡ root_view self.now }
-    {
-        match self {
-            Root::Measured(whole) => whole.get(),
-            Root::Made(shape) => shape,
-        }
-    }
-
-    /// It is refused only where a made one has more owners than can be counted.
-    fn share(&self) -> Result<Root<M>, AllocError>
-        ensures { IfOk result (λ shared. root_view shared ≡ root_view self.now) }
-    {
-        match self {
-            Root::Measured(whole) => Ok(Root::Measured(whole.again()?)),
-            Root::Made(shape) => Ok(Root::Made(shape.clone()?)),
-        }
-    }
-}
-
-impl<M: ShapeName> Part<M> {
+impl<M: Names> Part<M> {
     fn whole(alloc: Global, root: Root<M>) -> Result<Rc<Part<M>>, AllocError>
         ensures { IfOk result (λ whole. part_view whole.value ≡ root_view root) }
     {
-        let path = Vec::new(alloc);
-        Ok(Rc::new(alloc, Part { root, path })?)
+        Ok(Rc::new(
+            alloc,
+            Part {
+                root,
+                path: Vec::new(alloc),
+                name: None,
+            },
+        )?)
     }
 
     /// The shape of the measured value.
@@ -133,16 +114,65 @@ impl<M: ShapeName> Part<M> {
     {
         let path = longer(alloc, &self.path, number)?;
         let root = self.root.share()?;
-        Ok(Rc::new(alloc, Part { root, path })?)
+        Ok(Rc::new(
+            alloc,
+            Part {
+                root,
+                path,
+                name: None,
+            },
+        )?)
+    }
+
+    /// Whether it is known by nothing yet, and dear to compare: a shape that was made and has parts.
+    fn wants_name(&self) -> bool {
+        self.name.is_none() && !self.root.is_measured() && has_parts(self.get())
+    }
+
+    /// The same once more, by a name.
+    #[tactic(auto, using(crate::proofs::Naming::named))]
+    fn named(&self, alloc: Global, name: Name) -> Result<Rc<Part<M>>, AllocError>
+        requires { M.arriving name.place name.index ≡ part_view self.now }
+        ensures { IfOk result (λ named. part_view named.value ≡ part_view self.now) }
+    {
+        let path = copied(alloc, &self.path)?;
+        let root = self.root.share()?;
+        Ok(Rc::new(
+            alloc,
+            Part {
+                root,
+                path,
+                name: Some(name),
+            },
+        )?)
+    }
+}
+
+/// Names a part, where it is known by nothing yet and dear to compare.
+pub(crate) fn name_part<M: Names>(
+    alloc: Global,
+    name: Name,
+    part: &mut Rc<Part<M>>,
+) -> Result<(), AllocError>
+    requires { M.arriving name.place name.index ≡ part_view part.old.value }
+    ensures { part_view part.new.value ≡ part_view part.old.value }
+{
+    if part.wants_name() {
+        *part = part.named(alloc, name)?;
+    }
+    Ok(())
+}
+
+fn has_parts(shape: &Shape) -> bool {
+    match shape {
+        Shape::List { .. } | Shape::Object(_) | Shape::Optional(_) => true,
+        Shape::Bool | Shape::Whole | Shape::Decimal | Shape::Text => false,
     }
 }
 
 /// The shape of what isn't nil.
 #[tactic(auto, using(crate::proofs::Parts::plain_already, crate::proofs::Ways::plain_inside))]
-pub(crate) fn plain<M: ShapeName>(
-    alloc: Global,
-    part: &Rc<Part<M>>,
-) -> Result<Rc<Part<M>>, AllocError>
+pub(crate) fn plain<M: Names>(alloc: Global, part: &Rc<Part<M>>) -> Result<Rc<Part<M>>, AllocError>
     ensures { IfOk result (λ inner. part_view inner.value ≡ plain (part_view part.now.value)) }
 {
     if kind::is_optional(part.get()) {
@@ -152,19 +182,31 @@ pub(crate) fn plain<M: ShapeName>(
     }
 }
 
-fn is_measured<M: ShapeName>(root: &Root<M>) -> bool
-    ensures { result ≡ true → root_view root.now ≡ shape_view M.shape }
+/// Whether two parts lie at one way in the measured value's shape.
+fn lie_at_one_way<M: Names>(left: &Part<M>, right: &Part<M>) -> bool
+    ensures { result ≡ true → part_view left.now ≡ part_view right.now }
 {
-    matches!(root, Root::Measured(_))
+    left.root.is_measured()
+        && right.root.is_measured()
+        && left.path.as_slice() == right.path.as_slice()
+}
+
+/// Whether two parts arrived at one place, as the same operand there.
+#[tactic(auto, using(crate::proofs::Naming::of_one_name))]
+fn have_one_name<M: Names>(left: &Part<M>, right: &Part<M>) -> bool
+    ensures { result ≡ true → part_view left.now ≡ part_view right.now }
+{
+    match (left.name, right.name) {
+        (Some(left), Some(right)) => left.place == right.place && left.index == right.index,
+        _ => false,
+    }
 }
 
 /// Whether it is known without a look at their shapes that two parts are one.
-pub(crate) fn are_one<M: ShapeName>(left: &Part<M>, right: &Part<M>) -> bool
+pub(crate) fn are_one<M: Names>(left: &Part<M>, right: &Part<M>) -> bool
     ensures { result ≡ true → part_view left.now ≡ part_view right.now }
 {
-    is_measured(&left.root)
-        && is_measured(&right.root)
-        && left.path.as_slice() == right.path.as_slice()
+    have_one_name(left, right) || lie_at_one_way(left, right)
 }
 
 #[tactic(auto, using(crate::proofs::Ways::named_here, crate::proofs::Ways::named_further, crate::proofs::Ways::none_named))]

@@ -14,9 +14,9 @@ use crate::effect::{apply, takes_scalar};
 use crate::failure::Failure;
 use crate::kind::{Kind, into_list, list_like};
 use crate::operands::{Around, Operands};
-use crate::part::Part;
+use crate::root::Part;
 use crate::stack::{add, pop, push};
-use crate::whole::{ShapeName, Whole};
+use crate::whole::{Names, Whole};
 use ar_op::code::Code;
 use ar_op::op::{Jump, Op, Source};
 use ar_value::operator::{Predicate, Scalar};
@@ -30,14 +30,14 @@ const MOST_OPERANDS: usize = 64;
 
 /// Operands on the way to a place.
 #[derive(Drop)]
-pub(crate) struct Sent<M: ShapeName> {
+pub(crate) struct Sent<M: Names> {
     pub target: usize,
     pub operands: Operands<M>,
 }
 
 /// What an operation sends on, in the order in which it arrives.
 #[derive(Drop)]
-pub(crate) enum Sends<M: ShapeName> {
+pub(crate) enum Sends<M: Names> {
     Nothing,
     One(Sent<M>),
     Two(Sent<M>, Sent<M>),
@@ -45,7 +45,7 @@ pub(crate) enum Sends<M: ShapeName> {
 
 /// Takes a truth value.
 #[tactic(auto, using(crate::proofs::Passed::truth_is_taken, crate::proofs::Passed::no_truth_is_taken))]
-fn take_truth<M: ShapeName>(kinds: &mut Vec<Kind<M>>) -> Result<(), Failure>
+fn take_truth<M: Names>(kinds: &mut Vec<Kind<M>>) -> Result<(), Failure>
     ensures { Meets (λ _. from_top kinds.new.items) result (truth_taken (from_top kinds.old.items)) }
 {
     if takes_scalar(Scalar::Bool, kinds) {
@@ -56,7 +56,7 @@ fn take_truth<M: ShapeName>(kinds: &mut Vec<Kind<M>>) -> Result<(), Failure>
 }
 
 /// Takes a list.
-fn take_list<M: ShapeName>(kinds: &mut Vec<Kind<M>>) -> Result<Rc<Part<M>>, Failure>
+fn take_list<M: Names>(kinds: &mut Vec<Kind<M>>) -> Result<Rc<Part<M>>, Failure>
     ensures { Meets (λ list. (list_view list.value, from_top kinds.new.items)) result
         (list_taken (from_top kinds.old.items)) }
 {
@@ -67,7 +67,7 @@ fn take_list<M: ShapeName>(kinds: &mut Vec<Kind<M>>) -> Result<Rc<Part<M>>, Fail
 }
 
 /// What a loop gives over a list.
-fn answer_kind<M: ShapeName>(
+fn answer_kind<M: Names>(
     alloc: Global,
     predicate: Predicate,
     list: &Rc<Part<M>>,
@@ -83,10 +83,7 @@ fn answer_kind<M: ShapeName>(
 }
 
 #[tactic(auto, using(crate::proofs::Tops::on_top))]
-fn push_loop<M: ShapeName>(
-    loops: &mut Vec<Around<M>>,
-    innermost: Around<M>,
-) -> Result<(), AllocError>
+fn push_loop<M: Names>(loops: &mut Vec<Around<M>>, innermost: Around<M>) -> Result<(), AllocError>
     ensures { OnOk result
         (from_innermost loops.new.items ≡ around_view innermost ∷ from_innermost loops.old.items) }
 {
@@ -94,7 +91,7 @@ fn push_loop<M: ShapeName>(
 }
 
 #[tactic(auto, using(crate::proofs::Tops::on_top))]
-fn pop_loop<M: ShapeName>(loops: &mut Vec<Around<M>>) -> Option<Around<M>>
+fn pop_loop<M: Names>(loops: &mut Vec<Around<M>>) -> Option<Around<M>>
     ensures { MatchOption result (from_innermost loops.old.items ≡ [])
         (λ popped. from_innermost loops.old.items ≡ around_view popped ∷ from_innermost loops.new.items) }
 {
@@ -103,14 +100,14 @@ fn pop_loop<M: ShapeName>(loops: &mut Vec<Around<M>>) -> Option<Around<M>>
 
 /// The shape of the innermost loop's list.
 #[tactic(auto, using(crate::proofs::Tops::last_item))]
-fn innermost<'a, M: ShapeName>(loops: &'a [Around<M>]) -> Option<&'a Part<M>>
+fn innermost<'a, M: Names>(loops: &'a [Around<M>]) -> Option<&'a Part<M>>
     ensures { option_map (λ list. (list_view list.now).0) result ≡ item_of (from_innermost loops.now) }
 {
     Some(&loops.last()?.list)
 }
 
 /// Goes to a place with the truth value on top, or on without it.
-fn keep_or_take<M: ShapeName>(
+fn keep_or_take<M: Names>(
     alloc: Global,
     next: usize,
     target: u32,
@@ -134,7 +131,7 @@ fn keep_or_take<M: ShapeName>(
 }
 
 /// Goes to a place or on, without the truth value on top.
-fn branch<M: ShapeName>(
+fn branch<M: Names>(
     alloc: Global,
     next: usize,
     target: u32,
@@ -158,7 +155,7 @@ fn branch<M: ShapeName>(
 }
 
 /// Goes to the place of a jump, or on.
-fn jump<M: ShapeName>(
+fn jump<M: Names>(
     alloc: Global,
     jump: Jump,
     next: usize,
@@ -179,7 +176,7 @@ fn jump<M: ShapeName>(
 }
 
 /// Operands at the begin of the body of a loop over a list, where there are none above its floor.
-fn inside<M: ShapeName>(
+fn inside<M: Names>(
     alloc: Global,
     list: Rc<Part<M>>,
     had: Operands<M>,
@@ -196,7 +193,7 @@ fn inside<M: ShapeName>(
 }
 
 /// Operands behind a loop over a list, with its answer on top.
-fn behind<M: ShapeName>(
+fn behind<M: Names>(
     alloc: Global,
     predicate: Predicate,
     list: &Rc<Part<M>>,
@@ -211,7 +208,7 @@ fn behind<M: ShapeName>(
 }
 
 /// Operands behind a loop over a list, with its answer on top of those that were there.
-fn skip_loop<M: ShapeName>(
+fn skip_loop<M: Names>(
     alloc: Global,
     predicate: Predicate,
     list: &Rc<Part<M>>,
@@ -227,7 +224,7 @@ fn skip_loop<M: ShapeName>(
 }
 
 /// Begins a loop over a list that was on top, or goes behind it with its answer.
-fn begin_loop<M: ShapeName>(
+fn begin_loop<M: Names>(
     alloc: Global,
     predicate: Predicate,
     next: usize,
@@ -253,7 +250,7 @@ fn begin_loop<M: ShapeName>(
 }
 
 /// Begins a loop over the list on top, or goes behind it with its answer.
-fn enter<M: ShapeName>(
+fn enter<M: Names>(
     alloc: Global,
     predicate: Predicate,
     next: usize,
@@ -268,7 +265,7 @@ fn enter<M: ShapeName>(
 }
 
 /// Takes the truth value of a loop's body, which has to be alone above the floor.
-fn take_answer<M: ShapeName>(mut kinds: Vec<Kind<M>>) -> Result<(), Failure>
+fn take_answer<M: Names>(mut kinds: Vec<Kind<M>>) -> Result<(), Failure>
     ensures exact { Meets (λ _. []) result (only_truth (from_top kinds.items)) }
     ensures taken { OnOk result (truth_taken (from_top kinds.items) ≡ Ok []) }
 {
@@ -281,7 +278,7 @@ fn take_answer<M: ShapeName>(mut kinds: Vec<Kind<M>>) -> Result<(), Failure>
 }
 
 /// Goes behind the innermost loop, with its answer.
-fn end_loop<M: ShapeName>(
+fn end_loop<M: Names>(
     alloc: Global,
     predicate: Predicate,
     next: usize,
@@ -298,7 +295,7 @@ fn end_loop<M: ShapeName>(
 }
 
 /// Goes behind a loop, where nothing but the truth value of its body is above its floor.
-fn step<M: ShapeName>(
+fn step<M: Names>(
     alloc: Global,
     predicate: Predicate,
     next: usize,
@@ -312,7 +309,7 @@ fn step<M: ShapeName>(
 }
 
 /// Ends with the truth value on top.
-fn answer<M: ShapeName>(mut had: Operands<M>) -> Result<Sends<M>, Failure>
+fn answer<M: Names>(mut had: Operands<M>) -> Result<Sends<M>, Failure>
     ensures { Meets sends_view result (returning (operands_view had).kinds) }
 {
     take_truth(&mut had.kinds)?;
@@ -320,7 +317,7 @@ fn answer<M: ShapeName>(mut had: Operands<M>) -> Result<Sends<M>, Failure>
 }
 
 /// Pushes what an operation gives, unless it doesn't take its operands.
-fn push_given<M: ShapeName>(kinds: &mut Vec<Kind<M>>, given: Option<Kind<M>>) -> Result<(), Failure>
+fn push_given<M: Names>(kinds: &mut Vec<Kind<M>>, given: Option<Kind<M>>) -> Result<(), Failure>
     ensures { Meets (λ _. from_top kinds.new.items) result
         (given_on_top (option_map kind_view given) (from_top kinds.old.items)) }
 {
@@ -329,7 +326,7 @@ fn push_given<M: ShapeName>(kinds: &mut Vec<Kind<M>>, given: Option<Kind<M>>) ->
 }
 
 /// Performs an operation that goes on to the next place, of the operands above the floor.
-fn perform<M: ShapeName>(
+fn perform<M: Names>(
     alloc: Global,
     code: &Code,
     measured: &Whole<M>,
@@ -345,7 +342,7 @@ fn perform<M: ShapeName>(
 }
 
 /// Goes to the next place.
-fn go_on<M: ShapeName>(
+fn go_on<M: Names>(
     alloc: Global,
     code: &Code,
     measured: &Whole<M>,
@@ -364,7 +361,7 @@ fn go_on<M: ShapeName>(
     }))
 }
 
-fn passed_on<M: ShapeName>(
+fn passed_on<M: Names>(
     alloc: Global,
     code: &Code,
     measured: &Whole<M>,
@@ -388,7 +385,7 @@ fn passed_on<M: ShapeName>(
 
 /// Whether an operand is missing above the floor, or the item.
 #[tactic(auto, using(crate::proofs::Tops::so_many))]
-fn lacks<M: ShapeName>(op: Op, had: &Operands<M>) -> bool
+fn lacks<M: Names>(op: Op, had: &Operands<M>) -> bool
     ensures { result ≡ lacks op (operands_view had.now) }
 {
     match op {
@@ -397,7 +394,7 @@ fn lacks<M: ShapeName>(op: Op, had: &Operands<M>) -> bool
     }
 }
 
-impl<M: ShapeName> Sends<M> {
+impl<M: Names> Sends<M> {
     /// The greatest number of operands on the way.
     pub(crate) fn deepest(&self) -> usize
         ensures { result ≡ counted (deepest (sends_view self.now)) }
@@ -414,7 +411,7 @@ impl<M: ShapeName> Sends<M> {
 }
 
 /// What an operation sends on, of operands that arrived.
-pub(crate) fn send_on<M: ShapeName>(
+pub(crate) fn send_on<M: Names>(
     alloc: Global,
     code: &Code,
     measured: &Whole<M>,

@@ -1,7 +1,9 @@
-//! The shape of the measured value, by a name: all that are of one name are the same, which no reference tells.
+//! What is the same throughout a verification, by names: all that are of one name are the same, which no
+//! reference tells.
 
-ghost use Rattle.std.specs.Prelude.{◌≡◌};
+ghost use Rattle.std.specs.Prelude.{◌≡◌, ℕ};
 ghost use Rattle.std.specs.Coded.{codes};
+ghost use Rattle.ar_value.specs.Shape as shapes;
 ghost use Rattle.ar_value.specs.contracts.shape.Shape as shape_row;
 
 use ar_value::shape::Shape;
@@ -10,28 +12,33 @@ use std::alloc::{AllocError, Global};
 use std::marker::{Brand, PhantomData};
 use std::rc::Rc;
 
-/// Names the shape of the measured value.
-pub(crate) trait ShapeName {
+/// Names the shape of the measured value, and at each place the shapes of the operands that arrive there, by
+/// their numbers from below.
+pub(crate) trait Names {
     ghost use Rattle.ar_value.specs.declared.shape.Shape.{Shape};
 
     ghost shape: { Shape };
+
+    ghost arriving: { ℕ → ℕ → shapes.Shape };
 }
 
-impl ShapeName for Brand {
+impl Names for Brand {
     ghost use Rattle.ar_value.specs.declared.shape.Shape.TheVariants.{Bool};
 
     ghost shape = { Bool };
+
+    ghost arriving = { λ place index. shapes.bool };
 }
 
 /// The shape that is named, which stands once.
 #[derive(Drop)]
-pub(crate) struct Whole<M: ShapeName> {
+pub(crate) struct Whole<M: Names> {
     shape: Rc<SharedShape>,
     name: PhantomData<M>,
     ghost is: { shape.value ≡ M.shape } by { Prim.hlevel (codes, shape_row.the_row.coded) },
 }
 
-impl<M: ShapeName> Whole<M> {
+impl<M: Names> Whole<M> {
     pub(crate) fn new(alloc: Global, shape: &SharedShape) -> Result<Whole<M>, AllocError>
         requires { shape.now ≡ M.shape }
     {

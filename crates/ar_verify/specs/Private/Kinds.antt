@@ -3,14 +3,15 @@ use Rattle.std.specs.Prelude.{ℕ, Bool, true, false, Option, Some, None}
 use Rattle.ar_value.specs.Kind.{Kind, nil, shaped}
 use Rattle.ar_value.specs.Shape.{Shape, list}
 use Rattle.ar_value.specs.View.{shape_view}
-use Rattle.ar_verify.specs.Private.Parts.{child, part_view}
+use Rattle.ar_verify.specs.Private.Parts.{part_view}
+use Rattle.ar_verify.specs.Private.Roots.{child}
 use Rattle.ar_verify.specs.declared.kind.Kind as code
 use Rattle.ar_verify.specs.declared.kind.Kind.TheVariants as kinds
 use Rattle.ar_verify.specs.declared.kind.ListParts.{ListParts}
-use Rattle.ar_verify.specs.declared.part.Part.{Part}
-use Rattle.ar_verify.specs.declared.whole.ShapeName as ShapeName
+use Rattle.ar_verify.specs.declared.root.Part.{Part}
+use Rattle.ar_verify.specs.declared.whole.Names as Names
 
-abbrev pub kind_view : {M : Type 0} {name : ShapeName.Ghosts M} → code.Kind M name → Kind
+abbrev pub kind_view : {M : Type 0} {name : Names.Ghosts M} → code.Kind M name → Kind
 kind_view kinds.Nil = nil
 kind_view (kinds.Shape part) = shaped (part_view part.value)
 
@@ -41,5 +42,5 @@ longest (list shape max) = max
 longest shape = 0
 
 -- what is known of a list, by its shape
-abbrev pub list_view : {M : Type 0} {name : ShapeName.Ghosts M} → Part M name → Shape × ℕ
+abbrev pub list_view : {M : Type 0} {name : Names.Ghosts M} → Part M name → Shape × ℕ
 list_view l = (child 0 (part_view l), longest (part_view l))

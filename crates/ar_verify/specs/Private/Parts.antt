@@ -1,35 +1,8 @@
--- Parts of shapes, by the way to them, and what such parts in memory stand for.
-use Rattle.std.specs.Prelude.{ℕ, zero, suc, List, [], ◌∷◌, Option, Some, None, unwrap_or}
-use Rattle.ar_value.specs.Shape.{Shape, FieldShapes, list, object, optional, no_fields, field}
-use Rattle.ar_value.specs.View.{shape_view}
-use Rattle.ar_verify.specs.declared.part.Part.{Part}
-use Rattle.ar_verify.specs.declared.part.Root.{Root}
-use Rattle.ar_verify.specs.declared.part.Root.TheVariants as roots
-use Rattle.ar_verify.specs.declared.whole.ShapeName as ShapeName
+-- What parts of shapes in memory stand for.
+use Rattle.ar_value.specs.Shape.{Shape}
+use Rattle.ar_verify.specs.Private.Roots.{part_at, root_view}
+use Rattle.ar_verify.specs.declared.root.Part.{Part}
+use Rattle.ar_verify.specs.declared.whole.Names as Names
 
-abbrev pub nth_field : ℕ → FieldShapes → Option Shape
-nth_field n no_fields = None
-nth_field zero (field name shape others) = Some shape
-nth_field (suc n) (field name shape others) = nth_field n others
-
-abbrev pub field_or : ℕ → FieldShapes → Shape → Shape
-field_or n fields other = unwrap_or (nth_field n fields) other
-
--- a part by its number: what a list or an optional shape is of, or a field of a record; or the shape, where it has none
-abbrev pub child : ℕ → Shape → Shape
-child n (list item max) = item
-child n (object fields) = field_or n fields (object fields)
-child n (optional shape) = shape
-child n shape = shape
-
-abbrev pub part_at : (path : List ℕ) → Shape → Shape
-part_at [] shape = shape
-part_at (n ∷ path) shape = part_at path (child n shape)
-
-module _ {M : Type 0} {name : ShapeName.Ghosts M} where
-  abbrev pub root_view : Root M name → Shape
-  root_view (roots.Measured whole) = shape_view name.shape
-  root_view (roots.Made shape) = shape_view shape.value
-
-  abbrev pub part_view : Part M name → Shape
-  part_view p = part_at p.path.items (root_view p.root)
+abbrev pub part_view : {M : Type 0} {name : Names.Ghosts M} → Part M name → Shape
+part_view p = part_at p.path.items (root_view p.root)

@@ -1,6 +1,6 @@
 use Rattle.std.proofs.Common.{◌≡◌, drop}
 use Rattle.ar_value.specs.View.{shape_view}
-use Rattle.ar_verify.specs.Private.Parts.{part_at}
+use Rattle.ar_verify.specs.Private.Roots.{part_at}
 use Rattle.ar_verify.proofs.part.follow.Given as goal
 
 -- what is left of the way leads there
