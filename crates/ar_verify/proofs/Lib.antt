@@ -2,6 +2,7 @@ pub mod Depths
 pub mod Passes
 pub mod Parts
 pub mod Naming
+pub mod Optional
 pub mod Ways
 pub mod Tops
 pub mod Names

@@ -2,11 +2,11 @@
 
 ghost use Rattle.std.specs.Bool.{Decides};
 ghost use Rattle.std.specs.Prelude.{◌≡◌, IfOk, Some, option_map};
-ghost use Rattle.ar_value.specs.Kind.{merge, or_nil, shaped};
+ghost use Rattle.ar_value.specs.Kind.{merge, or_nil, plain, shaped};
 ghost use Rattle.ar_value.specs.Shape.{list};
 ghost use Rattle.ar_value.specs.View.{shape_view};
 ghost use Rattle.ar_verified.specs.Effects.{family_in, family_of, is_scalar};
-ghost use Rattle.ar_verify.specs.Private.Kinds.{is_list, kind_view, list_in, list_parts, list_view, parts_view, shape_in};
+ghost use Rattle.ar_verify.specs.Private.Kinds.{is_list, kind_view, list_in, list_parts, list_view, parts_view};
 ghost use Rattle.ar_verify.specs.Private.Parts.{part_view};
 ghost use Rattle.ar_verify.specs.Private.Roots.{child, shape_or};
 
@@ -25,6 +25,8 @@ use std::rc::Rc;
 pub(crate) enum Kind<M: Names> {
     Nil,
     Shape(Rc<Part<M>>),
+    /// The shape of nil and of what fits a shape, which isn't made for it.
+    OrNil(Rc<Part<M>>),
 }
 
 /// What a list's shape says of it.
@@ -43,15 +45,6 @@ impl<M: Names> Kind<M> {
         Ok(Kind::Shape(Part::made(alloc, shape)?))
     }
 
-    pub(crate) fn shape(&self) -> Option<&Shape>
-        ensures { option_map (λ shape. shape_view shape.now) result ≡ shape_in (kind_view self.now) }
-    {
-        match self {
-            Kind::Nil => None,
-            Kind::Shape(shape) => Some(shape.get()),
-        }
-    }
-
     /// The same kind once more, its shape likewise.
     pub(crate) fn share(&self) -> Result<Kind<M>, AllocError>
         ensures { IfOk result (λ shared. kind_view shared ≡ kind_view self.now) }
@@ -59,6 +52,7 @@ impl<M: Names> Kind<M> {
         match self {
             Kind::Nil => Ok(Kind::Nil),
             Kind::Shape(shape) => Ok(Kind::Shape(shape.clone()?)),
+            Kind::OrNil(shape) => Ok(Kind::OrNil(shape.clone()?)),
         }
     }
 
@@ -68,7 +62,7 @@ impl<M: Names> Kind<M> {
         ensures { kind_view self.new ≡ kind_view self.old }
     {
         match self {
-            Kind::Nil => Ok(()),
+            Kind::Nil | Kind::OrNil(_) => Ok(()),
             Kind::Shape(part) => name_part(alloc, name, part),
         }
     }
@@ -91,6 +85,20 @@ pub(crate) fn given_shape<M: Names>(
     Ok(Some(Kind::made(alloc, shape)?))
 }
 
+/// The kind of a shape that stands alone, where there is one.
+pub(crate) fn given_any<M: Names>(
+    alloc: Global,
+    shape: Option<Shape>,
+) -> Result<Option<Kind<M>>, AllocError>
+    ensures { IfOk result
+        (λ given. option_map kind_view given ≡ option_map shaped (option_map shape_view shape)) }
+{
+    match shape {
+        Some(shape) => given_shape(alloc, shape),
+        None => Ok(None),
+    }
+}
+
 /// The kind of a part of a shape, by its number, as an operation gives it.
 pub(crate) fn given_part<M: Names>(
     alloc: Global,
@@ -103,28 +111,52 @@ pub(crate) fn given_part<M: Names>(
     Ok(Some(Kind::Shape(whole.child(alloc, number)?)))
 }
 
+fn are_same_parts<M: Names>(left: &Part<M>, right: &Part<M>) -> bool
+    ensures { Decides result (part_view left.now ≡ part_view right.now) }
+{
+    are_one(left, right) || are_same_shapes(left.get(), right.get())
+}
+
+/// Whether what isn't nil has one shape.
+fn are_same_plain<M: Names>(left: &Part<M>, right: &Part<M>) -> bool
+    ensures { Decides result (plain (part_view left.now) ≡ plain (part_view right.now)) }
+{
+    are_one(left, right) || are_same_shapes(kind::plain(left.get()), kind::plain(right.get()))
+}
+
+/// Whether one shape is that of nil and of what fits the other.
+#[tactic(auto, using(crate::proofs::Optional::made_optional))]
+fn is_or_nil<M: Names>(optional: &Part<M>, of: &Part<M>) -> bool
+    ensures { Decides result (part_view optional.now ≡ or_nil (part_view of.now)) }
+{
+    kind::is_optional(optional.get()) && are_same_plain(optional, of)
+}
+
+#[tactic(auto, using(crate::proofs::Optional::of_shapes, crate::proofs::Optional::of_plain, crate::proofs::Optional::of_either))]
 fn are_same<M: Names>(left: &Kind<M>, right: &Kind<M>) -> bool
     ensures { Decides result (kind_view left.now ≡ kind_view right.now) }
 {
-    match left {
-        Kind::Nil => matches!(right, Kind::Nil),
-        Kind::Shape(left) => match right {
-            Kind::Nil => false,
-            Kind::Shape(right) => are_one(left, right) || are_same_shapes(left.get(), right.get()),
-        },
+    match (left, right) {
+        (Kind::Nil, Kind::Nil) => true,
+        (Kind::Shape(left), Kind::Shape(right)) => are_same_parts(left, right),
+        (Kind::OrNil(left), Kind::OrNil(right)) => are_same_plain(left, right),
+        (Kind::Shape(shape), Kind::OrNil(of)) | (Kind::OrNil(of), Kind::Shape(shape)) => {
+            is_or_nil(shape, of)
+        }
+        (Kind::Nil, _) | (_, Kind::Nil) => false,
     }
 }
 
 /// The kind of nil and of what fits a shape.
 #[tactic(auto, using(crate::proofs::Parts::nil_already))]
-fn nil_or<M: Names>(alloc: Global, shape: &Rc<Part<M>>) -> Result<Option<Kind<M>>, AllocError>
+fn nil_or<M: Names>(shape: &Rc<Part<M>>) -> Result<Option<Kind<M>>, AllocError>
     ensures { IfOk result
         (λ kind. option_map kind_view kind ≡ Some (shaped (or_nil (part_view shape.now.value)))) }
 {
     if kind::is_optional(shape.get()) {
         Ok(Some(Kind::Shape(shape.clone()?)))
     } else {
-        given_shape(alloc, kind::or_nil(alloc, shape.get())?)
+        Ok(Some(Kind::OrNil(shape.clone()?)))
     }
 }
 
@@ -137,13 +169,27 @@ fn merge_shapes<M: Names>(
     ensures { IfOk result (λ kind. option_map kind_view kind
         ≡ merge (shaped (shape_view left.now)) (shaped (shape_view right.now))) }
 {
-    match kind::merge_shapes(alloc, left, right)? {
-        Some(shape) => given_shape(alloc, shape),
-        None => Ok(None),
+    given_any(alloc, kind::merge_shapes(alloc, left, right)?)
+}
+
+/// The merge of a shape, the shape of nil and of what fits it being meant, with another.
+#[tactic(auto, using(crate::proofs::Optional::merged_plain))]
+fn merge_or_nil<M: Names>(
+    alloc: Global,
+    left: &Rc<Part<M>>,
+    right: &Part<M>,
+) -> Result<Option<Kind<M>>, AllocError>
+    ensures { IfOk result (λ kind. option_map kind_view kind
+        ≡ merge (shaped (or_nil (part_view left.now.value))) (shaped (part_view right.now))) }
+{
+    if are_same_plain(left, right) {
+        return Ok(Some(Kind::OrNil(left.clone()?)));
     }
+    merge_shapes(alloc, &kind::or_nil(alloc, left.get())?, right.get())
 }
 
 /// The merge of kinds that differ.
+#[tactic(auto, using(crate::proofs::Optional::nil_either_way))]
 fn merge_different<M: Names>(
     alloc: Global,
     left: &Kind<M>,
@@ -153,8 +199,12 @@ fn merge_different<M: Names>(
 {
     match (left, right) {
         (Kind::Nil, Kind::Nil) => Ok(Some(Kind::Nil)),
-        (Kind::Nil, Kind::Shape(shape)) | (Kind::Shape(shape), Kind::Nil) => nil_or(alloc, shape),
+        (Kind::Nil, Kind::Shape(shape)) | (Kind::Shape(shape), Kind::Nil) => nil_or(shape),
+        (Kind::Nil, shaped) | (shaped, Kind::Nil) => given_again(shaped),
         (Kind::Shape(left), Kind::Shape(right)) => merge_shapes(alloc, left.get(), right.get()),
+        (Kind::Shape(left) | Kind::OrNil(left), Kind::Shape(right) | Kind::OrNil(right)) => {
+            merge_or_nil(alloc, left, right)
+        }
     }
 }
 
@@ -190,7 +240,7 @@ pub(crate) fn is_scalar<M: Names>(scalar: Scalar, kind: &Kind<M>) -> bool
     ensures { result ≡ is_scalar scalar (kind_view kind.now) }
 {
     match kind {
-        Kind::Nil => false,
+        Kind::Nil | Kind::OrNil(_) => false,
         Kind::Shape(shape) => is_scalar_shape(scalar, shape.get()),
     }
 }
@@ -212,7 +262,7 @@ pub(crate) fn family_in<M: Names>(kind: &Kind<M>) -> Option<Family>
 {
     match kind {
         Kind::Nil => None,
-        Kind::Shape(shape) => family_of(kind::plain(shape.get())),
+        Kind::Shape(shape) | Kind::OrNil(shape) => family_of(kind::plain(shape.get())),
     }
 }
 
@@ -234,7 +284,10 @@ fn list_parts(shape: &Shape) -> Option<ListParts<'_>>
 pub(crate) fn list_in<'a, M: Names>(kind: &'a Kind<M>) -> Option<ListParts<'a>>
     ensures { option_map parts_view result ≡ list_in (kind_view kind.now) }
 {
-    list_parts(kind.shape()?)
+    match kind {
+        Kind::Nil | Kind::OrNil(_) => None,
+        Kind::Shape(shape) => list_parts(shape.get()),
+    }
 }
 
 fn is_list(shape: &Shape) -> bool
@@ -257,7 +310,7 @@ pub(crate) fn as_list<M: Names>(kind: &Kind<M>) -> Option<&Part<M>>
     ensures { option_map (λ list. list_view list.now) result ≡ list_in (kind_view kind.now) }
 {
     match kind {
-        Kind::Nil => None,
+        Kind::Nil | Kind::OrNil(_) => None,
         Kind::Shape(list) => {
             if is_list(list.get()) {
                 Some(list)
@@ -274,7 +327,7 @@ pub(crate) fn into_list<M: Names>(kind: Kind<M>) -> Option<Rc<Part<M>>>
     ensures { option_map (λ list. list_view list.value) result ≡ list_in (kind_view kind) }
 {
     match kind {
-        Kind::Nil => None,
+        Kind::Nil | Kind::OrNil(_) => None,
         Kind::Shape(list) => {
             if is_list(list.get()) {
                 Some(list)

@@ -7,8 +7,8 @@ ghost use Rattle.ar_verified.specs.Effects.{decimal_kind, decimal_shape, family_
 ghost use Rattle.ar_verify.specs.Private.Kinds.{kind_view};
 
 use crate::kind::{
-    Kind, as_list, family_in, family_of, given_again, given_part, given_shape, is_scalar, list_in,
-    merge,
+    Kind, as_list, family_in, family_of, given_again, given_any, given_part, given_shape,
+    is_scalar, list_in, merge,
 };
 use crate::part::{INNER, field_number, plain};
 use crate::whole::Names;
@@ -43,7 +43,7 @@ pub(crate) fn field_of<M: Names>(
     ensures { IfOk result (λ given. option_map kind_view given ≡ field_kind name.now (kind_view operand.now)) }
 {
     match operand {
-        Kind::Nil => Ok(None),
+        Kind::Nil | Kind::OrNil(_) => Ok(None),
         Kind::Shape(record) => match field_number(name, record.get()) {
             Some(number) => given_part(alloc, record, number),
             None => Ok(None),
@@ -81,7 +81,7 @@ fn needed<M: Names>(alloc: Global, operand: &Kind<M>) -> Result<Option<Kind<M>>,
 {
     match operand {
         Kind::Nil => Ok(None),
-        Kind::Shape(shape) => Ok(Some(Kind::Shape(plain(alloc, shape)?))),
+        Kind::Shape(shape) | Kind::OrNil(shape) => Ok(Some(Kind::Shape(plain(alloc, shape)?))),
     }
 }
 
@@ -96,7 +96,9 @@ fn default<M: Names>(
 {
     match operand {
         Kind::Nil => given_again(other),
-        Kind::Shape(shape) => merge(alloc, &Kind::Shape(plain(alloc, shape)?), other),
+        Kind::Shape(shape) | Kind::OrNil(shape) => {
+            merge(alloc, &Kind::Shape(plain(alloc, shape)?), other)
+        }
     }
 }
 
@@ -119,12 +121,13 @@ fn decimal_shape(alloc: Global, shape: &Shape) -> Result<Option<Shape>, AllocErr
 fn decimal<M: Names>(alloc: Global, operand: &Kind<M>) -> Result<Option<Kind<M>>, AllocError>
     ensures { IfOk result (λ given. option_map kind_view given ≡ decimal_kind (kind_view operand.now)) }
 {
-    match operand.shape() {
-        None => Ok(None),
-        Some(shape) => match decimal_shape(alloc, shape)? {
-            Some(decimal) => given_shape(alloc, decimal),
-            None => Ok(None),
-        },
+    match operand {
+        Kind::Nil => Ok(None),
+        Kind::Shape(shape) => given_any(alloc, decimal_shape(alloc, shape.get())?),
+        Kind::OrNil(shape) => {
+            let optional = kind::or_nil(alloc, shape.get())?;
+            given_any(alloc, decimal_shape(alloc, &optional)?)
+        }
     }
 }
 

@@ -1,6 +1,6 @@
 -- What kinds in memory stand for, and kinds by their shapes.
 use Rattle.std.specs.Prelude.{ℕ, Bool, true, false, Option, Some, None}
-use Rattle.ar_value.specs.Kind.{Kind, nil, shaped}
+use Rattle.ar_value.specs.Kind.{Kind, nil, or_nil, shaped}
 use Rattle.ar_value.specs.Shape.{Shape, list}
 use Rattle.ar_value.specs.View.{shape_view}
 use Rattle.ar_verify.specs.Private.Parts.{part_view}
@@ -14,11 +14,7 @@ use Rattle.ar_verify.specs.declared.whole.Names as Names
 abbrev pub kind_view : {M : Type 0} {name : Names.Ghosts M} → code.Kind M name → Kind
 kind_view kinds.Nil = nil
 kind_view (kinds.Shape part) = shaped (part_view part.value)
-
--- the shape of an operand's kind, unless it is nil
-abbrev pub shape_in : Kind → Option Shape
-shape_in nil = None
-shape_in (shaped shape) = Some shape
+kind_view (kinds.OrNil part) = shaped (or_nil (part_view part.value))
 
 -- the item's shape and the greatest length of a list
 abbrev pub list_parts : Shape → Option (Shape × ℕ)
