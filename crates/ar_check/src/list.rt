@@ -12,6 +12,7 @@ ghost use Rattle.ar_check.specs.Private.Inside.{item_view, kind_view, operand_vi
 
 use crate::build::{self, listed};
 use crate::error::TypeError;
+use crate::holding::add;
 use crate::operand::{Kind, Operand};
 use ar_condition::typed::Typed;
 use ar_value::operator::{Scalar, UnaryOperator};
@@ -38,8 +39,9 @@ pub(crate) fn list<'s>(alloc: Global, at: usize, items: Vec<Item>) -> Result<Ope
     let Some(scalar) = common_of(&items) else {
         return Err(TypeError::NoCommonKind(at));
     };
-    let kind = list_kind(alloc, scalar, items.len())?;
+    let max = items.len();
     let tree = build::node(alloc, listed(scalar, turned(alloc, scalar, items)?))?;
+    let kind = list_kind(alloc, scalar, max)?;
     Ok(Operand { tree, kind })
 }
 
@@ -94,7 +96,7 @@ fn turned(alloc: Global, scalar: Scalar, items: Vec<Item>) -> Result<Vec<Typed>,
 {
     let mut trees = Vec::with_capacity(alloc, items.len())?;
     for item in items {
-        trees.push(turned_item(alloc, scalar, item)?)?;
+        add(&mut trees, turned_item(alloc, scalar, item)?)?;
     }
     Ok(trees)
 }

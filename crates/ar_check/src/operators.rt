@@ -3,7 +3,7 @@
 ghost use Rattle.std.specs.Prelude.{◌≡◌, ◌&&◌, false, IfOk, Some};
 ghost use Rattle.ar_value.specs.declared.operator.UnaryOperator.TheVariants as unary;
 ghost use Rattle.ar_value.specs.Answer.{Gives};
-ghost use Rattle.ar_check.specs.Check.{arithmetic_in, arithmetic_kind, binary_of, compared_of, comparison_of, equality_of, in_of, negated, number_kind, ordering_of, arithmetic_on, calculation_of, both_of, either_of, given, member_of, truth_kind, unary_of, where_wanted, widened};
+ghost use Rattle.ar_check.specs.Check.{arithmetic_in, arithmetic_kind, binary_of, compared_of, comparison_of, equal_of, equality_of, in_of, negated, number_kind, ordering_of, arithmetic_on, calculation_of, both_of, either_of, given, member_of, truth_kind, unary_of, where_wanted, widened};
 ghost use Rattle.ar_check.specs.Operand.{among, family_in};
 ghost use Rattle.ar_condition.specs.Typed as typed;
 ghost use Rattle.ar_condition.specs.Views.{typed_view};
@@ -112,20 +112,21 @@ pub(crate) fn binary<'s>(
     ensures { Gives is_memory operand_view result
         (binary_of at operator nil_left nil_right (operand_view left.entry.value) (operand_view right.entry.value)) }
 {
-    match operator {
-        Binary::Or => either_of(alloc, at, left, right),
-        Binary::And => both_of(alloc, at, left, right),
+    let arithmetic = match operator {
+        Binary::Or => return either_of(alloc, at, left, right),
+        Binary::And => return both_of(alloc, at, left, right),
         Binary::Comparison(comparison) => {
-            compare(alloc, at, comparison, nil_left, nil_right, left, right)
+            return compare(alloc, at, comparison, nil_left, nil_right, left, right);
         }
-        Binary::In => contains(alloc, at, left, right),
-        Binary::NotIn => negated(alloc, contains(alloc, at, left, right)?),
-        Binary::Add => calculate(alloc, at, Arithmetic::Add, left, right),
-        Binary::Subtract => calculate(alloc, at, Arithmetic::Subtract, left, right),
-        Binary::Multiply => calculate(alloc, at, Arithmetic::Multiply, left, right),
-        Binary::Divide => calculate(alloc, at, Arithmetic::Divide, left, right),
-        Binary::Remainder => calculate(alloc, at, Arithmetic::Remainder, left, right),
-    }
+        Binary::In => return contains(alloc, at, left, right),
+        Binary::NotIn => return negated(alloc, contains(alloc, at, left, right)?),
+        Binary::Add => Arithmetic::Add,
+        Binary::Subtract => Arithmetic::Subtract,
+        Binary::Multiply => Arithmetic::Multiply,
+        Binary::Divide => Arithmetic::Divide,
+        Binary::Remainder => Arithmetic::Remainder,
+    };
+    calculate(alloc, at, arithmetic, left, right)
 }
 
 #[tactic(auto, using(crate::proofs::Freely::gives_freely))]
@@ -179,17 +180,17 @@ fn compare<'s>(
         (comparison_of at comparison nil_left nil_right
         (operand_view left.entry.value) (operand_view right.entry.value)) }
 {
-    match comparison {
-        Comparison::Equal => equate(alloc, at, nil_left, nil_right, left, right),
-        Comparison::NotEqual => negated(
-            alloc,
-            equate(alloc, at, nil_left, nil_right, left, right)?,
-        ),
-        Comparison::Less => order(alloc, at, Order::Less, left, right),
-        Comparison::LessOrEqual => order(alloc, at, Order::LessOrEqual, left, right),
-        Comparison::Greater => order(alloc, at, Order::Greater, left, right),
-        Comparison::GreaterOrEqual => order(alloc, at, Order::GreaterOrEqual, left, right),
-    }
+    let wanted = match comparison {
+        Comparison::Equal => return equate(alloc, at, nil_left, nil_right, left, right),
+        Comparison::NotEqual => {
+            return negated(alloc, equate(alloc, at, nil_left, nil_right, left, right)?);
+        }
+        Comparison::Less => Order::Less,
+        Comparison::LessOrEqual => Order::LessOrEqual,
+        Comparison::Greater => Order::Greater,
+        Comparison::GreaterOrEqual => Order::GreaterOrEqual,
+    };
+    order(alloc, at, wanted, left, right)
 }
 
 fn equate<'s>(
@@ -206,12 +207,26 @@ fn equate<'s>(
     let sides = (scalar(&left), scalar(&right));
     let (left, right) = (into_tree(left), into_tree(right));
     if nil_left {
-        return tests_nil(alloc, right);
+        tests_nil(alloc, right)
+    } else if nil_right {
+        tests_nil(alloc, left)
+    } else {
+        equal(alloc, at, sides, left, right)
     }
-    if nil_right {
-        return tests_nil(alloc, left);
-    }
-    let (Some(of), Some(beside)) = sides else {
+}
+
+/// Whether operands of these scalars are equal.
+fn equal<'s>(
+    alloc: Global,
+    at: usize,
+    scalars: (Option<Scalar>, Option<Scalar>),
+    left: Box<Typed>,
+    right: Box<Typed>,
+) -> Result<Operand<'s>, TypeError>
+    ensures { Gives is_memory operand_view result
+        (equal_of at scalars.0 scalars.1 (typed_view left.value) (typed_view right.value)) }
+{
+    let (Some(of), Some(beside)) = scalars else {
         return Err(TypeError::WrongOperand(at));
     };
     let tree = build::binary(alloc, BinaryOperator::Equal(family(of)), left, right)?;
