@@ -1,7 +1,7 @@
 //! Holding values while others are made. What is held is of any type here, so that it is let go in
 //! one step where another can't be made, and not once for each of its variants.
 
-ghost use Rattle.std.specs.Prelude.{◌≡◌, ◌++◌, ◌∷◌, [], Err, IfErr, IfOk, Ok, OnOk};
+ghost use Rattle.std.specs.Prelude.{◌≡◌, Err, IfErr, IfOk, Ok};
 
 use std::alloc::AllocError;
 
@@ -14,12 +14,4 @@ pub(crate) fn beside<A: Drop, B: Drop, E: Drop>(held: A, made: Result<B, E>) -> 
         Ok(made) => Ok((held, made)),
         Err(refusal) => Err(refusal),
     }
-}
-
-/// Adds an item to a list, or lets it go where there is no memory for it.
-pub(crate) fn add<T: Drop>(list: &mut Vec<T>, item: T) -> Result<(), AllocError>
-    ensures { OnOk result (list.new.items ≡ list.old.items ++ item ∷ []) }
-{
-    list.push(item)?;
-    Ok(())
 }

@@ -12,7 +12,6 @@ ghost use Rattle.ar_check.specs.Private.Inside.{item_view, kind_view, operand_vi
 
 use crate::build::{self, listed};
 use crate::error::TypeError;
-use crate::holding::add;
 use crate::operand::{Kind, Operand};
 use ar_condition::typed::Typed;
 use ar_value::operator::{Scalar, UnaryOperator};
@@ -96,7 +95,7 @@ fn turned(alloc: Global, scalar: Scalar, items: Vec<Item>) -> Result<Vec<Typed>,
 {
     let mut trees = Vec::with_capacity(alloc, items.len())?;
     for item in items {
-        add(&mut trees, turned_item(alloc, scalar, item)?)?;
+        trees.push(turned_item(alloc, scalar, item)?)?;
     }
     Ok(trees)
 }

@@ -3,7 +3,7 @@
 ghost use Rattle.std.specs.Prelude.{◌≡◌, ◌&&◌, false, IfOk, Some};
 ghost use Rattle.ar_value.specs.declared.operator.UnaryOperator.TheVariants as unary;
 ghost use Rattle.ar_value.specs.Answer.{Gives};
-ghost use Rattle.ar_check.specs.Check.{arithmetic_in, arithmetic_kind, binary_of, compared_of, comparison_of, equal_of, equality_of, in_of, negated, number_kind, ordering_of, arithmetic_on, calculation_of, both_of, either_of, given, member_of, truth_kind, unary_of, where_wanted, widened};
+ghost use Rattle.ar_check.specs.Check.{arithmetic_in, arithmetic_kind, binary_of, compared_of, comparison_of, equality_of, in_of, negated, number_kind, ordering_of, arithmetic_on, calculation_of, both_of, either_of, given, member_of, truth_kind, unary_of, where_wanted, widened};
 ghost use Rattle.ar_check.specs.Operand.{among, family_in};
 ghost use Rattle.ar_condition.specs.Typed as typed;
 ghost use Rattle.ar_condition.specs.Views.{typed_view};
@@ -207,26 +207,12 @@ fn equate<'s>(
     let sides = (scalar(&left), scalar(&right));
     let (left, right) = (into_tree(left), into_tree(right));
     if nil_left {
-        tests_nil(alloc, right)
-    } else if nil_right {
-        tests_nil(alloc, left)
-    } else {
-        equal(alloc, at, sides, left, right)
+        return tests_nil(alloc, right);
     }
-}
-
-/// Whether operands of these scalars are equal.
-fn equal<'s>(
-    alloc: Global,
-    at: usize,
-    scalars: (Option<Scalar>, Option<Scalar>),
-    left: Box<Typed>,
-    right: Box<Typed>,
-) -> Result<Operand<'s>, TypeError>
-    ensures { Gives is_memory operand_view result
-        (equal_of at scalars.0 scalars.1 (typed_view left.value) (typed_view right.value)) }
-{
-    let (Some(of), Some(beside)) = scalars else {
+    if nil_right {
+        return tests_nil(alloc, left);
+    }
+    let (Some(of), Some(beside)) = sides else {
         return Err(TypeError::WrongOperand(at));
     };
     let tree = build::binary(alloc, BinaryOperator::Equal(family(of)), left, right)?;

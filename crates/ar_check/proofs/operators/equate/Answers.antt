@@ -1,7 +1,7 @@
 use Rattle.std.proofs.Common.{arith}
 use Rattle.std.proofs.lemmas.Grind.{common_steps}
 use Rattle.ar_check.proofs.Freely.{gives_freely}
-use Rattle.ar_check.proofs.operators.equal.Goals as goal
+use Rattle.ar_check.proofs.operators.equate.Goals as goal
 
 pub returns-in_default : goal.returns-in_default
 returns-in_default c = grind (arith, common_steps)
