@@ -38,8 +38,9 @@ pub(crate) fn list<'s>(alloc: Global, at: usize, items: Vec<Item>) -> Result<Ope
     let Some(scalar) = common_of(&items) else {
         return Err(TypeError::NoCommonKind(at));
     };
-    let kind = list_kind(alloc, scalar, items.len())?;
+    let max = items.len();
     let tree = build::node(alloc, listed(scalar, turned(alloc, scalar, items)?))?;
+    let kind = list_kind(alloc, scalar, max)?;
     Ok(Operand { tree, kind })
 }
 

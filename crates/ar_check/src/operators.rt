@@ -112,20 +112,21 @@ pub(crate) fn binary<'s>(
     ensures { Gives is_memory operand_view result
         (binary_of at operator nil_left nil_right (operand_view left.entry.value) (operand_view right.entry.value)) }
 {
-    match operator {
-        Binary::Or => either_of(alloc, at, left, right),
-        Binary::And => both_of(alloc, at, left, right),
+    let arithmetic = match operator {
+        Binary::Or => return either_of(alloc, at, left, right),
+        Binary::And => return both_of(alloc, at, left, right),
         Binary::Comparison(comparison) => {
-            compare(alloc, at, comparison, nil_left, nil_right, left, right)
+            return compare(alloc, at, comparison, nil_left, nil_right, left, right);
         }
-        Binary::In => contains(alloc, at, left, right),
-        Binary::NotIn => negated(alloc, contains(alloc, at, left, right)?),
-        Binary::Add => calculate(alloc, at, Arithmetic::Add, left, right),
-        Binary::Subtract => calculate(alloc, at, Arithmetic::Subtract, left, right),
-        Binary::Multiply => calculate(alloc, at, Arithmetic::Multiply, left, right),
-        Binary::Divide => calculate(alloc, at, Arithmetic::Divide, left, right),
-        Binary::Remainder => calculate(alloc, at, Arithmetic::Remainder, left, right),
-    }
+        Binary::In => return contains(alloc, at, left, right),
+        Binary::NotIn => return negated(alloc, contains(alloc, at, left, right)?),
+        Binary::Add => Arithmetic::Add,
+        Binary::Subtract => Arithmetic::Subtract,
+        Binary::Multiply => Arithmetic::Multiply,
+        Binary::Divide => Arithmetic::Divide,
+        Binary::Remainder => Arithmetic::Remainder,
+    };
+    calculate(alloc, at, arithmetic, left, right)
 }
 
 #[tactic(auto, using(crate::proofs::Freely::gives_freely))]
@@ -179,17 +180,17 @@ fn compare<'s>(
         (comparison_of at comparison nil_left nil_right
         (operand_view left.entry.value) (operand_view right.entry.value)) }
 {
-    match comparison {
-        Comparison::Equal => equate(alloc, at, nil_left, nil_right, left, right),
-        Comparison::NotEqual => negated(
-            alloc,
-            equate(alloc, at, nil_left, nil_right, left, right)?,
-        ),
-        Comparison::Less => order(alloc, at, Order::Less, left, right),
-        Comparison::LessOrEqual => order(alloc, at, Order::LessOrEqual, left, right),
-        Comparison::Greater => order(alloc, at, Order::Greater, left, right),
-        Comparison::GreaterOrEqual => order(alloc, at, Order::GreaterOrEqual, left, right),
-    }
+    let wanted = match comparison {
+        Comparison::Equal => return equate(alloc, at, nil_left, nil_right, left, right),
+        Comparison::NotEqual => {
+            return negated(alloc, equate(alloc, at, nil_left, nil_right, left, right)?);
+        }
+        Comparison::Less => Order::Less,
+        Comparison::LessOrEqual => Order::LessOrEqual,
+        Comparison::Greater => Order::Greater,
+        Comparison::GreaterOrEqual => Order::GreaterOrEqual,
+    };
+    order(alloc, at, wanted, left, right)
 }
 
 fn equate<'s>(

@@ -21,6 +21,7 @@ ghost use Rattle.ar_check.specs.Memory.{is_memory};
 
 use crate::build::{self, choice, field, predicate};
 use crate::error::TypeError;
+use crate::holding::beside;
 use crate::list::{Item, list};
 use crate::operand::{
     Kind, Operand, as_truth, common, field_kind, into_plain_tree, is_truth, item_kind, item_shape,
@@ -439,8 +440,16 @@ fn field_of<'s>(
     ensures { Gives is_memory operand_view result (field_of at name (operand_view owner.entry.value)) }
 {
     let kind = field_kind(alloc, at, name.as_str(), &owner.kind)?;
-    let tree = field(alloc, made_plain(alloc, owner)?, name)?;
+    let (kind, tree) = beside(kind, field_tree(alloc, owner, name))?;
     Ok(Operand { tree, kind })
+}
+
+/// The tree of a field, of a plain record.
+fn field_tree(alloc: Global, owner: Box<Operand<'_>>, name: Text) -> Result<Box<Typed>, AllocError>
+    ensures { IfOk result (λ tree. typed_view tree.value
+        ≡ typed.field (made_plain (operand_view owner.entry.value)) name) }
+{
+    field(alloc, made_plain(alloc, owner)?, name)
 }
 
 fn index_of<'s>(
@@ -454,7 +463,7 @@ fn index_of<'s>(
 {
     let kind = item_kind(alloc, at, &list.kind)?;
     let wanted = matches!(scalar(&position), Some(Scalar::Whole));
-    let tree = index_tree(alloc, list, position)?;
+    let (kind, tree) = beside(kind, index_tree(alloc, list, position))?;
     where_wanted(at, wanted, tree, kind)
 }
 
@@ -499,13 +508,13 @@ fn choice_of<'s>(
         (choice_between at condition.0 (typed_view condition.1.value)
         (operand_view yes.entry.value) (operand_view no.entry.value)) }
 {
-    let kind = common(alloc, &yes.kind, &no.kind);
+    let kind = common(alloc, &yes.kind, &no.kind)?;
     let (wanted, condition) = condition;
-    let tree = choice_tree(alloc, condition, yes, no)?;
-    let Some(kind) = kind? else {
-        return Err(TypeError::NoCommonKind(at));
-    };
-    where_wanted(at, wanted, tree, kind)
+    let (kind, tree) = beside(kind, choice_tree(alloc, condition, yes, no))?;
+    match kind {
+        Some(kind) => where_wanted(at, wanted, tree, kind),
+        None => Err(TypeError::NoCommonKind(at)),
+    }
 }
 
 /// The tree of a choice, whose branches are turned beside one another.
@@ -540,25 +549,29 @@ fn default_of<'s>(
         tree: other,
         kind: of_other,
     } = Box::into_inner(other);
-    let kind = default_kind(alloc, plain, of_other);
-    let tree = default_tree(alloc, turned(alloc, turns_first, tree)?, turns_other, other)?;
-    match kind? {
+    let kind = default_kind(alloc, plain, of_other)?;
+    let made = default_tree(alloc, turns_first, tree, turns_other, other);
+    let (kind, tree) = beside(kind, made)?;
+    match kind {
         Some(kind) => Ok(Operand { tree, kind }),
         None => Err(TypeError::NoCommonKind(at)),
     }
 }
 
-/// The tree of a default, whose other side is turned where it turns.
+/// The tree of a default, each side of which is turned where it turns.
 fn default_tree(
     alloc: Global,
+    turns_first: bool,
     first: Box<Typed>,
-    turns: bool,
+    turns_other: bool,
     other: Box<Typed>,
 ) -> Result<Box<Typed>, AllocError>
     ensures { IfOk result (λ tree. typed_view tree.value
-        ≡ typed.binary binary.Default (typed_view first.value) (turned_where turns (typed_view other.value))) }
+        ≡ typed.binary binary.Default (turned_where turns_first (typed_view first.value))
+        (turned_where turns_other (typed_view other.value))) }
 {
-    let other = turned(alloc, turns, other)?;
+    let first = turned(alloc, turns_first, first)?;
+    let other = turned(alloc, turns_other, other)?;
     build::binary(alloc, BinaryOperator::Default, first, other)
 }
 
@@ -590,8 +603,21 @@ fn predicate_of<'s>(
 {
     let kind = predicate_kind(alloc, over, &list.kind)?;
     let (wanted, body) = body;
-    let tree = predicate(alloc, over, made_plain(alloc, list)?, body)?;
+    let (kind, tree) = beside(kind, predicate_tree(alloc, over, list, body))?;
     where_wanted(at, wanted, tree, kind)
+}
+
+/// The tree of a predicate, over a plain list.
+fn predicate_tree(
+    alloc: Global,
+    over: Predicate,
+    list: Box<Operand<'_>>,
+    body: Box<Typed>,
+) -> Result<Box<Typed>, AllocError>
+    ensures { IfOk result (λ tree. typed_view tree.value
+        ≡ typed.predicate over (made_plain (operand_view list.entry.value)) (typed_view body.value)) }
+{
+    predicate(alloc, over, made_plain(alloc, list)?, body)
 }
 
 /// The kind of what a predicate makes of a list.

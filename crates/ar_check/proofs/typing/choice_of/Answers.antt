@@ -3,8 +3,8 @@ use Rattle.std.proofs.lemmas.Grind.{common_steps}
 use Rattle.ar_check.proofs.Freely.{gives_freely}
 use Rattle.ar_check.proofs.typing.choice_of.Goals as goal
 
-pub returns-in_default : goal.returns-in_default
-returns-in_default c = grind (arith, common_steps)
+pub returns-in-None : goal.returns-in-None
+returns-in-None c = grind (arith, common_steps)
 
-pub returns : goal.returns
-returns c = grind (arith, common_steps, gives_freely)
+pub returns-in-Some : goal.returns-in-Some
+returns-in-Some c = grind (arith, common_steps, gives_freely)

@@ -1,0 +1,17 @@
+//! Holding values while others are made. What is held is of any type here, so that it is let go in
+//! one step where another can't be made, and not once for each of its variants.
+
+ghost use Rattle.std.specs.Prelude.{◌≡◌, Err, IfErr, IfOk, Ok};
+
+use std::alloc::AllocError;
+
+/// What is held, beside another value, if that could be made.
+pub(crate) fn beside<A: Drop, B: Drop, E: Drop>(held: A, made: Result<B, E>) -> Result<(A, B), E>
+    ensures ok { IfOk result (λ both. (made ≡ Ok both.1) × (both.0 ≡ held)) }
+    ensures err { IfErr result (λ refusal. made ≡ Err refusal) }
+{
+    match made {
+        Ok(made) => Ok((held, made)),
+        Err(refusal) => Err(refusal),
+    }
+}
