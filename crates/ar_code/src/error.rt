@@ -1,18 +1,7 @@
 //! Why bytes are no image.
 
 use std::alloc::{AllocError, AllocFailed};
-use std::fmt;
 use thiserror::Error;
-
-/// Words on the byte at an offset.
-#[derive(Clone, Copy)]
-struct AtByte(usize, &'static str);
-
-impl fmt::Display for AtByte {
-    fn fmt<W: fmt::Write>(&self, f: &mut fmt::Formatter<W>) -> fmt::Result {
-        write!(f, "byte {}: {}", self.0, self.1)
-    }
-}
 
 /// Why bytes are no image of code. Places are byte offsets from 0.
 #[derive(Clone, Copy, Debug, PartialEq, Eq, Error)]
@@ -23,21 +12,21 @@ pub enum ImageError {
     #[error("BadVersion: expected version 1")]
     BadVersion,
     /// A byte is missing at the end.
-    #[error("{}", AtByte(*.0, "Truncated: expected more bytes"))]
+    #[error("byte {0}: Truncated: expected more bytes")]
     Truncated(usize),
     /// The number that begins here isn't in its shortest form, or out of its range.
-    #[error("{}", AtByte(*.0, "BadNumber: expected a number in its range and its shortest form"))]
+    #[error("byte {0}: BadNumber: expected a number in its range and its shortest form")]
     BadNumber(usize),
-    #[error("{}", AtByte(*.0, "UnknownOp: expected the code of an operation, 1 to 56"))]
+    #[error("byte {0}: UnknownOp: expected the code of an operation, 1 to 56")]
     UnknownOp(usize),
     /// The text that begins here isn't UTF-8, or the operation names a text or name that isn't there.
-    #[error("{}", AtByte(*.0, "BadText: expected UTF-8, or the number of a text or name that is there"))]
+    #[error("byte {0}: BadText: expected UTF-8, or the number of a text or name that is there")]
     BadText(usize),
     /// A count, or the length of a text.
     #[error("TooLarge: expected at most 4096 operations, texts and names, and 4096 bytes a text")]
     TooLarge,
     /// Bytes stand behind the last operation.
-    #[error("{}", AtByte(*.0, "Trailing: expected the end of the image"))]
+    #[error("byte {0}: Trailing: expected the end of the image")]
     Trailing(usize),
     #[error("out of memory")]
     OutOfMemory,
