@@ -311,7 +311,7 @@ fn expected<'b>(
 }
 
 /// Texts, names and operations.
-#[tactic(auto, using(crate::proofs::Freely::gives_freely, crate::proofs::Readings::parts_are_code), unfolding(crate::specs::Decoding::parts_at))]
+#[tactic(auto, using(crate::proofs::Freely::gives_freely), unfolding(crate::specs::Decoding::parts_at))]
 fn parts_at(alloc: Global, end: usize, bytes: &[u8]) -> Result<(Code, &[u8]), ImageError>
     requires { length bytes.now ≤ end }
     ensures exact { Gives is_memory (λ read. (read.0, read.1.now)) result (parts_at end bytes.now) }

@@ -64,7 +64,6 @@ fn put_string(out: &mut Vec<u8>, text: &str) -> Result<(), AllocError>
     Ok(())
 }
 
-#[tactic(auto, using(crate::proofs::Each::seen_none, crate::proofs::Each::seen_more, crate::proofs::Each::seen_all))]
 fn put_strings(out: &mut Vec<u8>, texts: &[String]) -> Result<(), AllocError>
     ensures written { OnOk result (out.new.items ≡ out.old.items ++ strings (map string_bytes texts.now)) }
     ensures utf8 { OnOk result (AllByRecursion IsText (map string_bytes texts.now)) }
@@ -132,7 +131,6 @@ fn put_op(out: &mut Vec<u8>, op: Op) -> Result<(), AllocError>
     put_fields(out, op)
 }
 
-#[tactic(auto, using(crate::proofs::Each::of_none, crate::proofs::Each::of_one_more, crate::proofs::Each::of_all))]
 fn put_ops(out: &mut Vec<u8>, ops: &[Op]) -> Result<(), AllocError>
     ensures written { OnOk result (out.new.items ≡ out.old.items ++ flat_map op_bytes ops.now) }
     ensures ranges { OnOk result (AllByRecursion InRange ops.now) }
@@ -144,7 +142,6 @@ fn put_ops(out: &mut Vec<u8>, ops: &[Op]) -> Result<(), AllocError>
 }
 
 /// The image of code. What was written were texts in UTF-8, and numbers in their ranges.
-#[tactic(auto, using(crate::proofs::Joins::whole_image), unfolding(crate::specs::Image::image))]
 fn image_of(alloc: Global, code: &Code) -> Result<Vec<u8>, AllocError>
     ensures image { IfOk result (λ bytes. bytes.items ≡ image code.now) }
     ensures code { IfOk result (λ _. IsCode code.now) }

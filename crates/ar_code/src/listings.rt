@@ -81,7 +81,7 @@ fn put_line(out: &mut String, code: &Code, place: usize, op: Op) -> Result<(), A
 /// # Errors
 ///
 /// Want of memory, which the lines take.
-#[tactic(auto, using(crate::proofs::Entries::next_line, crate::proofs::Entries::no_line))]
+#[tactic(auto, using(crate::proofs::Entries::no_line))]
 pub fn listing(alloc: Global, code: &Code) -> Result<String, AllocError>
     ensures { IfOk result (λ text. string_bytes text ≡ listing code.now) }
 {
