@@ -1,7 +1,7 @@
 //! Kinds of operands.
 
 ghost use Rattle.std.specs.Bool.{Decides};
-ghost use Rattle.std.specs.Prelude.{◌≡◌, IfOk, Some, option_map};
+ghost use Rattle.std.specs.Prelude.{◌≡◌, IfOk, IfSome, Some, option_map};
 ghost use Rattle.ar_value.specs.Kind.{merge, or_nil, plain, shaped};
 ghost use Rattle.ar_value.specs.Shape.{list};
 ghost use Rattle.ar_value.specs.View.{shape_view};
@@ -160,6 +160,39 @@ fn nil_or<M: Names>(shape: &Rc<Part<M>>) -> Result<Option<Kind<M>>, AllocError>
     }
 }
 
+/// The longer of two lists of the same items.
+#[tactic(auto, using(crate::proofs::Optional::left_is_longer, crate::proofs::Optional::right_is_longer))]
+fn longer<'a, M: Names>(left: &'a Rc<Part<M>>, right: &'a Rc<Part<M>>) -> Option<&'a Rc<Part<M>>>
+    ensures { IfSome result (λ longer. Some (shaped (part_view longer.now.value))
+        ≡ merge (shaped (part_view left.now.value)) (shaped (part_view right.now.value))) }
+{
+    let first = list_parts(left.get())?;
+    let second = list_parts(right.get())?;
+    if !are_same_shapes(first.item, second.item) {
+        return None;
+    }
+    if second.most <= first.most {
+        Some(left)
+    } else {
+        Some(right)
+    }
+}
+
+/// The merge of shapes that stand somewhere, where there is one.
+fn merge_parts<M: Names>(
+    alloc: Global,
+    left: &Rc<Part<M>>,
+    right: &Rc<Part<M>>,
+) -> Result<Option<Kind<M>>, AllocError>
+    ensures { IfOk result (λ kind. option_map kind_view kind
+        ≡ merge (shaped (part_view left.now.value)) (shaped (part_view right.now.value))) }
+{
+    match longer(left, right) {
+        Some(list) => Ok(Some(Kind::Shape(list.clone()?))),
+        None => merge_shapes(alloc, left.get(), right.get()),
+    }
+}
+
 /// The merge of shapes, where there is one.
 fn merge_shapes<M: Names>(
     alloc: Global,
@@ -201,7 +234,7 @@ fn merge_different<M: Names>(
         (Kind::Nil, Kind::Nil) => Ok(Some(Kind::Nil)),
         (Kind::Nil, Kind::Shape(shape)) | (Kind::Shape(shape), Kind::Nil) => nil_or(shape),
         (Kind::Nil, shaped) | (shaped, Kind::Nil) => given_again(shaped),
-        (Kind::Shape(left), Kind::Shape(right)) => merge_shapes(alloc, left.get(), right.get()),
+        (Kind::Shape(left), Kind::Shape(right)) => merge_parts(alloc, left, right),
         (Kind::Shape(left) | Kind::OrNil(left), Kind::Shape(right) | Kind::OrNil(right)) => {
             merge_or_nil(alloc, left, right)
         }
