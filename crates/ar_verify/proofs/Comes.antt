@@ -18,7 +18,7 @@ use Rattle.ar_verified.specs.Places.{all_pass, names_well}
 use Rattle.ar_verify.specs.Private.Failures.{Meets, cause_at}
 use Rattle.ar_verify.specs.Private.Held.{arrival_view}
 use Rattle.ar_verify.specs.Private.Sending.{sends_by}
-use Rattle.ar_verify.specs.Private.Table.{ComesTo, Shows, State, StaysWithin, Table, entry, kinds_at, kinds_in, kinds_of, looked_at, most_each, op_at, pass_at, one_more, summary, summed_up, table_view, visited, with_all, with_one, without}
+use Rattle.ar_verify.specs.Private.Table.{ComesTo, Shows, State, StaysWithin, Table, entry, looked_at, most_each, one_more, summary, summed_up, table_view, visited, with_all, with_one, without}
 use Rattle.ar_verified.specs.declared.error.Cause.{Cause}
 use Rattle.ar_verified.specs.declared.error.Cause.TheVariants.{Fault}
 use Rattle.ar_verified.specs.declared.error.Reason.{Reason}
@@ -32,7 +32,7 @@ use Rattle.ar_verified.proofs.Nesting.{passes_each}
 use Rattle.ar_verify.proofs.Passed.{sends_as}
 use Rattle.ar_verified.proofs.Passing.{Ahead, passed_ahead, sends_on}
 use Rattle.ar_verify.proofs.Targets.{sends_within, stays_within}
-use Rattle.ar_verify.specs.declared.whole.Names as Names
+use Rattle.ar_verify.specs.declared.whole.ShapeName as ShapeName
 
 -- ---- one more arrives
 
@@ -117,26 +117,6 @@ most_alike place zero sents more few ahead = refl
 most_alike place (suc places) sents more few ahead =
     rw (most_alike place places sents more (omega arith) ahead, arrives_alike place places sents more (omega arith) ahead) refl
 
--- ---- the pass so far
-
-pass_next : (code : Code) (shape : Shape) (place : ℕ) (op : Op) (s next : State) → pass_at code shape place ≡ Ok s → op ≡ op_at code place → looked_at code shape place op s ≡ Ok next
-    → pass_at code shape (suc place) ≡ Ok next
-unfolding pass_at
-pass_next code shape place op s next so_far is finds =
-    ap (λ m. m >>= λ s. looked_at code shape place (op_at code place) s) so_far ∙ ap (λ op. looked_at code shape place op s) (sym is) ∙ finds
-
-pass_begins : (code : Code) (shape : Shape) (s : State) → s.table ≡ Ok (operands [] []) ∷ replicate (length code.ops) (Err Unreachable) → s.found.depth ≡ 0 → s.found.most_items ≡ []
-    → pass_at code shape 0 ≡ Ok s
-unfolding pass_at
-pass_begins code shape s table depth most =
-    ap (λ table. Ok (record { table = table; found = record { depth = 0; most_items = [] } })) (sym table)
-    ∙ ap (λ depth. Ok (record { table = s.table; found = record { depth = depth; most_items = [] } })) (sym depth)
-    ∙ ap (λ items. Ok (record { table = s.table; found = record { depth = s.found.depth; most_items = items } })) (sym most)
-
--- the kinds that arrive where the pass has come
-pub kinds_here : (code : Code) (shape : Shape) (place : ℕ) (s : State) → ComesTo code shape place s → kinds_at code shape place ≡ kinds_of (entry s.table place)
-kinds_here code shape place s comes = ap (kinds_in place) comes.so_far
-
 -- ---- from one place to the next
 
 -- what is made of what two steps found
@@ -204,8 +184,7 @@ module _ (code : Code) (shape : Shape) (named : all_pass (names_well code.ops) 0
         let same : now ≡ Err reason = ap (λ m. m >>= sends code shape place op) (sym here) ∙ sym (same_sends (entry s.table place)) ∙ none in
         left_now ∙ ap (λ now. at_place place now >>= λ more. sent_on code shape (suc place) rest (comes.sents ++ more)) same
 
-    module _ (had : Operands) (more : List Sent) (arrives : entry s.table place ≡ Ok had) (sent : sends_by code shape (place + 1) op had ≡ Ok more)
-        (at : op ≡ op_at code place) (finds : looked_at code shape place op s ≡ Ok (visited place s had more)) where
+    module _ (had : Operands) (more : List Sent) (arrives : entry s.table place ≡ Ok had) (sent : sends_by code shape (place + 1) op had ≡ Ok more) where
       arrives_here : arrived (sent_to place comes.sents) ≡ Ok had
       arrives_here = sym here ∙ arrives
 
@@ -222,7 +201,6 @@ module _ (code : Code) (shape : Shape) (named : all_pass (names_well code.ops) 0
 
       comes_next : ComesTo code shape (place + 1) (visited place s had more)
       comes_next = rw (add-one place) (record {
-        so_far = pass_next code shape place op s (visited place s had more) comes.so_far at finds;
         sents = comes.sents ++ more;
         left = left_now ∙ ap (λ m. at_place place (m >>= sends code shape place op) >>= λ more. sent_on code shape (suc place) rest (comes.sents ++ more)) arrives_here
             ∙ ap (λ m. at_place place m >>= λ more. sent_on code shape (suc place) rest (comes.sents ++ more)) sends_here;
@@ -234,10 +212,10 @@ module _ (code : Code) (shape : Shape) (named : all_pass (names_well code.ops) 0
             ∙ ap (λ last. most_each place (comes.sents ++ more) ++ most_items last ∷ []) (sym (arrives_alike place place comes.sents more (omega arith) ahead ∙ arrives_here));
       })
 
-    pub goes_on : (next : State) → op ≡ op_at code place → looked_at code shape place op s ≡ Ok next → ComesTo code shape (place + 1) next
-    goes_on next at finds =
+    pub goes_on : (next : State) → looked_at code shape place op s ≡ Ok next → ComesTo code shape (place + 1) next
+    goes_on next finds =
         let both = found_both (entry s.table place) (sends_by code shape (place + 1) op) (visited place s) next finds in
-        subst (ComesTo code shape (place + 1)) both.made (comes_next both.x both.y both.first both.second at (finds ∙ ap Ok (sym both.made)))
+        subst (ComesTo code shape (place + 1)) both.made (comes_next both.x both.y both.first both.second)
 
     -- likewise told by why the code stops
     pub stopped : (failure : Failure) (cause : Cause) (next : State) → cause ≡ cause_at place failure → Meets {X = Unit {0}} (λ _. next) (Err failure) (looked_at code shape place op s)
@@ -245,7 +223,7 @@ module _ (code : Code) (shape : Shape) (named : all_pass (names_well code.ops) 0
     stopped (failures.Fault reason) cause next is refuses = rw is (ap (λ all. all >>= λ sents. Ok (summary (length code.ops) sents)) (stops reason refuses))
     stopped failures.OutOfMemory cause next is refuses = rw is tt
 
-  pub inside_table : {M : Type 0} {name : Names.Ghosts M} (op default : Op) (arrived : List (Result (held.Operands M name) Reason)) → table_view arrived ≡ s.table → place < length code.ops → op ≡ slice_index_or code.ops place default
+  pub inside_table : {M : Type 0} {name : ShapeName.Ghosts M} (op default : Op) (arrived : List (Result (held.Operands M name) Reason)) → table_view arrived ≡ s.table → place < length code.ops → op ≡ slice_index_or code.ops place default
       → StaysWithin (length arrived) op
   inside_table op default arrived is within at =
       let long : length arrived ≡ suc (length code.ops) = sym (length-map arrived arrival_view) ∙ ap length is ∙ comes.long in
@@ -265,7 +243,6 @@ shows_begin count (suc further) inside =
 pub begins : (code : Code) (shape : Shape) (s : State) → s.table ≡ Ok (operands [] []) ∷ replicate (length code.ops) (Err Unreachable) → s.found.depth ≡ 0 → s.found.most_items ≡ []
     → ComesTo code shape 0 s
 begins code shape s table depth most = record {
-  so_far = pass_begins code shape s table depth most;
   sents = sent 0 [] [] ∷ [];
   left = refl;
   inside = omega arith;

@@ -1,8 +1,10 @@
 pub mod Depths
 pub mod Passes
-pub mod Parts
-pub mod Naming
-pub mod Optional
+pub mod Lists
+pub mod Forms
+pub mod OneForm
+pub mod Widest
+pub mod Meets
 pub mod Ways
 pub mod Tops
 pub mod Names

@@ -12,11 +12,11 @@ use Rattle.ar_verify.specs.Private.Table.{State, Table, added, entry, table_view
 use Rattle.ar_verified.specs.declared.error.Reason.{Reason}
 use Rattle.ar_verified.specs.declared.error.Reason.TheVariants.{Unreachable}
 use Rattle.ar_verify.specs.declared.operands.Operands as held
-use Rattle.ar_verify.specs.declared.whole.Names as Names
+use Rattle.ar_verify.specs.declared.whole.ShapeName as ShapeName
 
 -- ---- in memory
 
-module _ {M : Type 0} {name : Names.Ghosts M} (arrived : List (Result (held.Operands M name) Reason)) (place : ℕ) where
+module _ {M : Type 0} {name : ShapeName.Ghosts M} (arrived : List (Result (held.Operands M name) Reason)) (place : ℕ) where
   pub entry_is : (taken : Result (held.Operands M name) Reason) → place < length arrived → taken ≡ slice_index_or arrived place taken → entry (table_view arrived) place ≡ arrival_view taken
   entry_is taken within is = get_or-map arrival_view arrived place taken (Err Unreachable) within ∙ ap arrival_view (sym is)
 
@@ -28,7 +28,7 @@ module _ {M : Type 0} {name : Names.Ghosts M} (arrived : List (Result (held.Oper
   put_there left put is = map-set arrival_view left place put ∙ ap (λ table. slice_set table place (arrival_view put)) is ∙ set-set (table_view arrived) place (Err Unreachable) (arrival_view put)
 
 -- a table of so many places, made place by place
-module _ {M : Type 0} {name : Names.Ghosts M} (arrived after : List (Result (held.Operands M name) Reason)) where
+module _ {M : Type 0} {name : ShapeName.Ghosts M} (arrived after : List (Result (held.Operands M name) Reason)) where
   pub one_place : (had : held.Operands M name) → arrived ≡ [] → after ≡ arrived ++ Ok had ∷ [] → operands_view had ≡ operands [] [] → table_view after ≡ Ok (operands [] []) ∷ replicate 0 (Err Unreachable)
   one_place had none longer is = rw (longer, none) (ap (λ had. Ok had ∷ []) is)
 

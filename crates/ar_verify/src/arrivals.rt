@@ -1,7 +1,7 @@
 //! What arrives at each place of code: operands are passed on from one place to the next, and none is
 //! sent back, so one way through the operations is enough.
 
-ghost use Rattle.std.specs.Prelude.{◌≡◌, ◌+◌, ◌<◌, ◌∷◌, ℕ, ◌++◌, [], IfOk, OnOk, Ok, Err, length, replicate};
+ghost use Rattle.std.specs.Prelude.{◌≡◌, ◌+◌, ◌<◌, ◌∷◌, ◌++◌, [], IfOk, OnOk, Ok, Err, length, replicate};
 ghost use Rattle.std.specs.List.{AllByRecursion};
 ghost use Rattle.ar_value.specs.Answer.{Gives};
 ghost use Rattle.ar_value.specs.View.{shape_view};
@@ -11,18 +11,17 @@ ghost use Rattle.ar_verified.specs.Memory.{is_memory};
 ghost use Rattle.ar_verified.specs.Places.{all_pass, names_well};
 ghost use Rattle.ar_verify.specs.Private.Failures.{Meets};
 ghost use Rattle.ar_verify.specs.Private.Held.{arrival_view, operands_view};
-ghost use Rattle.ar_verify.specs.Private.Roots.{shapes_of};
 ghost use Rattle.ar_verify.specs.Private.Sending.{sends_view, sent_view};
 ghost use Rattle.ar_verify.specs.Private.Stacks.{from_top};
-ghost use Rattle.ar_verify.specs.Private.Table.{ComesTo, StaysWithin, added, entry, kinds_at, kinds_of, looked_at, one_more, pass_view, summary_view, summed_up, table_view, with_all, with_one, without};
+ghost use Rattle.ar_verify.specs.Private.Table.{ComesTo, StaysWithin, added, entry, looked_at, one_more, pass_view, summary_view, summed_up, table_view, with_all, with_one, without};
 ghost use Rattle.ar_verified.specs.declared.error.Reason.TheVariants.{Unreachable};
 
 use crate::failure::Failure;
-use crate::kind::{Kind, list_in};
+use crate::kind::{Kind, as_list};
 use crate::operands::{Operands, join};
 use crate::sending::{Sends, Sent, send_on};
 use crate::stack::add;
-use crate::whole::{Names, Whole};
+use crate::whole::{ShapeName, Whole};
 use ar_op::code::Code;
 use ar_op::op::Op;
 use ar_value::shared_shape::SharedShape;
@@ -42,7 +41,7 @@ pub(crate) struct Arrivals {
 
 /// The way through the operations.
 #[derive(Drop)]
-struct Pass<M: Names> {
+struct Pass<M: ShapeName> {
     /// What arrived so far at each place further on, or why nothing can be performed there.
     arrived: Vec<Result<Operands<M>, Reason>>,
     found: Arrivals,
@@ -50,20 +49,20 @@ struct Pass<M: Names> {
 
 /// How many items the list on top may have.
 #[tactic(auto, using(crate::proofs::Tops::most_in_list))]
-fn most_on_top<M: Names>(kinds: &[Kind<M>]) -> usize
+fn most_on_top<M: ShapeName>(kinds: &[Kind<M>]) -> usize
     ensures { result ≡ most_on_top (from_top kinds.now) }
 {
     let Some(kind) = kinds.last() else {
         return 0;
     };
-    match list_in(kind) {
-        Some(list) => list.most,
+    match as_list(kind) {
+        Some(list) => list.longest(),
         None => 0,
     }
 }
 
 /// A table of the places of so many operations, and of one behind them. A run begins at the first.
-fn table<M: Names>(
+fn table<M: ShapeName>(
     alloc: Global,
     count: usize,
 ) -> Result<Vec<Result<Operands<M>, Reason>>, AllocError>
@@ -80,7 +79,7 @@ fn table<M: Names>(
 
 /// Takes what arrived at a place.
 #[tactic(auto, using(crate::proofs::Table::entry_is, crate::proofs::Table::taken_away))]
-fn take<M: Names>(
+fn take<M: ShapeName>(
     arrived: &mut [Result<Operands<M>, Reason>],
     place: usize,
 ) -> Result<Operands<M>, Reason>
@@ -92,7 +91,7 @@ fn take<M: Names>(
 }
 
 /// What arrived somewhere, and one more behind it.
-fn one_more<M: Names>(
+fn one_more<M: ShapeName>(
     alloc: Global,
     arrived: Result<Operands<M>, Reason>,
     next: Operands<M>,
@@ -108,7 +107,7 @@ fn one_more<M: Names>(
 }
 
 /// Adds operands to what arrived where they go.
-fn send<M: Names>(
+fn send<M: ShapeName>(
     alloc: Global,
     arrived: &mut [Result<Operands<M>, Reason>],
     sent: Sent<M>,
@@ -123,7 +122,7 @@ fn send<M: Names>(
 }
 
 /// Adds all that an operation sends on.
-fn send_all<M: Names>(
+fn send_all<M: ShapeName>(
     alloc: Global,
     arrived: &mut [Result<Operands<M>, Reason>],
     sends: Sends<M>,
@@ -151,7 +150,7 @@ impl Arrivals {
     }
 }
 
-impl<M: Names> Pass<M> {
+impl<M: ShapeName> Pass<M> {
     /// The pass at the first of so many operations.
     fn begin(alloc: Global, count: usize) -> Result<Pass<M>, AllocError>
         ensures table { IfOk result
@@ -200,22 +199,23 @@ impl<M: Names> Pass<M> {
     ) -> Result<(), Failure>
         requires inside { place + 1 < length self.old.arrived.items }
         requires targets { StaysWithin (length self.old.arrived.items) op }
-        requires names { M.arriving place ≡ shapes_of (kinds_of (entry (table_view self.old.arrived.items) place)) }
         ensures { Meets (λ _. pass_view self.new) result
             (looked_at code.now (shape_view M.shape) place op (pass_view self.old)) }
     {
-        let mut had = take(&mut self.arrived, place)?;
-        had.name_all(alloc, place)?;
+        let had = take(&mut self.arrived, place)?;
         self.found.note_items(most_on_top(&had.kinds))?;
         self.add(alloc, code, measured, place + 1, op, had)
     }
 }
 
 /// Finds the first operation that what arrives at its place can't be given to, or what is known of
-/// the operands where there is none. The measured value's shape and what arrives at places have names.
-fn find_named<M: Names>(alloc: Global, code: &Code, shape: &SharedShape) -> Result<Arrivals, Cause>
+/// the operands where there is none. The measured value's shape has a name.
+fn find_named<M: ShapeName>(
+    alloc: Global,
+    code: &Code,
+    shape: &SharedShape,
+) -> Result<Arrivals, Cause>
     requires shape { shape.now ≡ M.shape }
-    requires names { (place : ℕ) → M.arriving place ≡ shapes_of (kinds_at code.now (shape_view M.shape) place) }
     requires places { all_pass (names_well code.now.ops) 0 code.now.ops ≡ Ok tt }
     ensures { Gives is_memory summary_view result (summed_up code.now (shape_view M.shape)) }
 {

@@ -6,15 +6,16 @@ ghost use Rattle.ar_value.specs.Kind.{shaped};
 ghost use Rattle.ar_value.specs.View.{shape_view};
 ghost use Rattle.ar_op.specs.Machine.{nth};
 ghost use Rattle.ar_verified.specs.Effects.{binary_kind, effect, field_by, list_made, on_one, on_two, pushed_kind, scalar_shape, unary_kind};
-ghost use Rattle.ar_verify.specs.Private.Kinds.{kind_view, list_view};
+ghost use Rattle.ar_verify.specs.Private.Kinds.{kind_view};
+ghost use Rattle.ar_verify.specs.Private.Shapes.{list_of};
 ghost use Rattle.ar_verify.specs.Private.Stacks.{Leaves, TakesScalar, from_top};
 
 use crate::kind::{Kind, given_part, given_shape, is_scalar};
 use crate::operators::{apply_binary, apply_unary, field_of};
 use crate::part::INNER;
-use crate::root::Part;
+use crate::parts::Parts;
 use crate::stack::pop;
-use crate::whole::{Names, Whole};
+use crate::whole::{ShapeName, Whole};
 use ar_op::code::Code;
 use ar_op::op::{Op, Source};
 use ar_value::operator::{BinaryOperator, Scalar, UnaryOperator};
@@ -22,26 +23,29 @@ use ar_value::shape::Shape;
 use std::alloc::{AllocError, Global};
 
 /// The kind of a scalar.
-fn scalar<M: Names>(alloc: Global, scalar: Scalar) -> Result<Option<Kind<M>>, AllocError>
+fn scalar<M: ShapeName>(alloc: Global, scalar: Scalar) -> Result<Option<Kind<M>>, AllocError>
     ensures { IfOk result (λ given. option_map kind_view given ≡ Some (shaped (scalar_shape scalar))) }
 {
     given_shape(alloc, scalar_shape(scalar))
 }
 
 /// The kind of the measured value.
-fn measured_kind<M: Names>(
+fn measured_kind<M: ShapeName>(
     alloc: Global,
     measured: &Whole<M>,
 ) -> Result<Option<Kind<M>>, AllocError>
     ensures { IfOk result (λ given. option_map kind_view given ≡ Some (shaped (shape_view M.shape))) }
 {
-    Ok(Some(Kind::Shape(Part::measured(alloc, measured)?)))
+    Ok(Some(Kind::Shape(Parts::measured(alloc, measured)?)))
 }
 
 /// The kind of the items of a list, if there is one.
-fn item_kind<M: Names>(alloc: Global, list: Option<&Part<M>>) -> Result<Option<Kind<M>>, AllocError>
+fn item_kind<M: ShapeName>(
+    alloc: Global,
+    list: Option<&Parts<M>>,
+) -> Result<Option<Kind<M>>, AllocError>
     ensures { IfOk result (λ given. option_map kind_view given
-        ≡ option_map (λ list. shaped (list_view list.now).0) list.entry) }
+        ≡ option_map (λ list. shaped (list_of list.now).0) list.entry) }
 {
     match list {
         Some(list) => given_part(alloc, list, INNER),
@@ -50,14 +54,14 @@ fn item_kind<M: Names>(alloc: Global, list: Option<&Part<M>>) -> Result<Option<K
 }
 
 /// What is pushed, where the innermost loop, if there is one, is over a list.
-fn pushed<M: Names>(
+fn pushed<M: ShapeName>(
     alloc: Global,
     measured: &Whole<M>,
-    here: Option<&Part<M>>,
+    here: Option<&Parts<M>>,
     source: Source,
 ) -> Result<Option<Kind<M>>, AllocError>
     ensures { IfOk result (λ given. option_map kind_view given
-        ≡ pushed_kind (shape_view M.shape) (option_map (λ list. (list_view list.now).0) here.entry) source) }
+        ≡ pushed_kind (shape_view M.shape) (option_map (λ list. (list_of list.now).0) here.entry) source) }
 {
     match source {
         Source::Bool(_) => scalar(alloc, Scalar::Bool),
@@ -71,7 +75,7 @@ fn pushed<M: Names>(
 }
 
 /// Takes an operand.
-fn unary<M: Names>(
+fn unary<M: ShapeName>(
     alloc: Global,
     operator: UnaryOperator,
     kinds: &mut Vec<Kind<M>>,
@@ -86,7 +90,7 @@ fn unary<M: Names>(
 }
 
 /// Takes the left operand, where the right one is taken.
-fn binary_with<M: Names>(
+fn binary_with<M: ShapeName>(
     alloc: Global,
     operator: BinaryOperator,
     right: &Kind<M>,
@@ -102,7 +106,7 @@ fn binary_with<M: Names>(
 }
 
 /// Takes two operands, the right one from the top.
-fn binary<M: Names>(
+fn binary<M: ShapeName>(
     alloc: Global,
     operator: BinaryOperator,
     kinds: &mut Vec<Kind<M>>,
@@ -130,7 +134,7 @@ fn name_at(names: &[String], number: u32) -> Option<&str>
 }
 
 /// Takes a record and gives its field, by the number of the name.
-fn field<M: Names>(
+fn field<M: ShapeName>(
     alloc: Global,
     code: &Code,
     number: u32,
@@ -160,7 +164,7 @@ fn scalar_shape(scalar: Scalar) -> Shape
 }
 
 /// Takes an operand off the top and says whether it was a scalar of a kind.
-pub(crate) fn takes_scalar<M: Names>(scalar: Scalar, kinds: &mut Vec<Kind<M>>) -> bool
+pub(crate) fn takes_scalar<M: ShapeName>(scalar: Scalar, kinds: &mut Vec<Kind<M>>) -> bool
     ensures { TakesScalar scalar (from_top kinds.old.items) (from_top kinds.new.items) result }
 {
     match pop(kinds) {
@@ -171,7 +175,7 @@ pub(crate) fn takes_scalar<M: Names>(scalar: Scalar, kinds: &mut Vec<Kind<M>>) -
 
 /// Takes so many scalars of a kind and gives the list of them.
 #[tactic(auto, using(crate::proofs::Tops::scalar_refused, crate::proofs::Tops::all_taken))]
-fn make_list<M: Names>(
+fn make_list<M: ShapeName>(
     alloc: Global,
     scalar: Scalar,
     count: u8,
@@ -193,16 +197,16 @@ fn make_list<M: Names>(
 }
 
 /// Takes the operands of an operation that goes on to the next place, and gives what it makes of them.
-pub(crate) fn apply<M: Names>(
+pub(crate) fn apply<M: ShapeName>(
     alloc: Global,
     code: &Code,
     measured: &Whole<M>,
-    here: Option<&Part<M>>,
+    here: Option<&Parts<M>>,
     op: Op,
     kinds: &mut Vec<Kind<M>>,
 ) -> Result<Option<Kind<M>>, AllocError>
     ensures { IfOk result (λ given. Leaves given kinds.new.items
-        (effect code.now (shape_view M.shape) (option_map (λ list. (list_view list.now).0) here.entry) op (from_top kinds.old.items))) }
+        (effect code.now (shape_view M.shape) (option_map (λ list. (list_of list.now).0) here.entry) op (from_top kinds.old.items))) }
 {
     match op {
         Op::Push(source) => pushed(alloc, measured, here, source),

@@ -1,48 +1,51 @@
 //! Kinds of operands.
 
-ghost use Rattle.std.specs.Bool.{Decides};
-ghost use Rattle.std.specs.Prelude.{◌≡◌, IfOk, IfSome, Some, option_map};
-ghost use Rattle.ar_value.specs.Kind.{merge, or_nil, plain, shaped};
-ghost use Rattle.ar_value.specs.Shape.{list};
+ghost use Rattle.std.specs.Prelude.{◌≡◌, ◌||◌, IfOk, Some, option_map};
+ghost use Rattle.ar_value.specs.Kind.{is_optional, merge, or_nil, plain, shaped, widest};
+ghost use Rattle.ar_value.specs.Shape.{list, optional};
 ghost use Rattle.ar_value.specs.View.{shape_view};
 ghost use Rattle.ar_verified.specs.Effects.{family_in, family_of, is_scalar};
-ghost use Rattle.ar_verify.specs.Private.Kinds.{is_list, kind_view, list_in, list_parts, list_view, parts_view};
-ghost use Rattle.ar_verify.specs.Private.Parts.{part_view};
-ghost use Rattle.ar_verify.specs.Private.Roots.{child, shape_or};
+ghost use Rattle.ar_verify.specs.Private.Kinds.{kind_view, list_in, list_view};
+ghost use Rattle.ar_verify.specs.Private.Lists.{is_list};
+ghost use Rattle.ar_verify.specs.Private.Roots.{child};
+ghost use Rattle.ar_verify.specs.Private.Shapes.{list_of, parts_view};
 
-use crate::part::{INNER, are_one, child, name_part};
-use crate::root::{Name, Part};
-use crate::whole::Names;
+use crate::list::ListShape;
+use crate::meeting::{meet, plain};
+use crate::parts::Parts;
+use crate::whole::ShapeName;
 use ar_value::kind;
 use ar_value::operator::{Family, Scalar};
-use ar_value::sameness::are_same_shapes;
 use ar_value::shape::Shape;
 use std::alloc::{AllocError, Global};
 use std::rc::Rc;
 
 /// The kind of an operand: that of the literal `nil`, or a shape.
 #[derive(Drop)]
-pub(crate) enum Kind<M: Names> {
+pub(crate) enum Kind<M: ShapeName> {
     Nil,
-    Shape(Rc<Part<M>>),
-    /// The shape of nil and of what fits a shape, which isn't made for it.
-    OrNil(Rc<Part<M>>),
+    Shape(Rc<Parts<M>>),
+    /// The shape of nil and of what fits a shape that isn't optional. It isn't made.
+    OrNil(Rc<Parts<M>>),
 }
 
-/// What a list's shape says of it.
-#[derive(Drop)]
-pub(crate) struct ListParts<'a> {
-    pub item: &'a Shape,
-    /// How many items it has at most.
-    pub most: usize,
+impl<M: ShapeName> ListShape<M> {
+    /// The same once more.
+    pub(crate) fn share(&self) -> Result<ListShape<M>, AllocError>
+        ensures { IfOk result (λ shared. list_view shared ≡ list_view self.now) }
+    {
+        Ok(ListShape {
+            parts: self.parts.clone()?,
+        })
+    }
 }
 
-impl<M: Names> Kind<M> {
+impl<M: ShapeName> Kind<M> {
     /// The kind of operands of a shape that stands alone.
     pub(crate) fn made(alloc: Global, shape: Shape) -> Result<Kind<M>, AllocError>
         ensures { IfOk result (λ kind. kind_view kind ≡ shaped (shape_view shape)) }
     {
-        Ok(Kind::Shape(Part::made(alloc, shape)?))
+        Ok(Kind::Shape(Parts::made(alloc, shape)?))
     }
 
     /// The same kind once more, its shape likewise.
@@ -55,28 +58,17 @@ impl<M: Names> Kind<M> {
             Kind::OrNil(shape) => Ok(Kind::OrNil(shape.clone()?)),
         }
     }
-
-    /// Gives its shape a name, where that is known by nothing yet and dear to compare.
-    pub(crate) fn name(&mut self, alloc: Global, name: Name) -> Result<(), AllocError>
-        requires { M.arriving name.place name.index ≡ shape_or (kind_view self.old) }
-        ensures { kind_view self.new ≡ kind_view self.old }
-    {
-        match self {
-            Kind::Nil | Kind::OrNil(_) => Ok(()),
-            Kind::Shape(part) => name_part(alloc, name, part),
-        }
-    }
 }
 
 /// A kind once more, as an operation gives it.
-pub(crate) fn given_again<M: Names>(kind: &Kind<M>) -> Result<Option<Kind<M>>, AllocError>
+pub(crate) fn given_again<M: ShapeName>(kind: &Kind<M>) -> Result<Option<Kind<M>>, AllocError>
     ensures { IfOk result (λ given. option_map kind_view given ≡ Some (kind_view kind.now)) }
 {
     Ok(Some(kind.share()?))
 }
 
 /// The kind of a shape that stands alone, as an operation gives it.
-pub(crate) fn given_shape<M: Names>(
+pub(crate) fn given_shape<M: ShapeName>(
     alloc: Global,
     shape: Shape,
 ) -> Result<Option<Kind<M>>, AllocError>
@@ -86,7 +78,7 @@ pub(crate) fn given_shape<M: Names>(
 }
 
 /// The kind of a shape that stands alone, where there is one.
-pub(crate) fn given_any<M: Names>(
+pub(crate) fn given_any<M: ShapeName>(
     alloc: Global,
     shape: Option<Shape>,
 ) -> Result<Option<Kind<M>>, AllocError>
@@ -100,130 +92,100 @@ pub(crate) fn given_any<M: Names>(
 }
 
 /// The kind of a part of a shape, by its number, as an operation gives it.
-pub(crate) fn given_part<M: Names>(
+pub(crate) fn given_part<M: ShapeName>(
     alloc: Global,
-    whole: &Part<M>,
+    whole: &Parts<M>,
     number: usize,
 ) -> Result<Option<Kind<M>>, AllocError>
     ensures { IfOk result
-        (λ given. option_map kind_view given ≡ Some (shaped (child number (part_view whole.now)))) }
+        (λ given. option_map kind_view given ≡ Some (shaped (child number (parts_view whole.now)))) }
 {
     Ok(Some(Kind::Shape(whole.child(alloc, number)?)))
 }
 
-fn are_same_parts<M: Names>(left: &Part<M>, right: &Part<M>) -> bool
-    ensures { Decides result (part_view left.now ≡ part_view right.now) }
-{
-    are_one(left, right) || are_same_shapes(left.get(), right.get())
-}
-
-/// Whether what isn't nil has one shape.
-fn are_same_plain<M: Names>(left: &Part<M>, right: &Part<M>) -> bool
-    ensures { Decides result (plain (part_view left.now) ≡ plain (part_view right.now)) }
-{
-    are_one(left, right) || are_same_shapes(kind::plain(left.get()), kind::plain(right.get()))
-}
-
-/// Whether one shape is that of nil and of what fits the other.
-#[tactic(auto, using(crate::proofs::Optional::made_optional))]
-fn is_or_nil<M: Names>(optional: &Part<M>, of: &Part<M>) -> bool
-    ensures { Decides result (part_view optional.now ≡ or_nil (part_view of.now)) }
-{
-    kind::is_optional(optional.get()) && are_same_plain(optional, of)
-}
-
-#[tactic(auto, using(crate::proofs::Optional::of_shapes, crate::proofs::Optional::of_plain, crate::proofs::Optional::of_either))]
-fn are_same<M: Names>(left: &Kind<M>, right: &Kind<M>) -> bool
-    ensures { Decides result (kind_view left.now ≡ kind_view right.now) }
-{
-    match (left, right) {
-        (Kind::Nil, Kind::Nil) => true,
-        (Kind::Shape(left), Kind::Shape(right)) => are_same_parts(left, right),
-        (Kind::OrNil(left), Kind::OrNil(right)) => are_same_plain(left, right),
-        (Kind::Shape(shape), Kind::OrNil(of)) | (Kind::OrNil(of), Kind::Shape(shape)) => {
-            is_or_nil(shape, of)
-        }
-        (Kind::Nil, _) | (_, Kind::Nil) => false,
-    }
-}
-
 /// The kind of nil and of what fits a shape.
-#[tactic(auto, using(crate::proofs::Parts::nil_already))]
-fn nil_or<M: Names>(shape: &Rc<Part<M>>) -> Result<Option<Kind<M>>, AllocError>
+#[tactic(auto, using(crate::proofs::Meets::nil_already, crate::proofs::Meets::nil_added))]
+fn nil_or<M: ShapeName>(shape: &Rc<Parts<M>>) -> Result<Option<Kind<M>>, AllocError>
     ensures { IfOk result
-        (λ kind. option_map kind_view kind ≡ Some (shaped (or_nil (part_view shape.now.value)))) }
+        (λ kind. option_map kind_view kind ≡ Some (shaped (or_nil (parts_view shape.now.value)))) }
 {
-    if kind::is_optional(shape.get()) {
+    if shape.is_optional() {
         Ok(Some(Kind::Shape(shape.clone()?)))
     } else {
         Ok(Some(Kind::OrNil(shape.clone()?)))
     }
 }
 
-/// The longer of two lists of the same items.
-#[tactic(auto, using(crate::proofs::Optional::left_is_longer, crate::proofs::Optional::right_is_longer))]
-fn longer<'a, M: Names>(left: &'a Rc<Part<M>>, right: &'a Rc<Part<M>>) -> Option<&'a Rc<Part<M>>>
-    ensures { IfSome result (λ longer. Some (shaped (part_view longer.now.value))
-        ≡ merge (shaped (part_view left.now.value)) (shaped (part_view right.now.value))) }
+/// The merge of nil, or what fits a plain shape, and what fits another.
+fn merge_or_nil<M: ShapeName>(
+    alloc: Global,
+    left: &Parts<M>,
+    right: &Parts<M>,
+) -> Result<Option<Kind<M>>, AllocError>
+    ensures { IfOk result (λ kind. option_map kind_view kind
+        ≡ option_map shaped (option_map optional (widest (parts_view left.now) (parts_view right.now)))) }
 {
-    let first = list_parts(left.get())?;
-    let second = list_parts(right.get())?;
-    if !are_same_shapes(first.item, second.item) {
-        return None;
+    match meet(alloc, left, right)? {
+        Some(met) => Ok(Some(Kind::OrNil(met))),
+        None => Ok(None),
     }
-    if second.most <= first.most {
-        Some(left)
+}
+
+/// The merge of nil, or what fits a plain shape, and what fits another that may be optional.
+fn merge_with_plain<M: ShapeName>(
+    alloc: Global,
+    left: &Parts<M>,
+    right: &Rc<Parts<M>>,
+) -> Result<Option<Kind<M>>, AllocError>
+    ensures { IfOk result (λ kind. option_map kind_view kind
+        ≡ option_map shaped (option_map optional (widest (parts_view left.now) (plain (parts_view right.now.value))))) }
+{
+    let right = plain(alloc, right)?;
+    merge_or_nil(alloc, left, &right)
+}
+
+/// The merge of plain shapes.
+fn merge_plain<M: ShapeName>(
+    alloc: Global,
+    left: &Parts<M>,
+    right: &Parts<M>,
+) -> Result<Option<Kind<M>>, AllocError>
+    ensures { IfOk result (λ kind. option_map kind_view kind
+        ≡ option_map shaped (widest (parts_view left.now) (parts_view right.now))) }
+{
+    match meet(alloc, left, right)? {
+        Some(met) => Ok(Some(Kind::Shape(met))),
+        None => Ok(None),
+    }
+}
+
+fn is_either_optional<M: ShapeName>(left: &Parts<M>, right: &Parts<M>) -> bool
+    ensures { result ≡ (is_optional (parts_view left.now) || is_optional (parts_view right.now)) }
+{
+    left.is_optional() || right.is_optional()
+}
+
+/// The merge of shapes, which may be optional.
+#[tactic(auto, using(crate::proofs::Meets::plain_merge, crate::proofs::Meets::optional_merge))]
+fn merge_shapes<M: ShapeName>(
+    alloc: Global,
+    left: &Rc<Parts<M>>,
+    right: &Rc<Parts<M>>,
+) -> Result<Option<Kind<M>>, AllocError>
+    ensures { IfOk result (λ kind. option_map kind_view kind
+        ≡ merge (shaped (parts_view left.now.value)) (shaped (parts_view right.now.value))) }
+{
+    if is_either_optional(left, right) {
+        let left = plain(alloc, left)?;
+        merge_with_plain(alloc, &left, right)
     } else {
-        Some(right)
+        merge_plain(alloc, left, right)
     }
 }
 
-/// The merge of shapes that stand somewhere, where there is one.
-fn merge_parts<M: Names>(
-    alloc: Global,
-    left: &Rc<Part<M>>,
-    right: &Rc<Part<M>>,
-) -> Result<Option<Kind<M>>, AllocError>
-    ensures { IfOk result (λ kind. option_map kind_view kind
-        ≡ merge (shaped (part_view left.now.value)) (shaped (part_view right.now.value))) }
-{
-    match longer(left, right) {
-        Some(list) => Ok(Some(Kind::Shape(list.clone()?))),
-        None => merge_shapes(alloc, left.get(), right.get()),
-    }
-}
-
-/// The merge of shapes, where there is one.
-fn merge_shapes<M: Names>(
-    alloc: Global,
-    left: &Shape,
-    right: &Shape,
-) -> Result<Option<Kind<M>>, AllocError>
-    ensures { IfOk result (λ kind. option_map kind_view kind
-        ≡ merge (shaped (shape_view left.now)) (shaped (shape_view right.now))) }
-{
-    given_any(alloc, kind::merge_shapes(alloc, left, right)?)
-}
-
-/// The merge of a shape, the shape of nil and of what fits it being meant, with another.
-#[tactic(auto, using(crate::proofs::Optional::merged_plain))]
-fn merge_or_nil<M: Names>(
-    alloc: Global,
-    left: &Rc<Part<M>>,
-    right: &Part<M>,
-) -> Result<Option<Kind<M>>, AllocError>
-    ensures { IfOk result (λ kind. option_map kind_view kind
-        ≡ merge (shaped (or_nil (part_view left.now.value))) (shaped (part_view right.now))) }
-{
-    if are_same_plain(left, right) {
-        return Ok(Some(Kind::OrNil(left.clone()?)));
-    }
-    merge_shapes(alloc, &kind::or_nil(alloc, left.get())?, right.get())
-}
-
-/// The merge of kinds that differ.
-#[tactic(auto, using(crate::proofs::Optional::nil_either_way))]
-fn merge_different<M: Names>(
+/// The kind of what has the one kind or the other, where there is one.
+#[tactic(auto, using(crate::proofs::Meets::nil_beside))]
+pub(crate) fn merge<M: ShapeName>(
     alloc: Global,
     left: &Kind<M>,
     right: &Kind<M>,
@@ -233,28 +195,13 @@ fn merge_different<M: Names>(
     match (left, right) {
         (Kind::Nil, Kind::Nil) => Ok(Some(Kind::Nil)),
         (Kind::Nil, Kind::Shape(shape)) | (Kind::Shape(shape), Kind::Nil) => nil_or(shape),
-        (Kind::Nil, shaped) | (shaped, Kind::Nil) => given_again(shaped),
-        (Kind::Shape(left), Kind::Shape(right)) => merge_parts(alloc, left, right),
-        (Kind::Shape(left) | Kind::OrNil(left), Kind::Shape(right) | Kind::OrNil(right)) => {
-            merge_or_nil(alloc, left, right)
+        (Kind::Nil, Kind::OrNil(_)) => given_again(right),
+        (Kind::OrNil(_), Kind::Nil) => given_again(left),
+        (Kind::Shape(left), Kind::Shape(right)) => merge_shapes(alloc, left, right),
+        (Kind::OrNil(left), Kind::OrNil(right)) => merge_or_nil(alloc, left, right),
+        (Kind::OrNil(of), Kind::Shape(shape)) | (Kind::Shape(shape), Kind::OrNil(of)) => {
+            merge_with_plain(alloc, of, shape)
         }
-    }
-}
-
-/// The kind of what has the one kind or the other, where there is one: of a kind and itself that kind,
-/// which is shared.
-#[tactic(auto, using(crate::proofs::Joins::merged_with_itself))]
-pub(crate) fn merge<M: Names>(
-    alloc: Global,
-    left: &Kind<M>,
-    right: &Kind<M>,
-) -> Result<Option<Kind<M>>, AllocError>
-    ensures { IfOk result (λ kind. option_map kind_view kind ≡ merge (kind_view left.now) (kind_view right.now)) }
-{
-    if are_same(left, right) {
-        given_again(left)
-    } else {
-        merge_different(alloc, left, right)
     }
 }
 
@@ -269,12 +216,13 @@ fn is_scalar_shape(scalar: Scalar, shape: &Shape) -> bool
     }
 }
 
-pub(crate) fn is_scalar<M: Names>(scalar: Scalar, kind: &Kind<M>) -> bool
+#[tactic(auto, using(crate::proofs::Widest::both_scalars))]
+pub(crate) fn is_scalar<M: ShapeName>(scalar: Scalar, kind: &Kind<M>) -> bool
     ensures { result ≡ is_scalar scalar (kind_view kind.now) }
 {
     match kind {
         Kind::Nil | Kind::OrNil(_) => false,
-        Kind::Shape(shape) => is_scalar_shape(scalar, shape.get()),
+        Kind::Shape(shape) => is_scalar_shape(scalar, shape.representative()),
     }
 }
 
@@ -290,40 +238,18 @@ pub(crate) fn family_of(shape: &Shape) -> Option<Family>
 }
 
 /// The family of a scalar that may be nil.
-pub(crate) fn family_in<M: Names>(kind: &Kind<M>) -> Option<Family>
+#[tactic(auto, using(crate::proofs::Widest::both_of_family, crate::proofs::Widest::both_plain_of_family))]
+pub(crate) fn family_in<M: ShapeName>(kind: &Kind<M>) -> Option<Family>
     ensures { result ≡ family_in (kind_view kind.now) }
 {
     match kind {
         Kind::Nil => None,
-        Kind::Shape(shape) | Kind::OrNil(shape) => family_of(kind::plain(shape.get())),
+        Kind::Shape(shape) => family_of(kind::plain(shape.representative())),
+        Kind::OrNil(shape) => family_of(shape.representative()),
     }
 }
 
-fn list_parts(shape: &Shape) -> Option<ListParts<'_>>
-    ensures { option_map parts_view result ≡ list_parts (shape_view shape.now) }
-{
-    match shape {
-        Shape::List { item, max } => Some(ListParts { item, most: *max }),
-        Shape::Bool
-        | Shape::Whole
-        | Shape::Decimal
-        | Shape::Text
-        | Shape::Object(_)
-        | Shape::Optional(_) => None,
-    }
-}
-
-/// What the kind says of a list, where it is that of one.
-pub(crate) fn list_in<'a, M: Names>(kind: &'a Kind<M>) -> Option<ListParts<'a>>
-    ensures { option_map parts_view result ≡ list_in (kind_view kind.now) }
-{
-    match kind {
-        Kind::Nil | Kind::OrNil(_) => None,
-        Kind::Shape(shape) => list_parts(shape.get()),
-    }
-}
-
-fn is_list(shape: &Shape) -> bool
+fn is_list_shape(shape: &Shape) -> bool
     ensures { result ≡ is_list (shape_view shape.now) }
 {
     match shape {
@@ -337,33 +263,34 @@ fn is_list(shape: &Shape) -> bool
     }
 }
 
+#[tactic(auto, using(crate::proofs::Widest::both_lists))]
+fn is_list<M: ShapeName>(shape: &Parts<M>) -> bool
+    ensures { result ≡ is_list (parts_view shape.now) }
+{
+    is_list_shape(shape.representative())
+}
+
 /// The shape of a list, where the kind is that of one.
-#[tactic(auto, using(crate::proofs::Parts::of_a_list, crate::proofs::Parts::of_no_list))]
-pub(crate) fn as_list<M: Names>(kind: &Kind<M>) -> Option<&Part<M>>
-    ensures { option_map (λ list. list_view list.now) result ≡ list_in (kind_view kind.now) }
+#[tactic(auto, using(crate::proofs::Lists::of_a_list, crate::proofs::Lists::of_no_list))]
+pub(crate) fn as_list<M: ShapeName>(kind: &Kind<M>) -> Option<&Parts<M>>
+    ensures { option_map (λ list. list_of list.now) result ≡ list_in (kind_view kind.now) }
 {
     match kind {
         Kind::Nil | Kind::OrNil(_) => None,
-        Kind::Shape(list) => {
-            if is_list(list.get()) {
-                Some(list)
-            } else {
-                None
-            }
-        }
+        Kind::Shape(list) => { if is_list(list) { Some(list) } else { None } }
     }
 }
 
 /// Likewise, of a kind that isn't needed any more.
-#[tactic(auto, using(crate::proofs::Parts::of_a_list, crate::proofs::Parts::of_no_list))]
-pub(crate) fn into_list<M: Names>(kind: Kind<M>) -> Option<Rc<Part<M>>>
-    ensures { option_map (λ list. list_view list.value) result ≡ list_in (kind_view kind) }
+#[tactic(auto, using(crate::proofs::Lists::of_a_list, crate::proofs::Lists::of_no_list))]
+pub(crate) fn into_list<M: ShapeName>(kind: Kind<M>) -> Option<ListShape<M>>
+    ensures { option_map list_view result ≡ list_in (kind_view kind) }
 {
     match kind {
         Kind::Nil | Kind::OrNil(_) => None,
-        Kind::Shape(list) => {
-            if is_list(list.get()) {
-                Some(list)
+        Kind::Shape(parts) => {
+            if is_list(&parts) {
+                Some(ListShape { parts })
             } else {
                 None
             }
@@ -371,25 +298,10 @@ pub(crate) fn into_list<M: Names>(kind: Kind<M>) -> Option<Rc<Part<M>>>
     }
 }
 
-/// The shape of a list of the same items, and of as many at most. That of a list is shared; no other
-/// is meant.
-#[tactic(auto, using(crate::proofs::Parts::list_itself, crate::proofs::Parts::made_like))]
-pub(crate) fn list_like<M: Names>(
-    alloc: Global,
-    of: &Rc<Part<M>>,
-) -> Result<Rc<Part<M>>, AllocError>
-    ensures { IfOk result (λ like. part_view like.value ≡ list (list_view of.now.value).0 (list_view of.now.value).1) }
+/// The kind of a list of the same items, and of as many at most.
+#[tactic(auto, using(crate::proofs::Lists::list_itself))]
+pub(crate) fn kind_of_list<M: ShapeName>(of: &ListShape<M>) -> Result<Kind<M>, AllocError>
+    ensures { IfOk result (λ kind. kind_view kind ≡ shaped (list (list_view of.now).0 (list_view of.now).1)) }
 {
-    let shape = of.get();
-    if is_list(shape) {
-        return of.clone();
-    }
-    let item = child(shape, INNER).copy(alloc)?;
-    Part::made(
-        alloc,
-        Shape::List {
-            item: Box::new(alloc, item)?,
-            max: 0,
-        },
-    )
+    Ok(Kind::Shape(of.parts.clone()?))
 }

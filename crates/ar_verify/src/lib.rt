@@ -8,22 +8,28 @@
 //! - `verifier`: the passes, one after the other
 //! - `places`: whether the places that operations name are as they should be; `loops`: whether loops
 //!   lie one in another
-//! - `whole`: the shape of the measured value; `root`, `part`: parts of shapes, which share the whole;
-//!   `kind`, `stack`: kinds of operands; `operators`, `effect`: what operations give of them
+//! - `whole`: the shape of the measured value; `root`, `part`: parts of shapes, which share the whole
+//! - `parts`, `list`: the shapes of operands, which are those of parts that met; `meeting`: how they meet, and what
+//!   is known of them; `alike`: whether shapes differ in greatest lengths only
+//! - `kind`, `stack`: kinds of operands; `operators`, `effect`: what operations give of them
 //! - `operands`, `sending`, `arrivals`: what operations send on, and what arrives at each place
 //! - `budget`: what a run may cost at most
 //! - `failure`: why an operation sends nothing on
 #![tactic(auto)]
 
+mod alike;
 mod arrivals;
 mod budget;
 mod effect;
 mod failure;
 mod kind;
+mod list;
 mod loops;
+mod meeting;
 mod operands;
 mod operators;
 mod part;
+mod parts;
 mod places;
 mod root;
 mod sending;

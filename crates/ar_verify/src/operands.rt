@@ -1,30 +1,28 @@
 //! Operands on the way to a place, by their kinds.
 
-ghost use Rattle.std.specs.Prelude.{◌≡◌, ◌++◌, ◌∷◌, [], IfOk, MatchOption, OnOk, map, option_map, reverse};
+ghost use Rattle.std.specs.Prelude.{◌≡◌, ◌++◌, ◌∷◌, [], IfOk, MatchOption, OnOk, map, option_map};
 ghost use Rattle.ar_verified.specs.Arrivals.{floor, height, merged, of_loops, operands};
 ghost use Rattle.ar_verify.specs.Private.Held.{around_view, arrival_view, counted, from_innermost, operands_view};
 ghost use Rattle.ar_verify.specs.Private.Kinds.{kind_view};
-ghost use Rattle.ar_verify.specs.Private.Roots.{shapes_of};
 ghost use Rattle.ar_verify.specs.Private.Stacks.{from_top};
 
 use crate::kind::{Kind, merge};
-use crate::root::{Name, Part};
+use crate::list::ListShape;
 use crate::stack::add;
-use crate::whole::Names;
+use crate::whole::ShapeName;
 use ar_verified::Reason;
 use std::alloc::{AllocError, Global};
-use std::rc::Rc;
 
 /// A loop around a place.
 #[derive(Drop)]
-pub(crate) struct Around<M: Names> {
-    pub list: Rc<Part<M>>,
+pub(crate) struct Around<M: ShapeName> {
+    pub list: ListShape<M>,
     /// The operands below its floor and above that of the loop around it, of which the last is on top.
     pub below: Vec<Kind<M>>,
 }
 
 #[derive(Drop)]
-pub(crate) struct Operands<M: Names> {
+pub(crate) struct Operands<M: ShapeName> {
     /// Those above the floor of the innermost loop, of which the last is on top.
     pub kinds: Vec<Kind<M>>,
     /// The last is the innermost.
@@ -32,14 +30,14 @@ pub(crate) struct Operands<M: Names> {
 }
 
 /// Adds a kind once more.
-fn copy_onto<M: Names>(copies: &mut Vec<Kind<M>>, kind: &Kind<M>) -> Result<(), AllocError>
+fn copy_onto<M: ShapeName>(copies: &mut Vec<Kind<M>>, kind: &Kind<M>) -> Result<(), AllocError>
     ensures { OnOk result
         (map kind_view copies.new.items ≡ map kind_view copies.old.items ++ kind_view kind.now ∷ []) }
 {
     add(copies, kind.share()?)
 }
 
-fn copy_kinds<M: Names>(alloc: Global, kinds: &[Kind<M>]) -> Result<Vec<Kind<M>>, AllocError>
+fn copy_kinds<M: ShapeName>(alloc: Global, kinds: &[Kind<M>]) -> Result<Vec<Kind<M>>, AllocError>
     ensures { IfOk result (λ copies. map kind_view copies.items ≡ map kind_view kinds.now) }
 {
     let mut copies = Vec::with_capacity(alloc, kinds.len())?;
@@ -49,17 +47,20 @@ fn copy_kinds<M: Names>(alloc: Global, kinds: &[Kind<M>]) -> Result<Vec<Kind<M>>
     Ok(copies)
 }
 
-impl<M: Names> Around<M> {
+impl<M: ShapeName> Around<M> {
     fn copy(&self, alloc: Global) -> Result<Around<M>, AllocError>
         ensures { IfOk result (λ copy. around_view copy ≡ around_view self.now) }
     {
-        let list = self.list.clone()?;
+        let list = self.list.share()?;
         let below = copy_kinds(alloc, &self.below)?;
         Ok(Around { list, below })
     }
 }
 
-fn copy_loops<M: Names>(alloc: Global, loops: &[Around<M>]) -> Result<Vec<Around<M>>, AllocError>
+fn copy_loops<M: ShapeName>(
+    alloc: Global,
+    loops: &[Around<M>],
+) -> Result<Vec<Around<M>>, AllocError>
     ensures { IfOk result (λ copies. map around_view copies.items ≡ map around_view loops.now) }
 {
     let mut copies = Vec::with_capacity(alloc, loops.len())?;
@@ -69,24 +70,9 @@ fn copy_loops<M: Names>(alloc: Global, loops: &[Around<M>]) -> Result<Vec<Around
     Ok(copies)
 }
 
-/// Names the kinds that arrived at a place and are dear to compare.
-fn name_kinds<M: Names>(
-    alloc: Global,
-    place: usize,
-    kinds: &mut [Kind<M>],
-) -> Result<(), AllocError>
-    requires { M.arriving place ≡ shapes_of (map kind_view kinds.old) }
-    ensures { map kind_view kinds.new ≡ map kind_view kinds.old }
-{
-    for index in 0..kinds.len() {
-        kinds[index].name(alloc, Name { place, index })?;
-    }
-    Ok(())
-}
-
 /// How many operands lie below the floor of the innermost loop.
 #[tactic(auto, using(crate::proofs::Heights::one_deeper, crate::proofs::Heights::all_taken))]
-fn floor<M: Names>(loops: &[Around<M>]) -> usize
+fn floor<M: ShapeName>(loops: &[Around<M>]) -> usize
     ensures { result ≡ counted (floor (from_innermost loops.now)) }
 {
     let mut floor: usize = 0;
@@ -96,7 +82,7 @@ fn floor<M: Names>(loops: &[Around<M>]) -> usize
     floor
 }
 
-impl<M: Names> Operands<M> {
+impl<M: ShapeName> Operands<M> {
     /// A run begins without operands.
     pub(crate) fn none(alloc: Global) -> Operands<M>
         ensures { operands_view result ≡ operands [] [] }
@@ -115,14 +101,6 @@ impl<M: Names> Operands<M> {
         Ok(Operands { kinds, loops })
     }
 
-    /// Names those above the floor by the place at which they arrived.
-    pub(crate) fn name_all(&mut self, alloc: Global, place: usize) -> Result<(), AllocError>
-        requires { M.arriving place ≡ shapes_of (reverse (operands_view self.old).kinds) }
-        ensures { operands_view self.new ≡ operands_view self.old }
-    {
-        name_kinds(alloc, place, &mut self.kinds)
-    }
-
     /// How many operands there are, those below the floor too.
     #[tactic(auto, using(crate::proofs::Heights::both_counted))]
     pub(crate) fn height(&self) -> usize
@@ -134,7 +112,7 @@ impl<M: Names> Operands<M> {
 
 /// What two stacks have in common, kind by kind, where they are as high.
 #[tactic(auto, using(crate::proofs::Joins::unlike_heights))]
-fn merge_all<M: Names>(
+fn merge_all<M: ShapeName>(
     alloc: Global,
     lefts: &[Kind<M>],
     rights: &[Kind<M>],
@@ -158,7 +136,7 @@ fn merge_all<M: Names>(
 /// What arrives where some operands arrived already. They come from inside the same loops, so they
 /// differ above the floor alone.
 #[tactic(auto, using(crate::proofs::Joins::merged_from_top))]
-pub(crate) fn join<M: Names>(
+pub(crate) fn join<M: ShapeName>(
     alloc: Global,
     so_far: Operands<M>,
     next: &Operands<M>,

@@ -1,17 +1,22 @@
 //! What operators give of the kinds of their operands: nothing where they don't take these.
 
 ghost use Rattle.std.specs.Prelude.{◌≡◌, ◌&&◌, IfOk, option_map};
-ghost use Rattle.ar_value.specs.Kind.{shaped};
+ghost use Rattle.ar_value.specs.Kind.{plain, shaped};
+ghost use Rattle.ar_value.specs.Shape.{optional};
 ghost use Rattle.ar_value.specs.View.{shape_view};
-ghost use Rattle.ar_verified.specs.Effects.{decimal_kind, decimal_shape, family_in, is_scalar, binary_kind, decimals_kind, default_kind, equal_kind, field_kind, is_compared, is_family, is_number, item_kind, length_kind, member_kind, needed_kind, negative_kind, of_one_family, opposite_kind, order_kind, quotient_kind, same_kind, truth, unary_kind, where_taken, wholes_kind};
+ghost use Rattle.ar_verified.specs.Effects.{decimal_kind, decimal_shape, family_in, family_of, is_scalar, binary_kind, decimals_kind, default_kind, equal_kind, field_kind, is_compared, is_family, is_number, item_kind, length_kind, member_kind, needed_kind, negative_kind, of_one_family, opposite_kind, order_kind, quotient_kind, same_kind, truth, unary_kind, where_taken, wholes_kind};
 ghost use Rattle.ar_verify.specs.Private.Kinds.{kind_view};
+ghost use Rattle.ar_verify.specs.Private.Roots.{number_of};
+ghost use Rattle.ar_verify.specs.Private.Shapes.{list_of, parts_view};
 
 use crate::kind::{
     Kind, as_list, family_in, family_of, given_again, given_any, given_part, given_shape,
-    is_scalar, list_in, merge,
+    is_scalar, merge,
 };
-use crate::part::{INNER, field_number, plain};
-use crate::whole::Names;
+use crate::meeting::plain;
+use crate::part::{INNER, child, field_number};
+use crate::parts::Parts;
+use crate::whole::ShapeName;
 use ar_value::kind;
 use ar_value::operator::{
     Arithmetic, BinaryOperator, Compared, Family, Numbers, Scalar, UnaryOperator,
@@ -20,7 +25,7 @@ use ar_value::shape::Shape;
 use std::alloc::{AllocError, Global};
 
 /// The kind of a shape, where the operands are taken.
-fn where_taken<M: Names>(
+fn where_taken<M: ShapeName>(
     alloc: Global,
     is_taken: bool,
     shape: Shape,
@@ -34,8 +39,17 @@ fn where_taken<M: Names>(
     }
 }
 
+/// The number of a record's field, where there is one of the name.
+#[tactic(auto, using(crate::proofs::Widest::both_numbered))]
+fn number_of<M: ShapeName>(name: &str, shape: &Parts<M>) -> Option<usize>
+    ensures { result ≡ number_of name.now (parts_view shape.now) }
+{
+    field_number(name, shape.representative())
+}
+
 /// The field of a record, by its name.
-pub(crate) fn field_of<M: Names>(
+#[tactic(auto, using(crate::proofs::Ways::field_there, crate::proofs::Ways::no_field))]
+pub(crate) fn field_of<M: ShapeName>(
     alloc: Global,
     name: &str,
     operand: &Kind<M>,
@@ -44,15 +58,15 @@ pub(crate) fn field_of<M: Names>(
 {
     match operand {
         Kind::Nil | Kind::OrNil(_) => Ok(None),
-        Kind::Shape(record) => match field_number(name, record.get()) {
+        Kind::Shape(record) => match number_of(name, record) {
             Some(number) => given_part(alloc, record, number),
             None => Ok(None),
         },
     }
 }
 
-#[tactic(auto, using(crate::proofs::Parts::item_by_list))]
-fn item<M: Names>(
+#[tactic(auto, using(crate::proofs::Lists::item_by_list))]
+fn item<M: ShapeName>(
     alloc: Global,
     list: &Kind<M>,
     index: &Kind<M>,
@@ -69,24 +83,25 @@ fn item<M: Names>(
     }
 }
 
-#[tactic(auto, using(crate::proofs::Parts::length_of_list))]
-fn length<M: Names>(alloc: Global, list: &Kind<M>) -> Result<Option<Kind<M>>, AllocError>
+#[tactic(auto, using(crate::proofs::Lists::length_of_list))]
+fn length<M: ShapeName>(alloc: Global, list: &Kind<M>) -> Result<Option<Kind<M>>, AllocError>
     ensures { IfOk result (λ given. option_map kind_view given ≡ length_kind (kind_view list.now)) }
 {
-    where_taken(alloc, list_in(list).is_some(), Shape::Whole)
+    where_taken(alloc, as_list(list).is_some(), Shape::Whole)
 }
 
-fn needed<M: Names>(alloc: Global, operand: &Kind<M>) -> Result<Option<Kind<M>>, AllocError>
+fn needed<M: ShapeName>(alloc: Global, operand: &Kind<M>) -> Result<Option<Kind<M>>, AllocError>
     ensures { IfOk result (λ given. option_map kind_view given ≡ needed_kind (kind_view operand.now)) }
 {
     match operand {
         Kind::Nil => Ok(None),
-        Kind::Shape(shape) | Kind::OrNil(shape) => Ok(Some(Kind::Shape(plain(alloc, shape)?))),
+        Kind::Shape(shape) => Ok(Some(Kind::Shape(plain(alloc, shape)?))),
+        Kind::OrNil(shape) => Ok(Some(Kind::Shape(shape.clone()?))),
     }
 }
 
 /// The kind of what isn't nil, or of what stands for it.
-fn default<M: Names>(
+fn default<M: ShapeName>(
     alloc: Global,
     operand: &Kind<M>,
     other: &Kind<M>,
@@ -96,9 +111,8 @@ fn default<M: Names>(
 {
     match operand {
         Kind::Nil => given_again(other),
-        Kind::Shape(shape) | Kind::OrNil(shape) => {
-            merge(alloc, &Kind::Shape(plain(alloc, shape)?), other)
-        }
+        Kind::Shape(shape) => merge(alloc, &Kind::Shape(plain(alloc, shape)?), other),
+        Kind::OrNil(shape) => merge(alloc, &Kind::Shape(shape.clone()?), other),
     }
 }
 
@@ -108,26 +122,39 @@ fn decimal_shape(alloc: Global, shape: &Shape) -> Result<Option<Shape>, AllocErr
 {
     match shape {
         Shape::Whole => Ok(Some(Shape::Decimal)),
-        Shape::Optional(plain) => match decimal_shape(alloc, plain)? {
-            Some(decimal) => Ok(Some(Shape::Optional(Box::new(alloc, decimal)?))),
-            None => Ok(None),
-        },
+        Shape::Optional(plain) => or_nil(alloc, decimal_shape(alloc, plain)?),
         Shape::Bool | Shape::Decimal | Shape::Text | Shape::List { .. } | Shape::Object(_) => {
             Ok(None)
         }
     }
 }
 
-fn decimal<M: Names>(alloc: Global, operand: &Kind<M>) -> Result<Option<Kind<M>>, AllocError>
+/// The shape of nil and of what fits a shape, where there is one.
+fn or_nil(alloc: Global, shape: Option<Shape>) -> Result<Option<Shape>, AllocError>
+    ensures { IfOk result
+        (λ either. option_map shape_view either ≡ option_map optional (option_map shape_view shape)) }
+{
+    match shape {
+        Some(shape) => Ok(Some(Shape::Optional(Box::new(alloc, shape)?))),
+        None => Ok(None),
+    }
+}
+
+#[tactic(auto, using(crate::proofs::Widest::both_decimal))]
+fn decimal_of<M: ShapeName>(alloc: Global, shape: &Parts<M>) -> Result<Option<Shape>, AllocError>
+    ensures { IfOk result
+        (λ decimal. option_map shape_view decimal ≡ decimal_shape (parts_view shape.now)) }
+{
+    decimal_shape(alloc, shape.representative())
+}
+
+fn decimal<M: ShapeName>(alloc: Global, operand: &Kind<M>) -> Result<Option<Kind<M>>, AllocError>
     ensures { IfOk result (λ given. option_map kind_view given ≡ decimal_kind (kind_view operand.now)) }
 {
     match operand {
         Kind::Nil => Ok(None),
-        Kind::Shape(shape) => given_any(alloc, decimal_shape(alloc, shape.get())?),
-        Kind::OrNil(shape) => {
-            let optional = kind::or_nil(alloc, shape.get())?;
-            given_any(alloc, decimal_shape(alloc, &optional)?)
-        }
+        Kind::Shape(shape) => given_any(alloc, decimal_of(alloc, shape)?),
+        Kind::OrNil(shape) => given_any(alloc, or_nil(alloc, decimal_of(alloc, shape)?)?),
     }
 }
 
@@ -149,8 +176,16 @@ fn of_one_family(family: Option<Family>, other: Option<Family>) -> bool
     }
 }
 
-#[tactic(auto, using(crate::proofs::Parts::member_of_list))]
-fn member<M: Names>(
+/// The family of a list's items, which may be nil.
+#[tactic(auto, using(crate::proofs::Widest::both_items_of_family))]
+fn items_family<M: ShapeName>(list: &Parts<M>) -> Option<Family>
+    ensures { result ≡ family_of (plain (list_of list.now).0) }
+{
+    family_of(kind::plain(child(list.representative(), INNER)))
+}
+
+#[tactic(auto, using(crate::proofs::Lists::member_of_list))]
+fn member<M: ShapeName>(
     alloc: Global,
     operand: &Kind<M>,
     list: &Kind<M>,
@@ -158,10 +193,10 @@ fn member<M: Names>(
     ensures { IfOk result
         (λ given. option_map kind_view given ≡ member_kind (kind_view operand.now) (kind_view list.now)) }
 {
-    let Some(list) = list_in(list) else {
+    let Some(list) = as_list(list) else {
         return Ok(None);
     };
-    let family = family_of(kind::plain(list.item));
+    let family = items_family(list);
     where_taken(
         alloc,
         of_one_family(family_in(operand), family),
@@ -180,7 +215,7 @@ fn quotient(operator: Arithmetic) -> Shape
     }
 }
 
-fn same<M: Names>(scalar: Scalar, operand: &Kind<M>) -> Result<Option<Kind<M>>, AllocError>
+fn same<M: ShapeName>(scalar: Scalar, operand: &Kind<M>) -> Result<Option<Kind<M>>, AllocError>
     ensures { IfOk result (λ given. option_map kind_view given ≡ same_kind scalar (kind_view operand.now)) }
 {
     if is_scalar(scalar, operand) {
@@ -190,7 +225,10 @@ fn same<M: Names>(scalar: Scalar, operand: &Kind<M>) -> Result<Option<Kind<M>>, 
     }
 }
 
-fn negative<M: Names>(numbers: Numbers, operand: &Kind<M>) -> Result<Option<Kind<M>>, AllocError>
+fn negative<M: ShapeName>(
+    numbers: Numbers,
+    operand: &Kind<M>,
+) -> Result<Option<Kind<M>>, AllocError>
     ensures { IfOk result (λ given. option_map kind_view given ≡ negative_kind numbers (kind_view operand.now)) }
 {
     match numbers {
@@ -199,8 +237,8 @@ fn negative<M: Names>(numbers: Numbers, operand: &Kind<M>) -> Result<Option<Kind
     }
 }
 
-#[tactic(auto, using(crate::proofs::Parts::number_is_either))]
-fn is_compared<M: Names>(numbers: Compared, operand: &Kind<M>) -> bool
+#[tactic(auto, using(crate::proofs::Lists::number_is_either))]
+fn is_compared<M: ShapeName>(numbers: Compared, operand: &Kind<M>) -> bool
     ensures { result ≡ is_compared numbers (kind_view operand.now) }
 {
     match numbers {
@@ -213,7 +251,7 @@ fn is_compared<M: Names>(numbers: Compared, operand: &Kind<M>) -> bool
 }
 
 /// What an operator gives of one operand.
-pub(crate) fn apply_unary<M: Names>(
+pub(crate) fn apply_unary<M: ShapeName>(
     alloc: Global,
     operator: UnaryOperator,
     operand: &Kind<M>,
@@ -230,19 +268,19 @@ pub(crate) fn apply_unary<M: Names>(
     }
 }
 
-fn are_scalars<M: Names>(scalar: Scalar, left: &Kind<M>, right: &Kind<M>) -> bool
+fn are_scalars<M: ShapeName>(scalar: Scalar, left: &Kind<M>, right: &Kind<M>) -> bool
     ensures { result ≡ (is_scalar scalar (kind_view left.now) && is_scalar scalar (kind_view right.now)) }
 {
     is_scalar(scalar, left) && is_scalar(scalar, right)
 }
 
-fn are_compared<M: Names>(numbers: Compared, left: &Kind<M>, right: &Kind<M>) -> bool
+fn are_compared<M: ShapeName>(numbers: Compared, left: &Kind<M>, right: &Kind<M>) -> bool
     ensures { result ≡ (is_compared numbers (kind_view left.now) && is_compared numbers (kind_view right.now)) }
 {
     is_compared(numbers, left) && is_compared(numbers, right)
 }
 
-fn are_in_family<M: Names>(family: Family, left: &Kind<M>, right: &Kind<M>) -> bool
+fn are_in_family<M: ShapeName>(family: Family, left: &Kind<M>, right: &Kind<M>) -> bool
     ensures { result ≡ (is_family family (family_in (kind_view left.now))
         && is_family family (family_in (kind_view right.now))) }
 {
@@ -250,7 +288,7 @@ fn are_in_family<M: Names>(family: Family, left: &Kind<M>, right: &Kind<M>) -> b
 }
 
 /// What an operator gives of two operands.
-pub(crate) fn apply_binary<M: Names>(
+pub(crate) fn apply_binary<M: ShapeName>(
     alloc: Global,
     operator: BinaryOperator,
     left: &Kind<M>,

@@ -1,17 +1,15 @@
-//! Parts of shapes. They share the whole, so none is copied. They are known by the way to them in the measured
-//! value's shape, or by the place at which they arrived first.
+//! Parts of shapes. They share the whole, so none is copied, and those of the measured value's shape are known by
+//! the way to them.
 
 ghost use Rattle.std.specs.Prelude.{◌≡◌, ◌++◌, ◌∷◌, [], true, IfOk, Some, map, option_map};
-ghost use Rattle.ar_value.specs.Kind.{plain, shaped};
-ghost use Rattle.ar_value.specs.Shape.{field_shapes_of, shape_named};
+ghost use Rattle.ar_value.specs.Shape.{field_shapes_of};
 ghost use Rattle.ar_value.specs.View.{field_shape_view, shape_view};
-ghost use Rattle.ar_verified.specs.Effects.{field_kind};
 ghost use Rattle.ar_verify.specs.Private.Parts.{part_view};
-ghost use Rattle.ar_verify.specs.Private.Roots.{child, field_or, nth_field, part_at, root_view};
+ghost use Rattle.ar_verify.specs.Private.Roots.{child, field_or, number_named, number_of, part_at, root_view};
 
-use crate::root::{Name, Part, Root};
-use crate::whole::{Names, Whole};
-use ar_value::kind;
+use crate::root::{Part, Root};
+use crate::whole::{ShapeName, Whole};
+use ar_value::sameness::are_same_shapes;
 use ar_value::shape::{FieldShape, Shape};
 use std::alloc::{AllocError, Global};
 use std::rc::Rc;
@@ -55,14 +53,6 @@ fn follow<'a>(whole: &'a Shape, path: &[usize]) -> &'a Shape
     shape
 }
 
-fn copied(alloc: Global, path: &[usize]) -> Result<Vec<usize>, AllocError>
-    ensures { IfOk result (λ copied. copied.items ≡ path.now) }
-{
-    let mut copied = Vec::with_capacity(alloc, path.len())?;
-    copied.extend_from_slice(path)?;
-    Ok(copied)
-}
-
 /// One step more.
 fn longer(alloc: Global, path: &[usize], number: usize) -> Result<Vec<usize>, AllocError>
     ensures { IfOk result (λ longer. longer.items ≡ path.now ++ number ∷ []) }
@@ -73,7 +63,7 @@ fn longer(alloc: Global, path: &[usize], number: usize) -> Result<Vec<usize>, Al
     Ok(longer)
 }
 
-impl<M: Names> Part<M> {
+impl<M: ShapeName> Part<M> {
     fn whole(alloc: Global, root: Root<M>) -> Result<Rc<Part<M>>, AllocError>
         ensures { IfOk result (λ whole. part_view whole.value ≡ root_view root) }
     {
@@ -82,7 +72,6 @@ impl<M: Names> Part<M> {
             Part {
                 root,
                 path: Vec::new(alloc),
-                name: None,
             },
         )?)
     }
@@ -114,76 +103,12 @@ impl<M: Names> Part<M> {
     {
         let path = longer(alloc, &self.path, number)?;
         let root = self.root.share()?;
-        Ok(Rc::new(
-            alloc,
-            Part {
-                root,
-                path,
-                name: None,
-            },
-        )?)
-    }
-
-    /// Whether it is known by nothing yet, and dear to compare: a shape that was made and has parts.
-    fn wants_name(&self) -> bool {
-        self.name.is_none() && !self.root.is_measured() && has_parts(self.get())
-    }
-
-    /// The same once more, by a name.
-    #[tactic(auto, using(crate::proofs::Naming::named))]
-    fn named(&self, alloc: Global, name: Name) -> Result<Rc<Part<M>>, AllocError>
-        requires { M.arriving name.place name.index ≡ part_view self.now }
-        ensures { IfOk result (λ named. part_view named.value ≡ part_view self.now) }
-    {
-        let path = copied(alloc, &self.path)?;
-        let root = self.root.share()?;
-        Ok(Rc::new(
-            alloc,
-            Part {
-                root,
-                path,
-                name: Some(name),
-            },
-        )?)
-    }
-}
-
-/// Names a part, where it is known by nothing yet and dear to compare.
-pub(crate) fn name_part<M: Names>(
-    alloc: Global,
-    name: Name,
-    part: &mut Rc<Part<M>>,
-) -> Result<(), AllocError>
-    requires { M.arriving name.place name.index ≡ part_view part.old.value }
-    ensures { part_view part.new.value ≡ part_view part.old.value }
-{
-    if part.wants_name() {
-        *part = part.named(alloc, name)?;
-    }
-    Ok(())
-}
-
-fn has_parts(shape: &Shape) -> bool {
-    match shape {
-        Shape::List { .. } | Shape::Object(_) | Shape::Optional(_) => true,
-        Shape::Bool | Shape::Whole | Shape::Decimal | Shape::Text => false,
-    }
-}
-
-/// The shape of what isn't nil.
-#[tactic(auto, using(crate::proofs::Parts::plain_already, crate::proofs::Ways::plain_inside))]
-pub(crate) fn plain<M: Names>(alloc: Global, part: &Rc<Part<M>>) -> Result<Rc<Part<M>>, AllocError>
-    ensures { IfOk result (λ inner. part_view inner.value ≡ plain (part_view part.now.value)) }
-{
-    if kind::is_optional(part.get()) {
-        part.child(alloc, INNER)
-    } else {
-        part.clone()
+        Ok(Rc::new(alloc, Part { root, path })?)
     }
 }
 
 /// Whether two parts lie at one way in the measured value's shape.
-fn lie_at_one_way<M: Names>(left: &Part<M>, right: &Part<M>) -> bool
+fn lie_at_one_way<M: ShapeName>(left: &Part<M>, right: &Part<M>) -> bool
     ensures { result ≡ true → part_view left.now ≡ part_view right.now }
 {
     left.root.is_measured()
@@ -191,28 +116,25 @@ fn lie_at_one_way<M: Names>(left: &Part<M>, right: &Part<M>) -> bool
         && left.path.as_slice() == right.path.as_slice()
 }
 
-/// Whether two parts arrived at one place, as the same operand there.
-#[tactic(auto, using(crate::proofs::Naming::of_one_name))]
-fn have_one_name<M: Names>(left: &Part<M>, right: &Part<M>) -> bool
+/// Whether both are made by code, which makes scalars and lists of scalars, and are the same.
+fn are_made_alike<M: ShapeName>(left: &Part<M>, right: &Part<M>) -> bool
     ensures { result ≡ true → part_view left.now ≡ part_view right.now }
 {
-    match (left.name, right.name) {
-        (Some(left), Some(right)) => left.place == right.place && left.index == right.index,
-        _ => false,
-    }
+    !left.root.is_measured()
+        && !right.root.is_measured()
+        && are_same_shapes(left.get(), right.get())
 }
 
-/// Whether it is known without a look at their shapes that two parts are one.
-pub(crate) fn are_one<M: Names>(left: &Part<M>, right: &Part<M>) -> bool
+/// Whether it is known that two parts are the same. Large shapes are not compared.
+pub(crate) fn are_one<M: ShapeName>(left: &Part<M>, right: &Part<M>) -> bool
     ensures { result ≡ true → part_view left.now ≡ part_view right.now }
 {
-    have_one_name(left, right) || lie_at_one_way(left, right)
+    lie_at_one_way(left, right) || are_made_alike(left, right)
 }
 
 #[tactic(auto, using(crate::proofs::Ways::named_here, crate::proofs::Ways::named_further, crate::proofs::Ways::none_named))]
 fn number_among(name: &str, fields: &[FieldShape]) -> Option<usize>
-    ensures { option_map (λ number. nth_field number (field_shapes_of (map field_shape_view fields.now))) result
-        ≡ option_map Some (shape_named name.now (field_shapes_of (map field_shape_view fields.now))) }
+    ensures { result ≡ number_named name.now (field_shapes_of (map field_shape_view fields.now)) }
 {
     for (index, field) in fields.iter().enumerate() {
         if field.name.as_str() == name {
@@ -223,10 +145,8 @@ fn number_among(name: &str, fields: &[FieldShape]) -> Option<usize>
 }
 
 /// The number of a record's field, where the shape is that of a record that has one of the name.
-#[tactic(auto, using(crate::proofs::Ways::by_number))]
 pub(crate) fn field_number(name: &str, shape: &Shape) -> Option<usize>
-    ensures { option_map (λ number. shaped (child number (shape_view shape.now))) result
-        ≡ field_kind name.now (shaped (shape_view shape.now)) }
+    ensures { result ≡ number_of name.now (shape_view shape.now) }
 {
     match shape {
         Shape::Object(fields) => number_among(name, &fields.items),

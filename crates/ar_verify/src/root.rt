@@ -1,42 +1,29 @@
 //! Whole shapes, and what parts of them are made of.
 
-ghost use Rattle.std.proofs.Props.{props};
 ghost use Rattle.std.specs.Prelude.{◌≡◌, true, IfOk};
 ghost use Rattle.ar_value.specs.View.{shape_view};
-ghost use Rattle.ar_verify.specs.Private.Roots.{IsNamed, part_at, root_view};
+ghost use Rattle.ar_verify.specs.Private.Roots.{root_view};
 
-use crate::whole::{Names, Whole};
+use crate::whole::{ShapeName, Whole};
 use ar_value::shape::Shape;
 use std::alloc::AllocError;
 use std::rc::Rc;
 
 /// A whole shape: that of the measured value, or one that is shared by all that are a part of it.
 #[derive(Drop)]
-pub(crate) enum Root<M: Names> {
+pub(crate) enum Root<M: ShapeName> {
     Measured(Whole<M>),
     Made(Rc<Shape>),
 }
 
-/// The name of an operand's kind: the place at which it arrived, and its number among the operands there,
-/// from below.
-#[derive(Clone, Copy)]
-pub(crate) struct Name {
-    pub place: usize,
-    pub index: usize,
-}
-
-/// A part of a shape, by the numbers of the parts on the way to it. It is held in an [`Rc`], which is
-/// shared and let go in one step.
+/// A part of a shape, by the numbers of the parts on the way to it.
 #[derive(Drop)]
-pub(crate) struct Part<M: Names> {
+pub(crate) struct Part<M: ShapeName> {
     pub root: Root<M>,
     pub path: Vec<usize>,
-    /// None where it hasn't arrived anywhere yet, or needs no name.
-    pub name: Option<Name>,
-    ghost is_named: { IsNamed M.arriving name (part_at path.items (root_view root)) } by { Prim.hlevel props },
 }
 
-impl<M: Names> Root<M> {
+impl<M: ShapeName> Root<M> {
     pub(crate) fn get(&self) -> &Shape
         ensures { shape_view result.now ≡ root_view self.now }
     {

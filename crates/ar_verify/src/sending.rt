@@ -8,36 +8,37 @@ ghost use Rattle.ar_verify.specs.Private.Failures.{Meets};
 ghost use Rattle.ar_verify.specs.Private.Held.{around_view, counted, from_innermost, operands_view};
 ghost use Rattle.ar_verify.specs.Private.Kinds.{kind_view, list_view};
 ghost use Rattle.ar_verify.specs.Private.Sending.{around, beginning, begun, branched, ending, given_on_top, going_on, jumping, kept_or_taken, list_taken, only_truth, passed_by, performed, returning, sends_by, sends_view, stepping, truth_taken};
+ghost use Rattle.ar_verify.specs.Private.Shapes.{list_of};
 ghost use Rattle.ar_verify.specs.Private.Stacks.{from_top};
 
 use crate::effect::{apply, takes_scalar};
 use crate::failure::Failure;
-use crate::kind::{Kind, into_list, list_like};
+use crate::kind::{Kind, into_list, kind_of_list};
+use crate::list::ListShape;
 use crate::operands::{Around, Operands};
-use crate::root::Part;
+use crate::parts::Parts;
 use crate::stack::{add, pop, push};
-use crate::whole::{Names, Whole};
+use crate::whole::{ShapeName, Whole};
 use ar_op::code::Code;
 use ar_op::op::{Jump, Op, Source};
 use ar_value::operator::{Predicate, Scalar};
 use ar_value::shape::Shape;
 use ar_verified::Reason;
 use std::alloc::{AllocError, Global};
-use std::rc::Rc;
 
 /// How many operands there may be, those below the floor too.
 const MOST_OPERANDS: usize = 64;
 
 /// Operands on the way to a place.
 #[derive(Drop)]
-pub(crate) struct Sent<M: Names> {
+pub(crate) struct Sent<M: ShapeName> {
     pub target: usize,
     pub operands: Operands<M>,
 }
 
 /// What an operation sends on, in the order in which it arrives.
 #[derive(Drop)]
-pub(crate) enum Sends<M: Names> {
+pub(crate) enum Sends<M: ShapeName> {
     Nothing,
     One(Sent<M>),
     Two(Sent<M>, Sent<M>),
@@ -45,7 +46,7 @@ pub(crate) enum Sends<M: Names> {
 
 /// Takes a truth value.
 #[tactic(auto, using(crate::proofs::Passed::truth_is_taken, crate::proofs::Passed::no_truth_is_taken))]
-fn take_truth<M: Names>(kinds: &mut Vec<Kind<M>>) -> Result<(), Failure>
+fn take_truth<M: ShapeName>(kinds: &mut Vec<Kind<M>>) -> Result<(), Failure>
     ensures { Meets (λ _. from_top kinds.new.items) result (truth_taken (from_top kinds.old.items)) }
 {
     if takes_scalar(Scalar::Bool, kinds) {
@@ -56,8 +57,8 @@ fn take_truth<M: Names>(kinds: &mut Vec<Kind<M>>) -> Result<(), Failure>
 }
 
 /// Takes a list.
-fn take_list<M: Names>(kinds: &mut Vec<Kind<M>>) -> Result<Rc<Part<M>>, Failure>
-    ensures { Meets (λ list. (list_view list.value, from_top kinds.new.items)) result
+fn take_list<M: ShapeName>(kinds: &mut Vec<Kind<M>>) -> Result<ListShape<M>, Failure>
+    ensures { Meets (λ list. (list_view list, from_top kinds.new.items)) result
         (list_taken (from_top kinds.old.items)) }
 {
     match pop(kinds) {
@@ -67,23 +68,26 @@ fn take_list<M: Names>(kinds: &mut Vec<Kind<M>>) -> Result<Rc<Part<M>>, Failure>
 }
 
 /// What a loop gives over a list.
-fn answer_kind<M: Names>(
+fn answer_kind<M: ShapeName>(
     alloc: Global,
     predicate: Predicate,
-    list: &Rc<Part<M>>,
+    list: &ListShape<M>,
 ) -> Result<Kind<M>, AllocError>
     ensures { IfOk result
-        (λ answer. kind_view answer ≡ answer_kind predicate (list_view list.now.value).0 (list_view list.now.value).1) }
+        (λ answer. kind_view answer ≡ answer_kind predicate (list_view list.now).0 (list_view list.now).1) }
 {
     match predicate {
         Predicate::All | Predicate::Any => Kind::made(alloc, Shape::Bool),
         Predicate::Count => Kind::made(alloc, Shape::Whole),
-        Predicate::Filter => Ok(Kind::Shape(list_like(alloc, list)?)),
+        Predicate::Filter => kind_of_list(list),
     }
 }
 
 #[tactic(auto, using(crate::proofs::Tops::on_top))]
-fn push_loop<M: Names>(loops: &mut Vec<Around<M>>, innermost: Around<M>) -> Result<(), AllocError>
+fn push_loop<M: ShapeName>(
+    loops: &mut Vec<Around<M>>,
+    innermost: Around<M>,
+) -> Result<(), AllocError>
     ensures { OnOk result
         (from_innermost loops.new.items ≡ around_view innermost ∷ from_innermost loops.old.items) }
 {
@@ -91,7 +95,7 @@ fn push_loop<M: Names>(loops: &mut Vec<Around<M>>, innermost: Around<M>) -> Resu
 }
 
 #[tactic(auto, using(crate::proofs::Tops::on_top))]
-fn pop_loop<M: Names>(loops: &mut Vec<Around<M>>) -> Option<Around<M>>
+fn pop_loop<M: ShapeName>(loops: &mut Vec<Around<M>>) -> Option<Around<M>>
     ensures { MatchOption result (from_innermost loops.old.items ≡ [])
         (λ popped. from_innermost loops.old.items ≡ around_view popped ∷ from_innermost loops.new.items) }
 {
@@ -100,14 +104,14 @@ fn pop_loop<M: Names>(loops: &mut Vec<Around<M>>) -> Option<Around<M>>
 
 /// The shape of the innermost loop's list.
 #[tactic(auto, using(crate::proofs::Tops::last_item))]
-fn innermost<'a, M: Names>(loops: &'a [Around<M>]) -> Option<&'a Part<M>>
-    ensures { option_map (λ list. (list_view list.now).0) result ≡ item_of (from_innermost loops.now) }
+fn innermost<'a, M: ShapeName>(loops: &'a [Around<M>]) -> Option<&'a Parts<M>>
+    ensures { option_map (λ list. (list_of list.now).0) result ≡ item_of (from_innermost loops.now) }
 {
-    Some(&loops.last()?.list)
+    Some(&loops.last()?.list.parts)
 }
 
 /// Goes to a place with the truth value on top, or on without it.
-fn keep_or_take<M: Names>(
+fn keep_or_take<M: ShapeName>(
     alloc: Global,
     next: usize,
     target: u32,
@@ -131,7 +135,7 @@ fn keep_or_take<M: Names>(
 }
 
 /// Goes to a place or on, without the truth value on top.
-fn branch<M: Names>(
+fn branch<M: ShapeName>(
     alloc: Global,
     next: usize,
     target: u32,
@@ -155,7 +159,7 @@ fn branch<M: Names>(
 }
 
 /// Goes to the place of a jump, or on.
-fn jump<M: Names>(
+fn jump<M: ShapeName>(
     alloc: Global,
     jump: Jump,
     next: usize,
@@ -176,13 +180,13 @@ fn jump<M: Names>(
 }
 
 /// Operands at the begin of the body of a loop over a list, where there are none above its floor.
-fn inside<M: Names>(
+fn inside<M: ShapeName>(
     alloc: Global,
-    list: Rc<Part<M>>,
+    list: ListShape<M>,
     had: Operands<M>,
 ) -> Result<Operands<M>, AllocError>
     ensures { IfOk result (λ inside. operands_view inside
-        ≡ operands [] (around (list_view list.value, (operands_view had).kinds) ∷ (operands_view had).loops)) }
+        ≡ operands [] (around (list_view list, (operands_view had).kinds) ∷ (operands_view had).loops)) }
 {
     let Operands { kinds, mut loops } = had;
     push_loop(&mut loops, Around { list, below: kinds })?;
@@ -193,14 +197,14 @@ fn inside<M: Names>(
 }
 
 /// Operands behind a loop over a list, with its answer on top.
-fn behind<M: Names>(
+fn behind<M: ShapeName>(
     alloc: Global,
     predicate: Predicate,
-    list: &Rc<Part<M>>,
+    list: &ListShape<M>,
     mut below: Vec<Kind<M>>,
 ) -> Result<Vec<Kind<M>>, AllocError>
     ensures { IfOk result (λ kinds. from_top kinds.items
-        ≡ answer_kind predicate (list_view list.now.value).0 (list_view list.now.value).1 ∷ from_top below.items) }
+        ≡ answer_kind predicate (list_view list.now).0 (list_view list.now).1 ∷ from_top below.items) }
 {
     let answer = answer_kind(alloc, predicate, list)?;
     push(&mut below, answer)?;
@@ -208,14 +212,14 @@ fn behind<M: Names>(
 }
 
 /// Operands behind a loop over a list, with its answer on top of those that were there.
-fn skip_loop<M: Names>(
+fn skip_loop<M: ShapeName>(
     alloc: Global,
     predicate: Predicate,
-    list: &Rc<Part<M>>,
+    list: &ListShape<M>,
     had: &Operands<M>,
 ) -> Result<Operands<M>, AllocError>
     ensures { IfOk result (λ skipped. operands_view skipped ≡ operands
-        (answer_kind predicate (list_view list.now.value).0 (list_view list.now.value).1 ∷ (operands_view had.now).kinds)
+        (answer_kind predicate (list_view list.now).0 (list_view list.now).1 ∷ (operands_view had.now).kinds)
         (operands_view had.now).loops) }
 {
     let Operands { kinds, loops } = had.copy(alloc)?;
@@ -224,16 +228,16 @@ fn skip_loop<M: Names>(
 }
 
 /// Begins a loop over a list that was on top, or goes behind it with its answer.
-fn begin_loop<M: Names>(
+fn begin_loop<M: ShapeName>(
     alloc: Global,
     predicate: Predicate,
     next: usize,
     behind: usize,
-    list: Rc<Part<M>>,
+    list: ListShape<M>,
     had: Operands<M>,
 ) -> Result<Sends<M>, AllocError>
     ensures { IfOk result (λ sends. sends_view sends
-        ≡ begun predicate next behind (list_view list.value, (operands_view had).kinds) (operands_view had).loops) }
+        ≡ begun predicate next behind (list_view list, (operands_view had).kinds) (operands_view had).loops) }
 {
     let skipped = skip_loop(alloc, predicate, &list, &had)?;
     let body = inside(alloc, list, had)?;
@@ -250,7 +254,7 @@ fn begin_loop<M: Names>(
 }
 
 /// Begins a loop over the list on top, or goes behind it with its answer.
-fn enter<M: Names>(
+fn enter<M: ShapeName>(
     alloc: Global,
     predicate: Predicate,
     next: usize,
@@ -265,7 +269,7 @@ fn enter<M: Names>(
 }
 
 /// Takes the truth value of a loop's body, which has to be alone above the floor.
-fn take_answer<M: Names>(mut kinds: Vec<Kind<M>>) -> Result<(), Failure>
+fn take_answer<M: ShapeName>(mut kinds: Vec<Kind<M>>) -> Result<(), Failure>
     ensures exact { Meets (λ _. []) result (only_truth (from_top kinds.items)) }
     ensures taken { OnOk result (truth_taken (from_top kinds.items) ≡ Ok []) }
 {
@@ -278,7 +282,7 @@ fn take_answer<M: Names>(mut kinds: Vec<Kind<M>>) -> Result<(), Failure>
 }
 
 /// Goes behind the innermost loop, with its answer.
-fn end_loop<M: Names>(
+fn end_loop<M: ShapeName>(
     alloc: Global,
     predicate: Predicate,
     next: usize,
@@ -295,7 +299,7 @@ fn end_loop<M: Names>(
 }
 
 /// Goes behind a loop, where nothing but the truth value of its body is above its floor.
-fn step<M: Names>(
+fn step<M: ShapeName>(
     alloc: Global,
     predicate: Predicate,
     next: usize,
@@ -309,7 +313,7 @@ fn step<M: Names>(
 }
 
 /// Ends with the truth value on top.
-fn answer<M: Names>(mut had: Operands<M>) -> Result<Sends<M>, Failure>
+fn answer<M: ShapeName>(mut had: Operands<M>) -> Result<Sends<M>, Failure>
     ensures { Meets sends_view result (returning (operands_view had).kinds) }
 {
     take_truth(&mut had.kinds)?;
@@ -317,7 +321,7 @@ fn answer<M: Names>(mut had: Operands<M>) -> Result<Sends<M>, Failure>
 }
 
 /// Pushes what an operation gives, unless it doesn't take its operands.
-fn push_given<M: Names>(kinds: &mut Vec<Kind<M>>, given: Option<Kind<M>>) -> Result<(), Failure>
+fn push_given<M: ShapeName>(kinds: &mut Vec<Kind<M>>, given: Option<Kind<M>>) -> Result<(), Failure>
     ensures { Meets (λ _. from_top kinds.new.items) result
         (given_on_top (option_map kind_view given) (from_top kinds.old.items)) }
 {
@@ -326,23 +330,23 @@ fn push_given<M: Names>(kinds: &mut Vec<Kind<M>>, given: Option<Kind<M>>) -> Res
 }
 
 /// Performs an operation that goes on to the next place, of the operands above the floor.
-fn perform<M: Names>(
+fn perform<M: ShapeName>(
     alloc: Global,
     code: &Code,
     measured: &Whole<M>,
-    here: Option<&Part<M>>,
+    here: Option<&Parts<M>>,
     op: Op,
     kinds: &mut Vec<Kind<M>>,
 ) -> Result<(), Failure>
     ensures { Meets (λ _. from_top kinds.new.items) result (performed
-        (effect code.now (shape_view M.shape) (option_map (λ list. (list_view list.now).0) here.entry) op (from_top kinds.old.items))) }
+        (effect code.now (shape_view M.shape) (option_map (λ list. (list_of list.now).0) here.entry) op (from_top kinds.old.items))) }
 {
     let given = apply(alloc, code, measured, here, op, kinds)?;
     push_given(kinds, given)
 }
 
 /// Goes to the next place.
-fn go_on<M: Names>(
+fn go_on<M: ShapeName>(
     alloc: Global,
     code: &Code,
     measured: &Whole<M>,
@@ -361,7 +365,7 @@ fn go_on<M: Names>(
     }))
 }
 
-fn passed_on<M: Names>(
+fn passed_on<M: ShapeName>(
     alloc: Global,
     code: &Code,
     measured: &Whole<M>,
@@ -385,7 +389,7 @@ fn passed_on<M: Names>(
 
 /// Whether an operand is missing above the floor, or the item.
 #[tactic(auto, using(crate::proofs::Tops::so_many))]
-fn lacks<M: Names>(op: Op, had: &Operands<M>) -> bool
+fn lacks<M: ShapeName>(op: Op, had: &Operands<M>) -> bool
     ensures { result ≡ lacks op (operands_view had.now) }
 {
     match op {
@@ -394,7 +398,7 @@ fn lacks<M: Names>(op: Op, had: &Operands<M>) -> bool
     }
 }
 
-impl<M: Names> Sends<M> {
+impl<M: ShapeName> Sends<M> {
     /// The greatest number of operands on the way.
     pub(crate) fn deepest(&self) -> usize
         ensures { result ≡ counted (deepest (sends_view self.now)) }
@@ -411,7 +415,7 @@ impl<M: Names> Sends<M> {
 }
 
 /// What an operation sends on, of operands that arrived.
-pub(crate) fn send_on<M: Names>(
+pub(crate) fn send_on<M: ShapeName>(
     alloc: Global,
     code: &Code,
     measured: &Whole<M>,

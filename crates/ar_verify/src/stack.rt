@@ -5,7 +5,7 @@ ghost use Rattle.ar_verify.specs.Private.Kinds.{kind_view};
 ghost use Rattle.ar_verify.specs.Private.Stacks.{from_top};
 
 use crate::kind::Kind;
-use crate::whole::Names;
+use crate::whole::ShapeName;
 use std::alloc::{AllocError, Global};
 
 /// Adds an item to a list, or lets it go where there is no memory for it.
@@ -17,14 +17,14 @@ pub(crate) fn add<T: Drop>(list: &mut Vec<T>, item: T) -> Result<(), AllocError>
 }
 
 #[tactic(auto, using(crate::proofs::Tops::on_top))]
-pub(crate) fn push<M: Names>(kinds: &mut Vec<Kind<M>>, kind: Kind<M>) -> Result<(), AllocError>
+pub(crate) fn push<M: ShapeName>(kinds: &mut Vec<Kind<M>>, kind: Kind<M>) -> Result<(), AllocError>
     ensures { OnOk result (from_top kinds.new.items ≡ kind_view kind ∷ from_top kinds.old.items) }
 {
     add(kinds, kind)
 }
 
 #[tactic(auto, using(crate::proofs::Tops::on_top))]
-pub(crate) fn pop<M: Names>(kinds: &mut Vec<Kind<M>>) -> Option<Kind<M>>
+pub(crate) fn pop<M: ShapeName>(kinds: &mut Vec<Kind<M>>) -> Option<Kind<M>>
     ensures { MatchOption result ((from_top kinds.old.items ≡ []) × (from_top kinds.new.items ≡ []))
         (λ kind. from_top kinds.old.items ≡ kind_view kind ∷ from_top kinds.new.items) }
 {

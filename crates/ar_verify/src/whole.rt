@@ -1,9 +1,7 @@
-//! What is the same throughout a verification, by names: all that are of one name are the same, which no
-//! reference tells.
+//! The shape of the measured value, by a name: all that are of one name are the same, which no reference tells.
 
-ghost use Rattle.std.specs.Prelude.{◌≡◌, ℕ};
+ghost use Rattle.std.specs.Prelude.{◌≡◌};
 ghost use Rattle.std.specs.Coded.{codes};
-ghost use Rattle.ar_value.specs.Shape as shapes;
 ghost use Rattle.ar_value.specs.contracts.shape.Shape as shape_row;
 
 use ar_value::shape::Shape;
@@ -12,33 +10,28 @@ use std::alloc::{AllocError, Global};
 use std::marker::{Brand, PhantomData};
 use std::rc::Rc;
 
-/// Names the shape of the measured value, and at each place the shapes of the operands that arrive there, by
-/// their numbers from below.
-pub(crate) trait Names {
+/// Names the shape of the measured value.
+pub(crate) trait ShapeName {
     ghost use Rattle.ar_value.specs.declared.shape.Shape.{Shape};
 
     ghost shape: { Shape };
-
-    ghost arriving: { ℕ → ℕ → shapes.Shape };
 }
 
-impl Names for Brand {
+impl ShapeName for Brand {
     ghost use Rattle.ar_value.specs.declared.shape.Shape.TheVariants.{Bool};
 
     ghost shape = { Bool };
-
-    ghost arriving = { λ place index. shapes.bool };
 }
 
 /// The shape that is named, which stands once.
 #[derive(Drop)]
-pub(crate) struct Whole<M: Names> {
+pub(crate) struct Whole<M: ShapeName> {
     shape: Rc<SharedShape>,
     name: PhantomData<M>,
     ghost is: { shape.value ≡ M.shape } by { Prim.hlevel (codes, shape_row.the_row.coded) },
 }
 
-impl<M: Names> Whole<M> {
+impl<M: ShapeName> Whole<M> {
     pub(crate) fn new(alloc: Global, shape: &SharedShape) -> Result<Whole<M>, AllocError>
         requires { shape.now ≡ M.shape }
     {

@@ -18,12 +18,12 @@ use Rattle.ar_verified.specs.declared.error.Reason.TheVariants.{BadMerge, IllKin
 use Rattle.ar_verify.specs.declared.sending.Sends.{Sends}
 use Rattle.ar_verify.specs.declared.sending.Sends.TheVariants as code
 use Rattle.ar_verify.specs.declared.sending.Sent as codes
-use Rattle.ar_verify.specs.declared.whole.Names as Names
+use Rattle.ar_verify.specs.declared.whole.ShapeName as ShapeName
 
-abbrev pub sent_view : {M : Type 0} {name : Names.Ghosts M} → codes.Sent M name → Sent
+abbrev pub sent_view : {M : Type 0} {name : ShapeName.Ghosts M} → codes.Sent M name → Sent
 sent_view s = record { target = s.target; operands = operands_view s.operands }
 
-abbrev pub sends_view : {M : Type 0} {name : Names.Ghosts M} → Sends M name → List Sent
+abbrev pub sends_view : {M : Type 0} {name : ShapeName.Ghosts M} → Sends M name → List Sent
 sends_view code.Nothing = []
 sends_view (code.One only) = sent_view only ∷ []
 sends_view (code.Two first second) = sent_view first ∷ sent_view second ∷ []

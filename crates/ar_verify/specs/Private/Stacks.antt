@@ -6,10 +6,10 @@ use Rattle.ar_value.specs.declared.operator.Scalar.{Scalar}
 use Rattle.ar_verified.specs.Effects.{is_scalar}
 use Rattle.ar_verify.specs.Private.Kinds.{kind_view, list_in}
 use Rattle.ar_verify.specs.declared.kind.Kind as code
-use Rattle.ar_verify.specs.declared.whole.Names as Names
+use Rattle.ar_verify.specs.declared.whole.ShapeName as ShapeName
 
 -- kinds from the top
-abbrev pub from_top : {M : Type 0} {name : Names.Ghosts M} → List (code.Kind M name) → List Kind
+abbrev pub from_top : {M : Type 0} {name : ShapeName.Ghosts M} → List (code.Kind M name) → List Kind
 from_top stack = reverse (map kind_view stack)
 
 -- the one on top
@@ -18,7 +18,7 @@ first [] = None
 first (x ∷ xs) = Some x
 
 -- a kind that is given, on top of those that are left
-abbrev pub Leaves : {M : Type 0} {name : Names.Ghosts M} → Option (code.Kind M name) → List (code.Kind M name) → Option (List Kind) → Type 0
+abbrev pub Leaves : {M : Type 0} {name : ShapeName.Ghosts M} → Option (code.Kind M name) → List (code.Kind M name) → Option (List Kind) → Type 0
 Leaves given rest kinds = kinds ≡ option_map (λ given. kind_view given ∷ from_top rest) given
 
 -- an operand is taken off the top, of which it is told whether it was a scalar of a kind

@@ -1,13 +1,11 @@
 -- Pass 5 as the code makes it: a table of what arrived at each place so far, to which each operation adds what it sends on.
-use Rattle.std.specs.Prelude.{◌≡◌, ◌<◌, ◌≤◌, ℕ, false, zero, suc, ◌+◌, max, List, [], ◌∷◌, ◌++◌, drop, length, map, replicate, reverse, slice_index_or, slice_set, Result, Ok, Err}
+use Rattle.std.specs.Prelude.{◌≡◌, ◌<◌, ◌≤◌, ℕ, zero, suc, ◌+◌, max, List, [], ◌∷◌, ◌++◌, drop, length, map, slice_index_or, slice_set, Result, Ok, Err}
 use Rattle.ar_value.specs.Answer.{◌>>=◌}
-use Rattle.ar_value.specs.Kind.{Kind}
 use Rattle.ar_value.specs.Shape.{Shape}
 use Rattle.ar_op.specs.Code.{Code}
 use Rattle.ar_op.specs.declared.op.Op.{Op}
 use Rattle.ar_op.specs.declared.op.Op.TheVariants as ops
-use Rattle.ar_op.specs.declared.op.Source.TheVariants as sources
-use Rattle.ar_verified.specs.Arrivals.{Operands, Sent, all_sent, arrival, arrived, deepest, merged, of_loops, operands, sent_on, sent_to}
+use Rattle.ar_verified.specs.Arrivals.{Operands, Sent, all_sent, arrival, arrived, deepest, merged, of_loops, sent_on, sent_to}
 use Rattle.ar_verified.specs.Budget.{most_items, most_on_top}
 use Rattle.ar_verify.specs.Private.Held.{arrival_view}
 use Rattle.ar_verify.specs.Private.Sending.{sends_by}
@@ -17,7 +15,7 @@ use Rattle.ar_verified.specs.declared.error.Cause.{Cause}
 use Rattle.ar_verified.specs.declared.error.Reason.{Reason}
 use Rattle.ar_verified.specs.declared.error.Reason.TheVariants.{Unreachable}
 use Rattle.ar_verify.specs.declared.operands.Operands as held
-use Rattle.ar_verify.specs.declared.whole.Names as Names
+use Rattle.ar_verify.specs.declared.whole.ShapeName as ShapeName
 
 -- ---- what is known once the pass found no fault
 
@@ -52,7 +50,7 @@ one_more (Err reason) next = Err reason
 abbrev pub Table : Type 0
 Table = List (Result Operands Reason)
 
-abbrev pub table_view : {M : Type 0} {name : Names.Ghosts M} → List (Result (held.Operands M name) Reason) → Table
+abbrev pub table_view : {M : Type 0} {name : ShapeName.Ghosts M} → List (Result (held.Operands M name) Reason) → Table
 table_view arrived = map arrival_view arrived
 
 abbrev pub entry : Table → (place : ℕ) → Result Operands Reason
@@ -78,7 +76,7 @@ pub record State : Type 0 where
   pub table : Table
   pub found : Summary
 
-abbrev pub pass_view : {M : Type 0} {name : Names.Ghosts M} → passes.Pass M name → State
+abbrev pub pass_view : {M : Type 0} {name : ShapeName.Ghosts M} → passes.Pass M name → State
 pass_view p = record { table = table_view p.arrived.items; found = summary_view p.found }
 
 -- what arrived at a place is taken
@@ -99,33 +97,6 @@ added code shape next op s had = sends_by code shape next op had >>= λ sents. O
 abbrev pub looked_at : Code → Shape → (place : ℕ) → Op → State → Result State Reason
 looked_at code shape place op s = entry s.table place >>= λ had. added code shape (place + 1) op (left place s had) had
 
--- ---- what arrives at each place, by which kinds are named
-
-abbrev pub op_at : Code → (place : ℕ) → Op
-op_at code place = slice_index_or code.ops place (ops.Push (sources.Bool false))
-
--- where the pass begins
-abbrev pub at_begin : Code → State
-at_begin code = record { table = Ok (operands [] []) ∷ replicate (length code.ops) (Err Unreachable); found = record { depth = 0; most_items = [] } }
-
--- the pass as it comes to a place, where no operation before it has a fault
-unfoldable pub pass_at : Code → Shape → (place : ℕ) → Result State Reason
-pass_at code shape zero = Ok (at_begin code)
-pass_at code shape (suc place) = pass_at code shape place >>= λ s. looked_at code shape place (op_at code place) s
-
--- kinds from below
-abbrev pub kinds_of : Result Operands Reason → List Kind
-kinds_of (Ok had) = reverse had.kinds
-kinds_of (Err reason) = []
-
-abbrev pub kinds_in : (place : ℕ) → Result State Reason → List Kind
-kinds_in place (Ok s) = kinds_of (entry s.table place)
-kinds_in place (Err reason) = []
-
--- the kinds that arrive at a place
-abbrev pub kinds_at : Code → Shape → (place : ℕ) → List Kind
-kinds_at code shape place = kinds_in place (pass_at code shape place)
-
 -- so many places hold each one that an operation names
 abbrev pub StaysWithin : (places : ℕ) → Op → Type 0
 StaysWithin places (ops.Jump jump target) = target < places
@@ -134,7 +105,6 @@ StaysWithin places op = Unit {0}
 
 -- the pass has come to a place without a fault
 pub record ComesTo (code : Code) (shape : Shape) (place : ℕ) (s : State) : Type 0 where
-  pub so_far : pass_at code shape place ≡ Ok s
   pub sents : List Sent
   pub left : all_sent code shape ≡ sent_on code shape place (drop place code.ops) sents
   pub inside : place ≤ length code.ops

@@ -5,10 +5,9 @@ use Rattle.ar_op.specs.declared.op.Op.{Op}
 use Rattle.ar_op.specs.declared.op.Op.TheVariants.{Push}
 use Rattle.ar_op.specs.declared.op.Source.TheVariants.{Bool}
 use Rattle.ar_verified.specs.Arrivals.{operands}
-use Rattle.ar_verify.specs.Private.Roots.{shapes_of}
 use Rattle.ar_verify.specs.Private.Table.{pass_view}
 use Rattle.ar_verified.specs.declared.error.Reason.TheVariants.{Unreachable}
-use Rattle.ar_verify.proofs.Comes.{all_seen, begins, goes_on, inside_table, kinds_here, stopped}
+use Rattle.ar_verify.proofs.Comes.{all_seen, begins, goes_on, inside_table, stopped}
 use Rattle.ar_verify.proofs.arrivals.find_named.Goals as goal
 
 within : (ops all : List Op) (place : ℕ) → ops ≡ all → place < length ops → place < length all
@@ -22,28 +21,24 @@ past ops all place same h = rw same at h
 
 pub loop-place-init : goal.loop-place-init
 loop-place-init g c =
-    begins c.args.code.now (shape_view g.M.Names.shape) _ (c.in_ok-pass.ensures.table ∙ ap (λ ops. Ok (operands [] []) ∷ replicate (length ops) (Err Unreachable)) c.ops-ops.ensures.ops)
+    begins c.args.code.now (shape_view g.M.ShapeName.shape) _ (c.in_ok-pass.ensures.table ∙ ap (λ ops. Ok (operands [] []) ∷ replicate (length ops) (Err Unreachable)) c.ops-ops.ensures.ops)
     c.in_ok-pass.ensures.depth c.in_ok-pass.ensures.items
 
 pub look_at-requires-clause-targets : goal.look_at-requires-clause-targets
 look_at-requires-clause-targets g c =
-    inside_table c.args.code.now (shape_view g.M.Names.shape) c.requires.places c.loop-place.place (pass_view c.loop-place.pass) c.loop-place.invariant _ (Push (Bool false)) c.loop-place.pass.arrived.items refl
+    inside_table c.args.code.now (shape_view g.M.ShapeName.shape) c.requires.places c.loop-place.place (pass_view c.loop-place.pass) c.loop-place.invariant _ (Push (Bool false)) c.loop-place.pass.arrived.items refl
     (within _ _ _ c.ops-ops.ensures.ops c.loop-place-test.true) (there _ _ _ c.ops-ops.ensures.ops)
-
-pub look_at-requires-clause-names : goal.look_at-requires-clause-names
-look_at-requires-clause-names g c =
-    c.requires.names c.loop-place.place ∙ ap shapes_of (kinds_here c.args.code.now (shape_view g.M.Names.shape) c.loop-place.place (pass_view c.loop-place.pass) c.loop-place.invariant)
 
 pub returns-in-Err : goal.returns-in-Err
 returns-in-Err g c =
-    stopped c.args.code.now (shape_view g.M.Names.shape) c.requires.places c.loop-place.place (pass_view c.loop-place.pass) c.loop-place.invariant _ (Push (Bool false))
+    stopped c.args.code.now (shape_view g.M.ShapeName.shape) c.requires.places c.loop-place.place (pass_view c.loop-place.pass) c.loop-place.invariant _ (Push (Bool false))
     (within _ _ _ c.ops-ops.ensures.ops c.loop-place-test.true) (there _ _ _ c.ops-ops.ensures.ops) c.in-Err.failure c.at.result (pass_view c.look_at.new.self) c.at.ensures c.in-Err.ensures
 
 pub loop-place-preserved : goal.loop-place-preserved
 loop-place-preserved g c =
-    goes_on c.args.code.now (shape_view g.M.Names.shape) c.requires.places c.loop-place.place (pass_view c.loop-place.pass) c.loop-place.invariant _ (Push (Bool false))
-    (within _ _ _ c.ops-ops.ensures.ops c.loop-place-test.true) (there _ _ _ c.ops-ops.ensures.ops) (pass_view c.look_at.new.self) (there _ _ _ c.ops-ops.ensures.ops) c.in_default.ensures
+    goes_on c.args.code.now (shape_view g.M.ShapeName.shape) c.requires.places c.loop-place.place (pass_view c.loop-place.pass) c.loop-place.invariant _ (Push (Bool false))
+    (within _ _ _ c.ops-ops.ensures.ops c.loop-place-test.true) (there _ _ _ c.ops-ops.ensures.ops) (pass_view c.look_at.new.self) c.in_default.ensures
 
 pub returns : goal.returns
 returns g c =
-    all_seen c.args.code.now (shape_view g.M.Names.shape) c.loop-place.place (pass_view c.loop-place.pass) c.loop-place.invariant (past _ _ _ c.ops-ops.ensures.ops c.loop-place-test.false)
+    all_seen c.args.code.now (shape_view g.M.ShapeName.shape) c.loop-place.place (pass_view c.loop-place.pass) c.loop-place.invariant (past _ _ _ c.ops-ops.ensures.ops c.loop-place-test.false)

@@ -1,23 +1,13 @@
 -- What operators give, told by the parts of a list's kind.
-use Rattle.std.proofs.Common.{◌≡◌, ℕ, Bool, true, false, Option, Some, None, option_map, Box, Global, refl, ap, ◌∙◌}
+use Rattle.std.proofs.Common.{◌≡◌, ℕ, Bool, true, false, Option, Some, None, option_map, refl}
 use Rattle.std.specs.Prelude.{◌||◌, if◌then◌else◌, option_and_then}
-use Rattle.ar_value.specs.Kind.{Kind, nil, shaped, is_optional, or_nil, plain}
+use Rattle.ar_value.specs.Kind.{Kind, nil, shaped, plain}
 use Rattle.ar_value.specs.Shape.{Shape, bool, whole, decimal, text, list, object, optional}
-use Rattle.ar_value.specs.View.{shape_view}
 use Rattle.ar_value.specs.declared.operator.Scalar.TheVariants as scalars
-use Rattle.ar_value.specs.declared.shape.Shape.{Shape as Shape_, List as ListShape}
-use Rattle.ar_value.proofs.Views.{shape_view-list}
 use Rattle.ar_verified.specs.Effects.{family_in, family_of, is_number, is_scalar, item_kind, length_kind, member_kind, of_one_family, truth, where_taken}
-use Rattle.ar_verify.specs.Private.Kinds.{is_list, list_in, list_parts, longest}
+use Rattle.ar_verify.specs.Private.Kinds.{list_in}
+use Rattle.ar_verify.specs.Private.Lists.{is_list, list_parts, longest}
 use Rattle.ar_verify.specs.Private.Roots.{child}
-
-pub plain_already : (shape : Shape) → is_optional shape ≡ false → plain shape ≡ shape
-plain_already (optional shape) h = absurd cc
-plain_already shape h = refl
-
-pub nil_already : (shape : Shape) → is_optional shape ≡ true → shaped shape ≡ shaped (or_nil shape)
-nil_already (optional shape) h = refl
-nil_already shape h = absurd cc
 
 -- ---- lists by their shapes
 
@@ -32,15 +22,6 @@ of_no_list shape h = refl
 pub list_itself : (shape : Shape) → is_list shape ≡ true → shape ≡ list (child 0 shape) (longest shape)
 list_itself (list shape max) h = refl
 list_itself shape h = absurd cc
-
-pub made_like : (of : Shape) (item : Box Shape_ Global) → is_list of ≡ false → shape_view item.value ≡ child 0 of → shape_view (ListShape item 0) ≡ list (child 0 of) (longest of)
-made_like (list shape max) item h is = absurd cc
-made_like bool item h is = shape_view-list item 0 ∙ ap (λ shape. list shape 0) is
-made_like whole item h is = shape_view-list item 0 ∙ ap (λ shape. list shape 0) is
-made_like decimal item h is = shape_view-list item 0 ∙ ap (λ shape. list shape 0) is
-made_like text item h is = shape_view-list item 0 ∙ ap (λ shape. list shape 0) is
-made_like (object inside) item h is = shape_view-list item 0 ∙ ap (λ shape. list shape 0) is
-made_like (optional shape) item h is = shape_view-list item 0 ∙ ap (λ shape. list shape 0) is
 
 -- ---- operators
 

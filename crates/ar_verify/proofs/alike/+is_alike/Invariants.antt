@@ -1,0 +1,7 @@
+use Rattle.std.proofs.Common.{◌≡◌, drop}
+use Rattle.ar_verify.proofs.OneForm.{AlikeFields}
+use Rattle.ar_verify.proofs.alike.+is_alike.Given as goal
+
+-- what is left decides
+abbrev pub invariant-are_fields_alike-loop-index : goal.invariant-are_fields_alike-loop-index
+invariant-are_fields_alike-loop-index l = AlikeFields l.fields l.others ≡ AlikeFields (drop l.index l.fields) (drop l.index l.others)
