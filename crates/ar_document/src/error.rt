@@ -5,55 +5,127 @@ use ar_json::shape_reading::ShapeError;
 use ar_judge::BuildError;
 use ar_manifest::ManifestError;
 use std::alloc::{AllocError, AllocFailed};
+use std::fmt;
 use thiserror::Error;
 
 /// Why an input is no bundle, in the order in which it is looked at; but `ShapeMissing` and `Shapes`
 /// go metric by metric, `Bind` and `Build` run by run, and the last three entry by entry, of which
 /// `BadEntry` goes before the names. Numbers of metrics, runs and entries count from 0.
-#[derive(Clone, Copy, Debug, Error)]
+#[derive(Clone, Copy, Error)]
 pub enum BundleError {
     /// It has more than 16,777,216 bytes.
-    #[error("document: TooLarge: expected at most 16777216 bytes")]
     TooLarge,
     /// It is not the text of one JSON value in UTF-8.
-    #[error("document: Utf8OrJson: expected one JSON value in UTF-8")]
     Utf8OrJson,
     /// `manifest` is no template.
-    #[error("manifest: {0}")]
     Manifest(ManifestError),
     /// `shapes` has no member of the metric's name.
-    #[error("shapes: metric {0}: ShapeMissing: expected a shape in `shapes` for each metric, by its name")]
     ShapeMissing(usize),
     /// What `shapes` has for the metric is no shape.
-    #[error("shapes: metric {0}: {1}")]
     Shapes(usize, ShapeError),
     /// `runs` is no list of 1 to 64 runs, each with a text `name` and no `args` but texts by name.
-    #[error("runs: Runs: expected a list of 1 to 64 runs, each with a text `name` and no `args` but texts by name")]
     Runs,
     /// The run has the name of an earlier one.
-    #[error("runs[{0}]: DoubleRun: an earlier run has the name, too")]
     DoubleRun(usize),
     /// The template can't be bound to the run's arguments.
-    #[error("run {0}, {1}")]
     Bind(usize, ManifestError),
     /// A condition of the metric, bound to the run's arguments, can't be run.
-    #[error("run {0}, metric {1}, {2}")]
     Build(usize, usize, BuildError),
     /// There are more than 100,000 entries.
-    #[error("measurements: TooManyMeasurements: expected at most 100000 entries")]
     TooManyMeasurements,
     /// The entry is neither a stop of a run nor a measurement of a metric; or `measurements` is no
     /// list, and the number is 0.
-    #[error("measurements[{0}]: BadEntry: expected a list of entries, each with a text `run`, and `\"stop\":true` or a text `metric` and just one of `value` and `error`")]
     BadEntry(usize),
     /// No run has the name.
-    #[error("measurements[{0}].run: UnknownRun: no run has the name")]
     UnknownRun(usize),
     /// No metric has the name.
-    #[error("measurements[{0}].metric: UnknownMetric: no metric has the name")]
     UnknownMetric(usize),
-    #[error("out of memory")]
     OutOfMemory,
+}
+
+impl BundleError {
+    /// What is at fault, by its number.
+    fn number(self) -> Option<usize> {
+        match self {
+            BundleError::ShapeMissing(number)
+            | BundleError::Shapes(number, _)
+            | BundleError::DoubleRun(number)
+            | BundleError::Bind(number, _)
+            | BundleError::Build(number, _, _)
+            | BundleError::BadEntry(number)
+            | BundleError::UnknownRun(number)
+            | BundleError::UnknownMetric(number) => Some(number),
+            BundleError::TooLarge
+            | BundleError::Utf8OrJson
+            | BundleError::Manifest(_)
+            | BundleError::Runs
+            | BundleError::TooManyMeasurements
+            | BundleError::OutOfMemory => None,
+        }
+    }
+
+    /// The words before the number.
+    fn before(self) -> &'static str {
+        match self {
+            BundleError::ShapeMissing(_) | BundleError::Shapes(..) => "shapes: metric ",
+            BundleError::DoubleRun(_) => "runs[",
+            BundleError::Bind(..) | BundleError::Build(..) => "run ",
+            _ => "measurements[",
+        }
+    }
+
+    /// The words behind the number, or all where there is none, up to the fault of what is inside.
+    fn words(self) -> &'static str {
+        match self {
+            BundleError::TooLarge => "document: TooLarge: expected at most 16777216 bytes",
+            BundleError::Utf8OrJson => "document: Utf8OrJson: expected one JSON value in UTF-8",
+            BundleError::Manifest(_) => "manifest: ",
+            BundleError::ShapeMissing(_) =>
+                ": ShapeMissing: expected a shape in `shapes` for each metric, by its name",
+            BundleError::Shapes(..) => ": ",
+            BundleError::Runs =>
+                "runs: Runs: expected a list of 1 to 64 runs, each with a text `name` and no `args` but texts by name",
+            BundleError::DoubleRun(_) => "]: DoubleRun: an earlier run has the name, too",
+            BundleError::Bind(..) => ", ",
+            BundleError::Build(..) => ", metric ",
+            BundleError::TooManyMeasurements =>
+                "measurements: TooManyMeasurements: expected at most 100000 entries",
+            BundleError::BadEntry(_) =>
+                "]: BadEntry: expected a list of entries, each with a text `run`, and `\"stop\":true` or a text `metric` and just one of `value` and `error`",
+            BundleError::UnknownRun(_) => "].run: UnknownRun: no run has the name",
+            BundleError::UnknownMetric(_) => "].metric: UnknownMetric: no metric has the name",
+            BundleError::OutOfMemory => "out of memory",
+        }
+    }
+
+    /// Shows the fault of what is inside, where there is one.
+    fn show_inside<W: fmt::Write>(&self, f: &mut fmt::Formatter<W>) -> fmt::Result {
+        match self {
+            BundleError::Manifest(error) | BundleError::Bind(_, error) => fmt::Display::fmt(
+                error, f,
+            ),
+            BundleError::Shapes(_, error) => fmt::Display::fmt(error, f),
+            BundleError::Build(_, metric, error) => write!(f, "{metric}, {error}"),
+            _ => Ok(()),
+        }
+    }
+}
+
+impl fmt::Display for BundleError {
+    fn fmt<W: fmt::Write>(&self, f: &mut fmt::Formatter<W>) -> fmt::Result {
+        match self.number() {
+            Some(number) => write!(f, "{}{number}{}", self.before(), self.words())?,
+            None => f.write_str(self.words())?,
+        }
+        self.show_inside(f)
+    }
+}
+
+/// The line of `Display`, which says all. `Error` asks for this impl.
+impl fmt::Debug for BundleError {
+    fn fmt<W: fmt::Write>(&self, f: &mut fmt::Formatter<W>) -> fmt::Result {
+        fmt::Display::fmt(self, f)
+    }
 }
 
 impl From<JsonError> for BundleError {

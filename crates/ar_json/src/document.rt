@@ -8,6 +8,7 @@ ghost use Rattle.ar_json.specs.declared.document.JsonError.TheVariants.{TooLarge
 
 use serde_json::Value as Json;
 use std::alloc::Global;
+use std::fmt;
 use thiserror::Error;
 
 /// How many bytes a document may have.
@@ -17,13 +18,27 @@ pub const MOST_BYTES: usize = 16_777_216;
 #[derive(Clone, Copy, Debug, Error)]
 pub enum JsonError {
     /// It has more than 16,777,216 bytes.
-    #[error("document: TooLarge: expected at most 16777216 bytes")]
     TooLarge,
     /// It is not the text of one JSON value in UTF-8.
-    #[error("document: Utf8OrJson: expected one JSON value in UTF-8")]
     Utf8OrJson,
-    #[error("out of memory")]
     OutOfMemory,
+}
+
+impl JsonError {
+    /// What was expected.
+    fn words(self) -> &'static str {
+        match self {
+            JsonError::TooLarge => "document: TooLarge: expected at most 16777216 bytes",
+            JsonError::Utf8OrJson => "document: Utf8OrJson: expected one JSON value in UTF-8",
+            JsonError::OutOfMemory => "out of memory",
+        }
+    }
+}
+
+impl fmt::Display for JsonError {
+    fn fmt<W: fmt::Write>(&self, f: &mut fmt::Formatter<W>) -> fmt::Result {
+        f.write_str(self.words())
+    }
 }
 
 /// The JSON document that an input is.

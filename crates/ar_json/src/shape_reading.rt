@@ -16,6 +16,7 @@ use ar_value::shape::{FieldShape, FieldShapes, Shape};
 use ar_value::text::Text;
 use serde_json::{Map, Value as Json};
 use std::alloc::{AllocError, AllocFailed, Global};
+use std::fmt;
 use thiserror::Error;
 
 /// How many levels a shape may have; a scalar is one.
@@ -27,18 +28,36 @@ const MOST_LIST_ITEMS: u64 = 10_000;
 /// Why a JSON value declares no shape.
 #[derive(Clone, Copy, Debug, PartialEq, Eq, Error)]
 pub enum ShapeError {
-    #[error("TooDeep: a shape has at most 16 levels")]
     TooDeep,
-    #[error("UnknownShape: expected \"bool\", \"whole\", \"decimal\", \"text\", {{\"list\":shape,\"max\":number}}, {{\"record\":{{name:shape,..}}}} or {{\"optional\":shape}}")]
     UnknownShape,
-    #[error("MaxMissing: expected a list's greatest length as \"max\", a whole number of 0 or more")]
     MaxMissing,
-    #[error("MaxTooLarge: the greatest length of a list is at most 10000")]
     MaxTooLarge,
-    #[error("NestedOptional: an optional shape holds one that isn't optional")]
     NestedOptional,
-    #[error("out of memory")]
     OutOfMemory,
+}
+
+impl ShapeError {
+    /// What was expected.
+    fn words(self) -> &'static str {
+        match self {
+            ShapeError::TooDeep => "TooDeep: a shape has at most 16 levels",
+            ShapeError::UnknownShape =>
+                "UnknownShape: expected \"bool\", \"whole\", \"decimal\", \"text\", {\"list\":shape,\"max\":number}, {\"record\":{name:shape,..}} or {\"optional\":shape}",
+            ShapeError::MaxMissing =>
+                "MaxMissing: expected a list's greatest length as \"max\", a whole number of 0 or more",
+            ShapeError::MaxTooLarge =>
+                "MaxTooLarge: the greatest length of a list is at most 10000",
+            ShapeError::NestedOptional =>
+                "NestedOptional: an optional shape holds one that isn't optional",
+            ShapeError::OutOfMemory => "out of memory",
+        }
+    }
+}
+
+impl fmt::Display for ShapeError {
+    fn fmt<W: fmt::Write>(&self, f: &mut fmt::Formatter<W>) -> fmt::Result {
+        f.write_str(self.words())
+    }
 }
 
 impl From<AllocError> for ShapeError {

@@ -20,27 +20,47 @@ use ar_value::text::Text;
 use ar_value::value::{Field, Fields, Value, Values};
 use serde_json::{Map, Number, Value as Json};
 use std::alloc::{AllocError, AllocFailed, Global};
+use std::fmt;
 use thiserror::Error;
 
 /// Why a JSON value doesn't fit a shape.
 #[derive(Clone, Copy, Debug, PartialEq, Eq, Error)]
 pub enum ShapeFault {
-    #[error("WrongKind: expected a value of the declared shape")]
     WrongKind,
-    #[error("FloatNumber: expected a whole JSON number, or a decimal as a text, as \"0.95\"")]
     FloatNumber,
-    #[error("NotFinite: expected a finite number")]
     NotFinite,
-    #[error("BadDecimal: expected digits with at most one point and an exponent or none, as \"0.95\" or \"9.5e-1\"")]
     BadDecimal,
-    #[error("OutOfRange: expected a whole of 64 bits, or a decimal whose millionths fit them")]
     OutOfRange,
-    #[error("ListTooLong: expected a list of at most its shape's \"max\" items")]
     ListTooLong,
-    #[error("MissingField: expected each field of the record's shape that isn't optional")]
     MissingField,
-    #[error("out of memory")]
     OutOfMemory,
+}
+
+impl ShapeFault {
+    /// What was expected.
+    fn words(self) -> &'static str {
+        match self {
+            ShapeFault::WrongKind => "WrongKind: expected a value of the declared shape",
+            ShapeFault::FloatNumber =>
+                "FloatNumber: expected a whole JSON number, or a decimal as a text, as \"0.95\"",
+            ShapeFault::NotFinite => "NotFinite: expected a finite number",
+            ShapeFault::BadDecimal =>
+                "BadDecimal: expected digits with at most one point and an exponent or none, as \"0.95\" or \"9.5e-1\"",
+            ShapeFault::OutOfRange =>
+                "OutOfRange: expected a whole of 64 bits, or a decimal whose millionths fit them",
+            ShapeFault::ListTooLong =>
+                "ListTooLong: expected a list of at most its shape's \"max\" items",
+            ShapeFault::MissingField =>
+                "MissingField: expected each field of the record's shape that isn't optional",
+            ShapeFault::OutOfMemory => "out of memory",
+        }
+    }
+}
+
+impl fmt::Display for ShapeFault {
+    fn fmt<W: fmt::Write>(&self, f: &mut fmt::Formatter<W>) -> fmt::Result {
+        f.write_str(self.words())
+    }
 }
 
 impl From<AllocError> for ShapeFault {

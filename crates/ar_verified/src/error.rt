@@ -2,43 +2,64 @@
 
 use ar_op::code::Code;
 use std::alloc::AllocError;
+use std::fmt;
 use thiserror::Error;
 
 /// What is wrong with code, at one of its places.
 #[derive(Clone, Copy, Debug, PartialEq, Eq, Error)]
 pub enum Reason {
-    #[error("Empty: expected an operation")]
     Empty,
     /// The operation names a place behind the last one.
-    #[error("JumpOutside: expected a place inside the code")]
     JumpOutside,
     /// A jump or an Enter names its own place, or one before it.
-    #[error("Backward: expected a place further on")]
     Backward,
     /// An Enter whose Step isn't where it says, or the other way round.
-    #[error("UnpairedLoop: expected a loop's Enter and Step to name each other's places")]
     UnpairedLoop,
-    #[error("LoopsTooDeep: expected at most 4 loops around an operation")]
     LoopsTooDeep,
     /// A jump into a loop or out of one, a loop that another ends inside of, a Return in a loop.
-    #[error("CrossesLoop: expected jumps, loops and Returns to stay inside their loop")]
     CrossesLoop,
-    #[error("NoReturn: expected Return as the last operation")]
     NoReturn,
-    #[error("Unreachable: expected an operation that a run can come to")]
     Unreachable,
     /// What arrives here from several places differs in number, or has no kind in common.
-    #[error("BadMerge: expected operands of the same number and of kinds with one in common, from wherever a run comes")]
     BadMerge,
     /// An operand isn't there above the floor of the innermost loop, or no item.
-    #[error("MissingOperand: expected its operands above what the innermost loop began with")]
     MissingOperand,
-    #[error("IllKinded: expected operands of the kinds that the operation takes")]
     IllKinded,
-    #[error("StackTooDeep: expected at most 64 operands")]
     StackTooDeep,
-    #[error("BudgetTooLarge: a run of it may cost more than 1000000000; lower the greatest lengths of its lists or nest fewer predicates")]
     BudgetTooLarge,
+}
+
+impl Reason {
+    /// What was expected.
+    fn words(self) -> &'static str {
+        match self {
+            Reason::Empty => "Empty: expected an operation",
+            Reason::JumpOutside => "JumpOutside: expected a place inside the code",
+            Reason::Backward => "Backward: expected a place further on",
+            Reason::UnpairedLoop =>
+                "UnpairedLoop: expected a loop's Enter and Step to name each other's places",
+            Reason::LoopsTooDeep => "LoopsTooDeep: expected at most 4 loops around an operation",
+            Reason::CrossesLoop =>
+                "CrossesLoop: expected jumps, loops and Returns to stay inside their loop",
+            Reason::NoReturn => "NoReturn: expected Return as the last operation",
+            Reason::Unreachable => "Unreachable: expected an operation that a run can come to",
+            Reason::BadMerge =>
+                "BadMerge: expected operands of the same number and of kinds with one in common, from wherever a run comes",
+            Reason::MissingOperand =>
+                "MissingOperand: expected its operands above what the innermost loop began with",
+            Reason::IllKinded =>
+                "IllKinded: expected operands of the kinds that the operation takes",
+            Reason::StackTooDeep => "StackTooDeep: expected at most 64 operands",
+            Reason::BudgetTooLarge =>
+                "BudgetTooLarge: a run of it may cost more than 1000000000; lower the greatest lengths of its lists or nest fewer predicates",
+        }
+    }
+}
+
+impl fmt::Display for Reason {
+    fn fmt<W: fmt::Write>(&self, f: &mut fmt::Formatter<W>) -> fmt::Result {
+        f.write_str(self.words())
+    }
 }
 
 /// Why code isn't accepted: its first fault, or want of memory.
