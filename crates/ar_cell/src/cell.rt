@@ -170,6 +170,7 @@ impl<'b, M: BundleName, L: LockName> RunCell<'b, M, L> {
 
     /// Puts the histories of the runs under the lock into their places of a list, which has one for each
     /// run of the bundle.
+    #[tactic(auto, using(crate::proofs::Put::put_first, crate::proofs::Put::put_own, crate::proofs::Put::put_other, crate::proofs::Put::put_all))]
     pub fn put_histories(self, lock: usize, histories: &mut Vec<History>)
         requires lock { lock ≡ L.lock }
         requires as_many { length histories.old.items ≡ length M.bundle.runs }

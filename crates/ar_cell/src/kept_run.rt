@@ -81,6 +81,7 @@ impl KeptRun {
     }
 
     /// Whether the numbers and places of a worker's entries are those of its receipts for the run.
+    #[tactic(auto, using(crate::proofs::Shows::agree_at_first, crate::proofs::Shows::agree_skip))]
     pub(crate) fn agrees(&self, run: usize, worker: usize, receipts: &[Receipt]) -> bool
         requires { length self.now.authors.items ≡ length self.now.run.entries.items }
         ensures { IsTrue result
@@ -137,6 +138,7 @@ impl KeptRun {
     }
 
     /// The phase of each metric.
+    #[tactic(auto, using(crate::proofs::Shows::phases_next, crate::proofs::Shows::phases_all))]
     fn metric_phases(&self, alloc: Global) -> Result<Vec<Phase>, AllocError>
         requires { length self.now.run.state.phases ≡ length self.now.run.state.limits }
         ensures { IfOk result (λ phases. phases.items ≡ self.now.run.state.phases) }
