@@ -17,7 +17,6 @@ pub(crate) fn are_of_one_form(left: &Shape, right: &Shape) -> bool
 }
 
 #[cycle(is_alike)]
-#[tactic(auto, using(crate::proofs::OneForm::alike_lists))]
 fn is_alike(left: &Shape, right: &Shape) -> bool
     ensures { result ≡ same_shape (form (shape_view left.now)) (form (shape_view right.now)) }
 {
@@ -57,7 +56,6 @@ fn is_alike(left: &Shape, right: &Shape) -> bool
 }
 
 #[cycle(is_alike)]
-#[tactic(auto, using(crate::proofs::OneForm::lengths_differ, crate::proofs::OneForm::next, crate::proofs::OneForm::none_left))]
 fn are_fields_alike(fields: &[FieldShape], others: &[FieldShape]) -> bool
     ensures { result ≡ same_fields (field_forms (field_shapes_of (map field_shape_view fields.now)))
         (field_forms (field_shapes_of (map field_shape_view others.now))) }

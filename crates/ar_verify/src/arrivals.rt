@@ -48,7 +48,6 @@ struct Pass<M: ShapeName> {
 }
 
 /// How many items the list on top may have.
-#[tactic(auto, using(crate::proofs::Tops::most_in_list))]
 fn most_on_top<M: ShapeName>(kinds: &[Kind<M>]) -> usize
     ensures { result ≡ most_on_top (from_top kinds.now) }
 {
@@ -78,7 +77,6 @@ fn table<M: ShapeName>(
 }
 
 /// Takes what arrived at a place.
-#[tactic(auto, using(crate::proofs::Table::entry_is, crate::proofs::Table::taken_away))]
 fn take<M: ShapeName>(
     arrived: &mut [Result<Operands<M>, Reason>],
     place: usize,

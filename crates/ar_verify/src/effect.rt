@@ -121,7 +121,6 @@ fn binary<M: ShapeName>(
 }
 
 /// The name of a number.
-#[tactic(auto, using(crate::proofs::Names::nth_name, crate::proofs::Names::no_name))]
 fn name_at(names: &[String], number: u32) -> Option<&str>
     ensures { option_map (λ name. name.now) result ≡ nth (map string_bytes names.now) number }
 {

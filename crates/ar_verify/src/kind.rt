@@ -104,7 +104,6 @@ pub(crate) fn given_part<M: ShapeName>(
 }
 
 /// The kind of nil and of what fits a shape.
-#[tactic(auto, using(crate::proofs::Meets::nil_already, crate::proofs::Meets::nil_added))]
 fn nil_or<M: ShapeName>(shape: &Rc<Parts<M>>) -> Result<Option<Kind<M>>, AllocError>
     ensures { IfOk result
         (λ kind. option_map kind_view kind ≡ Some (shaped (or_nil (parts_view shape.now.value)))) }
@@ -166,7 +165,6 @@ fn is_either_optional<M: ShapeName>(left: &Parts<M>, right: &Parts<M>) -> bool
 }
 
 /// The merge of shapes, which may be optional.
-#[tactic(auto, using(crate::proofs::Meets::plain_merge, crate::proofs::Meets::optional_merge))]
 fn merge_shapes<M: ShapeName>(
     alloc: Global,
     left: &Rc<Parts<M>>,
@@ -184,7 +182,6 @@ fn merge_shapes<M: ShapeName>(
 }
 
 /// The kind of what has the one kind or the other, where there is one.
-#[tactic(auto, using(crate::proofs::Meets::nil_beside))]
 pub(crate) fn merge<M: ShapeName>(
     alloc: Global,
     left: &Kind<M>,
@@ -216,7 +213,6 @@ fn is_scalar_shape(scalar: Scalar, shape: &Shape) -> bool
     }
 }
 
-#[tactic(auto, using(crate::proofs::Widest::both_scalars))]
 pub(crate) fn is_scalar<M: ShapeName>(scalar: Scalar, kind: &Kind<M>) -> bool
     ensures { result ≡ is_scalar scalar (kind_view kind.now) }
 {
@@ -238,7 +234,6 @@ pub(crate) fn family_of(shape: &Shape) -> Option<Family>
 }
 
 /// The family of a scalar that may be nil.
-#[tactic(auto, using(crate::proofs::Widest::both_of_family, crate::proofs::Widest::both_plain_of_family))]
 pub(crate) fn family_in<M: ShapeName>(kind: &Kind<M>) -> Option<Family>
     ensures { result ≡ family_in (kind_view kind.now) }
 {
@@ -263,7 +258,6 @@ fn is_list_shape(shape: &Shape) -> bool
     }
 }
 
-#[tactic(auto, using(crate::proofs::Widest::both_lists))]
 fn is_list<M: ShapeName>(shape: &Parts<M>) -> bool
     ensures { result ≡ is_list (parts_view shape.now) }
 {
@@ -271,7 +265,6 @@ fn is_list<M: ShapeName>(shape: &Parts<M>) -> bool
 }
 
 /// The shape of a list, where the kind is that of one.
-#[tactic(auto, using(crate::proofs::Lists::of_a_list, crate::proofs::Lists::of_no_list))]
 pub(crate) fn as_list<M: ShapeName>(kind: &Kind<M>) -> Option<&Parts<M>>
     ensures { option_map (λ list. list_of list.now) result ≡ list_in (kind_view kind.now) }
 {
@@ -282,7 +275,6 @@ pub(crate) fn as_list<M: ShapeName>(kind: &Kind<M>) -> Option<&Parts<M>>
 }
 
 /// Likewise, of a kind that isn't needed any more.
-#[tactic(auto, using(crate::proofs::Lists::of_a_list, crate::proofs::Lists::of_no_list))]
 pub(crate) fn into_list<M: ShapeName>(kind: Kind<M>) -> Option<ListShape<M>>
     ensures { option_map list_view result ≡ list_in (kind_view kind) }
 {
@@ -299,7 +291,6 @@ pub(crate) fn into_list<M: ShapeName>(kind: Kind<M>) -> Option<ListShape<M>>
 }
 
 /// The kind of a list of the same items, and of as many at most.
-#[tactic(auto, using(crate::proofs::Lists::list_itself))]
 pub(crate) fn kind_of_list<M: ShapeName>(of: &ListShape<M>) -> Result<Kind<M>, AllocError>
     ensures { IfOk result (λ kind. kind_view kind ≡ shaped (list (list_view of.now).0 (list_view of.now).1)) }
 {

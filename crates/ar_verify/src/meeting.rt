@@ -56,7 +56,6 @@ impl<M: ShapeName> Parts<M> {
     }
 
     /// A shape of the same form: lists in it may be shorter.
-    #[tactic(auto, using(crate::proofs::Meets::of_its_form))]
     pub(crate) fn representative(&self) -> &Shape
         ensures { form (shape_view result.now) ≡ form (parts_view self.now) }
     {
@@ -82,7 +81,6 @@ impl<M: ShapeName> Parts<M> {
         Parts::new(alloc, self.first.child(alloc, number)?, others)
     }
 
-    #[tactic(auto, using(crate::proofs::Widest::both_optional))]
     pub(crate) fn is_optional(&self) -> bool
         ensures { result ≡ is_optional (parts_view self.now) }
     {
@@ -120,7 +118,6 @@ fn children<M: ShapeName>(
 }
 
 /// The shape of what isn't nil.
-#[tactic(auto, using(crate::proofs::Meets::plain_already, crate::proofs::Meets::plain_inside))]
 pub(crate) fn plain<M: ShapeName>(
     alloc: Global,
     shape: &Rc<Parts<M>>,
@@ -217,7 +214,6 @@ fn together<M: ShapeName>(
 }
 
 /// Whether shapes are of one form. Those of which the first part is one are not looked at.
-#[tactic(auto, using(crate::proofs::Meets::alike))]
 fn are_alike<M: ShapeName>(left: &Parts<M>, right: &Parts<M>) -> bool
     ensures { Decides result (form (parts_view left.now) ≡ form (parts_view right.now)) }
 {
@@ -226,7 +222,6 @@ fn are_alike<M: ShapeName>(left: &Parts<M>, right: &Parts<M>) -> bool
 }
 
 /// The shape of what has the one shape or the other, where they differ in greatest lengths only.
-#[tactic(auto, using(crate::proofs::Meets::met, crate::proofs::Meets::clashed))]
 pub(crate) fn meet<M: ShapeName>(
     alloc: Global,
     left: &Parts<M>,

@@ -71,7 +71,6 @@ fn copy_loops<M: ShapeName>(
 }
 
 /// How many operands lie below the floor of the innermost loop.
-#[tactic(auto, using(crate::proofs::Heights::one_deeper, crate::proofs::Heights::all_taken))]
 fn floor<M: ShapeName>(loops: &[Around<M>]) -> usize
     ensures { result ≡ counted (floor (from_innermost loops.now)) }
 {
@@ -102,7 +101,6 @@ impl<M: ShapeName> Operands<M> {
     }
 
     /// How many operands there are, those below the floor too.
-    #[tactic(auto, using(crate::proofs::Heights::both_counted))]
     pub(crate) fn height(&self) -> usize
         ensures { result ≡ counted (height (operands_view self.now)) }
     {
@@ -135,7 +133,6 @@ fn merge_all<M: ShapeName>(
 
 /// What arrives where some operands arrived already. They come from inside the same loops, so they
 /// differ above the floor alone.
-#[tactic(auto, using(crate::proofs::Joins::merged_from_top))]
 pub(crate) fn join<M: ShapeName>(
     alloc: Global,
     so_far: Operands<M>,

@@ -40,7 +40,6 @@ fn where_taken<M: ShapeName>(
 }
 
 /// The number of a record's field, where there is one of the name.
-#[tactic(auto, using(crate::proofs::Widest::both_numbered))]
 fn number_of<M: ShapeName>(name: &str, shape: &Parts<M>) -> Option<usize>
     ensures { result ≡ number_of name.now (parts_view shape.now) }
 {
@@ -48,7 +47,6 @@ fn number_of<M: ShapeName>(name: &str, shape: &Parts<M>) -> Option<usize>
 }
 
 /// The field of a record, by its name.
-#[tactic(auto, using(crate::proofs::Ways::field_there, crate::proofs::Ways::no_field))]
 pub(crate) fn field_of<M: ShapeName>(
     alloc: Global,
     name: &str,
@@ -65,7 +63,6 @@ pub(crate) fn field_of<M: ShapeName>(
     }
 }
 
-#[tactic(auto, using(crate::proofs::Lists::item_by_list))]
 fn item<M: ShapeName>(
     alloc: Global,
     list: &Kind<M>,
@@ -83,7 +80,6 @@ fn item<M: ShapeName>(
     }
 }
 
-#[tactic(auto, using(crate::proofs::Lists::length_of_list))]
 fn length<M: ShapeName>(alloc: Global, list: &Kind<M>) -> Result<Option<Kind<M>>, AllocError>
     ensures { IfOk result (λ given. option_map kind_view given ≡ length_kind (kind_view list.now)) }
 {
@@ -140,7 +136,6 @@ fn or_nil(alloc: Global, shape: Option<Shape>) -> Result<Option<Shape>, AllocErr
     }
 }
 
-#[tactic(auto, using(crate::proofs::Widest::both_decimal))]
 fn decimal_of<M: ShapeName>(alloc: Global, shape: &Parts<M>) -> Result<Option<Shape>, AllocError>
     ensures { IfOk result
         (λ decimal. option_map shape_view decimal ≡ decimal_shape (parts_view shape.now)) }
@@ -177,14 +172,12 @@ fn of_one_family(family: Option<Family>, other: Option<Family>) -> bool
 }
 
 /// The family of a list's items, which may be nil.
-#[tactic(auto, using(crate::proofs::Widest::both_items_of_family))]
 fn items_family<M: ShapeName>(list: &Parts<M>) -> Option<Family>
     ensures { result ≡ family_of (plain (list_of list.now).0) }
 {
     family_of(kind::plain(child(list.representative(), INNER)))
 }
 
-#[tactic(auto, using(crate::proofs::Lists::member_of_list))]
 fn member<M: ShapeName>(
     alloc: Global,
     operand: &Kind<M>,
@@ -237,7 +230,6 @@ fn negative<M: ShapeName>(
     }
 }
 
-#[tactic(auto, using(crate::proofs::Lists::number_is_either))]
 fn is_compared<M: ShapeName>(numbers: Compared, operand: &Kind<M>) -> bool
     ensures { result ≡ is_compared numbers (kind_view operand.now) }
 {

@@ -42,7 +42,6 @@ pub(crate) fn child(shape: &Shape, number: usize) -> &Shape
 }
 
 /// Goes from a shape to a part of it.
-#[tactic(auto, using(crate::proofs::Ways::one_step, crate::proofs::Ways::all_gone))]
 fn follow<'a>(whole: &'a Shape, path: &[usize]) -> &'a Shape
     ensures { shape_view result.now ≡ part_at path.now (shape_view whole.now) }
 {
@@ -97,7 +96,6 @@ impl<M: ShapeName> Part<M> {
     }
 
     /// A part by its number.
-    #[tactic(auto, using(crate::proofs::Ways::one_further))]
     pub(crate) fn child(&self, alloc: Global, number: usize) -> Result<Rc<Part<M>>, AllocError>
         ensures { IfOk result (λ part. part_view part.value ≡ child number (part_view self.now)) }
     {
@@ -132,7 +130,6 @@ pub(crate) fn are_one<M: ShapeName>(left: &Part<M>, right: &Part<M>) -> bool
     lie_at_one_way(left, right) || are_made_alike(left, right)
 }
 
-#[tactic(auto, using(crate::proofs::Ways::named_here, crate::proofs::Ways::named_further, crate::proofs::Ways::none_named))]
 fn number_among(name: &str, fields: &[FieldShape]) -> Option<usize>
     ensures { result ≡ number_named name.now (field_shapes_of (map field_shape_view fields.now)) }
 {

@@ -16,7 +16,6 @@ use ar_verified::{Cause, Reason};
 use std::alloc::Global;
 
 /// The operation at a place.
-#[tactic(auto, using(ar_verified::proofs::Entries::nth_within, ar_verified::proofs::Entries::nth_past))]
 fn op_at(ops: &[Op], place: usize) -> Option<Op>
     ensures { result ≡ nth ops.now place }
 {
@@ -114,7 +113,6 @@ fn names_well(ops: &[Op], place: usize, op: Op) -> Option<Reason>
 }
 
 /// Finds the first operation that names a place as it shouldn't.
-#[tactic(auto, using(crate::proofs::Passes::finds, crate::proofs::Passes::goes_on, crate::proofs::Passes::finds_nothing))]
 pub(crate) fn all_name_well(ops: &[Op]) -> Result<(), Cause>
     ensures { result ≡ all_pass (names_well ops.now) 0 ops.now }
 {

@@ -45,7 +45,6 @@ pub(crate) enum Sends<M: ShapeName> {
 }
 
 /// Takes a truth value.
-#[tactic(auto, using(crate::proofs::Passed::truth_is_taken, crate::proofs::Passed::no_truth_is_taken))]
 fn take_truth<M: ShapeName>(kinds: &mut Vec<Kind<M>>) -> Result<(), Failure>
     ensures { Meets (λ _. from_top kinds.new.items) result (truth_taken (from_top kinds.old.items)) }
 {
@@ -83,7 +82,6 @@ fn answer_kind<M: ShapeName>(
     }
 }
 
-#[tactic(auto, using(crate::proofs::Tops::on_top))]
 fn push_loop<M: ShapeName>(
     loops: &mut Vec<Around<M>>,
     innermost: Around<M>,
@@ -94,7 +92,6 @@ fn push_loop<M: ShapeName>(
     add(loops, innermost)
 }
 
-#[tactic(auto, using(crate::proofs::Tops::on_top))]
 fn pop_loop<M: ShapeName>(loops: &mut Vec<Around<M>>) -> Option<Around<M>>
     ensures { MatchOption result (from_innermost loops.old.items ≡ [])
         (λ popped. from_innermost loops.old.items ≡ around_view popped ∷ from_innermost loops.new.items) }
@@ -103,7 +100,6 @@ fn pop_loop<M: ShapeName>(loops: &mut Vec<Around<M>>) -> Option<Around<M>>
 }
 
 /// The shape of the innermost loop's list.
-#[tactic(auto, using(crate::proofs::Tops::last_item))]
 fn innermost<'a, M: ShapeName>(loops: &'a [Around<M>]) -> Option<&'a Parts<M>>
     ensures { option_map (λ list. (list_of list.now).0) result ≡ item_of (from_innermost loops.now) }
 {
@@ -388,7 +384,6 @@ fn passed_on<M: ShapeName>(
 }
 
 /// Whether an operand is missing above the floor, or the item.
-#[tactic(auto, using(crate::proofs::Tops::so_many))]
 fn lacks<M: ShapeName>(op: Op, had: &Operands<M>) -> bool
     ensures { result ≡ lacks op (operands_view had.now) }
 {

@@ -16,14 +16,12 @@ pub(crate) fn add<T: Drop>(list: &mut Vec<T>, item: T) -> Result<(), AllocError>
     Ok(())
 }
 
-#[tactic(auto, using(crate::proofs::Tops::on_top))]
 pub(crate) fn push<M: ShapeName>(kinds: &mut Vec<Kind<M>>, kind: Kind<M>) -> Result<(), AllocError>
     ensures { OnOk result (from_top kinds.new.items ≡ kind_view kind ∷ from_top kinds.old.items) }
 {
     add(kinds, kind)
 }
 
-#[tactic(auto, using(crate::proofs::Tops::on_top))]
 pub(crate) fn pop<M: ShapeName>(kinds: &mut Vec<Kind<M>>) -> Option<Kind<M>>
     ensures { MatchOption result ((from_top kinds.old.items ≡ []) × (from_top kinds.new.items ≡ []))
         (λ kind. from_top kinds.old.items ≡ kind_view kind ∷ from_top kinds.new.items) }
