@@ -11,7 +11,7 @@ use thiserror::Error;
 /// Why an input is no bundle, in the order in which it is looked at; but `ShapeMissing` and `Shapes`
 /// go metric by metric, `Bind` and `Build` run by run, and the last three entry by entry, of which
 /// `BadEntry` goes before the names. Numbers of metrics, runs and entries count from 0.
-#[derive(Clone, Copy, Error)]
+#[derive(Clone, Copy, Debug, Error)]
 pub enum BundleError {
     /// It has more than 16,777,216 bytes.
     TooLarge,
@@ -118,13 +118,6 @@ impl fmt::Display for BundleError {
             None => f.write_str(self.words())?,
         }
         self.show_inside(f)
-    }
-}
-
-/// The line of `Display`, which says all. `Error` asks for this impl.
-impl fmt::Debug for BundleError {
-    fn fmt<W: fmt::Write>(&self, f: &mut fmt::Formatter<W>) -> fmt::Result {
-        fmt::Display::fmt(self, f)
     }
 }
 

@@ -9,7 +9,7 @@ use thiserror::Error;
 
 /// Why a document is no template that can be judged, or why its texts can't be bound. A
 /// number is that of an argument, a metric or an item of `dryRun`, counted from 0.
-#[derive(Clone, Copy, Error)]
+#[derive(Clone, Copy, Debug, Error)]
 pub enum ManifestError {
     /// `apiVersion` is another value.
     WrongVersion,
@@ -128,13 +128,6 @@ impl fmt::Display for ManifestError {
             Some(number) => write!(f, "{}{number}{}", self.before(), self.words()),
             None => f.write_str(self.words()),
         }
-    }
-}
-
-/// The line of `Display`, which says all. `Error` asks for this impl.
-impl fmt::Debug for ManifestError {
-    fn fmt<W: fmt::Write>(&self, f: &mut fmt::Formatter<W>) -> fmt::Result {
-        fmt::Display::fmt(self, f)
     }
 }
 
