@@ -9,10 +9,17 @@ use ar_value::operator::Predicate;
 use ar_value::text::Text;
 use std::alloc::{AllocError, Global};
 
+/// The node, on the heap.
+pub(crate) fn boxed(alloc: Global, tree: Tree) -> Result<Box<Tree>, AllocError>
+    ensures { IfOk result (λ boxed. expression_of boxed.value ≡ expression_of tree) }
+{
+    Ok(Box::new(alloc, tree)?)
+}
+
 pub(crate) fn item(alloc: Global, at: usize) -> Result<Box<Tree>, AllocError>
     ensures { IfOk result (λ tree. expression_of tree.value ≡ ItemAt at) }
 {
-    Ok(Box::new(alloc, Tree::Item { at })?)
+    boxed(alloc, Tree::Item { at })
 }
 
 pub(crate) fn field(
@@ -23,7 +30,7 @@ pub(crate) fn field(
 ) -> Result<Box<Tree>, AllocError>
     ensures { IfOk result (λ tree. expression_of tree.value ≡ FieldAt at (expression_of owner.value) name) }
 {
-    Ok(Box::new(alloc, Tree::Field { at, owner, name })?)
+    boxed(alloc, Tree::Field { at, owner, name })
 }
 
 pub(crate) fn index(
@@ -35,7 +42,7 @@ pub(crate) fn index(
     ensures { IfOk result
         (λ tree. expression_of tree.value ≡ IndexAt at (expression_of list.value) (expression_of index.value)) }
 {
-    Ok(Box::new(alloc, Tree::Index { at, list, index })?)
+    boxed(alloc, Tree::Index { at, list, index })
 }
 
 pub(crate) fn unary(
@@ -46,14 +53,14 @@ pub(crate) fn unary(
 ) -> Result<Box<Tree>, AllocError>
     ensures { IfOk result (λ tree. expression_of tree.value ≡ UnaryAt at operator (expression_of operand.value)) }
 {
-    Ok(Box::new(
+    boxed(
         alloc,
         Tree::Unary {
             at,
             operator,
             operand,
         },
-    )?)
+    )
 }
 
 pub(crate) fn binary(
@@ -66,7 +73,7 @@ pub(crate) fn binary(
     ensures { IfOk result (λ tree. expression_of tree.value
         ≡ BinaryAt at operator (expression_of left.value) (expression_of right.value)) }
 {
-    Ok(Box::new(
+    boxed(
         alloc,
         Tree::Binary {
             at,
@@ -74,7 +81,7 @@ pub(crate) fn binary(
             left,
             right,
         },
-    )?)
+    )
 }
 
 pub(crate) fn choice(
@@ -87,7 +94,7 @@ pub(crate) fn choice(
     ensures { IfOk result (λ tree. expression_of tree.value
         ≡ ChoiceAt at (expression_of condition.value) (expression_of yes.value) (expression_of no.value)) }
 {
-    Ok(Box::new(
+    boxed(
         alloc,
         Tree::Choice {
             at,
@@ -95,7 +102,7 @@ pub(crate) fn choice(
             yes,
             no,
         },
-    )?)
+    )
 }
 
 pub(crate) fn list(alloc: Global, at: usize, items: Vec<Tree>) -> Result<Box<Tree>, AllocError>
@@ -103,19 +110,19 @@ pub(crate) fn list(alloc: Global, at: usize, items: Vec<Tree>) -> Result<Box<Tre
         (λ tree. expression_of tree.value ≡ ListAt at (expressions (map expression_of items.items))) }
 {
     let items = Trees { items };
-    Ok(Box::new(alloc, Tree::List { at, items })?)
+    boxed(alloc, Tree::List { at, items })
 }
 
 pub(crate) fn len(alloc: Global, at: usize, list: Box<Tree>) -> Result<Box<Tree>, AllocError>
     ensures { IfOk result (λ tree. expression_of tree.value ≡ LenAt at (expression_of list.value)) }
 {
-    Ok(Box::new(alloc, Tree::Len { at, list })?)
+    boxed(alloc, Tree::Len { at, list })
 }
 
 pub(crate) fn is_nil(alloc: Global, at: usize, operand: Box<Tree>) -> Result<Box<Tree>, AllocError>
     ensures { IfOk result (λ tree. expression_of tree.value ≡ IsNilAt at (expression_of operand.value)) }
 {
-    Ok(Box::new(alloc, Tree::IsNil { at, operand })?)
+    boxed(alloc, Tree::IsNil { at, operand })
 }
 
 pub(crate) fn default(
@@ -127,14 +134,14 @@ pub(crate) fn default(
     ensures { IfOk result (λ tree. expression_of tree.value
         ≡ DefaultAt at (expression_of operand.value) (expression_of otherwise.value)) }
 {
-    Ok(Box::new(
+    boxed(
         alloc,
         Tree::Default {
             at,
             operand,
             otherwise,
         },
-    )?)
+    )
 }
 
 pub(crate) fn predicate(
@@ -147,7 +154,7 @@ pub(crate) fn predicate(
     ensures { IfOk result (λ tree. expression_of tree.value
         ≡ PredicateAt at predicate (expression_of list.value) (expression_of body.value)) }
 {
-    Ok(Box::new(
+    boxed(
         alloc,
         Tree::Predicate {
             at,
@@ -155,5 +162,5 @@ pub(crate) fn predicate(
             list,
             body,
         },
-    )?)
+    )
 }

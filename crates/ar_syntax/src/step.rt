@@ -1,6 +1,6 @@
 //! One token more.
 
-ghost use Rattle.std.specs.Prelude.{◌≡◌, ◌∷◌, ◌++◌, ◌<◌, [], length, map, pred, IfOk};
+ghost use Rattle.std.specs.Prelude.{◌≡◌, ◌∷◌, ◌++◌, ◌<◌, [], length, map, pred, Some, IfOk};
 ghost use Rattle.ar_condition.specs.Expression.{LiteralAt};
 ghost use Rattle.ar_syntax.specs.Grammar.{ends_bracket, may_continue, may_open, takes_all, takes_more};
 ghost use Rattle.ar_syntax.specs.Machine.{Argued, Body, Braced, Frame, Grouped, Have, Indexed, Listed, RightOf, Yes, Want, WantArgument, argue, begin, choose, climbed, close_braced, close_empty, close_text, end_with, have, left, open_index, operate, negate, select, step, unwound, want, when};
@@ -22,12 +22,23 @@ use crate::token::{Token, TokenKind};
 use ar_condition::tree::{Binary, Literal, Tree};
 use ar_value::text::Text;
 use std::alloc::{AllocError, Global};
+use std::mem;
 
 /// How many items a list may have.
 const MOST_ITEMS: usize = 16;
 
 /// The level of a choice's condition: all operators bind tighter.
 const CONDITION_LEVEL: usize = 5;
+
+/// An operand is wanted behind one more frame.
+#[tactic(auto, using(crate::proofs::Climbs::pops))]
+fn want_behind(stack: &mut Vec<Frame>, frame: Frame) -> Result<State, Refusal>
+    ensures { Steps (λ rules. Some (Want (frame_of frame ∷ frames_of stack.old.items)))
+        (frames_of stack.new.items) result }
+{
+    stack.push(frame)?;
+    Ok(State::Want)
+}
 
 /// One more opener, where one may begin.
 #[tactic(auto, using(crate::proofs::Openers::opener_left, crate::proofs::Openers::no_opener_left, crate::proofs::Climbs::pops))]
@@ -37,10 +48,11 @@ fn open(stack: &mut Vec<Frame>, frame: Frame) -> Result<State, Refusal>
         (frames_of stack.new.items) result }
 {
     if left(stack) == 0 {
-        return Err(Refusal::Depth);
+        mem::drop(frame);
+        Err(Refusal::Depth)
+    } else {
+        want_behind(stack, frame)
     }
-    stack.push(frame)?;
-    Ok(State::Want)
 }
 
 /// The state behind an opener that makes no frame yet, where one may begin.
@@ -138,12 +150,14 @@ fn operate(
         (frames_of stack.new.items) result }
 {
     let first = climb(alloc, stack, Reach::Level(looseness(operator)), tree)?;
-    stack.push(Frame::RightOf {
-        at,
-        operator,
-        first,
-    })?;
-    Ok(State::Want)
+    want_behind(
+        stack,
+        Frame::RightOf {
+            at,
+            operator,
+            first,
+        },
+    )
 }
 
 /// `not` behind the first operand of `not in`.
