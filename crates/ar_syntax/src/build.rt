@@ -11,7 +11,7 @@ use std::alloc::{AllocError, Global};
 
 /// The node, on the heap.
 pub(crate) fn boxed(alloc: Global, tree: Tree) -> Result<Box<Tree>, AllocError>
-    ensures { IfOk result (λ boxed. expression_of boxed.value ≡ expression_of tree) }
+    ensures { IfOk result (λ boxed. boxed.value ≡ tree) }
 {
     Ok(Box::new(alloc, tree)?)
 }

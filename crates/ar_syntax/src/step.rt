@@ -11,7 +11,7 @@ ghost use Rattle.ar_syntax.specs.Private.Steps.{Steps, StepsFreely, is_empty_cal
 ghost use Rattle.ar_syntax.specs.Private.Frames.{frame_of, frames_of};
 ghost use Rattle.ar_condition.specs.Views.{expression_of};
 
-use crate::build::{default, field, index, is_nil, item, len, list, predicate};
+use crate::build::{boxed, default, field, index, is_nil, item, len, list, predicate};
 use crate::climb::{Reach, climb};
 use crate::machine::Frame;
 use crate::role::{Call, Ender, Follow, follow_of, is_brace, is_group, is_in, looseness};
@@ -30,9 +30,9 @@ const MOST_ITEMS: usize = 16;
 /// The level of a choice's condition: all operators bind tighter.
 const CONDITION_LEVEL: usize = 5;
 
-/// An operand is wanted behind one more frame.
+/// A phrase more, whose operand is wanted next.
 #[tactic(auto, using(crate::proofs::Climbs::pops))]
-fn want_behind(stack: &mut Vec<Frame>, frame: Frame) -> Result<State, Refusal>
+fn wait(stack: &mut Vec<Frame>, frame: Frame) -> Result<State, Refusal>
     ensures { Steps (λ rules. Some (Want (frame_of frame ∷ frames_of stack.old.items)))
         (frames_of stack.new.items) result }
 {
@@ -51,7 +51,7 @@ fn open(stack: &mut Vec<Frame>, frame: Frame) -> Result<State, Refusal>
         mem::drop(frame);
         Err(Refusal::Depth)
     } else {
-        want_behind(stack, frame)
+        wait(stack, frame)
     }
 }
 
@@ -104,6 +104,20 @@ fn begin_with(
     }
 }
 
+/// A phrase more, whose operand begins with this token.
+#[tactic(auto, using(crate::proofs::Climbs::pops))]
+fn wait_at(
+    alloc: Global,
+    stack: &mut Vec<Frame>,
+    frame: Frame,
+    token: &Token,
+) -> Result<State, Refusal>
+    ensures { Steps (λ rules. want rules (frame_of frame ∷ frames_of stack.old.items) token.now) (frames_of stack.new.items) result }
+{
+    stack.push(frame)?;
+    want(alloc, stack, token)
+}
+
 /// Items with one more.
 fn with_item(items: Vec<Tree>, item: Box<Tree>) -> Result<Vec<Tree>, AllocError>
     ensures { IfOk result
@@ -150,7 +164,7 @@ fn operate(
         (frames_of stack.new.items) result }
 {
     let first = climb(alloc, stack, Reach::Level(looseness(operator)), tree)?;
-    want_behind(
+    wait(
         stack,
         Frame::RightOf {
             at,
@@ -327,11 +341,10 @@ fn end_yes(
         (λ rules. end_with rules ender (Have (Yes at (expression_of condition.value) ∷ frames_of stack.old.items) (expression_of met.value)))
         (frames_of stack.new.items) result }
 {
-    if !matches!(ender, Ender::Colon) {
-        return Err(Refusal::Other);
+    match ender {
+        Ender::Colon => wait(stack, Frame::No { at, condition, met }),
+        _ => Err(Refusal::Other),
     }
-    stack.push(Frame::No { at, condition, met })?;
-    Ok(State::Want)
 }
 
 /// An item of a list ends.
@@ -390,11 +403,11 @@ fn next_item(stack: &mut Vec<Frame>, at: usize, so_far: Vec<Tree>) -> Result<Sta
         (Want (Listed at (map expression_of so_far.items) ∷ frames_of stack.old.items)))
         (frames_of stack.new.items) result }
 {
-    if so_far.len() >= MOST_ITEMS {
-        return Err(Refusal::Items);
+    if so_far.len() < MOST_ITEMS {
+        wait(stack, Frame::Listed { at, so_far })
+    } else {
+        Err(Refusal::Items)
     }
-    stack.push(Frame::Listed { at, so_far })?;
-    Ok(State::Want)
 }
 
 /// One more argument of a call, where there may be one.
@@ -462,7 +475,7 @@ fn pop_argument(alloc: Global, arguments: &mut Vec<Tree>) -> Result<Box<Tree>, A
     ensures { IfOk result (λ last. arguments.old.items ≡ arguments.new.items ++ last.value ∷ []) }
 {
     match arguments.pop() {
-        Some(last) => Ok(Box::new(alloc, last)?),
+        Some(last) => boxed(alloc, last),
         None => unreachable!(),
     }
 }
@@ -521,10 +534,7 @@ fn open_index(
             text_at: token.span.start,
             text,
         }),
-        None => {
-            stack.push(Frame::Indexed { at, list: owner })?;
-            want(alloc, stack, token)
-        }
+        None => wait_at(alloc, stack, Frame::Indexed { at, list: owner }, token),
     }
 }
 
@@ -561,7 +571,7 @@ fn text_operand(alloc: Global, at: usize, text: Text) -> Result<Box<Tree>, Alloc
     ensures { IfOk result (λ tree. expression_of tree.value ≡ LiteralAt at (TextLiteral text)) }
 {
     let literal = Literal::Text(text);
-    Ok(Box::new(alloc, Tree::Literal { at, literal })?)
+    boxed(alloc, Tree::Literal { at, literal })
 }
 
 /// Behind the operand of an index.
@@ -594,15 +604,19 @@ fn want_in(
         (λ rules. when rules (is_in token.now) (Want (RightOf at NotIn (expression_of first.value) ∷ frames_of stack.old.items)))
         (frames_of stack.new.items) result }
 {
-    if !is_in(token) {
-        return Err(Refusal::Other);
+    if is_in(token) {
+        let operator = Binary::NotIn;
+        wait(
+            stack,
+            Frame::RightOf {
+                at,
+                operator,
+                first,
+            },
+        )
+    } else {
+        Err(Refusal::Other)
     }
-    stack.push(Frame::RightOf {
-        at,
-        operator: Binary::NotIn,
-        first,
-    })?;
-    Ok(State::Want)
 }
 
 /// Behind the name of a call.
@@ -664,22 +678,30 @@ fn argue(
         (frames_of stack.new.items) result }
 {
     if !function.is_body(so_far.len()) {
-        stack.push(Frame::Argued {
-            at,
-            function,
-            so_far,
-        })?;
-        return want(alloc, stack, token);
+        return wait_at(
+            alloc,
+            stack,
+            Frame::Argued {
+                at,
+                function,
+                so_far,
+            },
+            token,
+        );
     }
     if is_brace(token) {
         return open_braces(stack, at, function, so_far);
     }
-    stack.push(Frame::Body {
-        at,
-        function,
-        so_far,
-    })?;
-    want(alloc, stack, token)
+    wait_at(
+        alloc,
+        stack,
+        Frame::Body {
+            at,
+            function,
+            so_far,
+        },
+        token,
+    )
 }
 
 /// A predicate in braces, where its call and its braces may be unfinished.
@@ -696,14 +718,17 @@ fn open_braces(
         (frames_of stack.new.items) result }
 {
     if left(stack) < 2 {
-        return Err(Refusal::Depth);
+        Err(Refusal::Depth)
+    } else {
+        wait(
+            stack,
+            Frame::Braced {
+                at,
+                function,
+                so_far,
+            },
+        )
     }
-    stack.push(Frame::Braced {
-        at,
-        function,
-        so_far,
-    })?;
-    Ok(State::Want)
 }
 
 /// Behind an argument in braces.
