@@ -102,7 +102,7 @@ impl fmt::Display for SyntaxError {
     }
 }
 
-/// The line of `Display`, which says all: `Error` asks for this impl, and nothing shows it.
+/// The line of `Display`, which says all. `Error` asks for this impl.
 impl fmt::Debug for SyntaxError {
     fn fmt<W: fmt::Write>(&self, f: &mut fmt::Formatter<W>) -> fmt::Result {
         fmt::Display::fmt(self, f)
