@@ -8,11 +8,11 @@ ghost use Rattle.ar_value.specs.View.{shape_view};
 ghost use Rattle.ar_check.specs.Check.{common_of, common_scalar, joined, list_of, no_scalar, scalar_shape, turned_item};
 ghost use Rattle.ar_condition.specs.Views.{typed_view};
 ghost use Rattle.ar_check.specs.Memory.{is_memory};
-ghost use Rattle.ar_check.specs.Private.Inside.{item_view, kind_view, operand_view};
+ghost use Rattle.ar_check.specs.Private.Inside.{boxed_view, item_view, kind_view, operand_view};
 
 use crate::build::{self, listed};
 use crate::error::TypeError;
-use crate::operand::{Kind, Operand};
+use crate::operand::{Kind, Operand, given};
 use ar_condition::typed::Typed;
 use ar_value::operator::{Scalar, UnaryOperator};
 use ar_value::shape::Shape;
@@ -28,8 +28,12 @@ pub(crate) struct Item {
 }
 
 /// A list of items.
-pub(crate) fn list<'s>(alloc: Global, at: usize, items: Vec<Item>) -> Result<Operand<'s>, TypeError>
-    ensures { Gives is_memory operand_view result
+pub(crate) fn list<'s>(
+    alloc: Global,
+    at: usize,
+    items: Vec<Item>,
+) -> Result<Box<Operand<'s>>, TypeError>
+    ensures { Gives is_memory boxed_view result
         (list_of at (map item_view items.items) (no_scalar (map item_view items.items))) }
 {
     if let Some(place) = no_scalar(&items) {
@@ -40,8 +44,7 @@ pub(crate) fn list<'s>(alloc: Global, at: usize, items: Vec<Item>) -> Result<Ope
     };
     let max = items.len();
     let tree = build::node(alloc, listed(scalar, turned(alloc, scalar, items)?))?;
-    let kind = list_kind(alloc, scalar, max)?;
-    Ok(Operand { tree, kind })
+    given(alloc, tree, list_kind(alloc, scalar, max)?)
 }
 
 /// The place of the first item that is no scalar.

@@ -5,14 +5,16 @@ ghost use Rattle.ar_value.specs.Answer.{Gives};
 ghost use Rattle.ar_value.specs.Kind.{common, nil, shaped};
 ghost use Rattle.ar_value.specs.Kind as shapes;
 ghost use Rattle.ar_value.specs.View.{shape_view};
-ghost use Rattle.ar_check.specs.Check.{field_shape, item_shape, plain_kind};
+ghost use Rattle.ar_check.specs.Check.{field_shape, given, item_shape, plain_kind};
 ghost use Rattle.ar_check.specs.Operand.{is_truth, made_plain, numbers, plain_of, plain_tree, scalar, scalar_of, turned};
+ghost use Rattle.ar_condition.specs.Typed as typed;
 ghost use Rattle.ar_condition.specs.Views.{typed_view};
 ghost use Rattle.ar_check.specs.Memory.{is_memory};
-ghost use Rattle.ar_check.specs.Private.Inside.{kind_view, operand_view, shaped_answer, turned_where, turns};
+ghost use Rattle.ar_check.specs.Private.Inside.{boxed_view, kind_view, operand_view, shaped_answer, turned_where, turns};
 
 use crate::build;
 use crate::error::TypeError;
+use crate::holding::beside;
 use ar_condition::typed::Typed;
 use ar_value::kind;
 use ar_value::operator::{Numbers, Scalar, UnaryOperator};
@@ -34,6 +36,31 @@ pub(crate) enum Kind<'s> {
 pub(crate) struct Operand<'s> {
     pub tree: Box<Typed>,
     pub kind: Kind<'s>,
+}
+
+/// A tree with its kind, in a box, which is let go in one step where a tree beside it has a fault.
+pub(crate) fn given<'s>(
+    alloc: Global,
+    tree: Box<Typed>,
+    kind: Kind<'s>,
+) -> Result<Box<Operand<'s>>, TypeError>
+    ensures { Gives is_memory boxed_view result (given (typed_view tree.value) (kind_view kind.entry)) }
+{
+    Ok(Box::new(alloc, Operand { tree, kind })?)
+}
+
+/// A unary operator on a tree, with the kind of what it gives.
+pub(crate) fn given_unary<'s>(
+    alloc: Global,
+    operator: UnaryOperator,
+    tree: Box<Typed>,
+    kind: Kind<'s>,
+) -> Result<Box<Operand<'s>>, TypeError>
+    ensures { Gives is_memory boxed_view result
+        (given (typed.unary operator (typed_view tree.value)) (kind_view kind.entry)) }
+{
+    let (kind, tree) = beside(kind, build::unary(alloc, operator, tree))?;
+    given(alloc, tree, kind)
 }
 
 /// The shape of what isn't nil.
@@ -71,14 +98,7 @@ pub(crate) fn plain_tree(
 pub(crate) fn made_plain(alloc: Global, operand: Box<Operand<'_>>) -> Result<Box<Typed>, AllocError>
     ensures { IfOk result (λ made. typed_view made.value ≡ made_plain (operand_view operand.entry.value)) }
 {
-    into_plain_tree(alloc, Box::into_inner(operand))
-}
-
-/// An operand's tree, made plain.
-pub(crate) fn into_plain_tree(alloc: Global, operand: Operand<'_>) -> Result<Box<Typed>, AllocError>
-    ensures { IfOk result (λ made. typed_view made.value ≡ made_plain (operand_view operand.entry)) }
-{
-    let Operand { tree, kind } = operand;
+    let Operand { tree, kind } = Box::into_inner(operand);
     plain_tree(alloc, &kind, tree)
 }
 

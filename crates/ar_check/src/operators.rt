@@ -8,13 +8,13 @@ ghost use Rattle.ar_check.specs.Operand.{among, family_in};
 ghost use Rattle.ar_condition.specs.Typed as typed;
 ghost use Rattle.ar_condition.specs.Views.{typed_view};
 ghost use Rattle.ar_check.specs.Memory.{is_memory};
-ghost use Rattle.ar_check.specs.Private.Inside.{item_scalar, kind_view, operand_view};
+ghost use Rattle.ar_check.specs.Private.Inside.{boxed_view, item_scalar, kind_view, operand_view};
 
 use crate::build::{self, both, either};
 use crate::error::TypeError;
 use crate::operand::{
-    Kind, Operand, both_plain, into_tree, is_truth, item_shape, made_plain, numbers, scalar,
-    scalar_of,
+    Kind, Operand, both_plain, given, given_unary, into_tree, is_truth, item_shape, made_plain,
+    numbers, scalar, scalar_of,
 };
 use ar_condition::tree::{Binary, Comparison, Unary};
 use ar_condition::typed::Typed;
@@ -28,16 +28,17 @@ use std::alloc::{AllocError, Global};
 
 /// A tree of a kind, where its operands are what it wants.
 pub(crate) fn where_wanted<'s>(
+    alloc: Global,
     at: usize,
     wanted: bool,
     tree: Box<Typed>,
     kind: Kind<'s>,
-) -> Result<Operand<'s>, TypeError>
-    ensures { Gives (λ _. false) operand_view result
+) -> Result<Box<Operand<'s>>, TypeError>
+    ensures { Gives is_memory boxed_view result
         (where_wanted at wanted (typed_view tree.value) (kind_view kind.entry)) }
 {
     if wanted {
-        Ok(Operand { tree, kind })
+        given(alloc, tree, kind)
     } else {
         Err(TypeError::WrongOperand(at))
     }
@@ -65,37 +66,23 @@ pub(crate) fn unary<'s>(
     at: usize,
     operator: Unary,
     operand: Box<Operand<'_>>,
-) -> Result<Operand<'s>, TypeError>
-    ensures { Gives is_memory operand_view result (unary_of at operator (operand_view operand.entry.value)) }
+) -> Result<Box<Operand<'s>>, TypeError>
+    ensures { Gives is_memory boxed_view result (unary_of at operator (operand_view operand.entry.value)) }
 {
-    let wanted = is_truth(&operand);
+    let is_truth = is_truth(&operand);
     let numbers = numbers(&operand);
-    let operand = made_plain(alloc, operand)?;
+    let tree = made_plain(alloc, operand)?;
     match operator {
-        Unary::Not => where_wanted(
-            at,
-            wanted,
-            build::unary(alloc, UnaryOperator::Not, operand)?,
-            truth(),
-        ),
-        Unary::Minus => {
-            let Some(numbers) = numbers else {
-                return Err(TypeError::WrongOperand(at));
-            };
-            let tree = build::unary(alloc, UnaryOperator::Negate(numbers), operand)?;
-            let kind = number_kind(numbers);
-            Ok(Operand { tree, kind })
-        }
-        Unary::Plus => {
-            let Some(numbers) = numbers else {
-                return Err(TypeError::WrongOperand(at));
-            };
-            let kind = number_kind(numbers);
-            Ok(Operand {
-                tree: operand,
-                kind,
-            })
-        }
+        Unary::Not if is_truth => given_unary(alloc, UnaryOperator::Not, tree, truth()),
+        Unary::Not => Err(TypeError::WrongOperand(at)),
+        Unary::Minus => match numbers {
+            Some(of) => given_unary(alloc, UnaryOperator::Negate(of), tree, number_kind(of)),
+            None => Err(TypeError::WrongOperand(at)),
+        },
+        Unary::Plus => match numbers {
+            Some(of) => given(alloc, tree, number_kind(of)),
+            None => Err(TypeError::WrongOperand(at)),
+        },
     }
 }
 
@@ -108,8 +95,8 @@ pub(crate) fn binary<'s>(
     nil_right: bool,
     left: Box<Operand<'_>>,
     right: Box<Operand<'_>>,
-) -> Result<Operand<'s>, TypeError>
-    ensures { Gives is_memory operand_view result
+) -> Result<Box<Operand<'s>>, TypeError>
+    ensures { Gives is_memory boxed_view result
         (binary_of at operator nil_left nil_right (operand_view left.entry.value) (operand_view right.entry.value)) }
 {
     let arithmetic = match operator {
@@ -135,13 +122,13 @@ fn either_of<'s>(
     at: usize,
     left: Box<Operand<'_>>,
     right: Box<Operand<'_>>,
-) -> Result<Operand<'s>, TypeError>
-    ensures { Gives is_memory operand_view result
+) -> Result<Box<Operand<'s>>, TypeError>
+    ensures { Gives is_memory boxed_view result
         (either_of at (operand_view left.entry.value) (operand_view right.entry.value)) }
 {
     let wanted = is_truth(&left) && is_truth(&right);
     let (left, right) = both_plain(alloc, left, right)?;
-    where_wanted(at, wanted, either(alloc, left, right)?, truth())
+    where_wanted(alloc, at, wanted, either(alloc, left, right)?, truth())
 }
 
 #[tactic(auto, using(crate::proofs::Freely::gives_freely))]
@@ -150,21 +137,20 @@ fn both_of<'s>(
     at: usize,
     left: Box<Operand<'_>>,
     right: Box<Operand<'_>>,
-) -> Result<Operand<'s>, TypeError>
-    ensures { Gives is_memory operand_view result
+) -> Result<Box<Operand<'s>>, TypeError>
+    ensures { Gives is_memory boxed_view result
         (both_of at (operand_view left.entry.value) (operand_view right.entry.value)) }
 {
     let wanted = is_truth(&left) && is_truth(&right);
     let (left, right) = both_plain(alloc, left, right)?;
-    where_wanted(at, wanted, both(alloc, left, right)?, truth())
+    where_wanted(alloc, at, wanted, both(alloc, left, right)?, truth())
 }
 
-fn negated(alloc: Global, condition: Operand<'_>) -> Result<Operand<'_>, TypeError>
-    ensures { Gives is_memory operand_view result (negated (operand_view condition.entry)) }
+fn negated(alloc: Global, condition: Box<Operand<'_>>) -> Result<Box<Operand<'_>>, TypeError>
+    ensures { Gives is_memory boxed_view result (negated (operand_view condition.entry.value)) }
 {
-    let Operand { tree, kind } = condition;
-    let tree = build::unary(alloc, UnaryOperator::Not, tree)?;
-    Ok(Operand { tree, kind })
+    let Operand { tree, kind } = Box::into_inner(condition);
+    given_unary(alloc, UnaryOperator::Not, tree, kind)
 }
 
 fn compare<'s>(
@@ -175,8 +161,8 @@ fn compare<'s>(
     nil_right: bool,
     left: Box<Operand<'_>>,
     right: Box<Operand<'_>>,
-) -> Result<Operand<'s>, TypeError>
-    ensures { Gives is_memory operand_view result
+) -> Result<Box<Operand<'s>>, TypeError>
+    ensures { Gives is_memory boxed_view result
         (comparison_of at comparison nil_left nil_right
         (operand_view left.entry.value) (operand_view right.entry.value)) }
 {
@@ -200,43 +186,34 @@ fn equate<'s>(
     nil_right: bool,
     left: Box<Operand<'_>>,
     right: Box<Operand<'_>>,
-) -> Result<Operand<'s>, TypeError>
-    ensures { Gives is_memory operand_view result
+) -> Result<Box<Operand<'s>>, TypeError>
+    ensures { Gives is_memory boxed_view result
         (equality_of at nil_left nil_right (operand_view left.entry.value) (operand_view right.entry.value)) }
 {
     let sides = (scalar(&left), scalar(&right));
     let (left, right) = (into_tree(left), into_tree(right));
     if nil_left {
-        return tests_nil(alloc, right);
+        return given_unary(alloc, UnaryOperator::IsNil, right, truth());
     }
     if nil_right {
-        return tests_nil(alloc, left);
+        return given_unary(alloc, UnaryOperator::IsNil, left, truth());
     }
     let (Some(of), Some(beside)) = sides else {
         return Err(TypeError::WrongOperand(at));
     };
     let tree = build::binary(alloc, BinaryOperator::Equal(family(of)), left, right)?;
-    where_wanted(at, family(of) == family(beside), tree, truth())
+    where_wanted(alloc, at, family(of) == family(beside), tree, truth())
 }
 
 /// Whether an operand is nil.
 pub(crate) fn is_nil_of<'s>(
     alloc: Global,
     operand: Box<Operand<'_>>,
-) -> Result<Operand<'s>, TypeError>
-    ensures { Gives is_memory operand_view result
+) -> Result<Box<Operand<'s>>, TypeError>
+    ensures { Gives is_memory boxed_view result
         (given (typed.unary unary.IsNil (operand_view operand.entry.value).tree) truth_kind) }
 {
-    tests_nil(alloc, into_tree(operand))
-}
-
-/// Whether what a tree says is nil.
-fn tests_nil<'s>(alloc: Global, tree: Box<Typed>) -> Result<Operand<'s>, TypeError>
-    ensures { Gives is_memory operand_view result (given (typed.unary unary.IsNil (typed_view tree.value)) truth_kind) }
-{
-    let tree = build::unary(alloc, UnaryOperator::IsNil, tree)?;
-    let kind = truth();
-    Ok(Operand { tree, kind })
+    given_unary(alloc, UnaryOperator::IsNil, into_tree(operand), truth())
 }
 
 fn family(scalar: Scalar) -> Family
@@ -255,8 +232,8 @@ fn order<'s>(
     order: Order,
     left: Box<Operand<'_>>,
     right: Box<Operand<'_>>,
-) -> Result<Operand<'s>, TypeError>
-    ensures { Gives is_memory operand_view result
+) -> Result<Box<Operand<'s>>, TypeError>
+    ensures { Gives is_memory boxed_view result
         (ordering_of at order (operand_view left.entry.value) (operand_view right.entry.value)) }
 {
     let sides = (numbers(&left), numbers(&right));
@@ -266,8 +243,7 @@ fn order<'s>(
     };
     let operator = BinaryOperator::Compare(compared_of(of, beside), order);
     let tree = build::binary(alloc, operator, left, right)?;
-    let kind = truth();
-    Ok(Operand { tree, kind })
+    given(alloc, tree, truth())
 }
 
 /// Whether a list has an operand among its items.
@@ -276,8 +252,8 @@ fn contains<'s>(
     at: usize,
     operand: Box<Operand<'_>>,
     list: Box<Operand<'_>>,
-) -> Result<Operand<'s>, TypeError>
-    ensures { Gives is_memory operand_view result
+) -> Result<Box<Operand<'s>>, TypeError>
+    ensures { Gives is_memory boxed_view result
         (in_of at (operand_view operand.entry.value) (operand_view list.entry.value)) }
 {
     let item = item_scalar(at, &list.kind);
@@ -294,15 +270,15 @@ fn member<'s>(
     scalars: (Option<Scalar>, Option<Scalar>),
     operand: Box<Typed>,
     list: Box<Typed>,
-) -> Result<Operand<'s>, TypeError>
-    ensures { Gives is_memory operand_view result
+) -> Result<Box<Operand<'s>>, TypeError>
+    ensures { Gives is_memory boxed_view result
         (member_of at scalars.0 scalars.1 (typed_view operand.value) (typed_view list.value)) }
 {
     let (Some(of), Some(beside)) = scalars else {
         return Err(TypeError::WrongOperand(at));
     };
     let tree = build::binary(alloc, BinaryOperator::IsIn, operand, list)?;
-    where_wanted(at, family(of) == family(beside), tree, truth())
+    where_wanted(alloc, at, family(of) == family(beside), tree, truth())
 }
 
 /// What scalar a list's items are once they are plain.
@@ -318,8 +294,8 @@ fn calculate<'s>(
     operator: Arithmetic,
     left: Box<Operand<'_>>,
     right: Box<Operand<'_>>,
-) -> Result<Operand<'s>, TypeError>
-    ensures { Gives is_memory operand_view result
+) -> Result<Box<Operand<'s>>, TypeError>
+    ensures { Gives is_memory boxed_view result
         (calculation_of at operator (operand_view left.entry.value) (operand_view right.entry.value)) }
 {
     let sides = (numbers(&left), numbers(&right));
@@ -338,8 +314,8 @@ fn calculate_on<'s>(
     sides: (Numbers, Numbers),
     left: Box<Typed>,
     right: Box<Typed>,
-) -> Result<Operand<'s>, TypeError>
-    ensures { Gives is_memory operand_view result
+) -> Result<Box<Operand<'s>>, TypeError>
+    ensures { Gives is_memory boxed_view result
         (arithmetic_on at operator (Some sides.0) (Some sides.1) (typed_view left.value) (typed_view right.value)) }
 {
     let (of, beside) = sides;
@@ -350,8 +326,7 @@ fn calculate_on<'s>(
         return Err(TypeError::WrongOperand(at));
     };
     let tree = build::binary(alloc, arithmetic, left, right)?;
-    let kind = arithmetic_kind(operator, numbers);
-    Ok(Operand { tree, kind })
+    given(alloc, tree, arithmetic_kind(operator, numbers))
 }
 
 /// Wholes alone stay wholes.

@@ -13,7 +13,7 @@ ghost use Rattle.ar_check.specs.Basics.{literal_kind};
 ghost use Rattle.ar_check.specs.Check.{checked, choice_tree, default_kind, default_of, default_tree, field_of, given, index_of, innermost, is_nil_literal, len_of, over_items, plain_kind, predicate_kind, predicate_of};
 ghost use Rattle.ar_condition.specs.Meaning.{IsTruthOrFault, mean};
 ghost use Rattle.ar_check.specs.Operand.{made_plain, operand};
-ghost use Rattle.ar_check.specs.Private.Inside.{choice_between, inside, item_in, item_view, items_in, kind_view, operand_view, turned_where, typed_in};
+ghost use Rattle.ar_check.specs.Private.Inside.{boxed_view, choice_between, inside, item_in, item_view, items_in, kind_view, operand_view, turned_where, typed_in};
 ghost use Rattle.ar_condition.specs.Typed as typed;
 ghost use Rattle.ar_check.specs.Typing.{IsCondition};
 ghost use Rattle.ar_condition.specs.Views.{typed_view};
@@ -24,8 +24,8 @@ use crate::error::TypeError;
 use crate::holding::beside;
 use crate::list::{Item, list};
 use crate::operand::{
-    Kind, Operand, as_truth, common, field_kind, into_plain_tree, is_truth, item_kind, item_shape,
-    made_plain, plain_kind, scalar, turned, turned_both, turns, without_nil,
+    Kind, Operand, as_truth, common, field_kind, given, given_unary, is_truth, item_kind,
+    item_shape, made_plain, plain_kind, scalar, turned, turned_both, turns, without_nil,
 };
 use crate::operators::{binary, is_nil_of, truth, unary, where_wanted};
 use ar_condition::tree::{Binary, Literal, Tree, Unary};
@@ -67,17 +67,10 @@ pub fn check(alloc: Global, tree: Tree, shape: &Shape) -> Result<Typed, TypeErro
     };
     let condition = typed(alloc, tree, scope)?;
     if is_truth(&condition) {
-        Ok(plain_condition(alloc, condition)?)
+        Ok(Box::into_inner(made_plain(alloc, condition)?))
     } else {
         Err(TypeError::NotTruth(at))
     }
-}
-
-/// The tree of a whole condition, made plain.
-fn plain_condition(alloc: Global, condition: Operand<'_>) -> Result<Typed, AllocError>
-    ensures { IfOk result (λ made. typed_view made ≡ made_plain (operand_view condition.entry)) }
-{
-    Ok(Box::into_inner(into_plain_tree(alloc, condition)?))
 }
 
 /// What the names of a condition stand for at a place.
@@ -93,8 +86,8 @@ struct Scope<'s> {
 
 /// A tree where `result` has a shape, and so has the innermost item, inside so many predicates.
 #[cycle(typed)]
-fn typed<'s>(alloc: Global, tree: Tree, scope: Scope<'s>) -> Result<Operand<'s>, TypeError>
-    ensures { Gives is_memory operand_view result (typed_in scope.entry (expression_of tree)) }
+fn typed<'s>(alloc: Global, tree: Tree, scope: Scope<'s>) -> Result<Box<Operand<'s>>, TypeError>
+    ensures { Gives is_memory boxed_view result (typed_in scope.entry (expression_of tree)) }
 {
     match tree {
         Tree::Result { .. } => measured_of(alloc, scope.measured),
@@ -136,19 +129,16 @@ fn typed<'s>(alloc: Global, tree: Tree, scope: Scope<'s>) -> Result<Operand<'s>,
     }
 }
 
-/// A tree below another. Its operand is boxed, and so let go in one step where a tree beside it has a
-/// fault.
+/// A tree below another.
 #[cycle(typed)]
 fn child<'s>(
     alloc: Global,
     tree: Box<Tree>,
     scope: Scope<'s>,
 ) -> Result<Box<Operand<'s>>, TypeError>
-    ensures { Gives is_memory (λ made. operand_view made.value) result
-        (typed_in scope.entry (expression_of tree.value)) }
+    ensures { Gives is_memory boxed_view result (typed_in scope.entry (expression_of tree.value)) }
 {
-    let operand = typed(alloc, Box::into_inner(tree), scope)?;
-    Ok(Box::new(alloc, operand)?)
+    typed(alloc, Box::into_inner(tree), scope)
 }
 
 /// A field of a record.
@@ -159,8 +149,8 @@ fn typed_field<'s>(
     owner: Box<Tree>,
     name: Text,
     scope: Scope<'s>,
-) -> Result<Operand<'s>, TypeError>
-    ensures { Gives is_memory operand_view result
+) -> Result<Box<Operand<'s>>, TypeError>
+    ensures { Gives is_memory boxed_view result
         (typed_in scope.entry (FieldAt at (expression_of owner.value) name)) }
 {
     let owner = child(alloc, owner, scope)?;
@@ -175,8 +165,8 @@ fn typed_unary<'s>(
     operator: Unary,
     operand: Box<Tree>,
     scope: Scope<'s>,
-) -> Result<Operand<'s>, TypeError>
-    ensures { Gives is_memory operand_view result
+) -> Result<Box<Operand<'s>>, TypeError>
+    ensures { Gives is_memory boxed_view result
         (typed_in scope.entry (UnaryAt at operator (expression_of operand.value))) }
 {
     let operand = child(alloc, operand, scope)?;
@@ -190,8 +180,8 @@ fn typed_list<'s>(
     at: usize,
     items: Vec<Tree>,
     scope: Scope<'s>,
-) -> Result<Operand<'s>, TypeError>
-    ensures { Gives is_memory operand_view result
+) -> Result<Box<Operand<'s>>, TypeError>
+    ensures { Gives is_memory boxed_view result
         (typed_in scope.entry (ListAt at (expressions (map expression_of items.items)))) }
 {
     let items = typed_items(alloc, items, scope)?;
@@ -205,8 +195,8 @@ fn typed_len<'s>(
     at: usize,
     list: Box<Tree>,
     scope: Scope<'s>,
-) -> Result<Operand<'s>, TypeError>
-    ensures { Gives is_memory operand_view result
+) -> Result<Box<Operand<'s>>, TypeError>
+    ensures { Gives is_memory boxed_view result
         (typed_in scope.entry (LenAt at (expression_of list.value))) }
 {
     let list = child(alloc, list, scope)?;
@@ -220,8 +210,8 @@ fn typed_is_nil<'s>(
     at: usize,
     operand: Box<Tree>,
     scope: Scope<'s>,
-) -> Result<Operand<'s>, TypeError>
-    ensures { Gives is_memory operand_view result
+) -> Result<Box<Operand<'s>>, TypeError>
+    ensures { Gives is_memory boxed_view result
         (typed_in scope.entry (IsNilAt at (expression_of operand.value))) }
 {
     let operand = child(alloc, operand, scope)?;
@@ -236,8 +226,8 @@ fn typed_index<'s>(
     list: Box<Tree>,
     index: Box<Tree>,
     scope: Scope<'s>,
-) -> Result<Operand<'s>, TypeError>
-    ensures { Gives is_memory operand_view result
+) -> Result<Box<Operand<'s>>, TypeError>
+    ensures { Gives is_memory boxed_view result
         (typed_in scope.entry (IndexAt at (expression_of list.value) (expression_of index.value))) }
 {
     let list = child(alloc, list, scope)?;
@@ -254,8 +244,8 @@ fn typed_binary<'s>(
     left: Box<Tree>,
     right: Box<Tree>,
     scope: Scope<'s>,
-) -> Result<Operand<'s>, TypeError>
-    ensures { Gives is_memory operand_view result
+) -> Result<Box<Operand<'s>>, TypeError>
+    ensures { Gives is_memory boxed_view result
         (typed_in scope.entry (BinaryAt at operator (expression_of left.value) (expression_of right.value))) }
 {
     let nil_left = is_nil_literal(&left);
@@ -274,8 +264,8 @@ fn typed_choice<'s>(
     yes: Box<Tree>,
     no: Box<Tree>,
     scope: Scope<'s>,
-) -> Result<Operand<'s>, TypeError>
-    ensures { Gives is_memory operand_view result
+) -> Result<Box<Operand<'s>>, TypeError>
+    ensures { Gives is_memory boxed_view result
         (typed_in scope.entry (ChoiceAt at (expression_of condition.value) (expression_of yes.value) (expression_of no.value))) }
 {
     let condition = as_truth(alloc, child(alloc, condition, scope)?)?;
@@ -292,8 +282,8 @@ fn typed_default<'s>(
     operand: Box<Tree>,
     otherwise: Box<Tree>,
     scope: Scope<'s>,
-) -> Result<Operand<'s>, TypeError>
-    ensures { Gives is_memory operand_view result
+) -> Result<Box<Operand<'s>>, TypeError>
+    ensures { Gives is_memory boxed_view result
         (typed_in scope.entry (DefaultAt at (expression_of operand.value) (expression_of otherwise.value))) }
 {
     let operand = child(alloc, operand, scope)?;
@@ -310,8 +300,8 @@ fn typed_predicate<'s>(
     list: Box<Tree>,
     body: Box<Tree>,
     scope: Scope<'s>,
-) -> Result<Operand<'s>, TypeError>
-    ensures { Gives is_memory operand_view result
+) -> Result<Box<Operand<'s>>, TypeError>
+    ensures { Gives is_memory boxed_view result
         (typed_in scope.entry (PredicateAt at predicate (expression_of list.value) (expression_of body.value))) }
 {
     let list = child(alloc, list, scope)?;
@@ -341,7 +331,7 @@ fn typed_item(alloc: Global, tree: Tree, scope: Scope<'_>) -> Result<Item, TypeE
     let at = tree.place();
     let operand = typed(alloc, tree, scope)?;
     let scalar = scalar(&operand);
-    let tree = into_plain_tree(alloc, operand)?;
+    let tree = made_plain(alloc, operand)?;
     Ok(Item { at, scalar, tree })
 }
 
@@ -378,22 +368,24 @@ fn in_predicate<'s>(scope: Scope<'s>, item: &'s Shape, around: usize) -> Scope<'
     }
 }
 
-fn measured_of(alloc: Global, shape: &Shape) -> Result<Operand<'_>, TypeError>
-    ensures { Gives is_memory operand_view result (given typed.result (shaped (shape_view shape.now))) }
+fn measured_of(alloc: Global, shape: &Shape) -> Result<Box<Operand<'_>>, TypeError>
+    ensures { Gives is_memory boxed_view result (given typed.result (shaped (shape_view shape.now))) }
 {
     let tree = build::node(alloc, Typed::Result)?;
-    let kind = Kind::Declared(shape);
-    Ok(Operand { tree, kind })
+    given(alloc, tree, Kind::Declared(shape))
 }
 
 #[tactic(auto, using(crate::proofs::Freely::gives_freely))]
-fn item_of<'s>(alloc: Global, at: usize, item: Option<&'s Shape>) -> Result<Operand<'s>, TypeError>
-    ensures { Gives is_memory operand_view result
+fn item_of<'s>(
+    alloc: Global,
+    at: usize,
+    item: Option<&'s Shape>,
+) -> Result<Box<Operand<'s>>, TypeError>
+    ensures { Gives is_memory boxed_view result
         (innermost at (option_map (λ shape. shape_view shape.now) item.entry)) }
 {
     let tree = build::node(alloc, Typed::Item)?;
-    let kind = innermost_kind(at, item)?;
-    Ok(Operand { tree, kind })
+    given(alloc, tree, innermost_kind(at, item)?)
 }
 
 /// The kind of the innermost item.
@@ -407,8 +399,8 @@ fn innermost_kind(at: usize, item: Option<&Shape>) -> Result<Kind<'_>, TypeError
     }
 }
 
-fn literal_of<'s>(alloc: Global, literal: Literal) -> Result<Operand<'s>, TypeError>
-    ensures { Gives is_memory operand_view result (given (typed.literal literal) (literal_kind literal)) }
+fn literal_of<'s>(alloc: Global, literal: Literal) -> Result<Box<Operand<'s>>, TypeError>
+    ensures { Gives is_memory boxed_view result (given (typed.literal literal) (literal_kind literal)) }
 {
     let kind = match &literal {
         Literal::Nil => Kind::Nil,
@@ -418,7 +410,7 @@ fn literal_of<'s>(alloc: Global, literal: Literal) -> Result<Operand<'s>, TypeEr
         Literal::Text(_) => Kind::Made(Shape::Text),
     };
     let tree = build::node(alloc, Typed::Literal(literal))?;
-    Ok(Operand { tree, kind })
+    given(alloc, tree, kind)
 }
 
 /// Whether a tree is the literal `nil`.
@@ -436,12 +428,12 @@ fn field_of<'s>(
     at: usize,
     name: Text,
     owner: Box<Operand<'s>>,
-) -> Result<Operand<'s>, TypeError>
-    ensures { Gives is_memory operand_view result (field_of at name (operand_view owner.entry.value)) }
+) -> Result<Box<Operand<'s>>, TypeError>
+    ensures { Gives is_memory boxed_view result (field_of at name (operand_view owner.entry.value)) }
 {
     let kind = field_kind(alloc, at, name.as_str(), &owner.kind)?;
     let (kind, tree) = beside(kind, field_tree(alloc, owner, name))?;
-    Ok(Operand { tree, kind })
+    given(alloc, tree, kind)
 }
 
 /// The tree of a field, of a plain record.
@@ -457,14 +449,14 @@ fn index_of<'s>(
     at: usize,
     list: Box<Operand<'s>>,
     position: Box<Operand<'_>>,
-) -> Result<Operand<'s>, TypeError>
-    ensures { Gives is_memory operand_view result
+) -> Result<Box<Operand<'s>>, TypeError>
+    ensures { Gives is_memory boxed_view result
         (index_of at (operand_view list.entry.value) (operand_view position.entry.value)) }
 {
     let kind = item_kind(alloc, at, &list.kind)?;
     let wanted = matches!(scalar(&position), Some(Scalar::Whole));
     let (kind, tree) = beside(kind, index_tree(alloc, list, position))?;
-    where_wanted(at, wanted, tree, kind)
+    where_wanted(alloc, at, wanted, tree, kind)
 }
 
 /// The tree of an item, of a plain list at a plain index.
@@ -487,13 +479,16 @@ fn index_tree(
 }
 
 #[tactic(auto, using(crate::proofs::Freely::gives_freely))]
-fn len_of<'s>(alloc: Global, at: usize, list: Box<Operand<'_>>) -> Result<Operand<'s>, TypeError>
-    ensures { Gives is_memory operand_view result (len_of at (operand_view list.entry.value)) }
+fn len_of<'s>(
+    alloc: Global,
+    at: usize,
+    list: Box<Operand<'_>>,
+) -> Result<Box<Operand<'s>>, TypeError>
+    ensures { Gives is_memory boxed_view result (len_of at (operand_view list.entry.value)) }
 {
     item_shape(at, &list.kind)?;
-    let tree = build::unary(alloc, UnaryOperator::Len, made_plain(alloc, list)?)?;
-    let kind = Kind::Made(Shape::Whole);
-    Ok(Operand { tree, kind })
+    let list = made_plain(alloc, list)?;
+    given_unary(alloc, UnaryOperator::Len, list, Kind::Made(Shape::Whole))
 }
 
 /// One of two branches, which have their common kind.
@@ -503,8 +498,8 @@ fn choice_of<'s>(
     condition: (bool, Box<Typed>),
     yes: Box<Operand<'s>>,
     no: Box<Operand<'s>>,
-) -> Result<Operand<'s>, TypeError>
-    ensures { Gives is_memory operand_view result
+) -> Result<Box<Operand<'s>>, TypeError>
+    ensures { Gives is_memory boxed_view result
         (choice_between at condition.0 (typed_view condition.1.value)
         (operand_view yes.entry.value) (operand_view no.entry.value)) }
 {
@@ -512,7 +507,7 @@ fn choice_of<'s>(
     let (wanted, condition) = condition;
     let (kind, tree) = beside(kind, choice_tree(alloc, condition, yes, no))?;
     match kind {
-        Some(kind) => where_wanted(at, wanted, tree, kind),
+        Some(kind) => where_wanted(alloc, at, wanted, tree, kind),
         None => Err(TypeError::NoCommonKind(at)),
     }
 }
@@ -537,8 +532,8 @@ fn default_of<'s>(
     at: usize,
     first: Box<Operand<'s>>,
     other: Box<Operand<'s>>,
-) -> Result<Operand<'s>, TypeError>
-    ensures { Gives is_memory operand_view result
+) -> Result<Box<Operand<'s>>, TypeError>
+    ensures { Gives is_memory boxed_view result
         (default_of at (operand_view first.entry.value) (operand_view other.entry.value)) }
 {
     let Operand { tree, kind } = Box::into_inner(first);
@@ -553,7 +548,7 @@ fn default_of<'s>(
     let made = default_tree(alloc, turns_first, tree, turns_other, other);
     let (kind, tree) = beside(kind, made)?;
     match kind {
-        Some(kind) => Ok(Operand { tree, kind }),
+        Some(kind) => given(alloc, tree, kind),
         None => Err(TypeError::NoCommonKind(at)),
     }
 }
@@ -597,14 +592,14 @@ fn predicate_of<'s>(
     over: Predicate,
     list: Box<Operand<'s>>,
     body: (bool, Box<Typed>),
-) -> Result<Operand<'s>, TypeError>
-    ensures { Gives is_memory operand_view result
+) -> Result<Box<Operand<'s>>, TypeError>
+    ensures { Gives is_memory boxed_view result
         (predicate_of at over (operand_view list.entry.value) body.0 (typed_view body.1.value)) }
 {
     let kind = predicate_kind(alloc, over, &list.kind)?;
     let (wanted, body) = body;
     let (kind, tree) = beside(kind, predicate_tree(alloc, over, list, body))?;
-    where_wanted(at, wanted, tree, kind)
+    where_wanted(alloc, at, wanted, tree, kind)
 }
 
 /// The tree of a predicate, over a plain list.

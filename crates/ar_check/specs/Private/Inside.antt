@@ -1,4 +1,5 @@
 -- What operands, items and scopes in memory stand for, of which no public contract speaks.
+use Rattle.std.specs.Global.{Box}
 use Rattle.std.specs.Prelude.{ℕ, suc, Bool, false, ◌&&◌, if◌then◌else◌, List, Option, Some, option_map, Result, Ok, Err}
 use Rattle.ar_value.specs.declared.operator.UnaryOperator.TheVariants as unary
 use Rattle.ar_value.specs.Answer.{◌>>=◌}
@@ -28,6 +29,9 @@ kind_view (kinds.Made shape) = kind.shaped (shape_view shape)
 
 abbrev pub operand_view : operands.Operand → Operand
 operand_view o = operand (typed_view o.tree.value) (kind_view o.kind)
+
+abbrev pub boxed_view : Box operands.Operand → Operand
+boxed_view o = operand_view o.value
 
 -- a shape's answer as a kind's
 abbrev pub shaped_answer : Result Shape TypeError → Result Kind TypeError

@@ -10,15 +10,15 @@ use Rattle.ar_check.proofs.Conditions.{is_condition, is_none, refuses_none}
 use Rattle.ar_check.proofs.Sound.{is_truth_or_fault}
 use Rattle.ar_check.proofs.typing.check.Goals as goal
 
-pub returns-in_ok-plain_condition-clause-condition : goal.returns-in_ok-plain_condition-clause-condition
-returns-in_ok-plain_condition-clause-condition c =
-    let is : checked (shape_view c.args.shape.now) (expression_of c.args.tree) ≡ Ok (typed_view c.in_ok-plain_condition.field-0) = search rules in
-    is_condition (shape_view c.args.shape.now) (expression_of c.args.tree) (typed_view c.in_ok-plain_condition.field-0) is
+pub returns-in_ok-made_plain-clause-condition : goal.returns-in_ok-made_plain-clause-condition
+returns-in_ok-made_plain-clause-condition c =
+    let is : checked (shape_view c.args.shape.now) (expression_of c.args.tree) ≡ Ok (typed_view c.into_inner.result) = search rules in
+    is_condition (shape_view c.args.shape.now) (expression_of c.args.tree) (typed_view c.into_inner.result) is
 
-pub returns-in_ok-plain_condition-clause-answers : goal.returns-in_ok-plain_condition-clause-answers
-returns-in_ok-plain_condition-clause-answers c =
-    let is : checked (shape_view c.args.shape.now) (expression_of c.args.tree) ≡ Ok (typed_view c.in_ok-plain_condition.field-0) = search rules in
-    λ value fit. is_truth_or_fault (shape_view c.args.shape.now) (expression_of c.args.tree) (typed_view c.in_ok-plain_condition.field-0) value is fit
+pub returns-in_ok-made_plain-clause-answers : goal.returns-in_ok-made_plain-clause-answers
+returns-in_ok-made_plain-clause-answers c =
+    let is : checked (shape_view c.args.shape.now) (expression_of c.args.tree) ≡ Ok (typed_view c.into_inner.result) = search rules in
+    λ value fit. is_truth_or_fault (shape_view c.args.shape.now) (expression_of c.args.tree) (typed_view c.into_inner.result) value is fit
 
 pub returns-else-is_truth-clause-refused : goal.returns-else-is_truth-clause-refused
 returns-else-is_truth-clause-refused c =
