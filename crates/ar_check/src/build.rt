@@ -4,11 +4,19 @@ ghost use Rattle.std.specs.Prelude.{◌≡◌, IfOk, map};
 ghost use Rattle.ar_condition.specs.Typed as typed;
 ghost use Rattle.ar_condition.specs.Typed.{typeds};
 ghost use Rattle.ar_condition.specs.Views.{typed_view};
+ghost use Rattle.ar_check.specs.Private.Inside.{connected};
 
 use ar_condition::typed::{Typed, TypedItems};
 use ar_value::operator::{BinaryOperator, Predicate, Scalar, UnaryOperator};
 use ar_value::text::Text;
 use std::alloc::{AllocError, Global};
+
+/// What connects two truth values.
+#[derive(Clone, Copy)]
+pub(crate) enum Connective {
+    And,
+    Or,
+}
 
 /// A tree in a box of its own, which is let go in one step.
 pub(crate) fn node(alloc: Global, tree: Typed) -> Result<Box<Typed>, AllocError>
@@ -52,26 +60,20 @@ pub(crate) fn field(alloc: Global, owner: Box<Typed>, name: Text) -> Result<Box<
     node(alloc, Typed::Field { owner, name })
 }
 
-pub(crate) fn both(
+pub(crate) fn connected(
     alloc: Global,
+    connective: Connective,
     left: Box<Typed>,
     right: Box<Typed>,
 ) -> Result<Box<Typed>, AllocError>
-    ensures { IfOk result
-        (λ tree. typed_view tree.value ≡ typed.both (typed_view left.value) (typed_view right.value)) }
+    ensures { IfOk result (λ tree. typed_view tree.value
+        ≡ connected connective (typed_view left.value) (typed_view right.value)) }
 {
-    node(alloc, Typed::And { left, right })
-}
-
-pub(crate) fn either(
-    alloc: Global,
-    left: Box<Typed>,
-    right: Box<Typed>,
-) -> Result<Box<Typed>, AllocError>
-    ensures { IfOk result
-        (λ tree. typed_view tree.value ≡ typed.either (typed_view left.value) (typed_view right.value)) }
-{
-    node(alloc, Typed::Or { left, right })
+    let tree = match connective {
+        Connective::And => Typed::And { left, right },
+        Connective::Or => Typed::Or { left, right },
+    };
+    node(alloc, tree)
 }
 
 pub(crate) fn choice(

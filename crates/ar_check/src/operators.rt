@@ -3,14 +3,14 @@
 ghost use Rattle.std.specs.Prelude.{◌≡◌, ◌&&◌, false, IfOk, Some};
 ghost use Rattle.ar_value.specs.declared.operator.UnaryOperator.TheVariants as unary;
 ghost use Rattle.ar_value.specs.Answer.{Gives};
-ghost use Rattle.ar_check.specs.Check.{arithmetic_in, arithmetic_kind, binary_of, compared_of, comparison_of, equality_of, in_of, negated, number_kind, ordering_of, arithmetic_on, calculation_of, both_of, either_of, given, member_of, truth_kind, unary_of, where_wanted, widened};
+ghost use Rattle.ar_check.specs.Check.{arithmetic_in, arithmetic_kind, binary_of, compared_of, comparison_of, equality_of, in_of, negated, number_kind, ordering_of, arithmetic_on, calculation_of, given, member_of, truth_kind, unary_of, where_wanted, widened};
 ghost use Rattle.ar_check.specs.Operand.{among, family_in};
 ghost use Rattle.ar_condition.specs.Typed as typed;
 ghost use Rattle.ar_condition.specs.Views.{typed_view};
 ghost use Rattle.ar_check.specs.Memory.{is_memory};
-ghost use Rattle.ar_check.specs.Private.Inside.{boxed_view, item_scalar, kind_view, operand_view};
+ghost use Rattle.ar_check.specs.Private.Inside.{boxed_view, connected_of, item_scalar, kind_view, operand_view};
 
-use crate::build::{self, both, either};
+use crate::build::{self, Connective};
 use crate::error::TypeError;
 use crate::operand::{
     Kind, Operand, both_plain, given, given_unary, into_tree, is_truth, item_shape, made_plain,
@@ -100,8 +100,8 @@ pub(crate) fn binary<'s>(
         (binary_of at operator nil_left nil_right (operand_view left.entry.value) (operand_view right.entry.value)) }
 {
     let arithmetic = match operator {
-        Binary::Or => return either_of(alloc, at, left, right),
-        Binary::And => return both_of(alloc, at, left, right),
+        Binary::Or => return connect(alloc, at, Connective::Or, left, right),
+        Binary::And => return connect(alloc, at, Connective::And, left, right),
         Binary::Comparison(comparison) => {
             return compare(alloc, at, comparison, nil_left, nil_right, left, right);
         }
@@ -116,34 +116,21 @@ pub(crate) fn binary<'s>(
     calculate(alloc, at, arithmetic, left, right)
 }
 
-#[tactic(auto, using(crate::proofs::Freely::gives_freely))]
-fn either_of<'s>(
+/// `and` or `or` between two operands.
+fn connect<'s>(
     alloc: Global,
     at: usize,
+    by: Connective,
     left: Box<Operand<'_>>,
     right: Box<Operand<'_>>,
 ) -> Result<Box<Operand<'s>>, TypeError>
     ensures { Gives is_memory boxed_view result
-        (either_of at (operand_view left.entry.value) (operand_view right.entry.value)) }
+        (connected_of at by (operand_view left.entry.value) (operand_view right.entry.value)) }
 {
     let wanted = is_truth(&left) && is_truth(&right);
     let (left, right) = both_plain(alloc, left, right)?;
-    where_wanted(alloc, at, wanted, either(alloc, left, right)?, truth())
-}
-
-#[tactic(auto, using(crate::proofs::Freely::gives_freely))]
-fn both_of<'s>(
-    alloc: Global,
-    at: usize,
-    left: Box<Operand<'_>>,
-    right: Box<Operand<'_>>,
-) -> Result<Box<Operand<'s>>, TypeError>
-    ensures { Gives is_memory boxed_view result
-        (both_of at (operand_view left.entry.value) (operand_view right.entry.value)) }
-{
-    let wanted = is_truth(&left) && is_truth(&right);
-    let (left, right) = both_plain(alloc, left, right)?;
-    where_wanted(alloc, at, wanted, both(alloc, left, right)?, truth())
+    let tree = build::connected(alloc, by, left, right)?;
+    where_wanted(alloc, at, wanted, tree, truth())
 }
 
 fn negated(alloc: Global, condition: Box<Operand<'_>>) -> Result<Box<Operand<'_>>, TypeError>

@@ -10,10 +10,10 @@ ghost use Rattle.ar_value.specs.View.{shape_view};
 ghost use Rattle.ar_condition.specs.Expression.{expressions, BinaryAt, ChoiceAt, DefaultAt, FieldAt, IndexAt, IsNilAt, LenAt, ListAt, PredicateAt, UnaryAt};
 ghost use Rattle.ar_condition.specs.Views.{expression_of};
 ghost use Rattle.ar_check.specs.Basics.{literal_kind};
-ghost use Rattle.ar_check.specs.Check.{checked, choice_tree, default_kind, default_of, default_tree, field_of, given, index_of, innermost, is_nil_literal, len_of, over_items, plain_kind, predicate_kind, predicate_of};
+ghost use Rattle.ar_check.specs.Check.{checked, choice_of, choice_tree, default_kind, default_of, default_tree, field_of, given, index_of, innermost, is_nil_literal, len_of, over_items, plain_kind, predicate_kind, predicate_of};
 ghost use Rattle.ar_condition.specs.Meaning.{IsTruthOrFault, mean};
 ghost use Rattle.ar_check.specs.Operand.{made_plain, operand};
-ghost use Rattle.ar_check.specs.Private.Inside.{boxed_view, choice_between, inside, item_in, item_view, items_in, kind_view, operand_view, turned_where, typed_in};
+ghost use Rattle.ar_check.specs.Private.Inside.{boxed_view, inside, item_in, item_view, items_in, kind_view, operand_view, turned_where, typed_in};
 ghost use Rattle.ar_condition.specs.Typed as typed;
 ghost use Rattle.ar_check.specs.Typing.{IsCondition};
 ghost use Rattle.ar_condition.specs.Views.{typed_view};
@@ -65,7 +65,7 @@ pub fn check(alloc: Global, tree: Tree, shape: &Shape) -> Result<Typed, TypeErro
         item: None,
         around: 0,
     };
-    let condition = typed(alloc, tree, scope)?;
+    let condition = typed(alloc, tree, &scope)?;
     if is_truth(&condition) {
         Ok(Box::into_inner(made_plain(alloc, condition)?))
     } else {
@@ -86,8 +86,8 @@ struct Scope<'s> {
 
 /// A tree where `result` has a shape, and so has the innermost item, inside so many predicates.
 #[cycle(typed)]
-fn typed<'s>(alloc: Global, tree: Tree, scope: Scope<'s>) -> Result<Box<Operand<'s>>, TypeError>
-    ensures { Gives is_memory boxed_view result (typed_in scope.entry (expression_of tree)) }
+fn typed<'s>(alloc: Global, tree: Tree, scope: &Scope<'s>) -> Result<Box<Operand<'s>>, TypeError>
+    ensures { Gives is_memory boxed_view result (typed_in scope.now (expression_of tree)) }
 {
     match tree {
         Tree::Result { .. } => measured_of(alloc, scope.measured),
@@ -134,9 +134,9 @@ fn typed<'s>(alloc: Global, tree: Tree, scope: Scope<'s>) -> Result<Box<Operand<
 fn child<'s>(
     alloc: Global,
     tree: Box<Tree>,
-    scope: Scope<'s>,
+    scope: &Scope<'s>,
 ) -> Result<Box<Operand<'s>>, TypeError>
-    ensures { Gives is_memory boxed_view result (typed_in scope.entry (expression_of tree.value)) }
+    ensures { Gives is_memory boxed_view result (typed_in scope.now (expression_of tree.value)) }
 {
     typed(alloc, Box::into_inner(tree), scope)
 }
@@ -148,10 +148,10 @@ fn typed_field<'s>(
     at: usize,
     owner: Box<Tree>,
     name: Text,
-    scope: Scope<'s>,
+    scope: &Scope<'s>,
 ) -> Result<Box<Operand<'s>>, TypeError>
     ensures { Gives is_memory boxed_view result
-        (typed_in scope.entry (FieldAt at (expression_of owner.value) name)) }
+        (typed_in scope.now (FieldAt at (expression_of owner.value) name)) }
 {
     let owner = child(alloc, owner, scope)?;
     field_of(alloc, at, name, owner)
@@ -164,10 +164,10 @@ fn typed_unary<'s>(
     at: usize,
     operator: Unary,
     operand: Box<Tree>,
-    scope: Scope<'s>,
+    scope: &Scope<'s>,
 ) -> Result<Box<Operand<'s>>, TypeError>
     ensures { Gives is_memory boxed_view result
-        (typed_in scope.entry (UnaryAt at operator (expression_of operand.value))) }
+        (typed_in scope.now (UnaryAt at operator (expression_of operand.value))) }
 {
     let operand = child(alloc, operand, scope)?;
     unary(alloc, at, operator, operand)
@@ -179,10 +179,10 @@ fn typed_list<'s>(
     alloc: Global,
     at: usize,
     items: Vec<Tree>,
-    scope: Scope<'s>,
+    scope: &Scope<'s>,
 ) -> Result<Box<Operand<'s>>, TypeError>
     ensures { Gives is_memory boxed_view result
-        (typed_in scope.entry (ListAt at (expressions (map expression_of items.items)))) }
+        (typed_in scope.now (ListAt at (expressions (map expression_of items.items)))) }
 {
     let items = typed_items(alloc, items, scope)?;
     list(alloc, at, items)
@@ -194,10 +194,10 @@ fn typed_len<'s>(
     alloc: Global,
     at: usize,
     list: Box<Tree>,
-    scope: Scope<'s>,
+    scope: &Scope<'s>,
 ) -> Result<Box<Operand<'s>>, TypeError>
     ensures { Gives is_memory boxed_view result
-        (typed_in scope.entry (LenAt at (expression_of list.value))) }
+        (typed_in scope.now (LenAt at (expression_of list.value))) }
 {
     let list = child(alloc, list, scope)?;
     len_of(alloc, at, list)
@@ -209,10 +209,10 @@ fn typed_is_nil<'s>(
     alloc: Global,
     at: usize,
     operand: Box<Tree>,
-    scope: Scope<'s>,
+    scope: &Scope<'s>,
 ) -> Result<Box<Operand<'s>>, TypeError>
     ensures { Gives is_memory boxed_view result
-        (typed_in scope.entry (IsNilAt at (expression_of operand.value))) }
+        (typed_in scope.now (IsNilAt at (expression_of operand.value))) }
 {
     let operand = child(alloc, operand, scope)?;
     is_nil_of(alloc, operand)
@@ -225,10 +225,10 @@ fn typed_index<'s>(
     at: usize,
     list: Box<Tree>,
     index: Box<Tree>,
-    scope: Scope<'s>,
+    scope: &Scope<'s>,
 ) -> Result<Box<Operand<'s>>, TypeError>
     ensures { Gives is_memory boxed_view result
-        (typed_in scope.entry (IndexAt at (expression_of list.value) (expression_of index.value))) }
+        (typed_in scope.now (IndexAt at (expression_of list.value) (expression_of index.value))) }
 {
     let list = child(alloc, list, scope)?;
     let index = child(alloc, index, scope)?;
@@ -243,10 +243,10 @@ fn typed_binary<'s>(
     operator: Binary,
     left: Box<Tree>,
     right: Box<Tree>,
-    scope: Scope<'s>,
+    scope: &Scope<'s>,
 ) -> Result<Box<Operand<'s>>, TypeError>
     ensures { Gives is_memory boxed_view result
-        (typed_in scope.entry (BinaryAt at operator (expression_of left.value) (expression_of right.value))) }
+        (typed_in scope.now (BinaryAt at operator (expression_of left.value) (expression_of right.value))) }
 {
     let nil_left = is_nil_literal(&left);
     let nil_right = is_nil_literal(&right);
@@ -263,12 +263,12 @@ fn typed_choice<'s>(
     condition: Box<Tree>,
     yes: Box<Tree>,
     no: Box<Tree>,
-    scope: Scope<'s>,
+    scope: &Scope<'s>,
 ) -> Result<Box<Operand<'s>>, TypeError>
     ensures { Gives is_memory boxed_view result
-        (typed_in scope.entry (ChoiceAt at (expression_of condition.value) (expression_of yes.value) (expression_of no.value))) }
+        (typed_in scope.now (ChoiceAt at (expression_of condition.value) (expression_of yes.value) (expression_of no.value))) }
 {
-    let condition = as_truth(alloc, child(alloc, condition, scope)?)?;
+    let condition = child(alloc, condition, scope)?;
     let yes = child(alloc, yes, scope)?;
     let no = child(alloc, no, scope)?;
     choice_of(alloc, at, condition, yes, no)
@@ -281,10 +281,10 @@ fn typed_default<'s>(
     at: usize,
     operand: Box<Tree>,
     otherwise: Box<Tree>,
-    scope: Scope<'s>,
+    scope: &Scope<'s>,
 ) -> Result<Box<Operand<'s>>, TypeError>
     ensures { Gives is_memory boxed_view result
-        (typed_in scope.entry (DefaultAt at (expression_of operand.value) (expression_of otherwise.value))) }
+        (typed_in scope.now (DefaultAt at (expression_of operand.value) (expression_of otherwise.value))) }
 {
     let operand = child(alloc, operand, scope)?;
     let otherwise = child(alloc, otherwise, scope)?;
@@ -299,10 +299,10 @@ fn typed_predicate<'s>(
     predicate: Predicate,
     list: Box<Tree>,
     body: Box<Tree>,
-    scope: Scope<'s>,
+    scope: &Scope<'s>,
 ) -> Result<Box<Operand<'s>>, TypeError>
     ensures { Gives is_memory boxed_view result
-        (typed_in scope.entry (PredicateAt at predicate (expression_of list.value) (expression_of body.value))) }
+        (typed_in scope.now (PredicateAt at predicate (expression_of list.value) (expression_of body.value))) }
 {
     let list = child(alloc, list, scope)?;
     let body = typed_body(alloc, at, body, &list.kind, scope)?;
@@ -312,9 +312,9 @@ fn typed_predicate<'s>(
 /// The items of a list literal, made plain.
 #[cycle(typed)]
 #[tactic(auto, using(crate::proofs::Items::all_left))]
-fn typed_items(alloc: Global, trees: Vec<Tree>, scope: Scope<'_>) -> Result<Vec<Item>, TypeError>
+fn typed_items(alloc: Global, trees: Vec<Tree>, scope: &Scope<'_>) -> Result<Vec<Item>, TypeError>
     ensures { Gives is_memory (λ items. map item_view items.items) result
-        (items_in scope.entry (expressions (map expression_of trees.items))) }
+        (items_in scope.now (expressions (map expression_of trees.items))) }
 {
     let mut items = Vec::with_capacity(alloc, trees.len())?;
     for tree in trees {
@@ -325,8 +325,8 @@ fn typed_items(alloc: Global, trees: Vec<Tree>, scope: Scope<'_>) -> Result<Vec<
 
 /// An item of a list literal, made plain.
 #[cycle(typed)]
-fn typed_item(alloc: Global, tree: Tree, scope: Scope<'_>) -> Result<Item, TypeError>
-    ensures { Gives is_memory item_view result (item_in scope.entry (expression_of tree)) }
+fn typed_item(alloc: Global, tree: Tree, scope: &Scope<'_>) -> Result<Item, TypeError>
+    ensures { Gives is_memory item_view result (item_in scope.now (expression_of tree)) }
 {
     let at = tree.place();
     let operand = typed(alloc, tree, scope)?;
@@ -342,22 +342,22 @@ fn typed_body(
     at: usize,
     body: Box<Tree>,
     list: &Kind<'_>,
-    scope: Scope<'_>,
+    scope: &Scope<'_>,
 ) -> Result<(bool, Box<Typed>), TypeError>
     ensures { Gives is_memory (λ found. (found.0, typed_view found.1.value)) result
-        (over_items at scope.entry.around (kind_view list.now) (λ shape. inside scope.entry shape (expression_of body.value))) }
+        (over_items at scope.now.around (kind_view list.now) (λ shape. inside scope.now shape (expression_of body.value))) }
 {
     let shape = item_shape(at, list)?;
     if scope.around >= MOST_PREDICATES {
         return Err(TypeError::PredicatesTooDeep(at));
     }
     let inside = in_predicate(scope, shape, scope.around + 1);
-    Ok(as_truth(alloc, child(alloc, body, inside)?)?)
+    Ok(as_truth(alloc, child(alloc, body, &inside)?)?)
 }
 
 /// What names stand for where a predicate speaks of an item, inside so many predicates.
-fn in_predicate<'s>(scope: Scope<'s>, item: &'s Shape, around: usize) -> Scope<'s>
-    ensures measured { shape_view result.measured.now ≡ shape_view scope.entry.measured.now }
+fn in_predicate<'s>(scope: &Scope<'s>, item: &'s Shape, around: usize) -> Scope<'s>
+    ensures measured { shape_view result.measured.now ≡ shape_view scope.now.measured.now }
     ensures item { option_map (λ shape. shape_view shape.now) result.item ≡ Some (shape_view item.now) }
     ensures around { result.around ≡ around }
 {
@@ -495,16 +495,16 @@ fn len_of<'s>(
 fn choice_of<'s>(
     alloc: Global,
     at: usize,
-    condition: (bool, Box<Typed>),
+    condition: Box<Operand<'_>>,
     yes: Box<Operand<'s>>,
     no: Box<Operand<'s>>,
 ) -> Result<Box<Operand<'s>>, TypeError>
     ensures { Gives is_memory boxed_view result
-        (choice_between at condition.0 (typed_view condition.1.value)
+        (choice_of at (operand_view condition.entry.value)
         (operand_view yes.entry.value) (operand_view no.entry.value)) }
 {
     let kind = common(alloc, &yes.kind, &no.kind)?;
-    let (wanted, condition) = condition;
+    let wanted = is_truth(&condition);
     let (kind, tree) = beside(kind, choice_tree(alloc, condition, yes, no))?;
     match kind {
         Some(kind) => where_wanted(alloc, at, wanted, tree, kind),
@@ -515,13 +515,15 @@ fn choice_of<'s>(
 /// The tree of a choice, whose branches are turned beside one another.
 fn choice_tree(
     alloc: Global,
-    condition: Box<Typed>,
+    condition: Box<Operand<'_>>,
     yes: Box<Operand<'_>>,
     no: Box<Operand<'_>>,
 ) -> Result<Box<Typed>, AllocError>
     ensures { IfOk result (λ tree. typed_view tree.value
-        ≡ choice_tree (typed_view condition.value) (operand_view yes.entry.value) (operand_view no.entry.value)) }
+        ≡ choice_tree (made_plain (operand_view condition.entry.value))
+        (operand_view yes.entry.value) (operand_view no.entry.value)) }
 {
+    let condition = made_plain(alloc, condition)?;
     let (yes, no) = turned_both(alloc, yes, no)?;
     choice(alloc, condition, yes, no)
 }

@@ -8,13 +8,15 @@ use Rattle.ar_value.specs.Kind as kind
 use Rattle.ar_value.specs.Shape.{Shape}
 use Rattle.ar_value.specs.View.{shape_view}
 use Rattle.ar_condition.specs.Expression.{Expression, Expressions}
-use Rattle.ar_check.specs.Check.{Answer, Item, choice_in, choice_tree, item_shape, item_typed, items_typed, typed_of}
-use Rattle.ar_check.specs.Operand.{Operand, is_whole, operand, plain_of, scalar_of}
+use Rattle.ar_check.specs.Check.{Answer, Item, item_shape, item_typed, items_typed, truth_kind, typed_of, where_wanted}
+use Rattle.ar_check.specs.Operand.{Operand, is_truth, is_whole, made_plain, operand, plain_of, scalar_of}
 use Rattle.ar_condition.specs.Typed.{Typed}
 use Rattle.ar_condition.specs.Typed as typed
 use Rattle.ar_condition.specs.Views.{typed_view}
 use Rattle.ar_check.specs.declared.error.TypeError.{TypeError}
 use Rattle.ar_value.specs.declared.operator.Scalar.{Scalar}
+use Rattle.ar_check.specs.declared.build.Connective.{Connective}
+use Rattle.ar_check.specs.declared.build.Connective.TheVariants.{And, Or}
 use Rattle.ar_check.specs.declared.list.Item as items
 use Rattle.ar_check.specs.declared.operand.Kind as code
 use Rattle.ar_check.specs.declared.operand.Kind.TheVariants as kinds
@@ -61,13 +63,18 @@ item_in scope tree = item_typed (shape_view scope.measured.now) (innermost_of sc
 abbrev pub inside : Scope → Shape → Expression → Answer
 inside scope shape body = typed_of (shape_view scope.measured.now) (Some shape) (suc scope.around) body
 
--- a choice whose condition is made plain already
-abbrev pub choice_between : ℕ → Bool → Typed → Operand → Operand → Answer
-choice_between at is_truth condition met unmet = choice_in at (common met.kind unmet.kind) is_truth (choice_tree condition met unmet)
-
 -- what scalar a list's items are once they are plain
 abbrev pub item_scalar : ℕ → Kind → Result (Option Scalar) TypeError
 item_scalar at list = item_shape at (plain_of list) >>= λ shape. Ok (scalar_of (plain shape))
+
+-- two truth values, connected
+abbrev pub connected : Connective → Typed → Typed → Typed
+connected And left right = typed.both left right
+connected Or left right = typed.either left right
+
+abbrev pub connected_of : ℕ → Connective → Operand → Operand → Answer
+connected_of at by left right =
+    where_wanted at (is_truth left && is_truth right) (connected by (made_plain left) (made_plain right)) truth_kind
 
 -- whether a tree of a kind is a whole beside a decimal, and the tree, where it is turned
 abbrev pub turns : Kind → Kind → Bool

@@ -15,20 +15,20 @@ typed_items-loop-tree-preserved t c =
       tt,
       len_next _ _ _ _ _ inv.2 steps.0 steps.1,
       rw c.in_ok-push.ensures.items
-          (next_left (shape_view c.args.scope.measured.now) (option_map (λ shape. shape_view shape.now) c.args.scope.item) c.args.scope.around _ _ _ _ _ _ inv.3 steps.0 c.in_ok-typed_item.ensures),
+          (next_left (shape_view c.args.scope.now.measured.now) (option_map (λ shape. shape_view shape.now) c.args.scope.now.item) c.args.scope.now.around _ _ _ _ _ _ inv.3 steps.0 c.in_ok-typed_item.ensures),
     )
 
 pub typed_items-returns-in_err-typed_item : goal.typed_items-returns-in_err-typed_item
 typed_items-returns-in_err-typed_item t c =
     let p = err_from_is_err_and c.from_residual-in_err-typed_item.result c.from_residual-in_err-typed_item.ensures.1 in
     rw (p.1, p.2)
-    (fails_unless (shape_view c.args.scope.measured.now) (option_map (λ shape. shape_view shape.now) c.args.scope.item) c.args.scope.around (is_memory c.in_err-typed_item.field-0.0) _ _ _ _ _ c.in_err-typed_item.field-0.0
+    (fails_unless (shape_view c.args.scope.now.measured.now) (option_map (λ shape. shape_view shape.now) c.args.scope.now.item) c.args.scope.now.around (is_memory c.in_err-typed_item.field-0.0) _ _ _ _ _ c.in_err-typed_item.field-0.0
     c.loop-tree.invariant.3 c.in-Some.ensures.steps.0 c.in_err-typed_item.ensures)
 
 pub typed_items-returns : goal.typed_items-returns
 typed_items-returns t c =
     let inv = c.loop-tree.invariant in
-    ended (shape_view c.args.scope.measured.now) (option_map (λ shape. shape_view shape.now) c.args.scope.item) c.args.scope.around _ _ _ _ inv.3 inv.2 c.in-None.ensures.steps.0
+    ended (shape_view c.args.scope.now.measured.now) (option_map (λ shape. shape_view shape.now) c.args.scope.now.item) c.args.scope.now.around _ _ _ _ inv.3 inv.2 c.in-None.ensures.steps.0
 
 pub typed_predicate-returns : goal.typed_predicate-returns
 typed_predicate-returns t c =
