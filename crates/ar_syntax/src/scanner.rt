@@ -1,6 +1,6 @@
 //! Cutting a text into tokens.
 
-ghost use Rattle.std.specs.Prelude.{◌≡◌, ◌+◌, ◌^◌, ◌<◌, ◌≤◌, length, false, drop, All, Err, IfOk};
+ghost use Rattle.std.specs.Prelude.{◌≡◌, ◌+◌, ◌^◌, ◌<◌, ◌≤◌, length, false, drop, All, Err, IfOk, Ok};
 ghost use Rattle.ar_value.specs.Answer.{Gives};
 ghost use Rattle.ar_syntax.specs.Tokens.{AreInOrder, IsGapBetween, IsSpelled, begins_block_comment, begins_line_comment, block_comment, comment_end, front_of, is_blank, line_comment, sign_at, sign_of, is_coalescing, is_memory, most_condition_bytes, token_of, tokens_behind, tokens_of, word_at, word_token};
 ghost use Rattle.ar_syntax.specs.declared.error.SyntaxError.TheVariants.{TooLong};
@@ -195,7 +195,7 @@ fn front_token(alloc: Global, text: &str, at: usize, field: bool) -> Result<Toke
 {
     let bytes = text.as_bytes();
     if begins_word(bytes[0]) {
-        Ok(word(alloc, text, at)?)
+        word(alloc, text, at)
     } else if begins_number(bytes, field) {
         number_token(bytes, at)
     } else if is_quote(bytes[0]) {
@@ -207,9 +207,9 @@ fn front_token(alloc: Global, text: &str, at: usize, field: bool) -> Result<Toke
 
 /// The word at the front.
 #[tactic(auto, using(crate::proofs::Fronts::front_parts))]
-fn word(alloc: Global, text: &str, at: usize) -> Result<Token, AllocError>
+fn word(alloc: Global, text: &str, at: usize) -> Result<Token, SyntaxError>
     requires in_range { at + length text.now < 2 ^ 64 }
-    ensures { IfOk result (λ token. token ≡ word_token at (word_at text.now)) }
+    ensures { Gives is_memory (λ token. token) result (Ok (word_token at (word_at text.now))) }
 {
     let len = word_len(text.as_bytes());
     Ok(placed(word_kind(alloc, &text[..len])?, at, len))

@@ -496,11 +496,12 @@ fn select(alloc: Global, at: usize, owner: Box<Tree>, token: &Token) -> Result<S
 fn name_of(alloc: Global, token: &Token) -> Result<Option<Text>, AllocError>
     ensures { IfOk result (λ name. name ≡ name_of token.now) }
 {
-    match &token.kind {
-        TokenKind::Word(word) => Ok(Some(Text::of(alloc, word.letters())?)),
-        TokenKind::Name(name) => Ok(Some(Text::of(alloc, name.as_str())?)),
-        _ => Ok(None),
-    }
+    let name = match &token.kind {
+        TokenKind::Word(word) => word.letters(),
+        TokenKind::Name(name) => name.as_str(),
+        _ => return Ok(None),
+    };
+    Ok(Some(Text::of(alloc, name)?))
 }
 
 /// A text token's text.
