@@ -1,5 +1,5 @@
 -- Limits, set aside one at a time.
-use Rattle.std.proofs.Common.{◌≡◌, ℕ, zero, suc, ◌<◌, ◌≤◌, Bool, true, false, if◌then◌else◌, List, [], ◌∷◌, length, map, Some, None, Result, Err, refl, ap, arith}
+use Rattle.std.proofs.Common.{◌≡◌, ℕ, zero, suc, ◌<◌, ◌≤◌, Bool, true, false, if◌then◌else◌, List, [], ◌∷◌, ◌++◌, length, map, Option, Some, None, Result, Ok, Err, refl, ◌∙◌, ap, arith, length-append}
 use Rattle.std.proofs.lemmas.Bool.Decides.{nat_tests}
 use Rattle.std.specs.Prelude.{nat_eq, nat_lt, pred}
 use Rattle.ar_syntax.specs.Grammar.{Rules, ends_bracket, may_continue, may_open, takes_all, takes_more}
@@ -7,7 +7,7 @@ use Rattle.ar_syntax.specs.Machine.{Argued, Body, Braced, Frame, Grouped, Have, 
 use Rattle.ar_syntax.specs.Refusal.{at_any_depth, of_any_count, of_any_items, strict}
 use Rattle.ar_syntax.specs.Roles.{Call, Colon, Comma, Default, EndBrace, EndBracket, EndGroup, Ender, Ends, Follow, IsNil, Len, Over, arity, is_body, is_brace}
 use Rattle.ar_syntax.specs.Private.Frames.{unwinds}
-use Rattle.ar_syntax.specs.Private.Steps.{Steps, fault_by, forbids, is_empty_call}
+use Rattle.ar_syntax.specs.Private.Steps.{IsOperand, Steps, fault_by, forbids, is_empty_call}
 use Rattle.ar_value.specs.Answer.{Unless}
 use Rattle.ar_syntax.specs.Tokens.{is_memory}
 use Rattle.ar_syntax.specs.Parse.{stepped}
@@ -72,6 +72,32 @@ pub text_goes_on : (old stack : List Frame) (at : ℕ) (whole : Expression) (tex
     → Steps (λ rules. close_text rules old at whole text_at text token role) stack r
 text_goes_on old stack at whole text_at text token (Ends EndBracket) r h goes = absurd cc
 text_goes_on old stack at whole text_at text token role r h goes = goes
+
+-- and an operand is there
+pub text_gives_field : (stack : List Frame) (at : ℕ) (whole : Expression) (text_at : ℕ) (text : List ℕ) (token : Token) (role : Follow) (r : Result rust.State Refusal) → ends_bracket role ≡ true
+    → IsOperand (FieldAt at whole text) r → Steps (λ rules. close_text rules stack at whole text_at text token role) stack r
+text_gives_field stack at whole text_at text token (Ends EndBracket) r h is = is stack
+text_gives_field stack at whole text_at text token role r h is = absurd cc
+
+gives_operand : (steps : Rules → Option State) (stack : List Frame) (tree : Expression) (r : Result rust.State Refusal) → steps strict ≡ Some (Have stack tree) → IsOperand tree r → Steps steps stack r
+gives_operand steps stack tree (Ok state) leads is = leads ∙ is stack
+gives_operand steps stack tree (Err Memory) leads is = tt
+gives_operand steps stack tree (Err refusal) leads is = let none : Some (Have stack tree) ≡ None = (is stack).0 in absurd cc
+
+pub one_argument : (arguments rest : List Tree) (last : Tree) → arguments ≡ rest ++ last ∷ [] → length arguments ≡ 1 → map expression_of arguments ≡ expression_of last ∷ []
+one_argument arguments [] last e one = rw e refl
+one_argument arguments (first ∷ rest) last e one = absurd (omega (arith, one, ap length e, length-append rest (last ∷ [])))
+
+pub two_arguments : (arguments rest others : List Tree) (first last : Tree) → arguments ≡ rest ++ last ∷ [] → rest ≡ others ++ first ∷ [] → length arguments ≡ 2
+    → map expression_of arguments ≡ expression_of first ∷ expression_of last ∷ []
+two_arguments arguments rest [] first last e f two = rw (e, f) refl
+two_arguments arguments rest (other ∷ others) first last e f two = absurd (omega (arith, two, ap length e, ap length f, length-append rest (last ∷ []), length-append others (first ∷ [])))
+
+-- a call with all arguments is an operand
+pub call_gives_operand : (function : Call) (arguments : List Tree) (n : ℕ) (stack : List Frame) (tree : Expression) (r : Result rust.State Refusal) → n ≡ length arguments → n ≡ arity function
+    → IsOperand tree r → Steps (λ rules. when rules (takes_all rules function (length (map expression_of arguments))) (Have stack tree)) stack r
+call_gives_operand function arguments n stack tree r is all given =
+    gives_operand (λ rules. when rules (takes_all rules function (length (map expression_of arguments))) (Have stack tree)) stack tree r (all_arguments function arguments n (Have stack tree) is all) given
 
 below_two : (n : ℕ) → n < 2 → nat_lt 0 (pred n) ≡ false
 below_two zero h = refl

@@ -5,7 +5,7 @@ ghost use Rattle.ar_syntax.specs.Machine.{Have};
 ghost use Rattle.ar_syntax.specs.Private.Frames.{closed_by, ended, ends, ends_below, frame_of, frames_of, top_ends};
 ghost use Rattle.ar_condition.specs.Views.{expression_of};
 
-use crate::build::{binary, choice, unary};
+use crate::build::boxed;
 use crate::machine::Frame;
 use crate::role::looseness;
 use ar_condition::tree::Tree;
@@ -92,14 +92,29 @@ fn close(alloc: Global, frame: Frame, tree: Box<Tree>) -> Result<Box<Tree>, Allo
     ensures { IfOk result
         (λ closed. expression_of closed.value ≡ closed_by (frame_of frame) (expression_of tree.value)) }
 {
-    match frame {
+    let node = match frame {
         Frame::RightOf {
             at,
             operator,
             first,
-        } => binary(alloc, at, operator, first, tree),
-        Frame::Prefixed { at, operator } => unary(alloc, at, operator, tree),
-        Frame::No { at, condition, met } => choice(alloc, at, condition, met, tree),
-        _ => Ok(tree),
-    }
+        } => Tree::Binary {
+            at,
+            operator,
+            left: first,
+            right: tree,
+        },
+        Frame::Prefixed { at, operator } => Tree::Unary {
+            at,
+            operator,
+            operand: tree,
+        },
+        Frame::No { at, condition, met } => Tree::Choice {
+            at,
+            condition,
+            yes: met,
+            no: tree,
+        },
+        _ => return Ok(tree),
+    };
+    boxed(alloc, node)
 }

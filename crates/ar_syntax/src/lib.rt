@@ -11,7 +11,7 @@
 //! - [`role`]: what a token can be behind an operand, and what calls take
 //! - `parser`: from tokens to a tree, one `step` for each token; `start` says what a token begins,
 //!   `state` what may come next, `machine` what is begun and not ended, `climb` ends it, `build`
-//!   makes the nodes, `stack` counts what is begun, `fault` names a refusal, `depth` limits the tree
+//!   boxes the nodes, `stack` counts what is begun, `fault` names a refusal, `depth` limits the tree
 //! - [`error`]: why a text is no condition
 //! - [`laws`]: what holds of the grammar as a whole
 //!

@@ -11,7 +11,7 @@ ghost use Rattle.ar_syntax.specs.Private.Steps.{Steps, StepsFreely, is_empty_cal
 ghost use Rattle.ar_syntax.specs.Private.Frames.{frame_of, frames_of};
 ghost use Rattle.ar_condition.specs.Views.{expression_of};
 
-use crate::build::{boxed, default, field, index, is_nil, item, len, list, predicate};
+use crate::build::{boxed, operand};
 use crate::climb::{Reach, climb};
 use crate::machine::Frame;
 use crate::role::{Call, Ender, Follow, follow_of, is_brace, is_group, is_in, looseness};
@@ -19,7 +19,7 @@ use crate::stack::{inside, left};
 use crate::start::{Begin, begin_of};
 use crate::state::{Refusal, State};
 use crate::token::{Token, TokenKind};
-use ar_condition::tree::{Binary, Literal, Tree};
+use ar_condition::tree::{Binary, Literal, Tree, Trees};
 use ar_value::text::Text;
 use std::alloc::{AllocError, Global};
 use std::mem;
@@ -98,7 +98,7 @@ fn begin_with(
         Begin::Calls(function) => with_opener(stack, State::WantGroup { at, function }),
         Begin::ItemPoint => Ok(State::WantName {
             at,
-            owner: item(alloc, at)?,
+            owner: boxed(alloc, Tree::Item { at })?,
         }),
         Begin::NoStart => Err(Refusal::Other),
     }
@@ -112,7 +112,8 @@ fn wait_at(
     frame: Frame,
     token: &Token,
 ) -> Result<State, Refusal>
-    ensures { Steps (λ rules. want rules (frame_of frame ∷ frames_of stack.old.items) token.now) (frames_of stack.new.items) result }
+    ensures { Steps (λ rules. want rules (frame_of frame ∷ frames_of stack.old.items) token.now)
+        (frames_of stack.new.items) result }
 {
     stack.push(frame)?;
     want(alloc, stack, token)
@@ -299,7 +300,14 @@ fn end_index(
         stack result }
 {
     match ender {
-        Ender::EndBracket => Ok(State::Have(index(alloc, at, list, tree)?)),
+        Ender::EndBracket => operand(
+            alloc,
+            Tree::Index {
+                at,
+                list,
+                index: tree,
+            },
+        ),
         _ => Err(Refusal::Other),
     }
 }
@@ -363,7 +371,13 @@ fn end_item(
 {
     let items = with_item(so_far, tree)?;
     match ender {
-        Ender::EndBracket => Ok(State::Have(list(alloc, at, items)?)),
+        Ender::EndBracket => operand(
+            alloc,
+            Tree::List {
+                at,
+                items: Trees { items },
+            },
+        ),
         Ender::Comma => next_item(stack, at, items),
         _ => Err(Refusal::Other),
     }
@@ -443,29 +457,39 @@ fn end_call(
         stack result }
 {
     if arguments.len() == function.arity() {
-        Ok(State::Have(call(alloc, at, function, arguments)?))
+        operand(alloc, call(alloc, at, function, arguments)?)
     } else {
         Err(Refusal::Arguments)
     }
 }
 
-/// The tree of a call with all its arguments.
-fn call(
-    alloc: Global,
-    at: usize,
-    function: Call,
-    arguments: Vec<Tree>,
-) -> Result<Box<Tree>, AllocError>
+/// The node of a call with all its arguments.
+fn call(alloc: Global, at: usize, function: Call, arguments: Vec<Tree>) -> Result<Tree, AllocError>
     requires { length arguments.items ≡ arity function }
-    ensures { IfOk result (λ tree. expression_of tree.value ≡ called at function (map expression_of arguments.items)) }
+    ensures { IfOk result (λ tree. expression_of tree ≡ called at function (map expression_of arguments.items)) }
 {
     let mut arguments = arguments;
     let last = pop_argument(alloc, &mut arguments)?;
     match function {
-        Call::Len => len(alloc, at, last),
-        Call::IsNil => is_nil(alloc, at, last),
-        Call::Default => default(alloc, at, pop_argument(alloc, &mut arguments)?, last),
-        Call::Over(over) => predicate(alloc, at, over, pop_argument(alloc, &mut arguments)?, last),
+        Call::Len => Ok(Tree::Len { at, list: last }),
+        Call::IsNil => Ok(Tree::IsNil { at, operand: last }),
+        Call::Default => {
+            let operand = pop_argument(alloc, &mut arguments)?;
+            Ok(Tree::Default {
+                at,
+                operand,
+                otherwise: last,
+            })
+        }
+        Call::Over(predicate) => {
+            let list = pop_argument(alloc, &mut arguments)?;
+            Ok(Tree::Predicate {
+                at,
+                predicate,
+                list,
+                body: last,
+            })
+        }
     }
 }
 
@@ -486,7 +510,7 @@ fn select(alloc: Global, at: usize, owner: Box<Tree>, token: &Token) -> Result<S
         → Steps (λ rules. select rules stack at (expression_of owner.value) (name_of token.now)) stack result }
 {
     match name_of(alloc, token)? {
-        Some(name) => Ok(State::Have(field(alloc, at, owner, name)?)),
+        Some(name) => operand(alloc, Tree::Field { at, owner, name }),
         None => Err(Refusal::Other),
     }
 }
@@ -562,7 +586,14 @@ fn close_text(
 {
     let (text_at, text) = literal;
     if closes_bracket(token) {
-        return Ok(State::Have(field(alloc, at, owner, text)?));
+        return operand(
+            alloc,
+            Tree::Field {
+                at,
+                owner,
+                name: text,
+            },
+        );
     }
     let tree = text_operand(alloc, text_at, text)?;
     have_indexed(alloc, stack, at, owner, tree, token)

@@ -63,6 +63,10 @@ Steps steps stack (Ok state) = steps strict ≡ Some (state_of stack state)
 Steps steps stack (Err Memory) = Unit {0}
 Steps steps stack (Err refusal) = (steps strict ≡ None) × (forbids steps ≡ refusal)
 
+-- an operand is there, unless memory ran out
+abbrev pub IsOperand : Expression → Result rust.State Refusal → Type 0
+IsOperand tree result = (stack : List Frame) → Steps (λ rules. Some (Have stack tree)) stack result
+
 abbrev pub is_want : Refusal → Bool
 is_want Memory = true
 is_want refusal = false

@@ -1,0 +1,21 @@
+use Rattle.std.proofs.Common.{rules, ap, ◌∙◌}
+use Rattle.ar_condition.specs.declared.tree.Tree.{the_lemmas}
+use Rattle.ar_syntax.specs.Roles.{arity}
+use Rattle.ar_syntax.proofs.Openers.{one_argument, two_arguments}
+use Rattle.ar_syntax.proofs.step.call.Goals as goal
+
+pub returns-in-Len : goal.returns-in-Len
+returns-in-Len c =
+    rw (c.in-Len.is, one_argument c.args.arguments.items _ _ c.in_ok-last.ensures (c.requires ∙ ap arity c.in-Len.is)) (search (rules, the_lemmas))
+
+pub returns-in-IsNil : goal.returns-in-IsNil
+returns-in-IsNil c =
+    rw (c.in-IsNil.is, one_argument c.args.arguments.items _ _ c.in_ok-last.ensures (c.requires ∙ ap arity c.in-IsNil.is)) (search (rules, the_lemmas))
+
+pub returns-in-Default : goal.returns-in-Default
+returns-in-Default c =
+    rw (c.in-Default.is, two_arguments c.args.arguments.items _ _ _ _ c.in_ok-last.ensures c.in_ok-operand-in-Default.ensures (c.requires ∙ ap arity c.in-Default.is)) (search (rules, the_lemmas))
+
+pub returns : goal.returns
+returns c =
+    rw (c.in-Over.is, two_arguments c.args.arguments.items _ _ _ _ c.in_ok-last.ensures c.in_ok-list-in-Over.ensures (c.requires ∙ ap arity c.in-Over.is)) (search (rules, the_lemmas))
