@@ -7,8 +7,7 @@ ghost use Rattle.ar_condition.specs.Views.{typed_view};
 ghost use Rattle.ar_check.specs.Private.Inside.{connected};
 
 use ar_condition::typed::{Typed, TypedItems};
-use ar_value::operator::{BinaryOperator, Predicate, Scalar, UnaryOperator};
-use ar_value::text::Text;
+use ar_value::operator::{BinaryOperator, Scalar, UnaryOperator};
 use std::alloc::{AllocError, Global};
 
 /// What connects two truth values.
@@ -54,12 +53,6 @@ pub(crate) fn binary(
     )
 }
 
-pub(crate) fn field(alloc: Global, owner: Box<Typed>, name: Text) -> Result<Box<Typed>, AllocError>
-    ensures { IfOk result (λ tree. typed_view tree.value ≡ typed.field (typed_view owner.value) name) }
-{
-    node(alloc, Typed::Field { owner, name })
-}
-
 pub(crate) fn connected(
     alloc: Global,
     connective: Connective,
@@ -76,18 +69,6 @@ pub(crate) fn connected(
     node(alloc, tree)
 }
 
-pub(crate) fn choice(
-    alloc: Global,
-    condition: Box<Typed>,
-    yes: Box<Typed>,
-    no: Box<Typed>,
-) -> Result<Box<Typed>, AllocError>
-    ensures { IfOk result (λ tree. typed_view tree.value
-        ≡ typed.choice (typed_view condition.value) (typed_view yes.value) (typed_view no.value)) }
-{
-    node(alloc, Typed::Choice { condition, yes, no })
-}
-
 pub(crate) fn listed(scalar: Scalar, items: Vec<Typed>) -> Typed
     ensures { typed_view result ≡ typed.listed scalar (typeds (map typed_view items.items)) }
 {
@@ -95,23 +76,4 @@ pub(crate) fn listed(scalar: Scalar, items: Vec<Typed>) -> Typed
         scalar,
         items: TypedItems { items },
     }
-}
-
-pub(crate) fn predicate(
-    alloc: Global,
-    predicate: Predicate,
-    list: Box<Typed>,
-    body: Box<Typed>,
-) -> Result<Box<Typed>, AllocError>
-    ensures { IfOk result
-        (λ tree. typed_view tree.value ≡ typed.predicate predicate (typed_view list.value) (typed_view body.value)) }
-{
-    node(
-        alloc,
-        Typed::Predicate {
-            predicate,
-            list,
-            body,
-        },
-    )
 }

@@ -19,7 +19,7 @@ ghost use Rattle.ar_check.specs.Typing.{IsCondition};
 ghost use Rattle.ar_condition.specs.Views.{typed_view};
 ghost use Rattle.ar_check.specs.Memory.{is_memory};
 
-use crate::build::{self, choice, field, predicate};
+use crate::build::{self, node};
 use crate::error::TypeError;
 use crate::holding::beside;
 use crate::list::{Item, list};
@@ -371,7 +371,7 @@ fn in_predicate<'s>(scope: &Scope<'s>, item: &'s Shape, around: usize) -> Scope<
 fn measured_of(alloc: Global, shape: &Shape) -> Result<Box<Operand<'_>>, TypeError>
     ensures { Gives is_memory boxed_view result (given typed.result (shaped (shape_view shape.now))) }
 {
-    let tree = build::node(alloc, Typed::Result)?;
+    let tree = node(alloc, Typed::Result)?;
     given(alloc, tree, Kind::Declared(shape))
 }
 
@@ -384,7 +384,7 @@ fn item_of<'s>(
     ensures { Gives is_memory boxed_view result
         (innermost at (option_map (λ shape. shape_view shape.now) item.entry)) }
 {
-    let tree = build::node(alloc, Typed::Item)?;
+    let tree = node(alloc, Typed::Item)?;
     given(alloc, tree, innermost_kind(at, item)?)
 }
 
@@ -409,7 +409,7 @@ fn literal_of<'s>(alloc: Global, literal: Literal) -> Result<Box<Operand<'s>>, T
         Literal::Decimal(_) => Kind::Made(Shape::Decimal),
         Literal::Text(_) => Kind::Made(Shape::Text),
     };
-    let tree = build::node(alloc, Typed::Literal(literal))?;
+    let tree = node(alloc, Typed::Literal(literal))?;
     given(alloc, tree, kind)
 }
 
@@ -441,7 +441,8 @@ fn field_tree(alloc: Global, owner: Box<Operand<'_>>, name: Text) -> Result<Box<
     ensures { IfOk result (λ tree. typed_view tree.value
         ≡ typed.field (made_plain (operand_view owner.entry.value)) name) }
 {
-    field(alloc, made_plain(alloc, owner)?, name)
+    let owner = made_plain(alloc, owner)?;
+    node(alloc, Typed::Field { owner, name })
 }
 
 fn index_of<'s>(
@@ -525,7 +526,7 @@ fn choice_tree(
 {
     let condition = made_plain(alloc, condition)?;
     let (yes, no) = turned_both(alloc, yes, no)?;
-    choice(alloc, condition, yes, no)
+    node(alloc, Typed::Choice { condition, yes, no })
 }
 
 /// An operand, or what stands in where it is nil.
@@ -614,7 +615,15 @@ fn predicate_tree(
     ensures { IfOk result (λ tree. typed_view tree.value
         ≡ typed.predicate over (made_plain (operand_view list.entry.value)) (typed_view body.value)) }
 {
-    predicate(alloc, over, made_plain(alloc, list)?, body)
+    let list = made_plain(alloc, list)?;
+    node(
+        alloc,
+        Typed::Predicate {
+            predicate: over,
+            list,
+            body,
+        },
+    )
 }
 
 /// The kind of what a predicate makes of a list.
