@@ -51,8 +51,6 @@ pub ended-stays : (reach : Reach) (stack : List Frame) (tree : Expression) → t
 ended-stays (Level level) stack tree stays = climbed-stays level stack tree stays
 ended-stays Ender stack tree stays = unwound-stays stack tree stays
 
-pub ruleset climbs = (ended-ends, ended-stays, length-frames_of)
-
 pub ruleset pops = (frames_of-push, length-frames_of)
 
 top_ends-below : (reach : Reach) (stack : List Frame) (older : Frame) → 0 < length stack → top_ends reach (stack ++ older ∷ []) ≡ top_ends reach stack

@@ -21,7 +21,6 @@ pub(crate) enum Reach {
 }
 
 /// Ends phrases with an operand.
-#[tactic(auto, using(crate::proofs::Climbs::climbs))]
 pub(crate) fn climb(
     alloc: Global,
     stack: &mut Vec<Frame>,
