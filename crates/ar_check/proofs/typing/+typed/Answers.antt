@@ -50,3 +50,33 @@ typed_body-returns-in_err-child t c = search rules
 pub typed_body-returns : goal.typed_body-returns
 unfolding over_items
 typed_body-returns t c = search rules
+
+pub typed_field-returns : goal.typed_field-returns
+typed_field-returns t c = rw c.in_ok-owner.ensures c.field_of.ensures
+
+pub typed_unary-returns : goal.typed_unary-returns
+typed_unary-returns t c = rw c.in_ok-operand.ensures c.unary.ensures
+
+pub typed_list-returns : goal.typed_list-returns
+typed_list-returns t c = rw c.in_ok-items.ensures c.list.ensures
+
+pub typed_len-returns : goal.typed_len-returns
+typed_len-returns t c = rw c.in_ok-list.ensures c.len_of.ensures
+
+pub typed_is_nil-returns : goal.typed_is_nil-returns
+typed_is_nil-returns t c = rw c.in_ok-operand.ensures c.is_nil_of.ensures
+
+pub typed_index-returns : goal.typed_index-returns
+typed_index-returns t c = rw (c.in_ok-list.ensures, c.in_ok-index.ensures) c.index_of.ensures
+
+pub typed_default-returns : goal.typed_default-returns
+typed_default-returns t c = rw (c.in_ok-operand.ensures, c.in_ok-otherwise.ensures) c.default_of.ensures
+
+pub typed_binary-returns : goal.typed_binary-returns
+typed_binary-returns t c =
+    let nil_left = rw c.deref.ensures at c.is_nil_literal-nil_left.ensures in
+    let nil_right = rw c.deref-2.ensures at c.is_nil_literal-nil_right.ensures in
+    rw (c.in_ok-left.ensures, c.in_ok-right.ensures, ← nil_left, ← nil_right) c.binary.ensures
+
+pub typed_choice-returns : goal.typed_choice-returns
+typed_choice-returns t c = rw (c.in_ok-condition.ensures, c.in_ok-yes.ensures, c.in_ok-no.ensures) c.choice_of.ensures
