@@ -588,7 +588,6 @@ fn default_kind<'s>(
     common(alloc, &plain, &other)
 }
 
-#[tactic(auto, using(crate::proofs::Freely::gives_freely))]
 fn predicate_of<'s>(
     alloc: Global,
     at: usize,
