@@ -1,12 +1,9 @@
--- How texts, numbers, values, answers, runs and shapes are printed: as bytes in UTF-8.
+-- How texts, numbers, values, answers and shapes are printed: as bytes in UTF-8.
 use Rattle.std.specs.Prelude.{ℕ, zero, suc, ◌*◌, ◌/◌, ◌%◌, ◌==◌, nat_lt, ℤ, unsigned_abs, Bool, true, false, if◌then◌else◌, List, [], ◌∷◌, ◌++◌, codes, decimal, flat_map, Result, Ok, Err}
 use Rattle.std.specs.Char.{digit_char, encode_utf8}
 use Rattle.std.specs.Fmt.{signed_decimal}
 use Rattle.std.specs.Int.{is_negative}
 use Rattle.std.specs.Str.{chars}
-use Rattle.ar_tested.specs.declared.outcome.Ended.{Ended}
-use Rattle.ar_tested.specs.declared.outcome.Ended.TheVariants.{Done, Stuck, Spent}
-use Rattle.ar_operand.specs.declared.outcome.Outcome.{Outcome}
 use Rattle.ar_value.specs.Shape.{Shape, FieldShapes}
 use Rattle.ar_value.specs.Shape as shapes
 use Rattle.ar_value.specs.Value.{Value, Items, Fields}
@@ -110,16 +107,6 @@ fault_name DivisionByZero = codes "DivisionByZero"
 abbrev pub answer_text : Result Bool Fault → List ℕ
 answer_text (Ok truth) = truth_text truth
 answer_text (Err fault) = codes "fault " ++ fault_name fault
-
--- ---- how a run of code ends
-
-abbrev pub done_text : Outcome → List ℕ
-done_text outcome = answer_text outcome.answer ++ (codes " cost=" ++ decimal outcome.cost)
-
-abbrev pub ended_text : Ended → List ℕ
-ended_text (Done outcome) = done_text outcome
-ended_text (Stuck place) = codes "stuck " ++ decimal place
-ended_text Spent = codes "spent"
 
 -- ---- shapes, as the JSON that declares them, without blanks
 

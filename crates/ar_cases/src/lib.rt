@@ -1,4 +1,5 @@
-//! Answers to cases of the conformance suite, those on phases, judges and bundles aside.
+//! What the program of the conformance suite needs of each case, and the calls on numbers, texts, shapes and
+//! values.
 //!
 //! A case is a JSON object whose text `call` names a call, with the members that the call takes. [`answer`]
 //! gives what the call answers.
@@ -7,35 +8,29 @@
 //! - [`members`]: the members of a case
 //! - [`output`]: the text of an answer, written piece by piece while memory lasts
 //! - [`printing`]: texts, numbers, shapes, values and refusals as they are printed
-//! - `numbers`, `shapes`, `templates`, `conditions`, `codes`: the calls, by their subjects
-//! - `trees`, `typed`: conditions as written and as typed, printed
+//! - `numbers`, `shapes`: the calls, by their subjects
 //!
 //! What is proved, of every case: which names are those of calls (`specs/Calls`); what a call on numbers
 //! or texts answers, `decimal` and `digits` aside (`specs/Numbers`); what the members of a case are, or
 //! that they are refused (`specs/Members`); how texts, numbers, values, shapes, lines and what a condition
 //! says are printed (`specs/Printing`); that pieces of an answer stand one behind another, and none is left
-//! out (`specs/Output`); and the exit statuses (`specs/Faults`). What the other calls answer, and how trees,
-//! tokens, templates and code are printed, is only tested, by the suite.
+//! out (`specs/Output`); and the exit statuses (`specs/Faults`). What the calls on shapes and values answer
+//! is only tested, by the suite.
 #![tactic(auto)]
 
 ghost use Rattle.std.specs.Prelude.{◌≡◌, IfSome, IsSomeAnd, is_some, string_bytes};
 ghost use Rattle.serde_json.specs.View.{view};
 ghost use Rattle.ar_value.specs.Answer.{Gives};
-ghost use Rattle.ar_cases.specs.Calls.{is_call, is_other_call};
+ghost use Rattle.ar_cases.specs.Calls.{is_call};
 ghost use Rattle.ar_cases.specs.Members.{is_memory};
 ghost use Rattle.ar_cases.specs.Numbers.{Answers, number_answer};
 
-mod codes;
-mod conditions;
 pub mod fault;
 pub mod members;
 mod numbers;
 pub mod output;
 pub mod printing;
 mod shapes;
-mod templates;
-mod trees;
-mod typed;
 
 use crate::fault::{CaseFault, Written};
 use crate::output::Output;
@@ -62,22 +57,6 @@ fn put(alloc: Global, call: &str, case: &Json, out: &mut Output) -> Option<Writt
 {
     match numbers::put(alloc, call, case, out) {
         Some(written) => Some(written),
-        None => put_other(alloc, call, case, out),
+        None => shapes::put(alloc, call, case, out),
     }
-}
-
-/// What a call answers that isn't one on numbers.
-fn put_other(alloc: Global, call: &str, case: &Json, out: &mut Output) -> Option<Written>
-    ensures known { is_some result ≡ is_other_call call.now }
-{
-    if let Some(written) = shapes::put(alloc, call, case, out) {
-        return Some(written);
-    }
-    if let Some(written) = templates::put(alloc, call, case, out) {
-        return Some(written);
-    }
-    if let Some(written) = conditions::put(alloc, call, case, out) {
-        return Some(written);
-    }
-    codes::put(alloc, call, case, out)
 }

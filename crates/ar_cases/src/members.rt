@@ -32,14 +32,6 @@ pub fn text<'a>(case: &'a Json, name: &str) -> Result<&'a str, CaseFault>
     json(case, name)?.as_str().ok_or(CaseFault::Member)
 }
 
-/// The text at a place of a list.
-pub(crate) fn text_at(list: &Json, place: usize) -> Result<&str, CaseFault> {
-    list.get(place)
-        .ok_or(CaseFault::Member)?
-        .as_str()
-        .ok_or(CaseFault::Member)
-}
-
 pub fn list<'a>(case: &'a Json, name: &str) -> Result<&'a [Json], CaseFault>
     ensures { Gives (λ _. false) (λ list. map (λ item. view item) list.now) result
         (list_member name.now (view case.now)) }
@@ -48,7 +40,7 @@ pub fn list<'a>(case: &'a Json, name: &str) -> Result<&'a [Json], CaseFault>
 }
 
 /// A list, which is empty where the member isn't there.
-pub(crate) fn list_or_none<'a>(case: &'a Json, name: &str) -> Result<&'a [Json], CaseFault>
+pub fn list_or_none<'a>(case: &'a Json, name: &str) -> Result<&'a [Json], CaseFault>
     ensures { Gives (λ _. false) (λ list. map (λ item. view item) list.now) result
         (list_or_none name.now (view case.now)) }
 {
@@ -58,7 +50,7 @@ pub(crate) fn list_or_none<'a>(case: &'a Json, name: &str) -> Result<&'a [Json],
     list(case, name)
 }
 
-pub(crate) fn number(case: &Json, name: &str) -> Result<u64, CaseFault>
+pub fn number(case: &Json, name: &str) -> Result<u64, CaseFault>
     ensures { Gives (λ _. false) (λ number. number) result (number_member name.now (view case.now)) }
 {
     json(case, name)?.as_u64().ok_or(CaseFault::Member)
@@ -152,7 +144,7 @@ pub fn value(alloc: Global, case: &Json, shape: &Shape) -> Result<Box<Value>, Ca
 
 /// What must be a value of a shape.
 #[tactic(auto, using(crate::proofs::Values::gives_any))]
-pub(crate) fn value_of(alloc: Global, json: &Json, shape: &Shape) -> Result<Box<Value>, CaseFault>
+pub fn value_of(alloc: Global, json: &Json, shape: &Shape) -> Result<Box<Value>, CaseFault>
     ensures exact { Gives is_memory (λ value. value_view value.value) result
         (value_in (shape_view shape.now) (view json.now)) }
     ensures fits { IfOk result (λ value. fits (value_view value.value) (shape_view shape.now) ≡ true) }

@@ -11,12 +11,10 @@ ghost use Rattle.ar_value.specs.Value.{fields_of, items_of};
 ghost use Rattle.ar_value.specs.View.{field_shape_view, field_view, shape_view, value_view};
 ghost use Rattle.ar_cases.specs.Members.{is_true};
 ghost use Rattle.ar_cases.specs.Output.{Extends, Writes};
-ghost use Rattle.ar_cases.specs.Printing.{answer_text, between, code_escape, decimal_text, done_text, ended_text, escaped, fault_name, field_shapes_text, fields_text, fraction_text, items_text, lines_text, number_text, quoted, shape_text, truth_text, value_text};
+ghost use Rattle.ar_cases.specs.Printing.{answer_text, between, code_escape, decimal_text, escaped, fault_name, field_shapes_text, fields_text, fraction_text, items_text, lines_text, number_text, quoted, shape_text, truth_text, value_text};
 
 use crate::members;
 use crate::output::Output;
-use ar_machine::{Answer, Outcome};
-use ar_tested::Ended;
 use ar_value::shape::FieldShape;
 use ar_value::value::Field;
 use ar_value::{Decimal, Fault, Number, Shape, Value};
@@ -69,7 +67,7 @@ fn put_other(out: &mut Output, character: char)
 }
 
 /// Two words with a blank between them.
-pub(crate) fn put_pair(out: &mut Output, first: &str, second: &str)
+pub fn put_pair(out: &mut Output, first: &str, second: &str)
     ensures { Writes out.old out.new (first.now ++ (codes " " ++ second.now)) }
 {
     write!(out, "{first} {second}");
@@ -87,7 +85,7 @@ pub fn put_or_none<D: Display + Drop>(out: &mut Output, found: Option<D>)
 }
 
 /// What stands before each item of a list but the first.
-pub(crate) fn put_between(out: &mut Output, first: bool, separator: &str)
+pub fn put_between(out: &mut Output, first: bool, separator: &str)
     ensures { Writes out.old out.new (between first separator.now) }
 {
     if !first {
@@ -120,7 +118,7 @@ fn put_line_part(out: &mut Output, ended: bool, character: char)
 
 /// A decimal with at least one digit behind its point, and no zero behind that one at its end.
 #[tactic(auto, unfolding(crate::specs::Printing::decimal_text))]
-pub(crate) fn put_decimal(out: &mut Output, decimal: Decimal)
+pub fn put_decimal(out: &mut Output, decimal: Decimal)
     ensures { Writes out.old out.new (decimal_text decimal) }
 {
     let millionths = decimal.millionths();
@@ -156,7 +154,7 @@ pub(crate) fn put_number(out: &mut Output, number: Number)
     }
 }
 
-pub(crate) fn put_whole(out: &mut Output, whole: i64)
+pub fn put_whole(out: &mut Output, whole: i64)
     ensures { Writes out.old out.new (signed_decimal whole) }
 {
     write!(out, "{whole}");
@@ -220,37 +218,13 @@ pub(crate) fn fault_name(fault: Fault) -> &'static str
 }
 
 /// What a condition says of a value.
-pub fn put_answer(out: &mut Output, answer: Answer)
+pub fn put_answer(out: &mut Output, answer: Result<bool, Fault>)
     ensures { Writes out.old out.new (answer_text answer) }
 {
     match answer {
         Ok(truth) => put_truth(out, truth),
         Err(fault) => put_pair(out, "fault", fault_name(fault)),
     }
-}
-
-/// How a run of code ends.
-pub(crate) fn put_ended(out: &mut Output, ended: Ended)
-    ensures { Writes out.old out.new (ended_text ended) }
-{
-    match ended {
-        Ended::Done(outcome) => put_done(out, outcome),
-        Ended::Stuck(place) => put_stuck(out, place),
-        Ended::Spent => out.put("spent"),
-    }
-}
-
-fn put_done(out: &mut Output, outcome: Outcome)
-    ensures { Writes out.old out.new (done_text outcome) }
-{
-    put_answer(out, outcome.answer);
-    write!(out, " cost={}", outcome.cost);
-}
-
-fn put_stuck(out: &mut Output, place: usize)
-    ensures { Writes out.old out.new (codes "stuck " ++ decimal place) }
-{
-    write!(out, "stuck {place}");
 }
 
 /// A value as JSON, but for decimals, which are written as numbers with a point.
@@ -269,7 +243,7 @@ pub(crate) fn put_value(out: &mut Output, value: &Value)
     }
 }
 
-pub(crate) fn put_truth(out: &mut Output, truth: bool)
+pub fn put_truth(out: &mut Output, truth: bool)
     ensures { Writes out.old out.new (truth_text truth) }
 {
     if truth {

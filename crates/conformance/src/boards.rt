@@ -1,27 +1,18 @@
-//! Calls on the core of a board.
+//! What the core of a board does.
 
 ghost use Rattle.std.specs.Prelude.{◌≡◌, IfOk};
 
-use crate::documents::input_of;
+use crate::made::{Print, print_all};
 use crate::phases::{number_at, put_effect};
 use ar_bundle::{Bundle, Entry};
 use ar_cases::fault::{CaseFault, Written};
 use ar_cases::members;
 use ar_cases::output::Output;
-use ar_cases::printing::{put_or_none, put_refusal};
+use ar_cases::printing::put_or_none;
 use ar_core::{CoreState, CoreStep, Moved, core_run, core_run_ordered, core_step};
-use ar_document::read_bundle;
 use ar_report::phase_name;
 use serde_json::Value as Json;
 use std::alloc::{AllocError, Global};
-
-/// Writes what a call on this subject answers; `None` for a call on another one.
-pub(crate) fn put(alloc: Global, call: &str, case: &Json, out: &mut Output) -> Option<Written> {
-    match call {
-        "core" => Some(put_core(alloc, case, out)),
-        _ => None,
-    }
-}
 
 /// How a core is made.
 #[derive(Clone, Copy)]
@@ -72,17 +63,8 @@ fn run<'b>(
     }
 }
 
-fn put_core(alloc: Global, case: &Json, out: &mut Output) -> Written {
-    match read_bundle(alloc, &input_of(alloc, case)?) {
-        Ok(bundle) => put_steps(alloc, case, &bundle, out),
-        Err(refusal) => {
-            put_refusal(alloc, case, out, refusal);
-            Ok(())
-        }
-    }
-}
-
-fn put_steps(alloc: Global, case: &Json, bundle: &Bundle, out: &mut Output) -> Written {
+/// What the steps of a case do to a core of a bundle.
+pub(crate) fn put_core(alloc: Global, case: &Json, bundle: &Bundle, out: &mut Output) -> Written {
     let making = making_of(case).ok_or(CaseFault::Member)?;
     let steps = steps_of(alloc, case)?;
     put_states(alloc, bundle, making, &steps, out)
@@ -234,13 +216,14 @@ fn put_queue(core: &CoreState<'_>, out: &mut Output) {
 
 fn put_hands(hands: &[Option<u64>], out: &mut Output) {
     out.put(" hands=[");
-    let mut separator = "";
-    for hand in hands {
-        out.put(separator);
-        separator = ", ";
-        put_or_none(out, *hand);
-    }
+    print_all(out, ", ", hands);
     out.put("]");
+}
+
+impl Print for Option<u64> {
+    fn print(&self, out: &mut Output) {
+        put_or_none(out, *self);
+    }
 }
 
 /// The numbers that are parked.
@@ -256,13 +239,16 @@ fn put_parked(parked: &[bool], out: &mut Output) {
     out.put("]");
 }
 
-/// The number of each entry, and what it did to its run.
+/// Each entry behind the colon of its run.
 fn put_history(history: &[Entry], out: &mut Output) {
-    out.put(":");
-    let mut separator = " ";
-    for entry in history {
-        write!(out, "{separator}{} ", entry.number);
-        separator = ", ";
-        put_effect(out, entry.effect);
+    out.put(if history.is_empty() { ":" } else { ": " });
+    print_all(out, ", ", history);
+}
+
+/// The number of an entry, and what it did to its run.
+impl Print for Entry {
+    fn print(&self, out: &mut Output) {
+        write!(out, "{} ", self.number);
+        put_effect(out, self.effect);
     }
 }

@@ -1,11 +1,17 @@
-//! Calls on documents, and on the bundles that they are read as.
+//! Calls on documents, and on the bundles that they are read as; a core is made of such a bundle (`boards`).
 
+ghost use Rattle.std.specs.Prelude.{◌≡◌, is_some};
+ghost use Rattle.ar_cases.specs.Calls.{is_one_of};
+ghost use Rattle.conformance.specs.Calls.{document_calls};
+
+use crate::boards::put_core;
 use crate::judges::put_verdict;
+use crate::made::{Made, Print, print_all, put_made};
 use ar_bundle::{Bundle, Finding, MetricPart, RunPart};
 use ar_cases::fault::{CaseFault, Written};
 use ar_cases::members;
 use ar_cases::output::Output;
-use ar_cases::printing::{put_lines, put_or_none, put_quoted, put_refusal, put_shape};
+use ar_cases::printing::{put_lines, put_or_none, put_quoted, put_shape};
 use ar_document::read_bundle;
 use ar_json::read_json;
 use ar_limits::{Event, Limits, Mark, Phase};
@@ -15,12 +21,19 @@ use serde_json::Value as Json;
 use std::alloc::{AllocError, Global};
 
 /// Writes what a call on this subject answers; `None` for a call on another one.
-pub(crate) fn put(alloc: Global, call: &str, case: &Json, out: &mut Output) -> Option<Written> {
+pub(crate) fn put(alloc: Global, call: &str, case: &Json, out: &mut Output) -> Option<Written>
+    ensures { is_some result ≡ is_one_of document_calls call.now }
+{
     match call {
         "read_json" => Some(put_json(alloc, case, out)),
-        "read_bundle" | "findings" | "limits" | "report" | "run_phases" | "bounds" | "list" => {
-            Some(put_document(alloc, call, case, out))
-        }
+        "read_bundle"
+        | "findings"
+        | "limits"
+        | "report"
+        | "run_phases"
+        | "bounds"
+        | "list"
+        | "core" => Some(put_document(alloc, case, out)),
         _ => None,
     }
 }
@@ -36,38 +49,33 @@ pub(crate) fn input_of(alloc: Global, case: &Json) -> Result<Vec<u8>, CaseFault>
 }
 
 fn put_json(alloc: Global, case: &Json, out: &mut Output) -> Written {
-    match read_json(alloc, &input_of(alloc, case)?) {
-        Ok(json) => put_read(alloc, &json, out),
-        Err(refusal) => put_refusal(alloc, case, out, refusal),
-    }
-    Ok(())
+    let made = read_json(alloc, &input_of(alloc, case)?);
+    put_made(alloc, case, out, made)
 }
 
-fn put_read(alloc: Global, json: &Json, out: &mut Output) {
-    match json.to_string(alloc) {
-        Ok(text) => out.put(text.as_str()),
-        Err(_) => out.lose(),
+impl Made for Json {
+    fn answer(&self, alloc: Global, _case: &Json, out: &mut Output) -> Written {
+        out.put(self.to_string(alloc)?.as_str());
+        Ok(())
     }
 }
 
-fn put_document(alloc: Global, call: &str, case: &Json, out: &mut Output) -> Written {
-    match read_bundle(alloc, &input_of(alloc, case)?) {
-        Ok(bundle) => put_bundle(alloc, call, &bundle, out),
-        Err(refusal) => {
-            put_refusal(alloc, case, out, refusal);
-            Ok(())
-        }
-    }
+fn put_document(alloc: Global, case: &Json, out: &mut Output) -> Written {
+    let made = read_bundle(alloc, &input_of(alloc, case)?);
+    put_made(alloc, case, out, made)
 }
 
-fn put_bundle(alloc: Global, call: &str, bundle: &Bundle, out: &mut Output) -> Written {
-    match call {
-        "findings" => put_findings(alloc, bundle, out),
-        "report" => put_report(alloc, bundle, out),
-        "run_phases" => put_phases(alloc, bundle, out),
-        _ => {
-            put_shown(alloc, call, bundle, out);
-            Ok(())
+impl Made for Bundle {
+    fn answer(&self, alloc: Global, case: &Json, out: &mut Output) -> Written {
+        match members::text(case, "call")? {
+            "core" => put_core(alloc, case, self, out),
+            "findings" => put_findings(alloc, self, out),
+            "report" => put_report(alloc, self, out),
+            "run_phases" => put_phases(alloc, self, out),
+            call => {
+                put_shown(alloc, call, self, out);
+                Ok(())
+            }
         }
     }
 }
@@ -98,26 +106,28 @@ fn put_parts(bundle: &Bundle, out: &mut Output) {
 
 fn put_metrics(metrics: &[MetricPart], out: &mut Output) {
     out.put("metrics={");
-    let mut separator = "";
-    for metric in metrics {
-        out.put(separator);
-        separator = ",";
-        put_quoted(out, metric.name.as_str());
-        out.put(":");
-        put_shape(out, metric.shape.get());
-    }
+    print_all(out, ",", metrics);
     out.put("}");
+}
+
+impl Print for MetricPart {
+    fn print(&self, out: &mut Output) {
+        put_quoted(out, self.name.as_str());
+        out.put(":");
+        put_shape(out, self.shape.get());
+    }
 }
 
 fn put_names(runs: &[RunPart], out: &mut Output) {
     out.put(" runs=[");
-    let mut separator = "";
-    for run in runs {
-        out.put(separator);
-        separator = ",";
-        put_quoted(out, run.name.as_str());
-    }
+    print_all(out, ",", runs);
     out.put("]");
+}
+
+impl Print for RunPart {
+    fn print(&self, out: &mut Output) {
+        put_quoted(out, self.name.as_str());
+    }
 }
 
 /// The run of each entry, what the entry comes to, and what it is to the run.
@@ -193,15 +203,12 @@ fn put_report(alloc: Global, bundle: &Bundle, out: &mut Output) -> Written {
 #[tactic(auto, using(crate::proofs::Reporting::lawful))]
 fn put_phases(alloc: Global, bundle: &Bundle, out: &mut Output) -> Written {
     let histories = run_plain(alloc, bundle)?;
-    put_each_phase(&run_phases(alloc, bundle, &histories)?, out);
+    print_all(out, ", ", &run_phases(alloc, bundle, &histories)?);
     Ok(())
 }
 
-fn put_each_phase(phases: &[Phase], out: &mut Output) {
-    let mut separator = "";
-    for phase in phases {
-        out.put(separator);
-        separator = ", ";
-        out.put(phase_name(*phase));
+impl Print for Phase {
+    fn print(&self, out: &mut Output) {
+        out.put(phase_name(*self));
     }
 }

@@ -1,10 +1,13 @@
 //! Calls on conditions that can be run, and on judges.
 
-ghost use Rattle.std.specs.Prelude.{◌≡◌, IfOk};
+ghost use Rattle.std.specs.Prelude.{◌≡◌, IfOk, is_some};
+ghost use Rattle.ar_cases.specs.Calls.{is_one_of};
+ghost use Rattle.conformance.specs.Calls.{judge_calls};
 ghost use Rattle.ar_bundle.specs.Bundle.{JudgesShape, SampleSuits};
 ghost use Rattle.ar_judge.specs.Verdict.{sample_view};
 ghost use Rattle.ar_value.specs.View.{shape_view};
 
+use crate::made::{Made, put_made};
 use ar_cases::fault::{CaseFault, Written};
 use ar_cases::members;
 use ar_cases::output::Output;
@@ -20,7 +23,9 @@ use serde_json::Value as Json;
 use std::alloc::Global;
 
 /// Writes what a call on this subject answers; `None` for a call on another one.
-pub(crate) fn put(alloc: Global, call: &str, case: &Json, out: &mut Output) -> Option<Written> {
+pub(crate) fn put(alloc: Global, call: &str, case: &Json, out: &mut Output) -> Option<Written>
+    ensures { is_some result ≡ is_one_of judge_calls call.now }
+{
     match call {
         "condition" => Some(put_condition(alloc, case, out)),
         "run_condition" => Some(put_run(alloc, case, out)),
@@ -33,21 +38,17 @@ pub(crate) fn put(alloc: Global, call: &str, case: &Json, out: &mut Output) -> O
 fn put_condition(alloc: Global, case: &Json, out: &mut Output) -> Written {
     let text = members::text(case, "condition")?;
     let shape = members::shape(alloc, case, "shape")?;
-    match Condition::build(alloc, text, shape) {
-        Ok(condition) => put_answered(alloc, case, &condition, out),
-        Err(refusal) => {
-            put_refusal(alloc, case, out, refusal);
-            Ok(())
-        }
-    }
+    put_made(alloc, case, out, Condition::build(alloc, text, shape))
 }
 
-fn put_answered(alloc: Global, case: &Json, condition: &Condition, out: &mut Output) -> Written {
-    let value = members::value(alloc, case, condition.verified().shape())?;
-    put_quoted(out, condition.text());
-    out.put(" ");
-    put_answer(out, condition.answer(alloc, &value)?);
-    Ok(())
+impl Made for Condition {
+    fn answer(&self, alloc: Global, case: &Json, out: &mut Output) -> Written {
+        let value = members::value(alloc, case, self.verified().shape())?;
+        put_quoted(out, self.text());
+        out.put(" ");
+        put_answer(out, Condition::answer(self, alloc, &value)?);
+        Ok(())
+    }
 }
 
 /// What a condition says of a value, as its code comes to on the machine that is tested with its budget as
@@ -221,7 +222,8 @@ fn put_bounds(out: &mut Output, verified: Option<&Verified>) {
     }
 }
 
-fn put_bounds_of(out: &mut Output, verified: &Verified) {
+/// The bounds of verified code.
+pub(crate) fn put_bounds_of(out: &mut Output, verified: &Verified) {
     write!(
         out,
         " depth={} budget={}",

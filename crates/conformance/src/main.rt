@@ -6,16 +6,32 @@
 //! case is told on standard error with its number, from 1, and ends the program with status 2; so empty
 //! lines and remarks are left out before (`conformance/check` does it).
 //!
-//! `ar_cases` answers those that need neither a judge nor a bundle.
+//! `ar_cases` answers those on numbers, texts, shapes and values.
 //!
-//! - `phases`, `judges`, `documents`, `boards`, `commands`: the other calls, by their subjects
+//! - `templates`, `phases`, `conditions`, `codes`, `judges`, `documents`, `boards`, `commands`: the other calls,
+//!   by their subjects
+//! - `trees`, `typed`, `endings`: conditions as written, conditions as typed, and how runs of code end, printed
+//! - `made`: what a call made of a case, or why it refused it
+//!
+//! Which names are those of calls is proved of every case (`specs/Calls`), and how runs end is printed
+//! (`specs/Endings`). What these calls answer is only tested, by the suite.
 #![tactic(auto)]
 
+ghost use Rattle.std.specs.Prelude.{◌≡◌, is_some};
+ghost use Rattle.conformance.specs.Calls.{is_call, is_own_call};
+
 mod boards;
+mod codes;
 mod commands;
+mod conditions;
 mod documents;
+mod endings;
 mod judges;
+mod made;
 mod phases;
+mod templates;
+mod trees;
+mod typed;
 
 use ar_cases::fault::{CaseFault, LineFault, Written};
 use ar_cases::output::Output;
@@ -85,7 +101,9 @@ fn answer_to_case(alloc: Global, case: &Json) -> Result<String, LineFault> {
 }
 
 /// What a call of any subject answers on a case; `None` where it is none.
-fn answer_to(alloc: Global, call: &str, case: &Json) -> Option<Result<String, CaseFault>> {
+fn answer_to(alloc: Global, call: &str, case: &Json) -> Option<Result<String, CaseFault>>
+    ensures { is_some result ≡ is_call call.now }
+{
     match answer(alloc, call, case) {
         Some(answered) => Some(answered),
         None => own_answer(alloc, call, case),
@@ -93,23 +111,33 @@ fn answer_to(alloc: Global, call: &str, case: &Json) -> Option<Result<String, Ca
 }
 
 /// What a call of this program's own subjects answers.
-fn own_answer(alloc: Global, call: &str, case: &Json) -> Option<Result<String, CaseFault>> {
+fn own_answer(alloc: Global, call: &str, case: &Json) -> Option<Result<String, CaseFault>>
+    ensures { is_some result ≡ is_own_call call.now }
+{
     let mut out = Output::new(alloc);
     let written = put(alloc, call, case, &mut out)?;
     Some(out.finish(written))
 }
 
-fn put(alloc: Global, call: &str, case: &Json, out: &mut Output) -> Option<Written> {
+fn put(alloc: Global, call: &str, case: &Json, out: &mut Output) -> Option<Written>
+    ensures { is_some result ≡ is_own_call call.now }
+{
+    if let Some(written) = templates::put(alloc, call, case, out) {
+        return Some(written);
+    }
     if let Some(written) = phases::put(alloc, call, case, out) {
+        return Some(written);
+    }
+    if let Some(written) = conditions::put(alloc, call, case, out) {
+        return Some(written);
+    }
+    if let Some(written) = codes::put(alloc, call, case, out) {
         return Some(written);
     }
     if let Some(written) = judges::put(alloc, call, case, out) {
         return Some(written);
     }
     if let Some(written) = documents::put(alloc, call, case, out) {
-        return Some(written);
-    }
-    if let Some(written) = boards::put(alloc, call, case, out) {
         return Some(written);
     }
     commands::put(alloc, call, case, out)

@@ -1,5 +1,9 @@
 //! Calls on limits, events and phases.
 
+ghost use Rattle.std.specs.Prelude.{◌≡◌, is_some};
+ghost use Rattle.ar_cases.specs.Calls.{is_one_of};
+ghost use Rattle.conformance.specs.Calls.{phase_calls};
+
 use ar_cases::fault::{CaseFault, Written};
 use ar_cases::members;
 use ar_cases::output::Output;
@@ -9,7 +13,9 @@ use serde_json::Value as Json;
 use std::alloc::Global;
 
 /// Writes what a call on this subject answers; `None` for a call on another one.
-pub(crate) fn put(alloc: Global, call: &str, case: &Json, out: &mut Output) -> Option<Written> {
+pub(crate) fn put(alloc: Global, call: &str, case: &Json, out: &mut Output) -> Option<Written>
+    ensures { is_some result ≡ is_one_of phase_calls call.now }
+{
     match call {
         "phase" => Some(put_phase(case, out)),
         "positive_counts" => Some(put_positive(alloc, case, out)),

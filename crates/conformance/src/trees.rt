@@ -1,7 +1,7 @@
 //! Conditions as written, printed: a node as `(operator@place child child)`, a leaf as `leaf@place`.
 
-use crate::output::Output;
-use crate::printing::{put_decimal, put_quoted, put_truth, put_whole};
+use ar_cases::output::Output;
+use ar_cases::printing::{put_decimal, put_quoted, put_truth, put_whole};
 use ar_condition::tree::{Binary, Comparison, Literal, Tree, Unary};
 use ar_value::operator::Predicate;
 

@@ -1,9 +1,9 @@
 //! Conditions as typed, printed: a node as `(operator kinds child child)`. What the check puts in is written
 //! out: `plain` where nil is a fault, `decimal` where a whole is turned.
 
-use crate::output::Output;
-use crate::printing::{put_pair, put_quoted};
 use crate::trees::{predicate_name, put_literal};
+use ar_cases::output::Output;
+use ar_cases::printing::{put_pair, put_quoted};
 use ar_condition::typed::Typed;
 use ar_value::operator::{
     Arithmetic, BinaryOperator, Compared, DecimalArithmetic, Family, Numbers, Order, Scalar,

@@ -1,16 +1,18 @@
 //! Calls on conditions as texts: tokens, trees, and trees whose kinds are known.
 
 ghost use Rattle.std.specs.Prelude.{◌≡◌, is_some};
-ghost use Rattle.ar_cases.specs.Calls.{is_one_of, condition_calls};
+ghost use Rattle.ar_cases.specs.Calls.{is_one_of};
+ghost use Rattle.conformance.specs.Calls.{condition_calls};
 
-use crate::fault::Written;
-use crate::members;
-use crate::output::Output;
-use crate::printing::{put_decimal, put_pair, put_quoted, put_refusal};
+use crate::made::{Made, Print, print_all, put_made};
 use crate::trees::put_tree;
 use crate::typed::put_typed;
+use ar_cases::fault::Written;
+use ar_cases::members;
+use ar_cases::output::Output;
+use ar_cases::printing::{put_decimal, put_pair, put_quoted, put_refusal};
 use ar_check::check;
-use ar_condition::Tree;
+use ar_condition::{Tree, Typed};
 use ar_syntax::{Token, TokenKind, parse, tokens};
 use serde_json::Value as Json;
 use std::alloc::Global;
@@ -28,27 +30,28 @@ pub(crate) fn put(alloc: Global, call: &str, case: &Json, out: &mut Output) -> O
 }
 
 fn put_tokens(alloc: Global, case: &Json, out: &mut Output) -> Written {
-    match tokens(alloc, members::text(case, "condition")?) {
-        Ok(tokens) => put_all_tokens(out, tokens.as_slice()),
-        Err(refusal) => put_refusal(alloc, case, out, refusal),
-    }
-    Ok(())
+    let made = tokens(alloc, members::text(case, "condition")?);
+    put_made(alloc, case, out, made)
 }
 
-fn put_all_tokens(out: &mut Output, tokens: &[Token]) {
-    out.put("[");
-    let mut separator = "";
-    for token in tokens {
-        out.put(separator);
-        separator = ", ";
-        put_token(out, token);
+impl Made for Vec<Token> {
+    fn answer(&self, _alloc: Global, _case: &Json, out: &mut Output) -> Written {
+        out.put("[");
+        print_all(out, ", ", self.as_slice());
+        out.put("]");
+        Ok(())
     }
-    out.put("]");
 }
 
-fn put_token(out: &mut Output, token: &Token) {
-    write!(out, "{}-{} ", token.span.start, token.span.end);
-    match &token.kind {
+impl Print for Token {
+    fn print(&self, out: &mut Output) {
+        write!(out, "{}-{} ", self.span.start, self.span.end);
+        put_kind(out, &self.kind);
+    }
+}
+
+fn put_kind(out: &mut Output, kind: &TokenKind) {
+    match kind {
         TokenKind::Word(word) => put_pair(out, "word", word.letters()),
         TokenKind::Name(name) => put_pair(out, "name", name.as_str()),
         TokenKind::Whole(whole) => write!(out, "whole {whole}"),
@@ -65,11 +68,15 @@ fn put_token(out: &mut Output, token: &Token) {
 }
 
 fn put_parsed(alloc: Global, case: &Json, out: &mut Output) -> Written {
-    match parse(alloc, members::text(case, "condition")?) {
-        Ok(tree) => put_tree(out, &tree),
-        Err(refusal) => put_refusal(alloc, case, out, refusal),
+    let made = parse(alloc, members::text(case, "condition")?);
+    put_made(alloc, case, out, made)
+}
+
+impl Made for Tree {
+    fn answer(&self, _alloc: Global, _case: &Json, out: &mut Output) -> Written {
+        put_tree(out, self);
+        Ok(())
     }
-    Ok(())
 }
 
 /// The typed tree of a condition that can be parsed. The shape is looked at behind the condition.
@@ -85,9 +92,13 @@ fn put_checked(alloc: Global, case: &Json, out: &mut Output) -> Written {
 
 fn put_typed_of(alloc: Global, case: &Json, tree: Box<Tree>, out: &mut Output) -> Written {
     let shape = members::shape(alloc, case, "shape")?;
-    match check(alloc, Box::into_inner(tree), shape.get()) {
-        Ok(typed) => put_typed(out, &typed),
-        Err(refusal) => put_refusal(alloc, case, out, refusal),
+    let made = check(alloc, Box::into_inner(tree), shape.get());
+    put_made(alloc, case, out, made)
+}
+
+impl Made for Typed {
+    fn answer(&self, _alloc: Global, _case: &Json, out: &mut Output) -> Written {
+        put_typed(out, self);
+        Ok(())
     }
-    Ok(())
 }

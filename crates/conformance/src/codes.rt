@@ -3,12 +3,16 @@
 ghost use Rattle.std.specs.Prelude.{◌≡◌, is_some, true};
 ghost use Rattle.ar_value.specs.Fits.{fits};
 ghost use Rattle.ar_value.specs.View.{shape_view, value_view};
-ghost use Rattle.ar_cases.specs.Calls.{is_one_of, code_calls};
+ghost use Rattle.ar_cases.specs.Calls.{is_one_of};
+ghost use Rattle.conformance.specs.Calls.{code_calls};
 
-use crate::fault::{CaseFault, Written};
-use crate::members;
-use crate::output::Output;
-use crate::printing::{put_ended, put_lines, put_quoted, put_refusal};
+use crate::endings::put_ended;
+use crate::judges::put_bounds_of;
+use crate::made::{Made, Print, granted, print_all, put_made};
+use ar_cases::fault::{CaseFault, Written};
+use ar_cases::members;
+use ar_cases::output::Output;
+use ar_cases::printing::{put_lines, put_quoted, put_refusal};
 use ar_check::check;
 use ar_code::{Code, decode, encode, listing};
 use ar_compile::{CompileError, compile, in_limits};
@@ -37,19 +41,19 @@ pub(crate) fn put(alloc: Global, call: &str, case: &Json, out: &mut Output) -> O
 
 /// The code of an image: its own image, its texts, its names and its listing, or the refusal.
 fn put_decoded(alloc: Global, case: &Json, out: &mut Output) -> Written {
-    match decode(alloc, &members::bytes(alloc, case, "image")?) {
-        Ok(code) => put_code(alloc, out, &code),
-        Err(refusal) => put_refusal(alloc, case, out, refusal),
-    }
-    Ok(())
+    let made = decode(alloc, &members::bytes(alloc, case, "image")?);
+    put_made(alloc, case, out, made)
 }
 
-fn put_code(alloc: Global, out: &mut Output, code: &Code) {
-    put_image(alloc, out, code);
-    put_texts(out, " / texts=", code.texts());
-    put_texts(out, " names=", code.names());
-    write!(out, " operations={} / ", code.ops().len());
-    put_listing(alloc, out, code);
+impl Made for Code {
+    fn answer(&self, alloc: Global, _case: &Json, out: &mut Output) -> Written {
+        put_image(alloc, out, self);
+        put_texts(out, " / texts=[", self.texts());
+        put_texts(out, "] names=[", self.names());
+        write!(out, "] operations={} / ", self.ops().len());
+        put_listing(alloc, out, self);
+        Ok(())
+    }
 }
 
 fn put_image(alloc: Global, out: &mut Output, code: &Code) {
@@ -74,26 +78,20 @@ fn put_listing(alloc: Global, out: &mut Output, code: &Code) {
 
 fn put_texts(out: &mut Output, name: &str, texts: &[String]) {
     out.put(name);
-    out.put("[");
-    let mut separator = "";
-    for text in texts {
-        out.put(separator);
-        separator = ",";
-        put_quoted(out, text.as_str());
+    print_all(out, ",", texts);
+}
+
+impl Print for String {
+    fn print(&self, out: &mut Output) {
+        put_quoted(out, self.as_str());
     }
-    out.put("]");
 }
 
 /// The typed tree of a condition that has kinds under a shape.
 fn typed_of(alloc: Global, case: &Json) -> Result<Box<Typed>, CaseFault> {
     let shape = members::shape(alloc, case, "shape")?;
-    let Ok(tree) = parse(alloc, members::text(case, "condition")?) else {
-        return Err(CaseFault::Member);
-    };
-    match check(alloc, tree, shape.get()) {
-        Ok(typed) => Ok(Box::new(alloc, typed)?),
-        Err(_) => Err(CaseFault::Member),
-    }
+    let tree = granted(alloc, parse(alloc, members::text(case, "condition")?))?;
+    granted(alloc, check(alloc, Box::into_inner(tree), shape.get()))
 }
 
 /// What such a condition is compiled to.
@@ -115,13 +113,11 @@ fn put_compiled(alloc: Global, case: &Json, out: &mut Output) -> Written {
 }
 
 /// The code of the member `image`, or else of `condition` under `shape`.
-fn code_of(alloc: Global, case: &Json) -> Result<Code, CaseFault> {
+fn code_of(alloc: Global, case: &Json) -> Result<Box<Code>, CaseFault> {
     if case.get("image").is_none() {
-        return compiled(alloc, case)?.map_err(|_| CaseFault::Member);
-    }
-    match decode(alloc, &members::bytes(alloc, case, "image")?) {
-        Ok(code) => Ok(code),
-        Err(_) => Err(CaseFault::Member),
+        granted(alloc, compiled(alloc, case)?)
+    } else {
+        granted(alloc, decode(alloc, &members::bytes(alloc, case, "image")?))
     }
 }
 
@@ -131,20 +127,15 @@ fn code_of(alloc: Global, case: &Json) -> Result<Code, CaseFault> {
 fn put_verified(alloc: Global, case: &Json, out: &mut Output) -> Written {
     let code = code_of(alloc, case)?;
     let shape = members::shape(alloc, case, "shape")?;
-    match verify(alloc, code, shape) {
+    match verify(alloc, Box::into_inner(code), shape) {
         Ok(verified) => put_accepted(alloc, case, &verified, out),
         Err(refused) => put_refused(alloc, case, &refused, out),
     }
 }
 
 fn put_accepted(alloc: Global, case: &Json, verified: &Verified, out: &mut Output) -> Written {
-    write!(
-        out,
-        "accepted operations={} depth={} budget={}",
-        verified.code().ops().len(),
-        verified.depth(),
-        verified.budget()
-    );
+    write!(out, "accepted operations={}", verified.code().ops().len());
+    put_bounds_of(out, verified);
     for json in members::list_or_none(case, "values")? {
         let value = members::value_of(alloc, json, verified.shape())?;
         put_run(alloc, verified, &value, out);

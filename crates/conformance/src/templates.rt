@@ -1,12 +1,13 @@
 //! Calls on templates and their arguments.
 
 ghost use Rattle.std.specs.Prelude.{◌≡◌, is_some};
-ghost use Rattle.ar_cases.specs.Calls.{is_one_of, template_calls};
+ghost use Rattle.ar_cases.specs.Calls.{is_one_of};
+ghost use Rattle.conformance.specs.Calls.{template_calls};
 
-use crate::fault::Written;
-use crate::members;
-use crate::output::Output;
-use crate::printing::{put_or_none, put_quoted, put_refusal};
+use ar_cases::fault::{CaseFault, Written};
+use ar_cases::members;
+use ar_cases::output::Output;
+use ar_cases::printing::{put_or_none, put_quoted, put_refusal};
 use ar_manifest::{Args, BoundMetric, Template};
 use ar_value::Text;
 use serde_json::Value as Json;
@@ -104,9 +105,17 @@ fn read_arguments(alloc: Global, case: &Json, arguments: &mut Args) -> Written {
     Ok(())
 }
 
+/// The text at a place of a list.
+fn text_at(list: &Json, place: usize) -> Result<&str, CaseFault> {
+    list.get(place)
+        .ok_or(CaseFault::Member)?
+        .as_str()
+        .ok_or(CaseFault::Member)
+}
+
 fn add_pair(alloc: Global, arguments: &mut Args, pair: &Json) -> Written {
-    let name = members::text_at(pair, 0)?;
-    let value = Text::of(alloc, members::text_at(pair, 1)?)?;
+    let name = text_at(pair, 0)?;
+    let value = Text::of(alloc, text_at(pair, 1)?)?;
     arguments.insert(alloc, name, value)?;
     Ok(())
 }

@@ -1,0 +1,34 @@
+//! How runs of code end, printed.
+
+ghost use Rattle.std.specs.Prelude.{◌++◌, codes, decimal};
+ghost use Rattle.ar_cases.specs.Output.{Writes};
+ghost use Rattle.conformance.specs.Endings.{done_text, ended_text};
+
+use ar_cases::output::Output;
+use ar_cases::printing::put_answer;
+use ar_machine::Outcome;
+use ar_tested::Ended;
+
+/// How a run of code ends.
+pub(crate) fn put_ended(out: &mut Output, ended: Ended)
+    ensures { Writes out.old out.new (ended_text ended) }
+{
+    match ended {
+        Ended::Done(outcome) => put_done(out, outcome),
+        Ended::Stuck(place) => put_stuck(out, place),
+        Ended::Spent => out.put("spent"),
+    }
+}
+
+fn put_done(out: &mut Output, outcome: Outcome)
+    ensures { Writes out.old out.new (done_text outcome) }
+{
+    put_answer(out, outcome.answer);
+    write!(out, " cost={}", outcome.cost);
+}
+
+fn put_stuck(out: &mut Output, place: usize)
+    ensures { Writes out.old out.new (codes "stuck " ++ decimal place) }
+{
+    write!(out, "stuck {place}");
+}

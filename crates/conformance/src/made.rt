@@ -1,0 +1,55 @@
+//! What a call made of a case, or why it refused it.
+
+use ar_cases::fault::{CaseFault, Written};
+use ar_cases::output::Output;
+use ar_cases::printing::{put_between, put_refusal};
+use serde_json::Value as Json;
+use std::alloc::Global;
+use std::fmt::{Debug, Display};
+
+/// What is made of a case, and then answers it.
+pub(crate) trait Made {
+    fn answer(&self, alloc: Global, case: &Json, out: &mut Output) -> Written;
+}
+
+/// What was made answers, or else why nothing was.
+pub(crate) fn put_made<T: Made + Drop, E: Debug + Display + Drop>(
+    alloc: Global,
+    case: &Json,
+    out: &mut Output,
+    made: Result<T, E>,
+) -> Written {
+    match made {
+        Ok(made) => made.answer(alloc, case, out),
+        Err(refusal) => {
+            put_refusal(alloc, case, out, refusal);
+            Ok(())
+        }
+    }
+}
+
+/// What a case takes for granted that can be made; where it can't, the case is refused.
+pub(crate) fn granted<T: Drop, E: Drop>(
+    alloc: Global,
+    made: Result<T, E>,
+) -> Result<Box<T>, CaseFault> {
+    match made {
+        Ok(made) => Ok(Box::new(alloc, made)?),
+        Err(_) => Err(CaseFault::Member),
+    }
+}
+
+/// What is printed as a part of an answer.
+pub(crate) trait Print {
+    fn print(&self, out: &mut Output);
+}
+
+/// Parts with a separator between each and the next.
+pub(crate) fn print_all<T: Print>(out: &mut Output, separator: &str, parts: &[T]) {
+    let mut first = true;
+    for part in parts {
+        put_between(out, first, separator);
+        first = false;
+        part.print(out);
+    }
+}
