@@ -6,35 +6,62 @@ ghost use Rattle.ar_cases.specs.declared.fault.LineFault.TheVariants.{Case};
 ghost use Rattle.ar_cases.specs.Faults.{status_of};
 
 use std::alloc::{AllocError, AllocFailed};
+use std::fmt;
 use thiserror::Error;
 
 /// Why a case isn't answered.
-#[derive(Clone, Copy, Debug, Error)]
+#[derive(Clone, Copy, Error)]
 pub enum CaseFault {
     /// A member isn't there, or is nothing that the call takes.
-    #[error("a member is missing, or nothing that this call takes")]
     Member,
-    #[error("out of memory")]
     OutOfMemory,
+}
+
+impl CaseFault {
+    fn words(self) -> &'static str {
+        match self {
+            CaseFault::Member => "a member is missing, or nothing that this call takes",
+            CaseFault::OutOfMemory => "out of memory",
+        }
+    }
+}
+
+impl fmt::Display for CaseFault {
+    fn fmt<W: fmt::Write>(&self, f: &mut fmt::Formatter<W>) -> fmt::Result {
+        f.write_str(self.words())
+    }
+}
+
+/// The words of `Display`, since `Error` asks for this impl.
+impl fmt::Debug for CaseFault {
+    fn fmt<W: fmt::Write>(&self, f: &mut fmt::Formatter<W>) -> fmt::Result {
+        f.write_str(self.words())
+    }
 }
 
 /// The answer was written, as far as memory lasted, or the case isn't answered.
 pub type Written = Result<(), CaseFault>;
 
 /// Why a line isn't answered.
-#[derive(Clone, Copy, Debug, Error)]
+#[derive(Clone, Copy, Error)]
 pub enum LineFault {
-    #[error("expected one JSON value")]
     NoJson,
-    #[error("unknown call")]
     UnknownCall,
-    #[error("a read or a write failed")]
+    /// A read or a write failed.
     Device,
-    #[error(transparent)]
     Case(CaseFault),
 }
 
 impl LineFault {
+    fn words(self) -> &'static str {
+        match self {
+            LineFault::NoJson => "expected one JSON value",
+            LineFault::UnknownCall => "unknown call",
+            LineFault::Device => "a read or a write failed",
+            LineFault::Case(fault) => fault.words(),
+        }
+    }
+
     /// The exit status, as those of `argo_judge`.
     pub fn status(self) -> u8
         ensures { result ≡ status_of self }
@@ -44,6 +71,19 @@ impl LineFault {
             LineFault::Case(CaseFault::OutOfMemory) => 3,
             LineFault::Device => 4,
         }
+    }
+}
+
+impl fmt::Display for LineFault {
+    fn fmt<W: fmt::Write>(&self, f: &mut fmt::Formatter<W>) -> fmt::Result {
+        f.write_str(self.words())
+    }
+}
+
+/// The words of `Display`, since `Error` asks for this impl.
+impl fmt::Debug for LineFault {
+    fn fmt<W: fmt::Write>(&self, f: &mut fmt::Formatter<W>) -> fmt::Result {
+        f.write_str(self.words())
     }
 }
 

@@ -29,14 +29,16 @@ pub fn json<'a>(case: &'a Json, name: &str) -> Result<&'a Json, CaseFault>
 pub fn text<'a>(case: &'a Json, name: &str) -> Result<&'a str, CaseFault>
     ensures { Gives (λ _. false) (λ text. text.now) result (text_member name.now (view case.now)) }
 {
-    json(case, name)?.as_str().ok_or(CaseFault::Member)
+    case.get(name)
+        .and_then(Json::as_str)
+        .ok_or(CaseFault::Member)
 }
 
 pub fn list<'a>(case: &'a Json, name: &str) -> Result<&'a [Json], CaseFault>
     ensures { Gives (λ _. false) (λ list. map (λ item. view item) list.now) result
         (list_member name.now (view case.now)) }
 {
-    list_of(json(case, name)?).ok_or(CaseFault::Member)
+    case.get(name).and_then(list_of).ok_or(CaseFault::Member)
 }
 
 /// A list, which is empty where the member isn't there.
@@ -53,7 +55,9 @@ pub fn list_or_none<'a>(case: &'a Json, name: &str) -> Result<&'a [Json], CaseFa
 pub fn number(case: &Json, name: &str) -> Result<u64, CaseFault>
     ensures { Gives (λ _. false) (λ number. number) result (number_member name.now (view case.now)) }
 {
-    json(case, name)?.as_u64().ok_or(CaseFault::Member)
+    case.get(name)
+        .and_then(Json::as_u64)
+        .ok_or(CaseFault::Member)
 }
 
 /// Whether a member is there and true.
@@ -69,7 +73,9 @@ pub(crate) fn is_true(case: &Json, name: &str) -> bool
 pub(crate) fn whole(case: &Json, name: &str) -> Result<i64, CaseFault>
     ensures { Gives (λ _. false) (λ whole. whole) result (whole_member name.now (view case.now)) }
 {
-    json(case, name)?.as_i64().ok_or(CaseFault::Member)
+    case.get(name)
+        .and_then(Json::as_i64)
+        .ok_or(CaseFault::Member)
 }
 
 /// A text that spells a decimal.
@@ -99,8 +105,8 @@ fn operand_of(json: &Json) -> Result<Number, CaseFault>
     ensures { Gives (λ _. false) (λ operand. operand) result (operand_in (view json.now)) }
 {
     match json.as_str() {
-        Some(text) => Ok(Number::Decimal(decimal_of(text)?)),
-        None => Ok(Number::Whole(json.as_i64().ok_or(CaseFault::Member)?)),
+        Some(text) => decimal_of(text).map(Number::Decimal),
+        None => json.as_i64().map(Number::Whole).ok_or(CaseFault::Member),
     }
 }
 

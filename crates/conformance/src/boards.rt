@@ -2,8 +2,9 @@
 
 ghost use Rattle.std.specs.Prelude.{◌≡◌, IfOk};
 
+use crate::lists::{Item, number_in, read_all};
 use crate::made::{Print, print_all};
-use crate::phases::{number_at, put_effect};
+use crate::phases::put_effect;
 use ar_bundle::{Bundle, Entry};
 use ar_cases::fault::{CaseFault, Written};
 use ar_cases::members;
@@ -66,7 +67,7 @@ fn run<'b>(
 /// What the steps of a case do to a core of a bundle.
 pub(crate) fn put_core(alloc: Global, case: &Json, bundle: &Bundle, out: &mut Output) -> Written {
     let making = making_of(case).ok_or(CaseFault::Member)?;
-    let steps = steps_of(alloc, case)?;
+    let steps = read_all(alloc, members::list(case, "steps")?)?;
     put_states(alloc, bundle, making, &steps, out)
 }
 
@@ -89,14 +90,10 @@ fn put_states(
     Ok(())
 }
 
-fn size_of(case: &Json, name: &str) -> Option<usize> {
-    usize::try_from(case.get(name)?.as_u64()?).ok()
-}
-
 fn making_of(case: &Json) -> Option<Making> {
     Some(Making {
-        workers: size_of(case, "workers")?,
-        places: size_of(case, "places")?,
+        workers: number_in(case.get("workers"))?,
+        places: number_in(case.get("places"))?,
         ordered: match case.get("ordered") {
             Some(ordered) => ordered.as_bool()?,
             None => false,
@@ -109,7 +106,10 @@ fn step_of(item: &Json) -> Option<CoreStep> {
     match item.as_str() {
         Some("put") => Some(CoreStep::Put),
         Some(_) => None,
-        None => worker_step(item.get(0usize)?.as_str()?, number_at(item, 1)?),
+        None => worker_step(
+            item.get(0usize).and_then(Json::as_str)?,
+            number_in(item.get(1usize))?,
+        ),
     }
 }
 
@@ -121,12 +121,10 @@ fn worker_step(name: &str, worker: usize) -> Option<CoreStep> {
     }
 }
 
-fn steps_of(alloc: Global, case: &Json) -> Result<Vec<CoreStep>, CaseFault> {
-    let mut steps = Vec::new(alloc);
-    for item in members::list(case, "steps")? {
-        steps.push(step_of(item).ok_or(CaseFault::Member)?)?;
+impl Item for CoreStep {
+    fn read(_alloc: Global, json: &Json) -> Result<CoreStep, CaseFault> {
+        step_of(json).ok_or(CaseFault::Member)
     }
-    Ok(steps)
 }
 
 /// Makes the steps one by one: what each did is written, and the last state is given.

@@ -4,10 +4,12 @@ ghost use Rattle.std.specs.Prelude.{◌≡◌, is_some};
 ghost use Rattle.ar_cases.specs.Calls.{is_one_of};
 ghost use Rattle.conformance.specs.Calls.{command_calls};
 
+use crate::lists::{Item, read_all};
+use crate::made::{Made, put_made};
 use ar_cases::fault::{CaseFault, Written};
 use ar_cases::members;
 use ar_cases::output::Output;
-use ar_command_line::{UsageError, command_of};
+use ar_command_line::{Command, command_of};
 use serde_json::Value as Json;
 use std::alloc::Global;
 
@@ -23,24 +25,19 @@ pub(crate) fn put(alloc: Global, call: &str, case: &Json, out: &mut Output) -> O
 
 /// The command that words ask for, or why they ask for none.
 fn put_command(alloc: Global, case: &Json, out: &mut Output) -> Written {
-    let words = words_of(alloc, members::list(case, "command")?)?;
-    match command_of(alloc, words) {
-        Ok(command) => write!(out, "{command:?}"),
-        Err(UsageError::OutOfMemory) => out.lose(),
-        Err(error) => write!(out, "{error:?}"),
-    }
-    Ok(())
+    let words = read_all(alloc, members::list(case, "command")?)?;
+    put_made(alloc, case, out, command_of(alloc, words))
 }
 
-fn words_of(alloc: Global, items: &[Json]) -> Result<Vec<String>, CaseFault> {
-    let mut words = Vec::new(alloc);
-    for item in items {
-        add_word(alloc, &mut words, item)?;
+impl Item for String {
+    fn read(alloc: Global, json: &Json) -> Result<String, CaseFault> {
+        Ok(json.as_str().ok_or(CaseFault::Member)?.to_string(alloc)?)
     }
-    Ok(words)
 }
 
-fn add_word(alloc: Global, words: &mut Vec<String>, item: &Json) -> Written {
-    let word = item.as_str().ok_or(CaseFault::Member)?;
-    Ok(words.push(word.to_string(alloc)?)?)
+impl Made for Command {
+    fn answer(&self, _alloc: Global, _case: &Json, out: &mut Output) -> Written {
+        write!(out, "{self:?}");
+        Ok(())
+    }
 }

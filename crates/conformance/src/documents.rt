@@ -39,13 +39,12 @@ pub(crate) fn put(alloc: Global, call: &str, case: &Json, out: &mut Output) -> O
 }
 
 /// The bytes of the member `document`, or of `bytes`, which is in hexadecimal.
-pub(crate) fn input_of(alloc: Global, case: &Json) -> Result<Vec<u8>, CaseFault> {
+fn input_of(alloc: Global, case: &Json) -> Result<Vec<u8>, CaseFault> {
     if case.get("bytes").is_some() {
         return members::bytes(alloc, case, "bytes");
     }
-    let mut input = Vec::new(alloc);
-    input.extend_from_slice(members::text(case, "document")?.as_bytes())?;
-    Ok(input)
+    let document = members::text(case, "document")?;
+    Ok(document.as_bytes().to_vec(alloc)?)
 }
 
 fn put_json(alloc: Global, case: &Json, out: &mut Output) -> Written {

@@ -11,6 +11,7 @@
 //! - `templates`, `phases`, `conditions`, `codes`, `judges`, `documents`, `boards`, `commands`: the other calls,
 //!   by their subjects
 //! - `trees`, `typed`, `endings`: conditions as written, conditions as typed, and how runs of code end, printed
+//! - `lists`: the lists of a case
 //! - `made`: what a call made of a case, or why it refused it
 //!
 //! Which names are those of calls is proved of every case (`specs/Calls`), and how runs end is printed
@@ -27,6 +28,7 @@ mod conditions;
 mod documents;
 mod endings;
 mod judges;
+mod lists;
 mod made;
 mod phases;
 mod templates;

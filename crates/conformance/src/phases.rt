@@ -4,6 +4,7 @@ ghost use Rattle.std.specs.Prelude.{◌≡◌, is_some};
 ghost use Rattle.ar_cases.specs.Calls.{is_one_of};
 ghost use Rattle.conformance.specs.Calls.{phase_calls};
 
+use crate::lists::{Item, number_in, read_all};
 use ar_cases::fault::{CaseFault, Written};
 use ar_cases::members;
 use ar_cases::output::Output;
@@ -56,7 +57,7 @@ fn put_phase(case: &Json, out: &mut Output) -> Written {
 
 /// A limit at a place of a metric's list.
 fn limit_of(item: &Json, place: usize) -> Option<u32> {
-    u32::try_from(item.get(place)?.as_u64()?).ok()
+    u32::try_from(number_in(item.get(place))?).ok()
 }
 
 /// Whether the text `dry` stands behind a metric's limits.
@@ -80,12 +81,14 @@ fn limits_of(item: &Json) -> Option<Limits> {
     })
 }
 
-fn all_limits(alloc: Global, case: &Json) -> Result<Vec<Limits>, CaseFault> {
-    let mut limits = Vec::new(alloc);
-    for item in members::list(case, "limits")? {
-        limits.push(limits_of(item).ok_or(CaseFault::Member)?)?;
+impl Item for Limits {
+    fn read(_alloc: Global, json: &Json) -> Result<Limits, CaseFault> {
+        limits_of(json).ok_or(CaseFault::Member)
     }
-    Ok(limits)
+}
+
+fn all_limits(alloc: Global, case: &Json) -> Result<Vec<Limits>, CaseFault> {
+    read_all(alloc, members::list(case, "limits")?)
 }
 
 fn put_positive(alloc: Global, case: &Json, out: &mut Output) -> Written {
@@ -109,17 +112,15 @@ fn event_of(item: &Json) -> Option<Event> {
     match item.as_str() {
         Some("stop") => Some(Event::Stop),
         Some(_) => None,
-        None => mark_event(number_at(item, 0)?, item.get(1usize)?.as_str()?),
+        None => mark_event(
+            number_in(item.get(0usize))?,
+            item.get(1usize).and_then(Json::as_str)?,
+        ),
     }
 }
 
 fn mark_event(metric: usize, mark: &str) -> Option<Event> {
     Some(Event::Mark(metric, mark_of(mark)?))
-}
-
-/// The number at a place of a list.
-pub(crate) fn number_at(list: &Json, place: usize) -> Option<usize> {
-    usize::try_from(list.get(place)?.as_u64()?).ok()
 }
 
 /// Applies an event, where the run takes one more and has its metric.

@@ -108,8 +108,7 @@ fn read_arguments(alloc: Global, case: &Json, arguments: &mut Args) -> Written {
 /// The text at a place of a list.
 fn text_at(list: &Json, place: usize) -> Result<&str, CaseFault> {
     list.get(place)
-        .ok_or(CaseFault::Member)?
-        .as_str()
+        .and_then(Json::as_str)
         .ok_or(CaseFault::Member)
 }
 
