@@ -1,6 +1,6 @@
 //! Texts, numbers, shapes, values and refusals as they are printed.
 
-ghost use Rattle.std.specs.Prelude.{◌≡◌, ◌<◌, ◌++◌, ◌==◌, [], None, IfSome, codes, decimal, false, flat_map, if◌then◌else◌, map, nat_lt, not, string_bytes, true};
+ghost use Rattle.std.specs.Prelude.{◌≡◌, ◌<◌, ◌++◌, ◌==◌, [], None, IfSome, codes, false, flat_map, if◌then◌else◌, map, nat_lt, not, true};
 ghost use Rattle.std.specs.Char.{encode_utf8};
 ghost use Rattle.std.specs.Fmt.{signed_decimal};
 ghost use Rattle.std.specs.Str.{chars};

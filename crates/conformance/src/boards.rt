@@ -3,7 +3,7 @@
 ghost use Rattle.std.specs.Prelude.{◌≡◌, IfOk};
 
 use crate::lists::{Item, number_in, read_all};
-use crate::made::{Print, print_all};
+use crate::parts::{Part, put_all};
 use crate::phases::put_effect;
 use ar_bundle::{Bundle, Entry};
 use ar_cases::fault::{CaseFault, Written};
@@ -214,12 +214,12 @@ fn put_queue(core: &CoreState<'_>, out: &mut Output) {
 
 fn put_hands(hands: &[Option<u64>], out: &mut Output) {
     out.put(" hands=[");
-    print_all(out, ", ", hands);
+    put_all(out, ", ", hands);
     out.put("]");
 }
 
-impl Print for Option<u64> {
-    fn print(&self, out: &mut Output) {
+impl Part for Option<u64> {
+    fn put(&self, out: &mut Output) {
         put_or_none(out, *self);
     }
 }
@@ -240,12 +240,12 @@ fn put_parked(parked: &[bool], out: &mut Output) {
 /// Each entry behind the colon of its run.
 fn put_history(history: &[Entry], out: &mut Output) {
     out.put(if history.is_empty() { ":" } else { ": " });
-    print_all(out, ", ", history);
+    put_all(out, ", ", history);
 }
 
 /// The number of an entry, and what it did to its run.
-impl Print for Entry {
-    fn print(&self, out: &mut Output) {
+impl Part for Entry {
+    fn put(&self, out: &mut Output) {
         write!(out, "{} ", self.number);
         put_effect(out, self.effect);
     }

@@ -8,7 +8,8 @@ ghost use Rattle.conformance.specs.Calls.{code_calls};
 
 use crate::endings::put_ended;
 use crate::judges::put_bounds_of;
-use crate::made::{Made, Print, granted, print_all, put_made};
+use crate::made::{Made, granted, put_made};
+use crate::parts::{Part, put_all};
 use ar_cases::fault::{CaseFault, Written};
 use ar_cases::members;
 use ar_cases::output::Output;
@@ -46,7 +47,7 @@ fn put_decoded(alloc: Global, case: &Json, out: &mut Output) -> Written {
 }
 
 impl Made for Code {
-    fn answer(&self, alloc: Global, _case: &Json, out: &mut Output) -> Written {
+    fn answer_case(&self, alloc: Global, _case: &Json, out: &mut Output) -> Written {
         put_image(alloc, out, self);
         put_texts(out, " / texts=[", self.texts());
         put_texts(out, "] names=[", self.names());
@@ -78,11 +79,11 @@ fn put_listing(alloc: Global, out: &mut Output, code: &Code) {
 
 fn put_texts(out: &mut Output, name: &str, texts: &[String]) {
     out.put(name);
-    print_all(out, ",", texts);
+    put_all(out, ",", texts);
 }
 
-impl Print for String {
-    fn print(&self, out: &mut Output) {
+impl Part for String {
+    fn put(&self, out: &mut Output) {
         put_quoted(out, self.as_str());
     }
 }

@@ -5,11 +5,10 @@ ghost use Rattle.ar_cases.specs.Calls.{is_one_of};
 ghost use Rattle.conformance.specs.Calls.{command_calls};
 
 use crate::lists::{Item, read_all};
-use crate::made::{Made, put_made};
 use ar_cases::fault::{CaseFault, Written};
 use ar_cases::members;
 use ar_cases::output::Output;
-use ar_command_line::{Command, command_of};
+use ar_command_line::{UsageError, command_of};
 use serde_json::Value as Json;
 use std::alloc::Global;
 
@@ -26,18 +25,16 @@ pub(crate) fn put(alloc: Global, call: &str, case: &Json, out: &mut Output) -> O
 /// The command that words ask for, or why they ask for none.
 fn put_command(alloc: Global, case: &Json, out: &mut Output) -> Written {
     let words = read_all(alloc, members::list(case, "command")?)?;
-    put_made(alloc, case, out, command_of(alloc, words))
+    match command_of(alloc, words) {
+        Ok(command) => write!(out, "{command:?}"),
+        Err(UsageError::OutOfMemory) => out.lose(),
+        Err(error) => write!(out, "{error:?}"),
+    }
+    Ok(())
 }
 
 impl Item for String {
     fn read(alloc: Global, json: &Json) -> Result<String, CaseFault> {
         Ok(json.as_str().ok_or(CaseFault::Member)?.to_string(alloc)?)
-    }
-}
-
-impl Made for Command {
-    fn answer(&self, _alloc: Global, _case: &Json, out: &mut Output) -> Written {
-        write!(out, "{self:?}");
-        Ok(())
     }
 }

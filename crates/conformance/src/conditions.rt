@@ -4,7 +4,8 @@ ghost use Rattle.std.specs.Prelude.{◌≡◌, is_some};
 ghost use Rattle.ar_cases.specs.Calls.{is_one_of};
 ghost use Rattle.conformance.specs.Calls.{condition_calls};
 
-use crate::made::{Made, Print, print_all, put_made};
+use crate::made::{Made, put_made};
+use crate::parts::{Part, put_all};
 use crate::trees::put_tree;
 use crate::typed::put_typed;
 use ar_cases::fault::Written;
@@ -35,16 +36,16 @@ fn put_tokens(alloc: Global, case: &Json, out: &mut Output) -> Written {
 }
 
 impl Made for Vec<Token> {
-    fn answer(&self, _alloc: Global, _case: &Json, out: &mut Output) -> Written {
+    fn answer_case(&self, _alloc: Global, _case: &Json, out: &mut Output) -> Written {
         out.put("[");
-        print_all(out, ", ", self.as_slice());
+        put_all(out, ", ", self.as_slice());
         out.put("]");
         Ok(())
     }
 }
 
-impl Print for Token {
-    fn print(&self, out: &mut Output) {
+impl Part for Token {
+    fn put(&self, out: &mut Output) {
         write!(out, "{}-{} ", self.span.start, self.span.end);
         put_kind(out, &self.kind);
     }
@@ -73,7 +74,7 @@ fn put_parsed(alloc: Global, case: &Json, out: &mut Output) -> Written {
 }
 
 impl Made for Tree {
-    fn answer(&self, _alloc: Global, _case: &Json, out: &mut Output) -> Written {
+    fn answer_case(&self, _alloc: Global, _case: &Json, out: &mut Output) -> Written {
         put_tree(out, self);
         Ok(())
     }
@@ -97,7 +98,7 @@ fn put_typed_of(alloc: Global, case: &Json, tree: Box<Tree>, out: &mut Output) -
 }
 
 impl Made for Typed {
-    fn answer(&self, _alloc: Global, _case: &Json, out: &mut Output) -> Written {
+    fn answer_case(&self, _alloc: Global, _case: &Json, out: &mut Output) -> Written {
         put_typed(out, self);
         Ok(())
     }

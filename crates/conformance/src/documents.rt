@@ -6,7 +6,8 @@ ghost use Rattle.conformance.specs.Calls.{document_calls};
 
 use crate::boards::put_core;
 use crate::judges::put_verdict;
-use crate::made::{Made, Print, print_all, put_made};
+use crate::made::{Made, put_made};
+use crate::parts::{Part, put_all};
 use ar_bundle::{Bundle, Finding, MetricPart, RunPart};
 use ar_cases::fault::{CaseFault, Written};
 use ar_cases::members;
@@ -53,7 +54,7 @@ fn put_json(alloc: Global, case: &Json, out: &mut Output) -> Written {
 }
 
 impl Made for Json {
-    fn answer(&self, alloc: Global, _case: &Json, out: &mut Output) -> Written {
+    fn answer_case(&self, alloc: Global, _case: &Json, out: &mut Output) -> Written {
         out.put(self.to_string(alloc)?.as_str());
         Ok(())
     }
@@ -65,7 +66,7 @@ fn put_document(alloc: Global, case: &Json, out: &mut Output) -> Written {
 }
 
 impl Made for Bundle {
-    fn answer(&self, alloc: Global, case: &Json, out: &mut Output) -> Written {
+    fn answer_case(&self, alloc: Global, case: &Json, out: &mut Output) -> Written {
         match members::text(case, "call")? {
             "core" => put_core(alloc, case, self, out),
             "findings" => put_findings(alloc, self, out),
@@ -105,12 +106,12 @@ fn put_parts(bundle: &Bundle, out: &mut Output) {
 
 fn put_metrics(metrics: &[MetricPart], out: &mut Output) {
     out.put("metrics={");
-    print_all(out, ",", metrics);
+    put_all(out, ",", metrics);
     out.put("}");
 }
 
-impl Print for MetricPart {
-    fn print(&self, out: &mut Output) {
+impl Part for MetricPart {
+    fn put(&self, out: &mut Output) {
         put_quoted(out, self.name.as_str());
         out.put(":");
         put_shape(out, self.shape.get());
@@ -119,12 +120,12 @@ impl Print for MetricPart {
 
 fn put_names(runs: &[RunPart], out: &mut Output) {
     out.put(" runs=[");
-    print_all(out, ",", runs);
+    put_all(out, ",", runs);
     out.put("]");
 }
 
-impl Print for RunPart {
-    fn print(&self, out: &mut Output) {
+impl Part for RunPart {
+    fn put(&self, out: &mut Output) {
         put_quoted(out, self.name.as_str());
     }
 }
@@ -202,12 +203,12 @@ fn put_report(alloc: Global, bundle: &Bundle, out: &mut Output) -> Written {
 #[tactic(auto, using(crate::proofs::Reporting::lawful))]
 fn put_phases(alloc: Global, bundle: &Bundle, out: &mut Output) -> Written {
     let histories = run_plain(alloc, bundle)?;
-    print_all(out, ", ", &run_phases(alloc, bundle, &histories)?);
+    put_all(out, ", ", &run_phases(alloc, bundle, &histories)?);
     Ok(())
 }
 
-impl Print for Phase {
-    fn print(&self, out: &mut Output) {
+impl Part for Phase {
+    fn put(&self, out: &mut Output) {
         out.put(phase_name(*self));
     }
 }

@@ -42,11 +42,11 @@ fn put_condition(alloc: Global, case: &Json, out: &mut Output) -> Written {
 }
 
 impl Made for Condition {
-    fn answer(&self, alloc: Global, case: &Json, out: &mut Output) -> Written {
+    fn answer_case(&self, alloc: Global, case: &Json, out: &mut Output) -> Written {
         let value = members::value(alloc, case, self.verified().shape())?;
         put_quoted(out, self.text());
         out.put(" ");
-        put_answer(out, Condition::answer(self, alloc, &value)?);
+        put_answer(out, self.answer(alloc, &value)?);
         Ok(())
     }
 }

@@ -2,14 +2,14 @@
 
 use ar_cases::fault::{CaseFault, Written};
 use ar_cases::output::Output;
-use ar_cases::printing::{put_between, put_refusal};
+use ar_cases::printing::put_refusal;
 use serde_json::Value as Json;
 use std::alloc::Global;
 use std::fmt::{Debug, Display};
 
 /// What is made of a case, and then answers it.
 pub(crate) trait Made {
-    fn answer(&self, alloc: Global, case: &Json, out: &mut Output) -> Written;
+    fn answer_case(&self, alloc: Global, case: &Json, out: &mut Output) -> Written;
 }
 
 /// What was made answers, or else why nothing was.
@@ -20,7 +20,7 @@ pub(crate) fn put_made<T: Made + Drop, E: Debug + Display + Drop>(
     made: Result<T, E>,
 ) -> Written {
     match made {
-        Ok(made) => made.answer(alloc, case, out),
+        Ok(made) => made.answer_case(alloc, case, out),
         Err(refusal) => {
             put_refusal(alloc, case, out, refusal);
             Ok(())
@@ -36,20 +36,5 @@ pub(crate) fn granted<T: Drop, E: Drop>(
     match made {
         Ok(made) => Ok(Box::new(alloc, made)?),
         Err(_) => Err(CaseFault::Member),
-    }
-}
-
-/// What is printed as a part of an answer.
-pub(crate) trait Print {
-    fn print(&self, out: &mut Output);
-}
-
-/// Parts with a separator between each and the next.
-pub(crate) fn print_all<T: Print>(out: &mut Output, separator: &str, parts: &[T]) {
-    let mut first = true;
-    for part in parts {
-        put_between(out, first, separator);
-        first = false;
-        part.print(out);
     }
 }

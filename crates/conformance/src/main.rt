@@ -13,6 +13,7 @@
 //! - `trees`, `typed`, `endings`: conditions as written, conditions as typed, and how runs of code end, printed
 //! - `lists`: the lists of a case
 //! - `made`: what a call made of a case, or why it refused it
+//! - `parts`: parts of answers, printed one behind another
 //!
 //! Which names are those of calls is proved of every case (`specs/Calls`), and how runs end is printed
 //! (`specs/Endings`). What these calls answer is only tested, by the suite.
@@ -30,6 +31,7 @@ mod endings;
 mod judges;
 mod lists;
 mod made;
+mod parts;
 mod phases;
 mod templates;
 mod trees;
