@@ -9,7 +9,7 @@ use thiserror::Error;
 
 /// Why a condition has no kinds where `result` has a shape. A number is the place of the tree that
 /// wants something else: a byte offset from 0.
-#[derive(Clone, Copy, Error)]
+#[derive(Clone, Copy, Debug, Error)]
 pub enum TypeError {
     /// An operand isn't of a kind that the operator, call or field here takes.
     WrongOperand(usize),
@@ -71,13 +71,6 @@ impl fmt::Display for TypeError {
             Some(at) => write!(f, "byte {at}: {}", self.words()),
             None => f.write_str(self.words()),
         }
-    }
-}
-
-/// The line of `Display`, which says all. `Error` asks for this impl.
-impl fmt::Debug for TypeError {
-    fn fmt<W: fmt::Write>(&self, f: &mut fmt::Formatter<W>) -> fmt::Result {
-        fmt::Display::fmt(self, f)
     }
 }
 

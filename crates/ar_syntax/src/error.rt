@@ -8,7 +8,7 @@ use std::fmt;
 use thiserror::Error;
 
 /// Why a text is no condition. A number is the place of the fault: a byte offset from 0.
-#[derive(Clone, Copy, Error)]
+#[derive(Clone, Copy, Debug, Error)]
 pub enum SyntaxError {
     /// The text has more than 4,096 bytes.
     TooLong,
@@ -99,13 +99,6 @@ impl fmt::Display for SyntaxError {
             Some(at) => write!(f, "byte {at}: {}", self.words()),
             None => f.write_str(self.words()),
         }
-    }
-}
-
-/// The line of `Display`, which says all. `Error` asks for this impl.
-impl fmt::Debug for SyntaxError {
-    fn fmt<W: fmt::Write>(&self, f: &mut fmt::Formatter<W>) -> fmt::Result {
-        fmt::Display::fmt(self, f)
     }
 }
 
