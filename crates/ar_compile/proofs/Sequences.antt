@@ -9,6 +9,7 @@ use Rattle.ar_compile.specs.Length.{operations, operations_of_items}
 use Rattle.ar_condition.specs.Limits.{AllInLimits, InLimits}
 use Rattle.ar_compile.specs.Private.Drafts.{drafted, drafted_items}
 use Rattle.ar_compile.specs.Private.Trees.{Agree}
+use Rattle.ar_compile.proofs.Drafts.{drafted_length, one_place_more, same_place}
 
 -- the first of those that are left
 pub first_left : {A : Type 0} (xs : List A) (i : ℕ) (x : A) → i < length xs → x ≡ slice_index_or xs i x → drop i xs ≡ x ∷ drop (i + 1) xs
@@ -55,3 +56,6 @@ one_is_outside f xs i x whole within is outside agree = (λ e. absurd cc, λ h. 
 pub all_are_inside : {A : Type 0} (f : A → Typed) (xs : List A) (i : ℕ) (whole : Typeds) → length xs ≤ i → Agree whole (typeds (map f (drop i xs))) → Decides true (AllInLimits whole)
 unfolding Agree
 all_are_inside f xs i whole past agree = (λ e. agree.1 (subst (λ ys. AllInLimits (typeds (map f ys))) (sym (drop_of_length-le xs past)) tt), λ h. refl)
+
+-- what is told of a draft by what it was before, and of the parts of a tree one by one
+pub ruleset drafts = (drafted_length, one_place_more, same_place, next_operations, no_operations, next_limits, next_drafted, none_drafted, as_many)
