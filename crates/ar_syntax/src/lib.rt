@@ -9,9 +9,10 @@
 //! - [`token`]: words, numbers, texts and signs, and how they are spelled; `scanner` cuts a text
 //!   into them, with `number` for numbers and `quoted` for texts
 //! - [`role`]: what a token can be behind an operand, and what calls take
-//! - `parser`: from tokens to a tree, one `step` for each token; `start` says what a token begins,
-//!   `state` what may come next, `machine` what is begun and not ended, `climb` ends it, `build`
-//!   boxes the nodes, `stack` counts what is begun, `fault` names a refusal, `depth` limits the tree
+//! - `parser`: from tokens to a tree, one `step` for each token, with `call` for what stands in a
+//!   call's parentheses; `start` says what a token begins, `state` what may come next, `machine`
+//!   what is begun and not ended, `climb` ends it, `build` boxes the nodes, `stack` counts what is
+//!   begun, `fault` names a refusal, `depth` limits the tree
 //! - [`error`]: why a text is no condition
 //! - [`laws`]: what holds of the grammar as a whole
 //!
@@ -25,6 +26,7 @@
 #![tactic(auto)]
 
 mod build;
+mod call;
 mod climb;
 mod depth;
 pub mod error;

@@ -1,10 +1,10 @@
 //! One token more.
 
-ghost use Rattle.std.specs.Prelude.{◌≡◌, ◌∷◌, ◌++◌, ◌<◌, [], length, map, pred, Some, IfOk};
+ghost use Rattle.std.specs.Prelude.{◌≡◌, ◌∷◌, ◌++◌, [], length, map, pred, Some, IfOk};
 ghost use Rattle.ar_condition.specs.Expression.{LiteralAt};
-ghost use Rattle.ar_syntax.specs.Grammar.{ends_bracket, may_continue, may_open, takes_all, takes_more};
-ghost use Rattle.ar_syntax.specs.Machine.{Argued, Body, Braced, Frame, Grouped, Have, Indexed, Listed, RightOf, Yes, Want, WantArgument, argue, begin, choose, climbed, close_braced, close_empty, close_text, end_with, have, left, open_index, operate, negate, select, step, unwound, want, when};
-ghost use Rattle.ar_syntax.specs.Roles.{arity, called, follows, is_body, is_brace, is_group, is_in, looseness, name_of, text_value};
+ghost use Rattle.ar_syntax.specs.Grammar.{ends_bracket, may_continue, may_open};
+ghost use Rattle.ar_syntax.specs.Machine.{Argued, Body, Braced, Frame, Grouped, Have, Indexed, Listed, RightOf, Yes, Want, WantArgument, argue, begin, choose, climbed, close_empty, close_text, end_with, have, left, open_index, operate, negate, select, step, unwound, want, when};
+ghost use Rattle.ar_syntax.specs.Roles.{follows, is_body, is_brace, is_in, looseness, name_of, text_value};
 ghost use Rattle.ar_condition.specs.declared.tree.Binary.TheVariants.{NotIn};
 ghost use Rattle.ar_condition.specs.declared.tree.Literal.TheVariants.{Text as TextLiteral};
 ghost use Rattle.ar_syntax.specs.Private.Steps.{Steps, StepsFreely, is_empty_call, start_of, state_of};
@@ -12,9 +12,10 @@ ghost use Rattle.ar_syntax.specs.Private.Frames.{frame_of, frames_of};
 ghost use Rattle.ar_condition.specs.Views.{expression_of};
 
 use crate::build::{boxed, operand};
+use crate::call::{end_call, have_argument, next_argument, want_group};
 use crate::climb::{Reach, climb};
 use crate::machine::Frame;
-use crate::role::{Call, Ender, Follow, follow_of, is_brace, is_group, is_in, looseness};
+use crate::role::{Call, Ender, Follow, follow_of, is_brace, is_in, looseness};
 use crate::stack::{inside, left};
 use crate::start::{Begin, begin_of};
 use crate::state::{Refusal, State};
@@ -425,86 +426,6 @@ fn next_item(stack: &mut Vec<Frame>, at: usize, so_far: Vec<Tree>) -> Result<Sta
     }
 }
 
-/// One more argument of a call, where there may be one.
-#[tactic(auto, using(crate::proofs::Openers::argument_left, crate::proofs::Openers::no_argument_left))]
-fn next_argument(at: usize, function: Call, so_far: Vec<Tree>) -> Result<State, Refusal>
-    ensures { (stack : _) → StepsFreely
-        (λ rules. when rules (takes_more rules function (length (map expression_of so_far.items)))
-        (WantArgument stack at function (map expression_of so_far.items)))
-        stack result }
-{
-    if so_far.len() < function.arity() {
-        Ok(State::WantArgument {
-            at,
-            function,
-            so_far,
-        })
-    } else {
-        Err(Refusal::Arguments)
-    }
-}
-
-/// The end of a call, where it has all arguments.
-#[tactic(auto, using(crate::proofs::Openers::all_arguments, crate::proofs::Openers::not_all_arguments))]
-fn end_call(
-    alloc: Global,
-    at: usize,
-    function: Call,
-    arguments: Vec<Tree>,
-) -> Result<State, Refusal>
-    ensures { (stack : _) → Steps
-        (λ rules. when rules (takes_all rules function (length (map expression_of arguments.items)))
-        (Have stack (called at function (map expression_of arguments.items))))
-        stack result }
-{
-    if arguments.len() == function.arity() {
-        operand(alloc, call(alloc, at, function, arguments)?)
-    } else {
-        Err(Refusal::Arguments)
-    }
-}
-
-/// The node of a call with all its arguments.
-fn call(alloc: Global, at: usize, function: Call, arguments: Vec<Tree>) -> Result<Tree, AllocError>
-    requires { length arguments.items ≡ arity function }
-    ensures { IfOk result (λ tree. expression_of tree ≡ called at function (map expression_of arguments.items)) }
-{
-    let mut arguments = arguments;
-    let last = pop_argument(alloc, &mut arguments)?;
-    match function {
-        Call::Len => Ok(Tree::Len { at, list: last }),
-        Call::IsNil => Ok(Tree::IsNil { at, operand: last }),
-        Call::Default => {
-            let operand = pop_argument(alloc, &mut arguments)?;
-            Ok(Tree::Default {
-                at,
-                operand,
-                otherwise: last,
-            })
-        }
-        Call::Over(predicate) => {
-            let list = pop_argument(alloc, &mut arguments)?;
-            Ok(Tree::Predicate {
-                at,
-                predicate,
-                list,
-                body: last,
-            })
-        }
-    }
-}
-
-/// Takes the last argument, which has to be there.
-fn pop_argument(alloc: Global, arguments: &mut Vec<Tree>) -> Result<Box<Tree>, AllocError>
-    requires { 0 < length arguments.old.items }
-    ensures { IfOk result (λ last. arguments.old.items ≡ arguments.new.items ++ last.value ∷ []) }
-{
-    match arguments.pop() {
-        Some(last) => boxed(alloc, last),
-        None => unreachable!(),
-    }
-}
-
 /// Behind the point of a field.
 fn select(alloc: Global, at: usize, owner: Box<Tree>, token: &Token) -> Result<State, Refusal>
     ensures { (stack : _)
@@ -652,23 +573,6 @@ fn want_in(
     }
 }
 
-/// Behind the name of a call.
-fn want_group(alloc: Global, at: usize, function: Call, token: &Token) -> Result<State, Refusal>
-    ensures { (stack : _)
-        → StepsFreely (λ rules. when rules (is_group token.now) (WantArgument stack at function [])) stack result }
-{
-    if is_group(token) {
-        let so_far = Vec::new(alloc);
-        Ok(State::WantArgument {
-            at,
-            function,
-            so_far,
-        })
-    } else {
-        Err(Refusal::Other)
-    }
-}
-
 /// Where an argument of a call is wanted.
 fn want_argument(
     alloc: Global,
@@ -761,25 +665,6 @@ fn open_braces(
                 so_far,
             },
         )
-    }
-}
-
-/// Behind an argument in braces.
-fn have_argument(
-    alloc: Global,
-    at: usize,
-    function: Call,
-    arguments: Vec<Tree>,
-    token: &Token,
-) -> Result<State, Refusal>
-    ensures { (stack : _) → Steps
-        (λ rules. close_braced rules stack at function (map expression_of arguments.items) (follows token.now))
-        stack result }
-{
-    match follow_of(token) {
-        Follow::Ends(Ender::EndGroup) => end_call(alloc, at, function, arguments),
-        Follow::Ends(Ender::Comma) => next_argument(at, function, arguments),
-        _ => Err(Refusal::Other),
     }
 }
 

@@ -1,4 +1,4 @@
-use Rattle.ar_syntax.proofs.step.have_argument.Goals as goal
+use Rattle.ar_syntax.proofs.call.have_argument.Goals as goal
 
 pub returns-in-Ends-EndGroup : goal.returns-in-Ends-EndGroup
 returns-in-Ends-EndGroup c = λ stack. rw (← c.follow_of.ensures, c.in-Ends-EndGroup.is, c.in-Ends-EndGroup.field-0-is) (c.end_call.ensures stack)

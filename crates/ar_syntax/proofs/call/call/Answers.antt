@@ -2,7 +2,7 @@ use Rattle.std.proofs.Common.{rules, ap, ◌∙◌}
 use Rattle.ar_condition.specs.declared.tree.Tree.{the_lemmas}
 use Rattle.ar_syntax.specs.Roles.{arity}
 use Rattle.ar_syntax.proofs.Openers.{one_argument, two_arguments}
-use Rattle.ar_syntax.proofs.step.call.Goals as goal
+use Rattle.ar_syntax.proofs.call.call.Goals as goal
 
 pub returns-in-Len : goal.returns-in-Len
 returns-in-Len c =

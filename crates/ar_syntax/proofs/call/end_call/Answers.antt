@@ -1,7 +1,7 @@
 use Rattle.std.proofs.Common.{rules, ◌∙◌}
 use Rattle.ar_condition.specs.Views.{expression_of}
 use Rattle.ar_syntax.proofs.Openers.{call_gives_operand}
-use Rattle.ar_syntax.proofs.step.end_call.Goals as goal
+use Rattle.ar_syntax.proofs.call.end_call.Goals as goal
 
 pub returns-in_ok-call : goal.returns-in_ok-call
 returns-in_ok-call c =
