@@ -1,1 +1,2 @@
 pub mod Rule
+pub mod Workers

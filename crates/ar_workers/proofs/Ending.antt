@@ -9,10 +9,11 @@ use Rattle.ar_board.specs.declared.lost.Lost.{Lost as Losing}
 use Rattle.ar_cell.specs.declared.receipt.Receipt.{Receipt}
 use Rattle.ar_queue.specs.Rule.{HasTakenAll, IsDone}
 use Rattle.ar_queue.specs.declared.queue.View.{View}
-use Rattle.ar_workers.specs.Joined.{AreNamed, IsCause, IsNotLost, NameEachOnce, named_by}
-use Rattle.ar_workers.specs.Private.Gathered.{IsFeeder, told}
-use Rattle.ar_workers.specs.declared.error.Unfinished.{Unfinished}
-use Rattle.ar_workers.specs.declared.error.Unfinished.TheVariants as early
+use Rattle.ar_queue.specs.Workers.{AreNamed, IsFeeder}
+use Rattle.ar_workers.specs.Joined.{IsCause, IsNotLost, NameEachOnce, named_by}
+use Rattle.ar_workers.specs.Private.Early.{told}
+use Rattle.ar_queue.specs.declared.side_by_side.Unfinished.{Unfinished}
+use Rattle.ar_queue.specs.declared.side_by_side.Unfinished.TheVariants as early
 use Rattle.ar_workers.specs.declared.error.WorkError.{WorkError}
 
 pub is_cause : (bundle : Bundle) (cause : Unfinished) (error : WorkError) → error ≡ told cause → IsCause bundle error

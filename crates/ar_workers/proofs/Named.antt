@@ -1,16 +1,15 @@
 -- Receipts and doubles name the numbers that were taken.
-use Rattle.std.proofs.Common.{◌≡◌, ℕ, List, [], ◌∷◌, ◌++◌, map, sym, ◌∙◌, ap, arith}
+use Rattle.std.proofs.Common.{◌≡◌, ℕ, ◌+◌, List, [], ◌∷◌, ◌++◌, map, ◌∙◌, ap, arith}
 use Rattle.std.proofs.lemmas.List.{map_push}
 use Rattle.ar_bundle.specs.Bundle.{Bundle}
 use Rattle.ar_bundle.specs.Lawful.{times_in}
-use Rattle.ar_board.specs.Board.{IsReceived, Seat}
+use Rattle.ar_board.specs.Board.{IsReceived, Seat, receipts_of}
 use Rattle.ar_cell.specs.declared.posted.Posted.{Posted}
 use Rattle.ar_cell.specs.declared.receipt.Receipt.{Receipt}
-use Rattle.ar_queue.specs.Rule.{after_take}
-use Rattle.ar_queue.specs.declared.queue.Item.TheVariants.{Number}
-use Rattle.ar_queue.specs.declared.queue.View.{View}
-use Rattle.ar_workers.specs.Joined.{AreNamed, IsNamed, named, working}
+use Rattle.ar_queue.specs.Workers.{IsNamed, all_named}
+use Rattle.ar_workers.specs.Joined.{named, named_by}
 use Rattle.ar_bundle.proofs.HistoryLemmas.{times_push}
+use Rattle.ar_queue.proofs.Feeding.{all_named_push}
 use Rattle.ar_queue.proofs.Steps.{times_both}
 
 abbrev number_of : Receipt → ℕ
@@ -35,17 +34,24 @@ named_by_double number before after doubles doubles_after same more other =
     let is_now = times_both other (map number_of after.receipts) doubles_after in
     omega arith
 
-pub taken_next : (number : ℕ) (taken before after : List ℕ) → AreNamed taken before → IsNamed number before after → AreNamed (taken ++ number ∷ []) after
-taken_next number taken before after are more other =
-    let was = are other in
-    let one = more other in
-    let pushed = times_push other number taken in
+-- ---- receipts and doubles of one desk more
+
+named_push : (number : ℕ) (receipts : List (List Receipt)) (own : List Receipt) → times_in number (named_by (receipts ++ own ∷ [])) ≡ times_in number (named_by receipts) + times_in number (map (λ (receipt : Receipt). receipt.number) own)
+named_push number [] own = let all = times_both number (map (λ (receipt : Receipt). receipt.number) own) [] in omega arith
+named_push number (first ∷ receipts) own =
+    let rest = named_push number receipts own in
+    let all = times_both number (map (λ (receipt : Receipt). receipt.number) first) (named_by (receipts ++ own ∷ [])) in
+    let before = times_both number (map (λ (receipt : Receipt). receipt.number) first) (named_by receipts) in
     omega arith
 
--- ---- a worker's pass
-
-pub view_next : (before after : View) (number : ℕ) → before ≡ working before.taken → after ≡ after_take before (Number number) → (after ≡ working after.taken) × (after.taken ≡ before.taken ++ number ∷ [])
-view_next before after number is taken =
-    let more : after.taken ≡ before.taken ++ number ∷ [] = ap (λ (view : View). view.taken) taken in
-    let all : after ≡ working (before.taken ++ number ∷ []) = taken ∙ ap (λ (view : View). after_take view (Number number)) is in
-    (all ∙ ap working (sym more), more)
+pub taken_apart : {Desk : Type 0} (numbers : Desk → List ℕ) (number : ℕ) (desks : List Desk) (desk : Desk) (seats : List Seat) (seat : Seat) (doubles own : List ℕ)
+    → times_in number (named_by (receipts_of seats)) + times_in number doubles ≡ times_in number (all_named numbers desks) → numbers desk ≡ named seat.receipts own
+    → times_in number (named_by (receipts_of (seats ++ seat ∷ []))) + times_in number (doubles ++ own) ≡ times_in number (all_named numbers (desks ++ desk ∷ []))
+taken_apart numbers number desks desk seats seat doubles own are is =
+    let all = all_named_push numbers number desks desk in
+    let its = ap (times_in number) is in
+    let parts = times_both number (map (λ (receipt : Receipt). receipt.number) seat.receipts) own in
+    let lists = ap (λ (receipts : List (List Receipt)). times_in number (named_by receipts)) (map_push (λ (seat : Seat). seat.receipts) seats seat) in
+    let pushed = named_push number (receipts_of seats) seat.receipts in
+    let double = times_both number doubles own in
+    omega arith

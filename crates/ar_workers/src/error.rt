@@ -4,6 +4,7 @@ ghost use Rattle.ar_workers.specs.declared.error.WorkError.TheVariants.{OutOfMem
 ghost use Rattle.std.specs.Prelude.{◌≡◌};
 
 use ar_board::Lost;
+use ar_queue::Unfinished;
 use std::alloc::AllocError;
 use thiserror::Error;
 
@@ -20,25 +21,8 @@ pub enum WorkError {
     Lost { lost: Lost, doubles: Vec<u64> },
 }
 
-/// Why workers ended early.
-#[derive(Drop)]
-pub(crate) enum Unfinished {
-    NoThread,
-    OutOfMemory,
-}
-
-impl From<AllocError> for Unfinished {
-    ghost use Rattle.ar_workers.specs.declared.error.Unfinished.TheVariants as early;
-
-    ghost from_gives = { λ _ cause. cause ≡ early.OutOfMemory };
-
-    fn from(_error: AllocError) -> Unfinished {
-        Unfinished::OutOfMemory
-    }
-}
-
 impl From<Unfinished> for WorkError {
-    ghost use Rattle.ar_workers.specs.Private.Gathered.{told};
+    ghost use Rattle.ar_workers.specs.Private.Early.{told};
 
     ghost from_gives = { λ cause error. error ≡ told cause };
 

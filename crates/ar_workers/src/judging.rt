@@ -4,12 +4,12 @@ ghost use Rattle.std.specs.Prelude.{◌≡◌, ℕ, [], IfOk, length};
 ghost use Rattle.std.specs.List.{AllByRecursion};
 ghost use Rattle.std.specs.Coded.{codes};
 ghost use Rattle.ar_bundle.specs.contracts.finding.Finding as finding_row;
-ghost use Rattle.ar_workers.specs.Joined.{all_named};
+ghost use Rattle.ar_queue.specs.Workers.{all_named};
 ghost use Rattle.ar_workers.specs.Private.Judging.{AreJudged, AreKnown, IsKnown, numbers_judged};
 
-use crate::desk::Desk;
 use ar_bundle::{Bundle, Finding};
 use ar_cell::BundleName;
+use ar_queue::Desk;
 use std::alloc::{AllocError, Global};
 use std::marker::PhantomData;
 use std::sync::Wait;

@@ -9,26 +9,21 @@
 //!
 //! - `running`: the queue is made, workers post, the board is closed; `ordered`: workers judge, and their
 //!   findings are put in order
-//! - `side_by_side`: starting, feeding and joining workers; `worker`: what one worker does; `feed`: numbers
-//!   and end marks
-//! - `desk`: what a worker does with a number; `posting`: it posts it; `judging`: it keeps it
-//! - `gate`: gates; `error`: why there are no histories; [`laws`]: why a number is lost
+//! - `posting`: a worker's desk that posts a number; `judging`: one that keeps it
+//! - `error`: why there are no histories; [`laws`]: why a number is lost
+//!
+//! How workers run side by side is `ar_queue`'s.
 #![tactic(auto)]
 
-mod desk;
 mod error;
-mod feed;
-mod gate;
 mod judging;
 pub mod laws;
 mod ordered;
 mod posting;
 mod running;
-mod side_by_side;
-mod worker;
 
 pub use ar_plain::run_plain;
+pub use ar_queue::{FreeGate, Gate};
 pub use error::WorkError;
-pub use gate::{FreeGate, Gate};
 pub use ordered::run_ordered;
 pub use running::run_all;

@@ -4,19 +4,17 @@ ghost use Rattle.std.specs.Prelude.{◌≡◌, ◌<◌, ◌≤◌, ℕ, IfErr, I
 ghost use Rattle.crossbeam_queue.specs.Passes.{IsPassOf, view};
 ghost use Rattle.ar_bundle.specs.Bundle.{IsBundle};
 ghost use Rattle.ar_bundle.specs.Lawful.{AllRise, AreLawful};
-ghost use Rattle.ar_workers.specs.Joined.{IsNotLost, feeding};
+ghost use Rattle.ar_queue.specs.Workers.{feeding};
+ghost use Rattle.ar_workers.specs.Joined.{IsNotLost};
 ghost use Rattle.ar_workers.specs.Private.Judging.{IsKnown};
 
-use crate::error::{Unfinished, WorkError};
-use crate::gate::Gate;
+use crate::error::WorkError;
 use crate::judging::{Judging, by_number, empty_desks};
-use crate::side_by_side::{Gathered, in_threads};
-use crate::worker::QueueName;
 use ar_board::MOST_WORKERS;
 use ar_bundle::{Bundle, Finding, Histories};
 use ar_cell::BundleName;
 use ar_plain::Runs;
-use ar_queue::{Item, Queue, View, learn, open};
+use ar_queue::{Gate, Gathered, Item, Queue, QueueName, Unfinished, View, in_threads, learn, open};
 use crossbeam_queue::Pass;
 use std::alloc::{AllocError, Global};
 use std::marker::Brand;

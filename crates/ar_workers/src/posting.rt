@@ -4,12 +4,13 @@ ghost use Rattle.std.specs.Prelude.{◌≡◌, ◌+◌, ℕ, [], IfOk, length};
 ghost use Rattle.std.specs.List.{AllByRecursion};
 ghost use Rattle.ar_bundle.specs.Lawful.{times_in};
 ghost use Rattle.ar_board.specs.Board.{receipts_of};
-ghost use Rattle.ar_workers.specs.Joined.{all_named, named, named_by};
+ghost use Rattle.ar_queue.specs.Workers.{all_named};
+ghost use Rattle.ar_workers.specs.Joined.{named, named_by};
 
-use crate::desk::Desk;
 use ar_board::{Board, LockNames, Seat};
 use ar_bundle::Bundle;
 use ar_cell::{BundleName, Double};
+use ar_queue::Desk;
 use std::alloc::{AllocError, Global};
 use std::sync::Wait;
 

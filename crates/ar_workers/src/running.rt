@@ -4,17 +4,15 @@ ghost use Rattle.std.specs.Prelude.{◌≡◌, ◌≤◌, [], IfErr, IfOk, lengt
 ghost use Rattle.std.specs.List.{AllByRecursion};
 ghost use Rattle.crossbeam_queue.specs.Passes.{IsPassOf, view};
 ghost use Rattle.ar_bundle.specs.Lawful.{AreLawful};
-ghost use Rattle.ar_workers.specs.Joined.{IsCause, feeding};
+ghost use Rattle.ar_queue.specs.Workers.{feeding};
+ghost use Rattle.ar_workers.specs.Joined.{IsCause};
 
 use crate::error::WorkError;
-use crate::gate::Gate;
 use crate::posting::{Posting, desks_of, seats_and_doubles};
-use crate::side_by_side::{Gathered, in_threads};
-use crate::worker::QueueName;
 use ar_board::{Blanks, Board, LockNames, MOST_WORKERS, Seat};
 use ar_bundle::{Bundle, Histories};
 use ar_cell::BundleName;
-use ar_queue::{Item, Queue, View, learn, open};
+use ar_queue::{Gate, Gathered, Item, Queue, QueueName, View, in_threads, learn, open};
 use crossbeam_queue::Pass;
 use std::alloc::Global;
 use std::marker::Brand;

@@ -23,7 +23,7 @@ use Rattle.ar_board.specs.contracts.seat.Seat as Seat
 use Rattle.ar_board.specs.declared.locks.LockNames as LockNames
 use Rattle.ar_cell.specs.declared.names.BundleName as BundleName
 use Rattle.ar_cell.specs.declared.names.LockName as LockName
-use Rattle.ar_workers.proofs.Sharing.Bundles.{bundle_sync}
+use Rattle.ar_queue.proofs.Sharing.Bundles.{bundle_sync}
 
 entry_send : IsSend Entry.the_row
 entry_send = search (crosses, sendable) depth 30

@@ -1,6 +1,6 @@
 use Rattle.std.proofs.Common.{◌≡◌, ◌++◌, length}
 use Rattle.std.specs.Vec.Iter.{into_iter_items, into_iter_len}
-use Rattle.ar_workers.specs.Joined.{all_named}
+use Rattle.ar_queue.specs.Workers.{all_named}
 use Rattle.ar_workers.specs.Private.Judging.{AreKnown, numbers_judged}
 use Rattle.ar_workers.proofs.judging.by_number.Given as goal
 

@@ -3,8 +3,9 @@ use Rattle.std.proofs.lemmas.List.{length_push}
 use Rattle.std.specs.Vec.Iter.{into_iter_items}
 use Rattle.ar_bundle.specs.Lawful.{times_in}
 use Rattle.ar_board.specs.Board.{receipts_of}
-use Rattle.ar_workers.specs.Joined.{all_named, named, named_by}
-use Rattle.ar_workers.proofs.Feeding.{taken_apart}
+use Rattle.ar_queue.specs.Workers.{all_named}
+use Rattle.ar_workers.specs.Joined.{named, named_by}
+use Rattle.ar_workers.proofs.Named.{taken_apart}
 use Rattle.ar_workers.proofs.posting.seats_and_doubles.Given as given
 use Rattle.ar_workers.proofs.posting.seats_and_doubles.Goals as goal
 

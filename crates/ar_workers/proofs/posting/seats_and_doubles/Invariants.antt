@@ -3,7 +3,8 @@ use Rattle.std.specs.Vec.{vec_capacity}
 use Rattle.std.specs.Vec.Iter.{into_iter_items, into_iter_len}
 use Rattle.ar_bundle.specs.Lawful.{times_in}
 use Rattle.ar_board.specs.Board.{receipts_of}
-use Rattle.ar_workers.specs.Joined.{all_named, named, named_by}
+use Rattle.ar_queue.specs.Workers.{all_named}
+use Rattle.ar_workers.specs.Joined.{named, named_by}
 use Rattle.ar_workers.proofs.posting.seats_and_doubles.Given as goal
 
 -- the seats and doubles of the desks so far

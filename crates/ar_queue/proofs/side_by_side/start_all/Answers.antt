@@ -19,10 +19,10 @@ use Rattle.ar_queue.specs.contracts.queue.Item as Item
 use Rattle.ar_queue.specs.contracts.queue.QueueRule as Rule
 use Rattle.ar_queue.specs.contracts.queue.QueueRuleProtocolItemView.TheImpl as rule
 use Rattle.ar_queue.specs.contracts.queue.View as View
-use Rattle.ar_workers.proofs.Sharing.Bundles.{bundle_sync}
-use Rattle.ar_workers.proofs.Sharing.Jobs.{job_send}
-use Rattle.ar_workers.proofs.Sharing.Queues.{pass_send, queue_sync}
-use Rattle.ar_workers.proofs.side_by_side.start_all.Goals as goal
+use Rattle.ar_queue.proofs.Sharing.Bundles.{bundle_sync}
+use Rattle.ar_queue.proofs.Sharing.Jobs.{job_send}
+use Rattle.ar_queue.proofs.Sharing.Queues.{pass_send, queue_sync}
+use Rattle.ar_queue.proofs.side_by_side.start_all.Goals as goal
 
 pub spawn-requires-send-F : goal.spawn-requires-send-F
 spawn-requires-send-F g c κs within =
@@ -32,7 +32,7 @@ spawn-requires-send-F g c κs within =
     let doing : RattleType = Doing.the_row Item.the_row View.the_row in
     let rules : RattleType = Turns.the_row (Rule.the_row M) in
     let ghosts = turns.ghosts Item.the_row View.the_row (Rule.the_row M) (rule.ghosts M g.M.BundleName rule.no_dict) turns.no_dict in
-    param_send 1 _ (arg_send _ exit.no _ (job_send (codes "ar_workers::side_by_side::fn::start_all::job+Self")
+    param_send 1 _ (arg_send _ exit.no _ (job_send (codes "ar_queue::side_by_side::fn::start_all::job+Self")
     record { mir = named 5; lft = κs.1.1.1.1.1.0 } record { mir = named 6; lft = κs.1.1.1.1.1.1.0 }
     record { mir = named 7; lft = κs.1.1.1.1.1.1.1.0 } record { mir = named 8; lft = κs.1.1.1.1.1.1.1.1.0 }
     (param 5 g.row.R) Bundle.the_row (Slotted.the_row item doing rules Global.the_row ghosts heap.ghosts)

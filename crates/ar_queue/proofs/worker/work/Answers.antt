@@ -1,8 +1,8 @@
 use Rattle.std.proofs.Common.{rules, List, ℕ, sym, subst}
 use Rattle.crossbeam_queue.specs.Passes.{view}
-use Rattle.ar_workers.specs.Joined.{AreNamed}
-use Rattle.ar_workers.proofs.Named.{taken_next, view_next}
-use Rattle.ar_workers.proofs.worker.work.Goals as goal
+use Rattle.ar_queue.specs.Workers.{AreNamed}
+use Rattle.ar_queue.proofs.Working.{taken_next, view_next}
+use Rattle.ar_queue.proofs.worker.work.Goals as goal
 
 pub loop-preserved : goal.loop-preserved
 loop-preserved g c =

@@ -3,8 +3,8 @@ use Rattle.std.specs.List.{AllByRecursion}
 use Rattle.std.specs.Vec.{vec_capacity}
 use Rattle.std.specs.Vec.Iter.{into_iter_items, into_iter_len}
 use Rattle.crossbeam_queue.specs.Passes.{IsPassOf, view}
-use Rattle.ar_workers.specs.Joined.{feeding}
-use Rattle.ar_workers.proofs.side_by_side.start_all.Given as goal
+use Rattle.ar_queue.specs.Workers.{feeding}
+use Rattle.ar_queue.proofs.side_by_side.start_all.Given as goal
 
 -- a worker was started for each desk so far
 abbrev pub invariant-loop-desk : goal.invariant-loop-desk

@@ -2,10 +2,9 @@ use Rattle.std.proofs.Common.{◌≡◌, ◌++◌, ◌∷◌, [], ℕ, length, s
 use Rattle.std.proofs.lemmas.List.{length_push}
 use Rattle.std.specs.Vec.Iter.{into_iter_items}
 use Rattle.crossbeam_queue.specs.Passes.{view}
-use Rattle.ar_workers.specs.Joined.{AreNamed, all_named}
-use Rattle.ar_workers.specs.Private.Gathered.{IsFeeder}
-use Rattle.ar_workers.proofs.Feeding.{feeder_join, named_join}
-use Rattle.ar_workers.proofs.side_by_side.join_all.Goals as goal
+use Rattle.ar_queue.specs.Workers.{AreNamed, IsFeeder, all_named}
+use Rattle.ar_queue.proofs.Feeding.{feeder_join, named_join}
+use Rattle.ar_queue.proofs.side_by_side.join_all.Goals as goal
 
 pub loop-handle-preserved : goal.loop-handle-preserved
 loop-handle-preserved g c =

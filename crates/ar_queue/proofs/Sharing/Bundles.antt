@@ -18,8 +18,8 @@ use Rattle.ar_bundle.specs.contracts.bundle.RunLimits as RunLimits
 use Rattle.ar_bundle.specs.contracts.bundle.RunPart as RunPart
 use Rattle.ar_bundle.specs.contracts.bundle.What as What
 use Rattle.ar_limits.specs.contracts.limits.Limits as Limits
-use Rattle.ar_workers.proofs.Sharing.Shapes.{shared_shape_sync, text_sync}
-use Rattle.ar_workers.proofs.Sharing.Values.{value_sync}
+use Rattle.ar_queue.proofs.Sharing.Shapes.{shared_shape_sync, text_sync}
+use Rattle.ar_queue.proofs.Sharing.Values.{value_sync}
 
 op_sync : IsSync Op.the_row
 op_sync = search (crosses, sendable) depth 200 fits 20000

@@ -1,7 +1,7 @@
 use Rattle.std.proofs.Common.{◌≡◌, length}
 use Rattle.crossbeam_queue.specs.Passes.{IsPassOf, view}
-use Rattle.ar_workers.specs.Joined.{feeding}
-use Rattle.ar_workers.proofs.feed.put_marks.Given as goal
+use Rattle.ar_queue.specs.Workers.{feeding}
+use Rattle.ar_queue.proofs.feed.put_marks.Given as goal
 
 -- so many marks were put
 abbrev pub invariant-loop-mark : goal.invariant-loop-mark

@@ -9,7 +9,7 @@ use Rattle.std.proofs.Crossing.{crosses}
 use Rattle.ar_value.specs.contracts.decimal.Decimal as Decimal
 use Rattle.ar_value.specs.contracts.value.Value as Value
 use Rattle.ar_value.specs.contracts.value.Value.TheKnot as knot
-use Rattle.ar_workers.proofs.Sharing.Shapes.{text_sync}
+use Rattle.ar_queue.proofs.Sharing.Shapes.{text_sync}
 
 decimal_sync : IsSync Decimal.the_row
 decimal_sync = search (crosses, sendable) depth 20

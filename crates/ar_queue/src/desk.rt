@@ -1,7 +1,7 @@
 //! What a worker does with the numbers that it takes.
 
 ghost use Rattle.std.specs.Prelude.{◌≡◌, ◌<◌, OnOk, length};
-ghost use Rattle.ar_workers.specs.Joined.{IsNamed};
+ghost use Rattle.ar_queue.specs.Workers.{IsNamed};
 
 use ar_bundle::Bundle;
 use ar_cell::BundleName;
@@ -9,7 +9,7 @@ use std::alloc::{AllocError, Global};
 use std::sync::Wait;
 
 /// What a worker does with each number that it takes, and keeps of it.
-pub(crate) trait Desk<M: BundleName>: Drop {
+pub trait Desk<M: BundleName>: Drop {
     ghost use Rattle.std.specs.Prelude.{ℕ, List};
 
     /// The numbers that it was given.

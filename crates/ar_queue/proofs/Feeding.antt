@@ -1,14 +1,10 @@
--- The feeder's pass, while items are put, passes split off and joined.
-use Rattle.std.proofs.Common.{◌≡◌, ◌<◌, ℕ, suc, ◌+◌, List, [], ◌∷◌, ◌++◌, length, map, refl, sym, ◌∙◌, ap, subst, arith}
-use Rattle.std.proofs.lemmas.List.{map_push}
+-- The feeder's pass, while items are put, passes split off and joined, and what is named at all desks.
+use Rattle.std.proofs.Common.{◌≡◌, ◌<◌, ℕ, suc, ◌+◌, List, [], ◌∷◌, ◌++◌, refl, sym, ◌∙◌, ap, subst, arith}
 use Rattle.ar_bundle.specs.Lawful.{times_in}
-use Rattle.ar_board.specs.Board.{Seat, receipts_of}
-use Rattle.ar_cell.specs.declared.receipt.Receipt.{Receipt}
 use Rattle.ar_queue.specs.Rule.{CanPut, after_put, joined, split_off}
+use Rattle.ar_queue.specs.Workers.{AreNamed, IsFeeder, all_named, at_end, feeding}
 use Rattle.ar_queue.specs.declared.queue.Item.TheVariants.{Number, End}
 use Rattle.ar_queue.specs.declared.queue.View.{View}
-use Rattle.ar_workers.specs.Joined.{AreNamed, all_named, at_end, feeding, named, named_by}
-use Rattle.ar_workers.specs.Private.Gathered.{IsFeeder}
 use Rattle.ar_queue.proofs.Steps.{times_both}
 
 -- ---- items are put
@@ -57,7 +53,7 @@ feeder_join before other after out joined_before is ended join =
 
 -- ---- what is named at all desks
 
-all_named_push : {Desk : Type 0} (numbers : Desk → List ℕ) (number : ℕ) (desks : List Desk) (desk : Desk) → times_in number (all_named numbers (desks ++ desk ∷ [])) ≡ times_in number (all_named numbers desks) + times_in number (numbers desk)
+pub all_named_push : {Desk : Type 0} (numbers : Desk → List ℕ) (number : ℕ) (desks : List Desk) (desk : Desk) → times_in number (all_named numbers (desks ++ desk ∷ [])) ≡ times_in number (all_named numbers desks) + times_in number (numbers desk)
 all_named_push numbers number [] desk = let all = times_both number (numbers desk) [] in omega arith
 all_named_push numbers number (first ∷ desks) desk =
     let rest = all_named_push numbers number desks desk in
@@ -74,29 +70,3 @@ named_join numbers before other after desks desk all own join number =
     let its = own number in
     let pushed = all_named_push numbers number desks desk in
     omega arith
-
--- ---- receipts and doubles of one desk more
-
-named_push : (number : ℕ) (receipts : List (List Receipt)) (own : List Receipt) → times_in number (named_by (receipts ++ own ∷ [])) ≡ times_in number (named_by receipts) + times_in number (map (λ (receipt : Receipt). receipt.number) own)
-named_push number [] own = let all = times_both number (map (λ (receipt : Receipt). receipt.number) own) [] in omega arith
-named_push number (first ∷ receipts) own =
-    let rest = named_push number receipts own in
-    let all = times_both number (map (λ (receipt : Receipt). receipt.number) first) (named_by (receipts ++ own ∷ [])) in
-    let before = times_both number (map (λ (receipt : Receipt). receipt.number) first) (named_by receipts) in
-    omega arith
-
-pub taken_apart : {Desk : Type 0} (numbers : Desk → List ℕ) (number : ℕ) (desks : List Desk) (desk : Desk) (seats : List Seat) (seat : Seat) (doubles own : List ℕ)
-    → times_in number (named_by (receipts_of seats)) + times_in number doubles ≡ times_in number (all_named numbers desks) → numbers desk ≡ named seat.receipts own
-    → times_in number (named_by (receipts_of (seats ++ seat ∷ []))) + times_in number (doubles ++ own) ≡ times_in number (all_named numbers (desks ++ desk ∷ []))
-taken_apart numbers number desks desk seats seat doubles own are is =
-    let all = all_named_push numbers number desks desk in
-    let its = ap (times_in number) is in
-    let parts = times_both number (map (λ (receipt : Receipt). receipt.number) seat.receipts) own in
-    let lists = ap (λ (receipts : List (List Receipt)). times_in number (named_by receipts)) (map_push (λ (seat : Seat). seat.receipts) seats seat) in
-    let pushed = named_push number (receipts_of seats) seat.receipts in
-    let double = times_both number doubles own in
-    omega arith
-
-pub nothing_left : {A : Type 0} (xs : List A) → length xs ≡ 0 → xs ≡ []
-nothing_left [] none = refl
-nothing_left (x ∷ xs) none = absurd (omega arith)

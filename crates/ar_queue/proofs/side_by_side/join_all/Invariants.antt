@@ -2,9 +2,8 @@ use Rattle.std.proofs.Common.{◌≡◌, ◌≤◌, ◌++◌, length}
 use Rattle.std.specs.Vec.{vec_capacity}
 use Rattle.std.specs.Vec.Iter.{into_iter_items, into_iter_len}
 use Rattle.crossbeam_queue.specs.Passes.{IsPassOf, view}
-use Rattle.ar_workers.specs.Joined.{AreNamed, all_named}
-use Rattle.ar_workers.specs.Private.Gathered.{IsFeeder}
-use Rattle.ar_workers.proofs.side_by_side.join_all.Given as goal
+use Rattle.ar_queue.specs.Workers.{AreNamed, IsFeeder, all_named}
+use Rattle.ar_queue.proofs.side_by_side.join_all.Given as goal
 
 -- the workers so far are joined
 abbrev pub invariant-loop-handle : goal.invariant-loop-handle

@@ -2,13 +2,14 @@
 
 ghost use Rattle.std.specs.Prelude.{◌≡◌, []};
 ghost use Rattle.crossbeam_queue.specs.Passes.{IsPassOf, view};
-ghost use Rattle.ar_workers.specs.Joined.{AreNamed, at_end, working};
+ghost use Rattle.ar_queue.specs.Workers.{AreNamed, at_end, working};
 
 use crate::desk::Desk;
 use crate::gate::Gate;
+use crate::passes::take;
+use crate::queue::{Item, Queue, View};
 use ar_bundle::Bundle;
 use ar_cell::BundleName;
-use ar_queue::{Item, Queue, View, take};
 use crossbeam_queue::Pass;
 use std::alloc::{AllocError, Global};
 use std::marker::{Brand, PhantomData};
@@ -22,7 +23,7 @@ pub trait QueueName {
 }
 
 impl QueueName for Brand {
-    ghost use Rattle.ar_workers.specs.Joined.{no_queue};
+    ghost use Rattle.ar_queue.specs.Workers.{no_queue};
 
     ghost table = { no_queue };
 }

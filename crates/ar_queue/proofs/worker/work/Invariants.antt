@@ -1,7 +1,7 @@
 use Rattle.std.specs.Prelude.{◌≡◌}
 use Rattle.crossbeam_queue.specs.Passes.{IsPassOf, view}
-use Rattle.ar_workers.specs.Joined.{AreNamed, working}
-use Rattle.ar_workers.proofs.worker.work.Given as goal
+use Rattle.ar_queue.specs.Workers.{AreNamed, working}
+use Rattle.ar_queue.proofs.worker.work.Given as goal
 
 -- it has met no end mark yet, and its desk was given the numbers so far
 abbrev pub invariant-loop : goal.invariant-loop

@@ -2,10 +2,11 @@
 
 ghost use Rattle.std.specs.Prelude.{◌≡◌, length};
 ghost use Rattle.crossbeam_queue.specs.Passes.{IsPassOf, view};
-ghost use Rattle.ar_workers.specs.Joined.{feeding};
+ghost use Rattle.ar_queue.specs.Workers.{feeding};
 
+use crate::passes::put;
+use crate::queue::{Item, Queue, View};
 use ar_cell::BundleName;
-use ar_queue::{Item, Queue, View, put};
 use crossbeam_queue::Pass;
 use std::sync::Wait;
 

@@ -1,7 +1,7 @@
 use Rattle.std.proofs.Common.{◌≡◌}
 use Rattle.crossbeam_queue.specs.Passes.{IsPassOf, view}
-use Rattle.ar_workers.specs.Joined.{feeding}
-use Rattle.ar_workers.proofs.feed.put_numbers.Given as goal
+use Rattle.ar_queue.specs.Workers.{feeding}
+use Rattle.ar_queue.proofs.feed.put_numbers.Given as goal
 
 -- the numbers so far were put
 abbrev pub invariant-loop-number : goal.invariant-loop-number

@@ -4,28 +4,44 @@ ghost use Rattle.std.specs.Prelude.{◌≡◌, ◌≤◌, [], IfOk, OnOk, length
 ghost use Rattle.std.specs.List.{AllByRecursion};
 ghost use Rattle.std.specs.Vec.{vec_capacity};
 ghost use Rattle.crossbeam_queue.specs.Passes.{IsPassOf, view};
-ghost use Rattle.ar_workers.specs.Joined.{AreNamed, all_named, feeding, working};
-ghost use Rattle.ar_workers.specs.Private.Gathered.{IsFeeder};
+ghost use Rattle.ar_queue.specs.Workers.{AreNamed, IsFeeder, all_named, feeding, working};
 
 use crate::desk::Desk;
-use crate::error::Unfinished;
 use crate::feed::feed;
 use crate::gate::Gate;
+use crate::passes::{join, split};
+use crate::queue::{Item, Queue, View};
 use crate::worker::{Outcome, QueueName, work};
 use ar_bundle::Bundle;
 use ar_cell::BundleName;
-use ar_queue::{Item, Queue, View, join, split};
 use crossbeam_queue::Pass;
-use std::alloc::Global;
+use std::alloc::{AllocError, Global};
 use std::sync::Wait;
 use std::thread;
 use std::thread::{JoinHandle, Scope, Threads};
 
+/// Why workers ended early.
+#[derive(Drop)]
+pub enum Unfinished {
+    NoThread,
+    OutOfMemory,
+}
+
+impl From<AllocError> for Unfinished {
+    ghost use Rattle.ar_queue.specs.declared.side_by_side.Unfinished.TheVariants as early;
+
+    ghost from_gives = { λ _ cause. cause ≡ early.OutOfMemory };
+
+    fn from(_error: AllocError) -> Unfinished {
+        Unfinished::OutOfMemory
+    }
+}
+
 /// What all workers brought back, their passes joined into the feeder's.
 #[derive(Drop)]
-pub(crate) struct Gathered<D> {
-    pub(crate) pass: Pass<Item, View>,
-    pub(crate) desks: Vec<D>,
+pub struct Gathered<D> {
+    pub pass: Pass<Item, View>,
+    pub desks: Vec<D>,
 }
 
 /// Starts a worker for each desk, each with a pass that is split off the feeder's.
@@ -160,7 +176,7 @@ where
 ///
 /// Where a thread couldn't be started or memory was wanting, once all workers that were started have
 /// ended.
-pub(crate) fn in_threads<'x, M, D, T, G, R>(
+pub fn in_threads<'x, M, D, T, G, R>(
     rt: &'x R,
     alloc: Global,
     bundle: &'x Bundle,

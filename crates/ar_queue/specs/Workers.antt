@@ -1,0 +1,42 @@
+-- What workers bring back: the pass of the queue, and desks at which just the numbers that the pass took are named.
+use Rattle.std.specs.Prelude.{◌≡◌, ◌+◌, ◌++◌, ℕ, List, [], ◌∷◌}
+use Rattle.ar_bundle.specs.Lawful.{times_in}
+use Rattle.atomic_table.specs.Seated.{TableId}
+use Rattle.ar_queue.specs.declared.queue.View.{View}
+
+-- a worker's pass that has taken some numbers, before it has met an end mark and behind that
+abbrev pub working : (taken : List ℕ) → View
+working taken = record { feeds = 0; live = 1; put = 0; marks = 0; out = 0; ended = 0; taken = taken }
+
+abbrev pub at_end : (taken : List ℕ) → View
+at_end taken = record { feeds = 0; live = 1; put = 0; marks = 0; out = 0; ended = 1; taken = taken }
+
+-- one number more is named, once more
+abbrev pub IsNamed : (number : ℕ) → (before after : List ℕ) → Type 0
+IsNamed number before after = (other : ℕ) → times_in other after ≡ times_in other before + times_in other (number ∷ [])
+
+-- just the numbers that were taken are named, each as often
+abbrev pub AreNamed : (taken named : List ℕ) → Type 0
+AreNamed taken named = (number : ℕ) → times_in number taken ≡ times_in number named
+
+-- what is named at each desk, of all of them
+abbrev pub all_named : {Desk : Type 0} → (Desk → List ℕ) → List Desk → List ℕ
+all_named numbers [] = []
+all_named numbers (desk ∷ desks) = numbers desk ++ all_named numbers desks
+
+-- ---- the feeder
+
+-- the feeder's pass that has put so many numbers and end marks, has split off so many passes, and has joined none
+abbrev pub feeding : (put marks out : ℕ) → View
+feeding put marks out = record { feeds = 1; live = 1; put = put; marks = marks; out = out; ended = 0; taken = [] }
+
+-- the feeder's pass, with so many passes out and so many joined
+pub record IsFeeder (view : View) (out joined : ℕ) : Type 0 where
+  pub feeds : view.feeds ≡ 1
+  pub live : view.live ≡ 1
+  pub has_out : view.out ≡ out
+  pub has_joined : view.ended ≡ joined
+
+-- a caller that takes `Brand` says which queue it means; this stands where none does
+abbrev pub no_queue : TableId
+no_queue = record { words = 0; slots = 0; views_name = 0; atom = 0; block = 0; offset = 0; slot_names = [] }

@@ -1,0 +1,9 @@
+-- What is told of workers that ended early.
+use Rattle.ar_queue.specs.declared.side_by_side.Unfinished.{Unfinished}
+use Rattle.ar_queue.specs.declared.side_by_side.Unfinished.TheVariants as early
+use Rattle.ar_workers.specs.declared.error.WorkError.{WorkError}
+use Rattle.ar_workers.specs.declared.error.WorkError.TheVariants as cause
+
+abbrev pub told : Unfinished → WorkError
+told early.NoThread = cause.NoThread
+told early.OutOfMemory = cause.OutOfMemory
