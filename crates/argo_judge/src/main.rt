@@ -11,11 +11,13 @@
 
 mod words;
 
-ghost use Rattle.std.specs.Prelude.{◌≡◌, ◌≤◌, ℕ, Ok};
+ghost use Rattle.std.specs.Prelude.{◌≡◌, ◌≤◌, ℕ, Ok, false};
 ghost use Rattle.ar_command_line.specs.declared.command_line.Command.TheVariants as commands;
 
 use ar_board::MOST_WORKERS;
-use ar_command::{Command, Device, Kept, Refusal, ServeError, serve, serve_plain, status};
+use ar_command::{
+    Closing, Command, Device, Kept, Refusal, ServeError, Sink, Source, serve, serve_plain, status,
+};
 use ar_command_line::{UsageError, command_of, shown};
 use ar_workers::{FreeGate, WorkError};
 use std::alloc::AllocError;
@@ -93,12 +95,39 @@ where
 {
     let mut reader = Kept::new(rt.alloc(), Device::new(rt.reader()));
     let mut writer = Device::new(io::writer(rt));
-    let outcome = match command {
+    let outcome = served(rt, command, &mut reader, &mut writer);
+    close(rt, &reader, &writer, outcome)
+}
+
+/// Carries a command out, with workers where it is for them.
+fn served<R, S: Source, W: Sink>(
+    rt: &R,
+    command: Command,
+    reader: &mut S,
+    writer: &mut W,
+) -> Result<Closing, ServeError>
+where
+    R: AllocGlobal + Threads + Wait + Sync,
+    requires workers { (n : ℕ) → command ≡ commands.Run n → (1 ≤ n) × (n ≤ MOST_WORKERS) }
+    requires ordered { (n : ℕ) → command ≡ commands.Ordered n → (1 ≤ n) × (n ≤ MOST_WORKERS) }
+    requires reader { S.has_failed reader.old ≡ false }
+    requires writer { W.has_failed writer.old ≡ false }
+{
+    match command {
         Command::Run(_) | Command::Ordered(_) => {
-            serve(rt, rt.alloc(), command, &mut reader, &mut writer, &FreeGate)
+            serve(rt, rt.alloc(), command, reader, writer, &FreeGate)
         }
-        _ => serve_plain(rt.alloc(), command, &mut reader, &mut writer),
-    };
+        _ => serve_plain(rt.alloc(), command, reader, writer),
+    }
+}
+
+/// The exit status of what came of a command, with one line where that is a fault.
+fn close<R: AllocGlobal + Eprint, I, O>(
+    rt: &R,
+    reader: &Kept<Device<I>>,
+    writer: &Device<O>,
+    outcome: Result<Closing, ServeError>,
+) -> u8 {
     match outcome {
         Ok(_) => status::status_of(&outcome),
         Err(ServeError::Refused(refusal)) => refuse(rt, reader.bytes(), refusal),
