@@ -26,7 +26,4 @@ fn can_be_called(_: HostRuntime) {
     ar_bundle::laws::lawful_are_so_far();
     ar_cell::laws::receipts_are_met_or_not();
     ar_workers::laws::lost_is_double_or_unmet();
-    ar_command::laws::one_bundle();
-    ar_command::laws::one_text();
-    ar_command::laws::ordered_is_plain();
 }

@@ -1,5 +1,5 @@
-use Rattle.std.proofs.Common.{◌<◌, length, arith}
-use Rattle.ar_board.proofs.Stored.{first_nowhere, first_unmet}
+use Rattle.std.proofs.Common.{rules, ◌<◌, length, arith}
+use Rattle.ar_board.proofs.Stored.{there_next, first_nowhere, first_unmet}
 use Rattle.ar_board.proofs.closing.first_unheld.Goals as goal
 use Rattle.ar_board.proofs.closing.first_unheld.Goals.{then-unmet-number-via-then-unmet-number, then-unmet-number-via-else-unmet-number+then-not-stored-number}
 
@@ -12,3 +12,6 @@ returns-then-unmet-number c =
       | then-unmet-number-via-then-unmet-number w ↦ first_unmet c.args.unmet.now c.args.stored.now c.loop-number.number inside w.if-unmet-number.true c.loop-number.invariant
       | then-unmet-number-via-else-unmet-number+then-not-stored-number w ↦ first_nowhere c.args.unmet.now c.args.stored.now c.loop-number.number inside stored_inside w.if-not-stored-number.true c.loop-number.invariant
     ]
+
+pub loop-number-preserved : goal.loop-number-preserved
+loop-number-preserved c = search (rules, first_unmet, first_nowhere, there_next)

@@ -1,8 +1,8 @@
-use Rattle.std.proofs.Common.{List, subst}
+use Rattle.std.proofs.Common.{rules, List, subst}
+use Rattle.ar_board.proofs.Stored.{all_stored_first, inside_there, all_stored_end, all_stored_next}
 use Rattle.ar_bundle.specs.Lawful.{numbers_of, times_in}
 use Rattle.ar_bundle.specs.declared.history.Entry.{Entry}
 use Rattle.ar_board.specs.Private.Closing.{AreStored}
-use Rattle.ar_board.proofs.Stored.{all_stored_end, all_stored_next}
 use Rattle.ar_board.proofs.closing.note_all_stored.Goals as goal
 
 pub loop-history-preserved : goal.loop-history-preserved
@@ -12,3 +12,6 @@ loop-history-preserved c =
 
 pub returns : goal.returns
 returns c = all_stored_end c.args.histories.now c.loop-history.history-index c.args.stored.now.items c.loop-history.stored.items c.loop-history-test.false c.loop-history.auto.history-index-end c.loop-history.invariant
+
+pub note_stored-requires : goal.note_stored-requires
+note_stored-requires c = search (rules, all_stored_first, all_stored_next, inside_there)

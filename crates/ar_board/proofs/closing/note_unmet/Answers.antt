@@ -1,4 +1,5 @@
 use Rattle.std.proofs.Common.{◌≡◌, ◌<◌, ◌≤◌, ◌*◌, ◌+◌, ℕ, Bool, List, Option, None, Vec, Global, length, take, refl, sym, subst, arith, rules, slice_index_or, Fits, w64}
+use Rattle.std.proofs.lemmas.Grind.{common_steps}
 use Rattle.ar_bundle.specs.Bundle.{Bundle, IsBundle}
 use Rattle.ar_board.specs.Private.Closing.{AreMarked, AreOwn, IsAt, IsBehind}
 use Rattle.ar_cell.specs.declared.receipt.Receipt.{Receipt}
@@ -80,3 +81,6 @@ loop-receipt-preserved g c =
                 (marked_met c.args.histories.now c.args.own.now c.loop-receipt.receipt-index receipt c.loop-receipt.last so_far c.args.unmet.now.items c.loop-receipt.unmet.items inside read run_inside so_far_read c.loop-receipt.invariant.0 met marked),
           )
     ]
+
+pub returns : goal.returns
+returns g c = grind (arith, common_steps)

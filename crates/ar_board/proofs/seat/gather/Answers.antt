@@ -1,4 +1,5 @@
 use Rattle.std.proofs.Common.{◌≡◌, ◌∷◌, [], ◌++◌, List, Vec, Global, length, map, sym, ◌∙◌, ap, subst, arith, append_assoc}
+use Rattle.std.proofs.lemmas.Grind.{common_steps}
 use Rattle.std.proofs.lemmas.List.{length_push, map_push}
 use Rattle.std.specs.Vec.Iter.{into_iter_items}
 use Rattle.ar_cell.specs.declared.receipt.Receipt.{Receipt}
@@ -37,3 +38,9 @@ loop-seat-preserved g c =
       omega arith,
       (let capacity = c.push_reserved.ensures.capacity in let room = at.invariant.4 in omega arith),
     )
+
+pub push_reserved-requires : goal.push_reserved-requires
+push_reserved-requires g c = grind (arith, common_steps)
+
+pub returns : goal.returns
+returns g c = grind (arith, common_steps)

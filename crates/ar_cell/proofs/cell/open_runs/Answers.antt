@@ -1,9 +1,10 @@
-use Rattle.std.proofs.Common.{◌≡◌, ◌==◌, ◌+◌, if◌then◌else◌, List, length, get_or, sym, ◌∙◌, ap, subst, rules}
+use Rattle.std.proofs.Common.{arith, ◌≡◌, ◌==◌, ◌+◌, if◌then◌else◌, List, length, get_or, sym, ◌∙◌, ap, subst, rules}
+use Rattle.std.proofs.lemmas.Grind.{common_steps}
+use Rattle.ar_cell.proofs.Opened.{sizes_there, opened_next}
 use Rattle.ar_bundle.specs.Bundle.{sizes_of}
 use Rattle.ar_cell.specs.Cell.{lock_of}
 use Rattle.ar_cell.specs.Private.KeptRuns.{AreOpened, IsOpened}
 use Rattle.ar_cell.specs.declared.kept_run.KeptRun.{KeptRun}
-use Rattle.ar_cell.proofs.Opened.{opened_next}
 use Rattle.ar_cell.proofs.cell.open_runs.Goals as goal
 
 pub loop-part-preserved : goal.loop-part-preserved
@@ -18,3 +19,9 @@ loop-part-preserved c =
     subst (AreOpened c.args.bundle.now c.args.workers c.args.lock (c.loop-part.part-index + 1)) (sym c.in_ok-push.ensures.items)
     (opened_next c.args.bundle.now c.runs-parts.result.now c.args.workers c.args.lock c.loop-part.part-index c.room_of-room.result c.in_ok-sizes.sizes.items runs c.part-item.result c.in_ok-open.field-0
     (search rules) c.loop-part-test.true c.part-item.is sizes c.loop-part.invariant.as_many room opened c.loop-part.invariant)
+
+pub room_of-room-requires : goal.room_of-room-requires
+room_of-room-requires c = search (rules, opened_next, sizes_there)
+
+pub open-requires : goal.open-requires
+open-requires c = grind (arith, common_steps)

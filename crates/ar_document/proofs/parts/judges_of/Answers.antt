@@ -1,4 +1,5 @@
 use Rattle.std.proofs.Common.{◌<◌, length, arith}
+use Rattle.std.proofs.lemmas.Grind.{common_steps}
 use Rattle.std.proofs.lemmas.Result.{err_from_is_err_and}
 use Rattle.ar_document.specs.Document.{is_memory}
 use Rattle.ar_document.proofs.Growing.{next_judge}
@@ -20,3 +21,6 @@ loop-number-preserved c =
     let inside : c.loop-number.number < length c.args.bound.now = omega (arith, c.requires, c.loop-number-test.true) in
     rw c.in_ok-add.ensures.items
     (next_judge c.args.metrics.now c.args.bound.now c.loop-number.judges.items c.loop-number.number c.index-metrics-number.result c.index-bound-number.result c.in_ok-judge.judge c.loop-number-test.true inside c.index-metrics-number.is c.index-bound-number.is c.loop-number.invariant c.in_ok-judge.ensures.built)
+
+pub returns-clause-built : goal.returns-clause-built
+returns-clause-built c = grind (arith, common_steps)

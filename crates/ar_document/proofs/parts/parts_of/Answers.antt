@@ -1,3 +1,5 @@
+use Rattle.std.proofs.Common.{arith}
+use Rattle.std.proofs.lemmas.Grind.{common_steps}
 use Rattle.std.proofs.lemmas.Result.{err_from_is_err_and}
 use Rattle.ar_document.specs.Document.{is_memory}
 use Rattle.ar_document.specs.Private.Opened.{opened_view}
@@ -20,3 +22,6 @@ loop-number-preserved c =
     let is = rw c.deref-run-items.ensures.value at c.run-item.is in
     rw c.in_ok-add.ensures.items
     (next_part (opened_view c.args.opened.now) c.args.opened.now.runs.items c.loop-number.parts.items c.loop-number.number c.run-item.result c.in_ok-part.part inside is c.loop-number.invariant c.in_ok-part.ensures.part)
+
+pub returns-clause-parts : goal.returns-clause-parts
+returns-clause-parts c = grind (arith, common_steps)

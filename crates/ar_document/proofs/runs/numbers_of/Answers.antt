@@ -1,4 +1,5 @@
-use Rattle.std.proofs.Common.{take}
+use Rattle.std.proofs.Common.{arith, take}
+use Rattle.std.proofs.lemmas.Grind.{common_steps}
 use Rattle.std.proofs.lemmas.Result.{err_from_is_err_and}
 use Rattle.ar_document.specs.Opening.{names_of}
 use Rattle.ar_document.proofs.Naming.{all_new, names_before, next_new, next_numbers, not_new}
@@ -24,3 +25,6 @@ loop-number-preserved c =
 
 pub returns-clause-new : goal.returns-clause-new
 returns-clause-new c = all_new c.args.runs.now c.loop-number.number _ c.loop-number-test.false c.loop-number.invariant.new
+
+pub returns-clause-numbers : goal.returns-clause-numbers
+returns-clause-numbers c = grind (arith, common_steps)

@@ -1,9 +1,10 @@
+use Rattle.std.proofs.Common.{rules}
+use Rattle.ar_json.proofs.Declarations.{no_shape_left, next_shape, object_level, scalar_level, shape_fails, view-string}
+use Rattle.ar_json.proofs.ShapeNames.{names_rise, one_more}
 use Rattle.std.proofs.lemmas.Result.{err_from_is_err_and}
-use Rattle.ar_json.proofs.Declarations.{next_shape, object_level, scalar_level, shape_fails, view-string}
 use Rattle.ar_json.specs.Declaration.{fields_declared, shape_within}
 use Rattle.serde_json.specs.View.{members_view}
 use Rattle.serde_json.proofs.Views.{view-Object}
-use Rattle.ar_json.proofs.ShapeNames.{one_more}
 use Rattle.ar_json.proofs.shape_reading.+shape_within.Goals as goal
 
 pub shape_within-returns-in-String-clause-exact : goal.shape_within-returns-in-String-clause-exact
@@ -28,3 +29,9 @@ field_shapes-returns-in_err-field_shape-clause-exact t c =
     rw (p.1, p.2)
     (shape_fails (shape_within c.args.levels) (fields_declared (shape_within c.args.levels) (members_view c.args.members.now.entries)) c.loop-name.fields.items c.loop-name.name-iterator c.next.new.self c.in-Some.name.now c.in-Some.json.now c.as_str.result.now c.in_err-field_shape.field-0.0
     c.in-Some.ensures.steps c.loop-name.invariant.read c.as_str.ensures.value c.in_err-field_shape.ensures.exact)
+
+pub field_shapes-returns-clause-exact : goal.field_shapes-returns-clause-exact
+field_shapes-returns-clause-exact t c = search (rules, no_shape_left, names_rise, one_more)
+
+pub field_shapes-returns-clause-names_rise : goal.field_shapes-returns-clause-names_rise
+field_shapes-returns-clause-names_rise t c = search (rules, no_shape_left, names_rise, one_more)

@@ -1,11 +1,11 @@
 use Rattle.std.proofs.Common.{rules, ◌∙◌}
+use Rattle.ar_json.proofs.ReadLemmas.{field_fails, list_too_long, next_field, next_item, no_field_left, no_item_left, field_there, item_fails, list_short}
 use Rattle.serde_json.proofs.Views.{view-Array}
 use Rattle.std.proofs.lemmas.Result.{err_from_is_err_and}
 use Rattle.serde_json.specs.Find.{get_member}
 use Rattle.serde_json.specs.View.{items_view, members_view, view}
 use Rattle.ar_json.specs.Reading.{items_read, read}
 use Rattle.ar_value.specs.View.{field_shape_view, shape_view}
-use Rattle.ar_json.proofs.ReadLemmas.{field_there, item_fails, list_short}
 use Rattle.ar_value.proofs.Views.{field_shape_view-name, field_shape_view-shape, shape_view-list}
 use Rattle.ar_value.specs.declared.value.Value.{the_lemmas}
 use Rattle.ar_json.proofs.value_reading.+value_under.Goals as goal
@@ -32,3 +32,24 @@ field_value-returns-in-Some t c =
     field_there of.1 (get_member of.0 (members_view c.args.members.now.entries)) (view c.in-Some.json.now) c.value_under.result
     (rw (c.as_str.ensures, ← field_shape_view-name c.args.of.now) at c.in-Some.ensures)
     (rw (← field_shape_view-shape c.args.of.now) at c.value_under.ensures)
+
+pub fields_under-returns-in_err-field_under : goal.fields_under-returns-in_err-field_under
+fields_under-returns-in_err-field_under t c = search (rules, next_field, field_fails, no_field_left)
+
+pub fields_under-loop-of-preserved : goal.fields_under-loop-of-preserved
+fields_under-loop-of-preserved t c = search (rules, next_field, field_fails, no_field_left)
+
+pub fields_under-returns : goal.fields_under-returns
+fields_under-returns t c = search (rules, next_field, field_fails, no_field_left)
+
+pub items_under-loop-json-preserved : goal.items_under-loop-json-preserved
+items_under-loop-json-preserved t c = search (rules, next_item, item_fails, no_item_left)
+
+pub items_under-returns : goal.items_under-returns
+items_under-returns t c = search (rules, next_item, item_fails, no_item_left)
+
+pub list_under-returns-then-json-max : goal.list_under-returns-then-json-max
+list_under-returns-then-json-max t c = search (rules, list_too_long, list_short)
+
+pub list_under-returns-in_err-items : goal.list_under-returns-in_err-items
+list_under-returns-in_err-items t c = search (rules, list_too_long, list_short)

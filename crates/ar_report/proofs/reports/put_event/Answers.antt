@@ -1,8 +1,8 @@
 use Rattle.std.proofs.Common.{rules, ◌≡◌, ◌++◌, codes, decimal, string_bytes, subst, sym}
+use Rattle.ar_report.proofs.Lines.{found_inside, found_text_is, on_ok, three}
 use Rattle.std.specs.Prelude.{slice_index_or}
 use Rattle.ar_report.specs.Names.{effect_text}
 use Rattle.ar_report.specs.Report.{found_text}
-use Rattle.ar_report.proofs.Lines.{found_text_is, on_ok, three}
 use Rattle.ar_report.proofs.reports.put_event.Goals as goal
 
 pub returns : goal.returns
@@ -15,3 +15,9 @@ returns c =
     (codes "event " ++ (decimal c.args.entry.number ++ codes " ")) (found_text c.args.bundle.now c.args.entry.number) (codes " " ++ (effect_text c.args.entry.effect ++ codes "\n"))
     c.in_ok-put_event_number.ensures found)
     c.put_event_effect.ensures
+
+pub offset_bounds-entries-entry : goal.offset_bounds-entries-entry
+offset_bounds-entries-entry c = search (rules, found_inside)
+
+pub bounds-entries-entry : goal.bounds-entries-entry
+bounds-entries-entry c = search (rules, found_inside)

@@ -1,5 +1,6 @@
-use Rattle.std.proofs.Common.{rules}
-use Rattle.ar_report.proofs.Runs.{has_history, run_is_run}
+use Rattle.std.proofs.Common.{arith, rules}
+use Rattle.std.proofs.lemmas.Grind.{common_steps}
+use Rattle.ar_report.proofs.Runs.{next_run, no_run, has_history, run_is_run}
 use Rattle.ar_report.proofs.reports.report.Goals as goal
 
 pub bounds-histories-number : goal.bounds-histories-number
@@ -16,3 +17,15 @@ pub put_run-requires-clause-found : goal.put_run-requires-clause-found
 put_run-requires-clause-found c =
     let has = has_history c.args.bundle.now c.run-item.result c.args.histories.now c.loop-number.number c.runs-run-items.ensures.bundle c.requires in
     search (rules, has)
+
+pub put_run-requires-clause-effects : goal.put_run-requires-clause-effects
+put_run-requires-clause-effects c = search (rules, has_history, next_run, no_run, run_is_run)
+
+pub put_run-requires-clause-few : goal.put_run-requires-clause-few
+put_run-requires-clause-few c = search (rules, has_history, next_run, no_run, run_is_run)
+
+pub loop-number-preserved : goal.loop-number-preserved
+loop-number-preserved c = search (rules, has_history, next_run, no_run, run_is_run)
+
+pub returns : goal.returns
+returns c = grind (arith, common_steps)

@@ -1,4 +1,5 @@
 use Rattle.std.proofs.Common.{arith}
+use Rattle.std.proofs.lemmas.Grind.{common_steps}
 use Rattle.ar_value.proofs.DigitsLemmas.{next-le-total, all_spelled}
 use Rattle.ar_value.proofs.digits.spelled.Goals as goal
 
@@ -14,3 +15,9 @@ returns-in_err-value c =
 
 pub returns : goal.returns
 returns c = let e = all_spelled c.loop-digit.value _ c.args.digits.now c.loop-digit.digit-index c.loop-digit.invariant.spelled (omega arith) in (omega (arith, e, c.loop-digit.invariant.fits), e)
+
+pub overflow_sub-digit : goal.overflow_sub-digit
+overflow_sub-digit c = grind (arith, common_steps)
+
+pub loop-digit-preserved : goal.loop-digit-preserved
+loop-digit-preserved c = grind (arith, common_steps)

@@ -1,5 +1,5 @@
-use Rattle.std.proofs.Common.{arith}
-use Rattle.ar_value.proofs.WidestLemmas.{Widest, no_field, no_field_left, widest_lists}
+use Rattle.std.proofs.Common.{rules, arith}
+use Rattle.ar_value.proofs.WidestLemmas.{lengths_differ, next_field, Widest, no_field, no_field_left, widest_lists}
 use Rattle.ar_value.proofs.widening.+widest.Goals as goal
 
 pub widest-returns-in-List-right : goal.widest-returns-in-List-right
@@ -14,3 +14,9 @@ pub widest_fields-returns-in-None : goal.widest_fields-returns-in-None
 widest_fields-returns-in-None t c =
     no_field c.args.left.now c.args.right.now c.loop-index.index c.index-left-index.result c.index-right-index.result c.loop-index.fields.items c.in_ok-widest.field-0 (Widest c.args.left.now c.args.right.now)
     c.loop-index-test.true (omega (arith, c.if-left-right.false, c.loop-index-test.true)) c.index-left-index.is c.index-right-index.is c.loop-index.invariant c.in_ok-widest.ensures c.in-None.is
+
+pub widest_fields-returns-then-left-right : goal.widest_fields-returns-then-left-right
+widest_fields-returns-then-left-right t c = search (rules, lengths_differ, next_field)
+
+pub widest_fields-loop-index-preserved : goal.widest_fields-loop-index-preserved
+widest_fields-loop-index-preserved t c = search (rules, lengths_differ, next_field)

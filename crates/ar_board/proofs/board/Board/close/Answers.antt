@@ -1,4 +1,5 @@
 use Rattle.std.proofs.Common.{◌≡◌, ◌∙◌, ℕ, Bool, List, Vec, Global, length, map, replicate, set, ap, sym, subst, arith, false}
+use Rattle.std.proofs.lemmas.Grind.{common_steps}
 use Rattle.std.proofs.lemmas.List.{length-replicate}
 use Rattle.std.specs.List.{AllByRecursion}
 use Rattle.ar_bundle.specs.Lawful.{times}
@@ -67,3 +68,6 @@ returns-in-Some-clause-lost g c =
       why = why g.M.BundleName.bundle histories (receipts_of c.args.seats.items) c.as_slice-4.result.now c.as_slice-5.result.now c.in-Some.number marked stored (omega arith) first.unheld;
       least = λ number below. holds g.M.BundleName.bundle histories (receipts_of c.args.seats.items) c.as_slice-4.result.now c.as_slice-5.result.now number marked stored (omega arith) (first.earlier number below);
     })
+
+pub first_unheld-unheld-requires : goal.first_unheld-unheld-requires
+first_unheld-unheld-requires g c = grind (arith, common_steps)

@@ -1,4 +1,5 @@
-use Rattle.std.proofs.Common.{set, rules, refl, subst, sym}
+use Rattle.std.proofs.Common.{arith, set, rules, refl, subst, sym}
+use Rattle.std.proofs.lemmas.Grind.{common_steps}
 use Rattle.ar_cell.specs.Cell.{Cell, IsPosted, Stands}
 use Rattle.ar_cell.specs.Private.KeptRuns.{cell_of}
 use Rattle.ar_cell.proofs.Cells.{IsPushed, IsReady, can_take, inside_push, is_posted, not_there, ready, stands}
@@ -37,3 +38,6 @@ returns-clause-double g c =
     let is : IsReady c.self.inside.bundle.now g.M.BundleName.workers g.L.LockName.lock c.self.inside.runs.items c.args.number c.run_of-run.result c.index_mut.result.now = ready g.M.BundleName.bundle g.M.BundleName.workers g.L.LockName.lock c.self.inside.bundle.now c.self.inside.runs.items c.self.inside.stored.items c.self.inside.book.total c.args.number c.run_of-run.result c.index_mut.result.now c.index.result.now c.self.invariant
     c.requires.under (search rules) c.run_of-run.ensures.own c.run_of-run.ensures.there c.index_mut.ensures.value c.index.ensures (search rules) in
     ((λ is_error. absurd cc), (λ there. absurd (not_there c.self.inside.bundle.now g.M.BundleName.workers g.L.LockName.lock c.self.inside.runs.items c.self.inside.book.total c.args.number c.run_of-run.result c.index_mut.result.now c.self.invariant.cell is (subst (Stands c.args.number) (sym c.self.view_is) there))))
+
+pub index_mut-requires : goal.index_mut-requires
+index_mut-requires g c = grind (arith, common_steps)

@@ -1,4 +1,5 @@
 use Rattle.std.proofs.Common.{◌≡◌, ◌≢◌, ◌<◌, ◌+◌, [], ◌∷◌, ◌++◌, List, Vec, Global, length, get_or, sym, ◌∙◌, ap, subst, arith, rules, append_assoc, length-append}
+use Rattle.std.proofs.lemmas.Grind.{common_steps}
 use Rattle.std.proofs.lemmas.List.{length_push}
 use Rattle.std.specs.Vec.Iter.{into_iter_items}
 use Rattle.ar_bundle.specs.declared.history.Entry.{Entry}
@@ -42,3 +43,15 @@ loop-kept-preserved g c =
       omega arith,
       put,
     )
+
+pub index_mut-requires : goal.index_mut-requires
+index_mut-requires g c = grind (arith, common_steps)
+
+pub overflow_add-run : goal.overflow_add-run
+overflow_add-run g c = grind (arith, common_steps)
+
+pub loop-kept-preserved-then-if-drop : goal.loop-kept-preserved-then-if-drop
+loop-kept-preserved-then-if-drop g c = grind (arith, common_steps)
+
+pub returns-clause-put : goal.returns-clause-put
+returns-clause-put g c = grind (arith, common_steps)

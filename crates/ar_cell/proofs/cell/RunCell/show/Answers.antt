@@ -1,4 +1,5 @@
 use Rattle.std.proofs.Common.{ℕ, Err, rules, arith, ap}
+use Rattle.std.proofs.lemmas.Grind.{common_steps}
 use Rattle.ar_cell.specs.declared.snapshot.LookFault.TheVariants as fault
 use Rattle.ar_cell.proofs.Shows.{counted_by, fresh_of, kept_run, of_fresh, shown_as}
 use Rattle.ar_cell.proofs.cell.RunCell.show.Goals as goal
@@ -56,3 +57,6 @@ returns-clause-stale g c =
     let at = kept_run g.M.BundleName.bundle g.M.BundleName.workers g.L.LockName.lock c.self.inside.bundle.now c.self.inside.runs.items c.self.inside.stored.items c.self.inside.book.total c.args.run c.index-kept.result.now c.args.self.now c.self.invariant c.self.view_is c.requires.there c.index-kept.ensures in
     let fresh = fresh_of g.M.BundleName.bundle g.M.BundleName.workers g.L.LockName.lock c.self.inside.bundle.now c.args.self.now c.args.run c.args.worker c.index-kept.result.now c.args.receipts.now at (c.agrees.ensures.0 (search rules)) in
     ((λ not_fresh. absurd (not_fresh fresh)), (λ is_stale. absurd cc))
+
+pub index-kept-requires : goal.index-kept-requires
+index-kept-requires g c = grind (arith, common_steps)
