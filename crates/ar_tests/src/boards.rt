@@ -77,6 +77,39 @@ fn put_held<M: BundleName, L: LockNames>(
     put_line(text, &board.look(rt, alloc, seat, 1))
 }
 
+/// Writes what comes of posting a number that is there.
+fn put_post<M: BundleName, L: LockNames>(
+    rt: &impl Wait,
+    alloc: Global,
+    bundle: &Bundle,
+    board: &Board<'_, M, L>,
+    seat: &mut Seat<M, L>,
+    number: u64,
+    text: &mut String,
+) -> Result<(), Fail>
+    requires bundle { bundle.now ≡ M.bundle }
+    requires there { number < length M.bundle.entries }
+{
+    let finding = bundle.finding(alloc, number)?;
+    put_line(text, &board.post(rt, seat, number, finding))
+}
+
+/// Writes what comes of looking at run 0 under its lock, and of a post and a look meanwhile.
+fn put_hold<M: BundleName, L: LockNames>(
+    rt: &impl Wait,
+    alloc: Global,
+    bundle: &Bundle,
+    board: &Board<'_, M, L>,
+    seat: &mut Seat<M, L>,
+    text: &mut String,
+) -> Result<(), Fail>
+    requires bundle { bundle.now ≡ M.bundle }
+    requires sizes { (2 ≤ length M.bundle.runs) × (2 ≤ length M.bundle.entries) }
+{
+    let finding = bundle.finding(alloc, 1)?;
+    put_held(rt, alloc, board, seat, finding, text)
+}
+
 /// Writes what comes of a call by the seat of a worker that is there.
 fn put_answer<M: BundleName, L: LockNames>(
     rt: &impl Wait,
@@ -92,16 +125,14 @@ fn put_answer<M: BundleName, L: LockNames>(
 {
     match call {
         Call::Post(seat, number) if seat < seats.len() && number < bundle.events() => {
-            let finding = bundle.finding(alloc, number)?;
-            put_line(text, &board.post(rt, &mut seats[seat], number, finding))
+            put_post(rt, alloc, bundle, board, &mut seats[seat], number, text)
         }
         Call::Look(seat, run) if seat < seats.len() && run < bundle.runs().len() => {
             put_line(text, &board.look(rt, alloc, &seats[seat], run))
         }
         Call::Hold(seat)
             if seat < seats.len() && bundle.runs().len() >= 2 && bundle.events() >= 2 => {
-            let finding = bundle.finding(alloc, 1)?;
-            put_held(rt, alloc, board, &mut seats[seat], finding, text)
+            put_hold(rt, alloc, bundle, board, &mut seats[seat], text)
         }
         Call::Post(..) | Call::Look(..) | Call::Hold(_) => {
             Err(Fail::from("expected what is there"))

@@ -1,4 +1,5 @@
-use Rattle.std.proofs.Common.{rules, ap, ◌∙◌}
+use Rattle.std.proofs.Common.{arith, rules, ap, ◌∙◌}
+use Rattle.std.proofs.lemmas.Grind.{common_steps}
 use Rattle.ar_condition.specs.declared.tree.Tree.{the_lemmas}
 use Rattle.ar_syntax.specs.Roles.{arity}
 use Rattle.ar_syntax.proofs.Openers.{one_argument, two_arguments}
@@ -19,3 +20,9 @@ returns-in-Default c =
 pub returns : goal.returns
 returns c =
     rw (c.in-Over.is, two_arguments c.args.arguments.items _ _ _ _ c.in_ok-last.ensures c.in_ok-list-in-Over.ensures (c.requires ∙ ap arity c.in-Over.is)) (search (rules, the_lemmas))
+
+pub pop_argument-requires-in-Default : goal.pop_argument-requires-in-Default
+pop_argument-requires-in-Default c = grind (arith, common_steps)
+
+pub pop_argument-requires-in-Over : goal.pop_argument-requires-in-Over
+pop_argument-requires-in-Over c = grind (arith, common_steps)
