@@ -1,4 +1,5 @@
-use Rattle.std.proofs.Common.{◌≡◌, ◌++◌, List, [], ◌∷◌, map, append_assoc}
+use Rattle.std.proofs.Common.{arith, ◌≡◌, ◌++◌, List, [], ◌∷◌, map, append_assoc}
+use Rattle.std.proofs.lemmas.Grind.{common_steps}
 use Rattle.std.proofs.lemmas.List.{map-append}
 use Rattle.ar_check.specs.Check.{Item, turned_item}
 use Rattle.ar_check.specs.Private.Inside.{item_view}
@@ -26,3 +27,6 @@ loop-item-preserved c =
       rw c.in_ok-push.ensures.items
           (turned_next (λ item. turned_item c.args.scalar item.scalar item.tree) _ _ _ _ _ _ inv.3 steps.0 c.in_ok-turned_item.ensures),
     )
+
+pub returns : goal.returns
+returns c = grind (arith, common_steps)

@@ -1,10 +1,10 @@
-use Rattle.ar_value.specs.View.{shape_view}
 use Rattle.std.proofs.Common.{arith, option_map, rules}
 use Rattle.std.proofs.lemmas.Result.{err_from_is_err_and}
+use Rattle.ar_check.proofs.Items.{all_left, ended, fails_unless, len_next, next_left}
+use Rattle.ar_value.specs.View.{shape_view}
 use Rattle.ar_check.specs.Check.{over_items}
 use Rattle.ar_check.specs.Memory.{is_memory}
 use Rattle.ar_check.proofs.Freely.{gives_freely}
-use Rattle.ar_check.proofs.Items.{ended, fails_unless, len_next, next_left}
 use Rattle.ar_check.proofs.typing.+typed.Goals as goal
 
 pub typed_items-loop-tree-preserved : goal.typed_items-loop-tree-preserved
@@ -80,3 +80,6 @@ typed_binary-returns t c =
 
 pub typed_choice-returns : goal.typed_choice-returns
 typed_choice-returns t c = rw (c.in_ok-condition.ensures, c.in_ok-yes.ensures, c.in_ok-no.ensures) c.choice_of.ensures
+
+pub typed_items-loop-tree-init : goal.typed_items-loop-tree-init
+typed_items-loop-tree-init t c = search (rules, all_left)
