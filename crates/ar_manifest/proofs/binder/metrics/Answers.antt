@@ -1,4 +1,5 @@
 use Rattle.std.proofs.Common.{arith, ◌≡◌, ◌+◌, Ok, Err, length, length-append, refl}
+use Rattle.std.proofs.lemmas.Grind.{common_steps}
 use Rattle.std.proofs.lemmas.Result.{err_from_is_err_and}
 use Rattle.ar_value.specs.Answer.{Unless}
 use Rattle.ar_manifest.specs.Refusals.{is_memory}
@@ -53,3 +54,6 @@ returns-clause-exact c = step_end (λ metric. metric) (next_bound c.args.argumen
 pub returns-clause-first : goal.returns-clause-first
 returns-clause-first c = λ first rest is_list plain refusal refused.
     absurd (none_first c.args.arguments.now c.args.own.now c.args.list.now c.loop-metric.metric-index c.loop-metric.invariant.stays c.loop-metric-test.false first rest is_list refusal refused)
+
+pub loop-metric-init : goal.loop-metric-init
+loop-metric-init c = grind (arith, common_steps)

@@ -1,7 +1,7 @@
 use Rattle.std.proofs.Common.{◌++◌, ◌∙◌, ap, arith, rules, sym}
 use Rattle.std.proofs.lemmas.Result.{err_from_is_err_and}
 use Rattle.std.specs.String.{string_bytes}
-use Rattle.ar_manifest.proofs.Filling.{bind_end, bind_fault, bind_more, bind_open}
+use Rattle.ar_manifest.proofs.Filling.{bind_begin, bind_end, bind_fault, bind_more, bind_open}
 use Rattle.ar_manifest.proofs.Steps.{refuses_same}
 use Rattle.ar_manifest.proofs.TextParts.{shorter}
 use Rattle.ar_manifest.proofs.binding.Scope.text.Goals as goal
@@ -34,3 +34,6 @@ loop-before-preserved c = record {
       c.in-Some.before.now c.in-Some.behind.now (sym c.in-Some.ensures) c.in-Some-cut_at.between.now c.in-Some-cut_at.after.now (sym c.in-Some-cut_at.ensures)
       c.in_ok-value.value.now _ c.in_ok-value.ensures (c.in_ok-push_str-2.ensures.bytes ∙ ap (λ front. front ++ c.in_ok-value.value.now) c.in_ok-push_str.ensures.bytes);
 }
+
+pub loop-before-init : goal.loop-before-init
+loop-before-init c = search (rules, bind_begin, bind_end, bind_open, bind_fault, bind_more)
