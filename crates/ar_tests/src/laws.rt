@@ -25,5 +25,4 @@ fn can_be_called(_: HostRuntime) {
     ar_core::laws::lawful_at_rest();
     ar_bundle::laws::lawful_are_so_far();
     ar_cell::laws::receipts_are_met_or_not();
-    ar_workers::laws::lost_is_double_or_unmet();
 }

@@ -1,11 +1,10 @@
-//! Tests that need Rust: cells, boards and the queue, workers that wait for each other, and calls of the
-//! laws. What takes data and gives data stands as cases in files, and documents as large as may be are
-//! given to the program (`tests/workers`). Commands are tested in `ar_command_tests`.
+//! Tests that need Rust: cells, boards and the queue, and calls of the laws. What takes data and gives data
+//! stands as cases in files, and documents as large as may be are given to the program (`tests/workers`).
+//! Runs with workers and commands are tested in `ar_run_tests`.
 //!
 //! - `cells`: what a board keeps under a lock: posts, and looks with receipts
 //! - `boards`: posts and looks by the seats of a board, and what closing it gives
 //! - `queues`: how many places a queue has
-//! - `workers`: runs with workers, two of which judge at once, at [`gates`]
 //! - `laws`: laws
 #![tactic(auto)]
 
@@ -13,10 +12,7 @@
 mod boards;
 #[cfg(test)]
 mod cells;
-pub mod gates;
 #[cfg(test)]
 mod laws;
 #[cfg(test)]
 mod queues;
-#[cfg(test)]
-mod workers;

@@ -5,25 +5,25 @@ use std::hint::spin_loop;
 use std::sync::atomic::{AtomicBool, AtomicUsize, Ordering};
 
 /// How often a number looks whether the other has come.
-pub const TURNS: u32 = 10_000_000;
+pub(crate) const TURNS: u32 = 10_000_000;
 
 /// Two runs, each with one measurement, which holds.
-pub const TWO_RUNS: &str =
+pub(crate) const TWO_RUNS: &str =
     r#"{"manifest":{"apiVersion":"argoproj.io/v1alpha1","kind":"AnalysisTemplate","metadata":{"name":"t"},"spec":{"metrics":[{"name":"m","successCondition":"result > 1"}]}},"shapes":{"m":"whole"},"runs":[{"name":"r0"},{"name":"r1"}],"measurements":[{"run":"r0","metric":"m","value":2},{"run":"r1","metric":"m","value":3}]}"#;
 
 /// A run that is measured three times and fails at the last.
-pub const FAILING: &str =
+pub(crate) const FAILING: &str =
     r#"{"manifest":{"apiVersion":"argoproj.io/v1alpha1","kind":"AnalysisTemplate","metadata":{"name":"t"},"spec":{"metrics":[{"name":"m","interval":"1m","count":3,"failureLimit":1,"successCondition":"result > 0"}]}},"shapes":{"m":"whole"},"runs":[{"name":"r0"}],"measurements":[{"run":"r0","metric":"m","value":1},{"run":"r0","metric":"m","value":0},{"run":"r0","metric":"m","value":0}]}"#;
 
 /// A gate at which numbers 0 and 1 wait for each other.
 #[derive(Drop)]
-pub struct Meeting {
+pub(crate) struct Meeting {
     came: [AtomicBool; 2],
     met: AtomicUsize,
 }
 
 impl Meeting {
-    pub fn new() -> Meeting {
+    pub(crate) fn new() -> Meeting {
         Meeting {
             came: [AtomicBool::new(false), AtomicBool::new(false)],
             met: AtomicUsize::new(0),
@@ -31,7 +31,7 @@ impl Meeting {
     }
 
     /// Whether each of the numbers saw the other.
-    pub fn is_held(&self) -> bool {
+    pub(crate) fn is_held(&self) -> bool {
         self.met.load(Ordering::SeqCst) == 2
     }
 }
@@ -52,13 +52,13 @@ impl Gate for Meeting {
 
 /// A gate at which number 0 is held until two others have come.
 #[derive(Drop)]
-pub struct Holding {
+pub(crate) struct Holding {
     came: AtomicUsize,
     held: AtomicBool,
 }
 
 impl Holding {
-    pub fn new() -> Holding {
+    pub(crate) fn new() -> Holding {
         Holding {
             came: AtomicUsize::new(0),
             held: AtomicBool::new(false),
@@ -66,7 +66,7 @@ impl Holding {
     }
 
     /// Whether number 0 saw the others.
-    pub fn has_held(&self) -> bool {
+    pub(crate) fn has_held(&self) -> bool {
         self.held.load(Ordering::SeqCst)
     }
 }

@@ -197,11 +197,3 @@ fn assert_fault_is_kept(rt: &impl Abort) {
     assert!(rt; device.failed());
     assert!(rt; matches!(device.fault(), Some(fault) if fault.kind() == io::ErrorKind::BrokenPipe));
 }
-
-/// Laws do nothing but hold, so calls of them return.
-#[test]
-fn laws(_: HostRuntime) {
-    ar_command::laws::one_bundle();
-    ar_command::laws::one_text();
-    ar_command::laws::ordered_is_plain();
-}

@@ -2,8 +2,8 @@
 
 ghost use Rattle.ar_command.specs.Serving.{RunsWith};
 
+use crate::gates::{FAILING, Holding, Meeting, TWO_RUNS};
 use ar_command::{Closing, Command, Device, Kept, serve};
-use ar_tests::gates::{FAILING, Holding, Meeting, TWO_RUNS};
 use ar_workers::Gate;
 use std::alloc::Global;
 use std::sync::Wait;
