@@ -9,23 +9,16 @@
 //!
 //! - [`serving`]: a command, from the bytes read to the bytes written
 //! - `answer`: what each command says of an input
-//! - [`input`]: reading a whole document
-//! - [`device`]: readers and writers that remember whether they failed
-//! - [`kept`]: a reader that keeps what was read
 //! - [`status`]: exit statuses
 //! - [`laws`]: that an input is one bundle, and has one text
 #![tactic(auto)]
 
 mod answer;
-pub mod device;
-pub mod input;
-pub mod kept;
 pub mod laws;
 pub mod serving;
 pub mod status;
 
 pub use ar_command_line::Command;
+pub use ar_device::{Device, DeviceFault, Kept, Sink, Source};
 pub use ar_eval::{EvalError, eval};
-pub use device::{Device, DeviceFault, Sink, Source};
-pub use kept::Kept;
 pub use serving::{Closing, Refusal, ServeError, serve, serve_plain};

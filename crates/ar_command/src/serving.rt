@@ -5,10 +5,9 @@ ghost use Rattle.std.specs.Io.KnownBytes.{Appends};
 ghost use Rattle.ar_command.specs.Serving.{IsBroken, IsCarriedOut, IsRefused, Refuses, RunsAlone, RunsWith, Says};
 
 use crate::answer::{Said, answer, judged};
-use crate::device::{Sink, Source};
-use crate::input::{InputError, read_input};
 use ar_board::MOST_WORKERS;
 use ar_command_line::Command;
+use ar_device::{InputError, Sink, Source, read_input};
 use ar_document::BundleError;
 use ar_eval::EvalError;
 use ar_workers::{Gate, WorkError};

@@ -14,7 +14,7 @@ pub struct Kept<S> {
 
 impl<S> Kept<S> {
     ghost use Rattle.std.specs.Prelude.{◌≡◌, [], false};
-    ghost use Rattle.ar_command.specs.Kept.{bytes_of, source_of, wants_memory};
+    ghost use Rattle.ar_device.specs.Kept.{bytes_of, source_of, wants_memory};
 
     /// A source of which nothing was read yet.
     pub fn new(alloc: Global, source: S) -> Kept<S>
@@ -53,7 +53,7 @@ impl<S> Kept<S> {
 
 impl<S: Source> Source for Kept<S> {
     ghost use Rattle.std.specs.Prelude.{◌||◌, Some};
-    ghost use Rattle.ar_command.specs.Kept as kept;
+    ghost use Rattle.ar_device.specs.Kept as kept;
 
     ghost remaining = { λ k. S.remaining (kept.source_of k) };
 

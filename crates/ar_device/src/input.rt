@@ -2,7 +2,7 @@
 
 ghost use Rattle.std.specs.Prelude.{◌≡◌, false, true, IfOk, length};
 ghost use Rattle.std.specs.Io.KnownBytes.{Appends};
-ghost use Rattle.ar_command.specs.Input.{ReadsUpToLimit};
+ghost use Rattle.ar_device.specs.Input.{ReadsUpToLimit};
 
 use crate::device::Source;
 use ar_json::document::MOST_BYTES;
@@ -22,7 +22,7 @@ pub enum InputError {
 }
 
 impl From<AllocError> for InputError {
-    ghost use Rattle.ar_command.specs.declared.input.InputError.TheVariants.{OutOfMemory};
+    ghost use Rattle.ar_device.specs.declared.input.InputError.TheVariants.{OutOfMemory};
 
     ghost from_gives = { λ _ e. e ≡ OutOfMemory };
 

@@ -68,7 +68,7 @@ pub struct Device<T> {
 impl<T> Device<T> {
     ghost use Rattle.std.specs.Prelude.{◌≡◌, false};
     ghost use Rattle.std.specs.Option.{option_copied};
-    ghost use Rattle.ar_command.specs.Device.{answer_of, fault_of, first_fault, has_failed, inner_of, or_first};
+    ghost use Rattle.ar_device.specs.Device.{answer_of, fault_of, first_fault, has_failed, inner_of, or_first};
 
     /// A device that has met no fault.
     pub fn new(inner: T) -> Device<T>
@@ -113,7 +113,7 @@ impl<T> Device<T> {
 
 impl<T: Read> Source for Device<T> {
     ghost use Rattle.std.specs.Prelude.{None};
-    ghost use Rattle.ar_command.specs.Device as device;
+    ghost use Rattle.ar_device.specs.Device as device;
 
     ghost remaining = { λ d. T.remaining (device.inner_of d) };
 
@@ -132,7 +132,7 @@ impl<T: Read> Source for Device<T> {
 }
 
 impl<T: Write> Sink for Device<T> {
-    ghost use Rattle.ar_command.specs.Device as device;
+    ghost use Rattle.ar_device.specs.Device as device;
 
     ghost contents = { λ d. T.contents (device.inner_of d) };
 

@@ -1,7 +1,7 @@
 use Rattle.std.proofs.Common.{◌≡◌, ◌≤◌, false, length}
 use Rattle.std.specs.Io.KnownBytes.{Appends, Consumes}
 use Rattle.ar_json.specs.Document.{most_bytes}
-use Rattle.ar_command.proofs.input.read_input.Given as goal
+use Rattle.ar_device.proofs.input.read_input.Given as goal
 
 -- what was read so far was consumed, with a byte or more in each turn
 abbrev pub invariant-loop-turn : goal.invariant-loop-turn

@@ -1,6 +1,6 @@
 -- Sources that keep what was read.
 use Rattle.std.specs.Prelude.{ℕ, Bool, List}
-use Rattle.ar_command.specs.declared.kept.Kept.{Kept}
+use Rattle.ar_device.specs.declared.kept.Kept.{Kept}
 
 -- the source below
 abbrev pub source_of : {S : Type 0} → Kept S → S
