@@ -148,7 +148,7 @@ fn is_exponent(digits: &[u8]) -> bool
 fn is_not_finite(text: &str) -> bool
     ensures { result ≡ is_not_finite text.now }
 {
-    text == "NaN" || text == "Inf" || text == "+Inf" || text == "-Inf"
+    matches!(text, "NaN" | "Inf" | "+Inf" | "-Inf")
 }
 
 /// Whether a minus stands first, and what follows the sign.
