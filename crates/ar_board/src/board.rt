@@ -13,8 +13,8 @@ use crate::lost::Lost;
 use crate::seat::{Seat, gather, seats_of};
 use crate::shares::Shares;
 use crate::under;
-use ar_bundle::{Bundle, Finding, Histories};
-use ar_cell::{BundleName, Double, LookFault, Posted, Receipt, RunCell, Snapshot, lock_of_run};
+use ar_bundle::{Bundle, BundleName, Finding, Histories};
+use ar_cell::{Double, LookFault, Posted, Receipt, RunCell, Snapshot, lock_of_run};
 use std::alloc::{AllocError, Global};
 use std::sync::{Mutex, Wait};
 

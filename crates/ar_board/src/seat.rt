@@ -8,7 +8,8 @@ ghost use Rattle.ar_board.specs.Private.Seats.{AllAre, per_lock};
 
 use crate::locks::LockNames;
 use crate::shares::Shares;
-use ar_cell::{BundleName, Receipt};
+use ar_bundle::BundleName;
+use ar_cell::Receipt;
 use std::alloc::{AllocError, Global};
 use std::marker::{Model, PhantomData};
 

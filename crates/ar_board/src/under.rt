@@ -6,8 +6,8 @@ ghost use Rattle.ar_board.specs.Board.{IsSeen, IsUnseen, seat_of};
 ghost use Rattle.ar_board.specs.Private.Closing.{IsCellClosed};
 ghost use Rattle.ar_cell.specs.Cell.{IsUnder, entries_under, lock_of};
 
-use ar_bundle::{Bundle, Finding, History};
-use ar_cell::{BundleName, Double, LockName, LookFault, Posted, Receipt, RunCell, Snapshot};
+use ar_bundle::{Bundle, BundleName, Finding, History};
+use ar_cell::{Double, LockName, LookFault, Posted, Receipt, RunCell, Snapshot};
 use std::alloc::{AllocError, Global};
 use std::sync::ledger::{Blank, Share};
 use std::sync::{Mutex, Wait};

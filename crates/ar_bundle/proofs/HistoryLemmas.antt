@@ -1,5 +1,5 @@
 -- Histories that grow by one entry, and how often a number stands in them.
-use Rattle.std.proofs.Common.{◌≡◌, ◌<◌, ◌≤◌, ℕ, zero, suc, ◌+◌, ◌==◌, Bool, true, false, if◌then◌else◌, List, [], ◌∷◌, ◌++◌, length, map, get_or, set, Option, Some, None, refl, sym, ◌∙◌, ap, subst, arith}
+use Rattle.std.proofs.Common.{◌≡◌, ◌<◌, ◌≤◌, ◌≢◌, ℕ, zero, suc, ◌+◌, ◌==◌, Bool, true, false, if◌then◌else◌, List, [], ◌∷◌, ◌++◌, length, map, get_or, set, Option, Some, None, refl, sym, ◌∙◌, ap, subst, arith}
 use Rattle.std.specs.Prelude.{slice_get}
 use Rattle.std.specs.List.{AllByRecursion, cons_option}
 use Rattle.std.proofs.lemmas.List.{map_push}
@@ -14,6 +14,20 @@ use Rattle.ar_bundle.specs.Lawful.{AreHistories, IsFound, IsHistory, numbers_of,
 use Rattle.ar_bundle.specs.declared.bundle.RunPart.{RunPart}
 use Rattle.ar_bundle.specs.declared.finding.Finding.{Finding}
 use Rattle.ar_bundle.specs.declared.history.Entry.{Entry}
+
+-- ---- what is at a place of a changed list
+
+pub at_set_same : {A : Type 0} (xs : List A) (at : ℕ) (x : A) → at < length xs → slice_get (set xs at x) at ≡ Some x
+at_set_same [] at x inside = absurd (omega arith)
+at_set_same (first ∷ xs) zero x inside = refl
+at_set_same (first ∷ xs) (suc at) x inside = at_set_same xs at x (omega arith)
+
+pub at_set_other : {A : Type 0} (xs : List A) (at other : ℕ) (x : A) → other ≢ at → slice_get (set xs at x) other ≡ slice_get xs other
+at_set_other [] at other x away = refl
+at_set_other (first ∷ xs) zero zero x away = absurd (away refl)
+at_set_other (first ∷ xs) zero (suc other) x away = refl
+at_set_other (first ∷ xs) (suc at) zero x away = refl
+at_set_other (first ∷ xs) (suc at) (suc other) x away = at_set_other xs at other x (λ same. away (ap suc same))
 
 -- what holds of all holds with one more that it holds of
 pub all_push : {A : Type 0} (P : A → Type 0) (xs : List A) (x : A) → AllByRecursion P xs → P x → AllByRecursion P (xs ++ x ∷ [])

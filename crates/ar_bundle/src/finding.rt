@@ -7,7 +7,7 @@ use ar_judge::Verdict;
 use ar_limits::Mark;
 
 /// What an entry of a bundle comes to.
-#[derive(Clone, Copy, PartialEq, Eq)]
+#[derive(Clone, Copy)]
 pub enum Finding {
     /// The verdict of a measurement.
     Judged(Verdict),

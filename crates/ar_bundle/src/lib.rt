@@ -8,13 +8,16 @@
 //!
 //! - [`bundle`]: bundles and their parts; [`finding`]: what a number comes to
 //! - [`history`]: histories of runs; [`laws`]: what holds of those that are lawful
+//! - [`names`]: types that name a bundle in contracts
 #![tactic(auto)]
 
 pub mod bundle;
 pub mod finding;
 pub mod history;
 pub mod laws;
+pub mod names;
 
 pub use bundle::{Bundle, EventPart, Judges, MetricPart, RunLimits, RunPart, What};
 pub use finding::Finding;
 pub use history::{Entry, Histories, History};
+pub use names::BundleName;

@@ -23,23 +23,11 @@ use Rattle.ar_bundle.specs.declared.history.Entry.{Entry}
 use Rattle.ar_cell.specs.declared.kept_run.KeptRun.{KeptRun as Declared}
 use Rattle.ar_cell.specs.declared.posted.Posted.{Posted}
 use Rattle.ar_bundle.proofs.Bundles.{entry_at, of_each, run_of_number}
-use Rattle.ar_bundle.proofs.HistoryLemmas.{few_happen, all_push, events_push, history_push, numbers_push, times_push}
+use Rattle.ar_bundle.proofs.HistoryLemmas.{at_set_other, at_set_same, few_happen, all_push, events_push, history_push, numbers_push, times_push}
 use Rattle.ar_cell.proofs.Places.{absent, among_last, among_other, present, times_own}
 use Rattle.ar_bundle.proofs.Room.{has_room}
 
 -- ---- lists
-
-pub at_set_same : {A : Type 0} (xs : List A) (at : ℕ) (x : A) → at < length xs → slice_get (set xs at x) at ≡ Some x
-at_set_same [] at x inside = absurd (omega arith)
-at_set_same (first ∷ xs) zero x inside = refl
-at_set_same (first ∷ xs) (suc at) x inside = at_set_same xs at x (omega arith)
-
-pub at_set_other : {A : Type 0} (xs : List A) (at other : ℕ) (x : A) → other ≢ at → slice_get (set xs at x) other ≡ slice_get xs other
-at_set_other [] at other x away = refl
-at_set_other (first ∷ xs) zero zero x away = absurd (away refl)
-at_set_other (first ∷ xs) zero (suc other) x away = refl
-at_set_other (first ∷ xs) (suc at) zero x away = refl
-at_set_other (first ∷ xs) (suc at) (suc other) x away = at_set_other xs at other x (λ same. away (ap suc same))
 
 set_same : {A : Type 0} (xs : List A) (at : ℕ) (x y : A) → at < length xs → slice_get (set xs at x) at ≡ Some y → x ≡ y
 set_same xs at x y inside there = let same = sym (at_set_same xs at x inside) ∙ there in cc

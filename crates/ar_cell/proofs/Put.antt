@@ -8,7 +8,8 @@ use Rattle.ar_bundle.specs.declared.history.Entry.{Entry}
 use Rattle.ar_cell.specs.Cell.{ArePut, histories_of, lock_of}
 use Rattle.ar_cell.specs.Private.KeptRuns.{ArePutBelow, IsInside, cell_of, kept_of}
 use Rattle.ar_cell.specs.declared.kept_run.KeptRun.{KeptRun as Declared}
-use Rattle.ar_cell.proofs.Cells.{at_set_other, at_set_same, history_is}
+use Rattle.ar_bundle.proofs.HistoryLemmas.{at_set_other, at_set_same}
+use Rattle.ar_cell.proofs.Cells.{history_is}
 
 pub put_first : (lock : ℕ) (own histories : List (List Entry)) → ArePutBelow lock 0 own histories histories
 put_first lock own histories = record { as_many = refl; put = λ run inside below under. absurd (omega arith); others = λ run away. refl }

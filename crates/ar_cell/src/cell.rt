@@ -8,11 +8,11 @@ ghost use Rattle.std.specs.Vec.{vec_capacity};
 ghost use Rattle.ar_cell.specs.declared.snapshot.LookFault.TheVariants as LookFault;
 
 use crate::kept_run::KeptRun;
-use crate::names::{BundleName, LockName, lock_of_run};
+use crate::names::{LockName, lock_of_run};
 use crate::posted::{Double, Posted};
 use crate::receipt::Receipt;
 use crate::snapshot::{LookFault, Snapshot};
-use ar_bundle::{Bundle, Entry, Finding, History};
+use ar_bundle::{Bundle, BundleName, Entry, Finding, History};
 use std::alloc::{AllocError, Global};
 use std::marker::{Model, PhantomData};
 use std::sync::ledger::{Book, Share};

@@ -6,7 +6,7 @@
 //! says, and answers the entry's place and effect; [`RunCell::show`] shows a run to a worker whose entries
 //! in it are just those of its [`Receipt`]s for the run; [`RunCell::put_histories`] gives the histories
 //! up. `specs/Cell` says what is true of a cell whenever its lock is free, `specs/Receipts` when histories
-//! meet a receipt. A [`BundleName`] names the bundle in contracts, a [`LockName`] the lock and its ledger.
+//! meet a receipt. A [`LockName`] names the lock and its ledger in contracts.
 //!
 //! - [`names`]: the locks, and what names them and the bundle; [`cell`]: what is kept under a lock, by its
 //!   runs (`kept_run`)
@@ -25,7 +25,7 @@ pub mod run_history;
 pub mod snapshot;
 
 pub use cell::RunCell;
-pub use names::{BundleName, LOCKS, LockName, lock_of_run};
+pub use names::{LOCKS, LockName, lock_of_run};
 pub use posted::{Double, Posted};
 pub use receipt::Receipt;
 pub use run_history::RunHistory;

@@ -1,9 +1,8 @@
-//! Which lock a run is under, and types that name a bundle or a lock in contracts. No value of such a type
-//! is wanted: a function over them speaks of whichever bundle and lock its caller has.
+//! Which lock a run is under, and types that name a lock in contracts. No value of such a type is wanted: a
+//! function over them speaks of whichever lock its caller has.
 
-ghost use Rattle.ar_bundle.specs.Bundle.{bundle_of};
 ghost use Rattle.ar_cell.specs.Cell.{lock_of};
-ghost use Rattle.std.specs.Prelude.{◌≡◌, ℕ, []};
+ghost use Rattle.std.specs.Prelude.{◌≡◌, ℕ};
 
 use std::marker::Brand;
 use std::sync::ledger::Ledger;
@@ -16,22 +15,6 @@ pub fn lock_of_run(run: usize) -> usize
     ensures { result ≡ lock_of run }
 {
     run % LOCKS
-}
-
-/// Names a bundle, and how many workers there are for it.
-pub trait BundleName {
-    ghost use Rattle.ar_bundle.specs.Bundle.{Bundle};
-
-    ghost bundle: { Bundle };
-
-    ghost workers: { ℕ };
-}
-
-// A caller that takes `Brand` says which bundle it means; these stand where none does.
-impl BundleName for Brand {
-    ghost bundle = { bundle_of [] [] [] };
-
-    ghost workers = { 0 };
 }
 
 /// Names a lock of a board, and the ledger of what is posted under it.

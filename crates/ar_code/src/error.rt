@@ -4,7 +4,7 @@ use std::alloc::{AllocError, AllocFailed};
 use thiserror::Error;
 
 /// Why bytes are no image of code. Places are byte offsets from 0.
-#[derive(Clone, Copy, Debug, PartialEq, Eq, Error)]
+#[derive(Clone, Copy, Debug, Error)]
 pub enum ImageError {
     /// The bytes don't begin with "ARCV".
     #[error("BadMagic: expected an image, which begins with `ARCV`")]

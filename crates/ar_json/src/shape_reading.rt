@@ -26,7 +26,7 @@ const MOST_SHAPE_LEVELS: usize = 16;
 const MOST_LIST_ITEMS: u64 = 10_000;
 
 /// Why a JSON value declares no shape.
-#[derive(Clone, Copy, Debug, PartialEq, Eq, Error)]
+#[derive(Clone, Copy, Debug, Error)]
 pub enum ShapeError {
     TooDeep,
     UnknownShape,

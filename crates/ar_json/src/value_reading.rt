@@ -24,7 +24,7 @@ use std::fmt;
 use thiserror::Error;
 
 /// Why a JSON value doesn't fit a shape.
-#[derive(Clone, Copy, Debug, PartialEq, Eq, Error)]
+#[derive(Clone, Copy, Debug, Error)]
 pub enum ShapeFault {
     WrongKind,
     FloatNumber,

@@ -4,7 +4,7 @@ use ar_json::value_reading::ShapeFault;
 use ar_value::fault::Fault;
 
 /// What a measurement comes to.
-#[derive(Clone, Copy, PartialEq, Eq)]
+#[derive(Clone, Copy)]
 pub enum Verdict {
     Successful,
     Failed,
@@ -15,7 +15,7 @@ pub enum Verdict {
 }
 
 /// Why a measurement has no answer.
-#[derive(Clone, Copy, PartialEq, Eq)]
+#[derive(Clone, Copy)]
 pub enum Cause {
     /// The provider failed.
     Provider,

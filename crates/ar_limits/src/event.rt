@@ -21,7 +21,7 @@ pub enum Event {
 }
 
 /// What an event did to its run.
-#[derive(Clone, Copy, Debug, PartialEq, Eq)]
+#[derive(Clone, Copy, Debug)]
 pub enum Effect {
     /// It counts, and the run goes on.
     Applied,

@@ -7,7 +7,7 @@ use crate::counts::Counts;
 use crate::phase::Phase;
 
 /// The limits of one metric.
-#[derive(Clone, Copy, PartialEq, Eq)]
+#[derive(Clone, Copy)]
 pub struct Limits {
     /// How many measurements may fail: one more, and the metric is Failed.
     pub failure: u32,

@@ -1,11 +1,18 @@
 -- The feeder's pass, while items are put, passes split off and joined, and what is named at all desks.
-use Rattle.std.proofs.Common.{◌≡◌, ◌<◌, ℕ, suc, ◌+◌, List, [], ◌∷◌, ◌++◌, refl, sym, ◌∙◌, ap, subst, arith}
+use Rattle.std.proofs.Common.{◌≡◌, ◌<◌, ◌≤◌, ℕ, suc, ◌+◌, List, [], ◌∷◌, ◌++◌, refl, sym, ◌∙◌, ap, subst, arith}
 use Rattle.ar_bundle.specs.Lawful.{times_in}
-use Rattle.ar_queue.specs.Rule.{CanPut, after_put, joined, split_off}
+use Rattle.ar_queue.specs.Rule.{CanPut, IsDone, after_put, joined, split_off}
 use Rattle.ar_queue.specs.Workers.{AreNamed, IsFeeder, all_named, at_end, feeding}
 use Rattle.ar_queue.specs.declared.queue.Item.TheVariants.{Number, End}
 use Rattle.ar_queue.specs.declared.queue.View.{View}
 use Rattle.ar_queue.proofs.Steps.{times_both}
+
+-- ---- all passes are joined
+
+pub is_done : (view : View) (workers : ℕ) → 1 ≤ workers → IsFeeder view 0 workers → IsDone view
+is_done view workers some is =
+    let joined = is.has_joined in
+    record { feeds = is.feeds; live = is.live; out = is.has_out; ended = omega arith }
 
 -- ---- items are put
 

@@ -3,8 +3,7 @@
 ghost use Rattle.std.specs.Prelude.{◌≡◌, ◌<◌, OnOk, length};
 ghost use Rattle.ar_queue.specs.Workers.{IsNamed};
 
-use ar_bundle::Bundle;
-use ar_cell::BundleName;
+use ar_bundle::{Bundle, BundleName};
 use std::alloc::{AllocError, Global};
 use std::sync::Wait;
 

@@ -6,7 +6,7 @@ ghost use Rattle.ar_queue.specs.Workers.{feeding};
 
 use crate::passes::put;
 use crate::queue::{Item, Queue, View};
-use ar_cell::BundleName;
+use ar_bundle::BundleName;
 use crossbeam_queue::Pass;
 use std::sync::Wait;
 

@@ -6,7 +6,7 @@ ghost use Rattle.ar_queue.specs.Rule.{CanPut, CanTake, HasTakenAll, IsDone, IsTa
 
 use crate::queue::{Item, Joins, Puts, Queue, SplitsOff, TakenAll, Takes, View};
 use crate::waiting::Waiting;
-use ar_cell::BundleName;
+use ar_bundle::BundleName;
 use crossbeam_queue::Pass;
 use std::alloc::{AllocError, Global};
 use std::sync::Wait;

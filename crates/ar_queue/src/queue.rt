@@ -2,14 +2,14 @@
 
 ghost use Rattle.std.specs.Prelude.{◌≡◌};
 
-use ar_cell::BundleName;
+use ar_bundle::BundleName;
 use crossbeam_queue::RuledArrayQueue;
 use crossbeam_queue::protocol::{Join, Lesson, Outcome, Protocol, Split};
 use std::collections::LinkedList;
 use std::marker::PhantomData;
 
 /// What stands in the queue.
-#[derive(Clone, Copy, PartialEq, Eq)]
+#[derive(Clone, Copy)]
 pub enum Item {
     /// A number of the bundle.
     Number(u64),

@@ -2,7 +2,7 @@
 
 ghost use Rattle.std.specs.Prelude.{◌<◌, length};
 
-use ar_cell::BundleName;
+use ar_bundle::BundleName;
 use ar_queue::queue::Puts;
 use ar_queue::{Item, PLACES, open};
 use std::alloc::{AllocError, Global};

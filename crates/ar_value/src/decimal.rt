@@ -12,7 +12,7 @@ pub(crate) const MILLION: i128 = 1_000_000;
 
 /// A decimal number with six digits after the point, from -9223372036854.775808 to
 /// 9223372036854.775807. Contracts see it as its whole number of millionths.
-#[derive(Clone, Copy, PartialEq, Eq, PartialOrd, Ord, Hash)]
+#[derive(Clone, Copy, PartialEq, Eq, PartialOrd, Ord)]
 pub struct Decimal {
     millionths: i64,
 }

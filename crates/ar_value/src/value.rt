@@ -9,7 +9,7 @@ use crate::text::Text;
 
 /// A value of a measurement. Contracts see it by `value_view` of `specs/View`.
 #[cycle(value)]
-#[derive(PartialEq, Drop)]
+#[derive(Drop)]
 pub enum Value {
     Nil,
     Bool(bool),
@@ -22,14 +22,14 @@ pub enum Value {
 
 /// The items of a list.
 #[cycle(value)]
-#[derive(PartialEq, Drop)]
+#[derive(Drop)]
 pub struct Values {
     pub items: Vec<Value>,
 }
 
 /// A value of a record, by its name.
 #[cycle(value)]
-#[derive(PartialEq, Drop)]
+#[derive(Drop)]
 pub struct Field {
     pub name: Text,
     pub value: Value,
@@ -37,7 +37,7 @@ pub struct Field {
 
 /// The fields of a record.
 #[cycle(value)]
-#[derive(PartialEq, Drop)]
+#[derive(Drop)]
 pub struct Fields {
     pub items: Vec<Field>,
 }

@@ -6,7 +6,7 @@ use std::fmt;
 use thiserror::Error;
 
 /// What is wrong with code, at one of its places.
-#[derive(Clone, Copy, Debug, PartialEq, Eq, Error)]
+#[derive(Clone, Copy, Debug, Error)]
 pub enum Reason {
     Empty,
     /// The operation names a place behind the last one.
@@ -63,7 +63,7 @@ impl fmt::Display for Reason {
 }
 
 /// Why code isn't accepted: its first fault, or want of memory.
-#[derive(Clone, Copy, Debug, PartialEq, Eq, Error)]
+#[derive(Clone, Copy, Debug, Error)]
 pub enum Cause {
     /// The fault stands at an operation of the code, counted from 0.
     #[error("operation {place}: {reason}")]

@@ -24,11 +24,6 @@ pub is_not_lost : (cause : Unfinished) (error : WorkError) → error ≡ told ca
 is_not_lost early.NoThread error is = subst IsNotLost (sym is) tt
 is_not_lost early.OutOfMemory error is = subst IsNotLost (sym is) tt
 
-pub is_done : (view : View) (workers : ℕ) → 1 ≤ workers → IsFeeder view 0 workers → IsDone view
-is_done view workers some is =
-    let joined = is.has_joined in
-    record { feeds = is.feeds; live = is.live; out = is.has_out; ended = omega arith }
-
 pub each_once : (events : ℕ) (view : View) (numbers : List ℕ) (receipts : List (List Receipt)) (doubles : List ℕ) → HasTakenAll events view → AreNamed view.taken numbers → ((number : ℕ) → times_in number (named_by receipts) + times_in number doubles ≡ times_in number numbers) → NameEachOnce events receipts doubles
 each_once events view numbers receipts doubles all are named number = named number ∙ sym (are number) ∙ all number
 

@@ -1,5 +1,4 @@
 pub mod Named
 pub mod Ending
-pub mod Judged
 pub mod Lost
 pub mod Sharing

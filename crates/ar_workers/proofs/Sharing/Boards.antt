@@ -21,7 +21,7 @@ use Rattle.ar_board.specs.contracts.locks.Second as Second
 use Rattle.ar_board.specs.contracts.locks.Third as Third
 use Rattle.ar_board.specs.contracts.seat.Seat as Seat
 use Rattle.ar_board.specs.declared.locks.LockNames as LockNames
-use Rattle.ar_cell.specs.declared.names.BundleName as BundleName
+use Rattle.ar_bundle.specs.declared.names.BundleName as BundleName
 use Rattle.ar_cell.specs.declared.names.LockName as LockName
 use Rattle.ar_queue.proofs.Sharing.Bundles.{bundle_sync}
 

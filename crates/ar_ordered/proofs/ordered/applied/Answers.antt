@@ -1,0 +1,26 @@
+use Rattle.std.proofs.Common.{None, subst, sym, ◌∙◌, arith}
+use Rattle.ar_bundle.specs.Lawful.{AreLawful}
+use Rattle.ar_ordered.proofs.Judged.{known_inside, known_read}
+use Rattle.ar_plain.proofs.Lawful.{lawful_behind}
+use Rattle.ar_ordered.proofs.ordered.applied.Goals as goal
+
+pub bounds : goal.bounds
+bounds c = known_inside c.args.bundle.now c.loop-number.number c.args.findings.now (c.requires.known c.loop-number.number (let less = c.loop-number-test.true in let count = c.events-events.ensures.count in omega arith))
+
+pub unreachable-requires : goal.unreachable-requires
+unreachable-requires c =
+    let known = c.requires.known c.loop-number.number (let less = c.loop-number-test.true in let count = c.events-events.ensures.count in omega arith) in
+    c.in_default.not-Some known.0 (known_read c.args.bundle.now c.loop-number.number c.args.findings.now None known ∙ known.2)
+
+pub apply-requires-clause-finding : goal.apply-requires-clause-finding
+apply-requires-clause-finding c =
+    let known = c.requires.known c.loop-number.number (let less = c.loop-number-test.true in let count = c.events-events.ensures.count in omega arith) in
+    sym (known_read c.args.bundle.now c.loop-number.number c.args.findings.now None known) ∙ c.in-Some.is
+
+pub returns-clause-lawful : goal.returns-clause-lawful
+returns-clause-lawful c =
+    let most = c.loop-number.invariant.0 in
+    let least = c.loop-number-test.false in
+    let count = c.events-events.ensures.count in
+    subst (AreLawful c.args.bundle.now) (sym c.from.ensures)
+    (lawful_behind c.args.bundle.now c.loop-number.number c.loop-number.runs.states.items c.loop-number.runs.histories.items c.events-events.ensures.bundle (omega arith) c.loop-number.invariant.1)

@@ -1,0 +1,5 @@
+use Rattle.ar_ordered.proofs.ordered.judged_in_order.Given as goal
+
+-- the queue is of the bundle, for so many workers
+abbrev pub ghosts-ordered_named : goal.ghosts-ordered_named
+ghosts-ordered_named g a = record { bundle = a.bundle.now; workers = a.workers }
