@@ -101,7 +101,8 @@ where
     requires fresh_pass { view pass ≡ feeding 0 0 0 }
     requires seats { (length seats.items ≡ M.workers) × (1 ≤ M.workers) }
     requires fresh { AllByRecursion (λ seat. seat.receipts ≡ []) seats.items }
-    ensures each_once { IfOk result (λ all. NameEachOnce (length M.bundle.entries) (receipts_of all.0.items) all.1.items) }
+    ensures each_once { IfOk result (λ all.
+        NameEachOnce (length M.bundle.entries) (receipts_of all.0.items) all.1.items) }
     ensures seats { IfOk result (λ all. length all.0.items ≡ M.workers) }
 {
     let desks = desks_of(alloc, board, seats)?;
