@@ -3,18 +3,20 @@
 //! [`run_all`] does it by several workers, threads that take the numbers from one queue, judge them and
 //! post them to one board. Whatever their threads do, where it answers histories these are lawful
 //! (`ar_bundle/specs/Lawful`); where a number is lost, [`WorkError::Lost`] hands out what shows it
-//! (`specs/Joined`). [`run_ordered`] is `ar_ordered`'s: what workers judged is applied in the order of the
-//! numbers, which then rise in each history; no number can be lost. [`run_plain`] of `ar_plain` does so in
-//! one thread. A caller sees and may hold what workers do by a [`Gate`].
+//! (`specs/Joined`). The workers of [`run_ordered`] keep what they judged, and the calling thread applies
+//! it in the order of the numbers, which then rise in each history; no number can be lost. [`run_plain`]
+//! of `ar_plain` does so in one thread. A caller sees and may hold what workers do by a [`Gate`].
 //!
-//! - `running`: the queue is made, workers post, the board is closed; `ordered`: ordered runs
-//! - `posting`: a worker's desk that posts a number
+//! - `running`: the queue is made, workers post, the board is closed; `ordered`: workers judge, and their
+//!   findings are put in order
+//! - `posting`: a worker's desk that posts a number; `judging`: one that keeps it
 //! - `error`: why there are no histories; [`laws`]: why a number is lost
 //!
 //! How workers run side by side is `ar_queue`'s.
 #![tactic(auto)]
 
 mod error;
+mod judging;
 pub mod laws;
 mod ordered;
 mod posting;

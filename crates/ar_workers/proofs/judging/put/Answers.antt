@@ -1,9 +1,9 @@
 use Rattle.std.proofs.Common.{◌≡◌, ◌<◌, ◌∷◌, [], ap, arith, append_assoc, length, subst, refl, ◌∙◌}
 use Rattle.std.proofs.lemmas.List.{length-set}
 use Rattle.std.specs.Vec.Iter.{into_iter_items}
-use Rattle.ar_ordered.specs.Private.Judging.{AreJudged}
-use Rattle.ar_ordered.proofs.Judged.{first_judged, found_inside, known_next, still_known}
-use Rattle.ar_ordered.proofs.judging.put.Goals as goal
+use Rattle.ar_workers.specs.Private.Judging.{AreJudged}
+use Rattle.ar_workers.proofs.Judged.{first_judged, found_inside, known_next, still_known}
+use Rattle.ar_workers.proofs.judging.put.Goals as goal
 
 pub loop-one-preserved : goal.loop-one-preserved
 loop-one-preserved g c =

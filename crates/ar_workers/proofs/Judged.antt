@@ -13,8 +13,8 @@ use Rattle.ar_queue.specs.Rule.{HasTakenAll, once_below}
 use Rattle.ar_queue.specs.declared.queue.View.{View}
 use Rattle.ar_queue.proofs.Steps.{times_both}
 use Rattle.ar_queue.specs.Workers.{AreNamed, IsNamed, all_named}
-use Rattle.ar_ordered.specs.Private.Judging.{AreJudged, AreKnown, IsKnown, numbers_judged}
-use Rattle.ar_ordered.specs.declared.judging.Judged.{Judged}
+use Rattle.ar_workers.specs.Private.Judging.{AreJudged, AreKnown, IsKnown, numbers_judged}
+use Rattle.ar_workers.specs.declared.judging.Judged.{Judged}
 
 -- ---- one number more is judged
 

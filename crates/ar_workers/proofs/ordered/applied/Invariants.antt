@@ -1,6 +1,6 @@
 use Rattle.std.proofs.Common.{◌≤◌}
 use Rattle.ar_plain.specs.Growing.{AreGrown}
-use Rattle.ar_ordered.proofs.ordered.applied.Given as goal
+use Rattle.ar_workers.proofs.ordered.applied.Given as goal
 
 -- the numbers so far
 abbrev pub invariant-loop-number : goal.invariant-loop-number

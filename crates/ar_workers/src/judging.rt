@@ -5,7 +5,7 @@ ghost use Rattle.std.specs.List.{AllByRecursion};
 ghost use Rattle.std.specs.Coded.{codes};
 ghost use Rattle.ar_bundle.specs.contracts.finding.Finding as finding_row;
 ghost use Rattle.ar_queue.specs.Workers.{all_named};
-ghost use Rattle.ar_ordered.specs.Private.Judging.{AreJudged, AreKnown, IsKnown, numbers_judged};
+ghost use Rattle.ar_workers.specs.Private.Judging.{AreJudged, AreKnown, IsKnown, numbers_judged};
 
 use ar_bundle::{Bundle, BundleName, Finding};
 use ar_queue::Desk;
@@ -30,7 +30,7 @@ pub(crate) struct Judging<M: BundleName> {
 }
 
 impl<M: BundleName> Desk<M> for Judging<M> {
-    ghost use Rattle.ar_ordered.specs.Private.Judging.{numbers_judged};
+    ghost use Rattle.ar_workers.specs.Private.Judging.{numbers_judged};
 
     ghost numbers = { λ desk. numbers_judged desk.judged.items };
 

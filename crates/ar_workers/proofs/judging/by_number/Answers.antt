@@ -1,8 +1,8 @@
 use Rattle.std.proofs.Common.{◌≡◌, ◌∷◌, [], ap, arith, append_assoc, length, ◌∙◌}
 use Rattle.std.specs.Vec.Iter.{into_iter_items}
-use Rattle.ar_ordered.specs.Private.Judging.{numbers_judged}
-use Rattle.ar_ordered.proofs.Judged.{desk_known}
-use Rattle.ar_ordered.proofs.judging.by_number.Goals as goal
+use Rattle.ar_workers.specs.Private.Judging.{numbers_judged}
+use Rattle.ar_workers.proofs.Judged.{desk_known}
+use Rattle.ar_workers.proofs.judging.by_number.Goals as goal
 
 pub loop-desk-preserved : goal.loop-desk-preserved
 loop-desk-preserved g c =

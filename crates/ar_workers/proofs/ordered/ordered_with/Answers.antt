@@ -2,9 +2,9 @@ use Rattle.std.proofs.Common.{◌<◌, ℕ, length, subst, sym}
 use Rattle.crossbeam_queue.specs.Passes.{view}
 use Rattle.ar_queue.specs.declared.queue.View.{View}
 use Rattle.ar_queue.specs.Workers.{AreNamed, all_named}
-use Rattle.ar_ordered.specs.Private.Judging.{IsKnown, numbers_judged}
-use Rattle.ar_ordered.proofs.Judged.{all_known}
-use Rattle.ar_ordered.proofs.ordered.ordered_with.Goals as goal
+use Rattle.ar_workers.specs.Private.Judging.{IsKnown, numbers_judged}
+use Rattle.ar_workers.proofs.Judged.{all_known}
+use Rattle.ar_workers.proofs.ordered.ordered_with.Goals as goal
 
 pub applied-requires : goal.applied-requires
 applied-requires g c =

@@ -1,8 +1,8 @@
 use Rattle.std.proofs.Common.{None, subst, sym, ◌∙◌, arith}
 use Rattle.ar_bundle.specs.Lawful.{AreLawful}
-use Rattle.ar_ordered.proofs.Judged.{known_inside, known_read}
+use Rattle.ar_workers.proofs.Judged.{known_inside, known_read}
 use Rattle.ar_plain.proofs.Lawful.{lawful_behind}
-use Rattle.ar_ordered.proofs.ordered.applied.Goals as goal
+use Rattle.ar_workers.proofs.ordered.applied.Goals as goal
 
 pub bounds : goal.bounds
 bounds c = known_inside c.args.bundle.now c.loop-number.number c.args.findings.now (c.requires.known c.loop-number.number (let less = c.loop-number-test.true in let count = c.events-events.ensures.count in omega arith))

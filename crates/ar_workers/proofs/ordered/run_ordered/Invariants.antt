@@ -1,4 +1,4 @@
-use Rattle.ar_ordered.proofs.ordered.judged_in_order.Given as goal
+use Rattle.ar_workers.proofs.ordered.run_ordered.Given as goal
 
 -- the queue is of the bundle, for so many workers
 abbrev pub ghosts-ordered_named : goal.ghosts-ordered_named

@@ -3,7 +3,7 @@ use Rattle.std.specs.Prelude.{◌≡◌, ◌<◌, ℕ, List, map, Option, Some, 
 use Rattle.ar_bundle.specs.Bundle.{Bundle, found}
 use Rattle.ar_bundle.specs.Lawful.{times_in}
 use Rattle.ar_bundle.specs.declared.finding.Finding.{Finding}
-use Rattle.ar_ordered.specs.declared.judging.Judged.{Judged}
+use Rattle.ar_workers.specs.declared.judging.Judged.{Judged}
 
 -- each is what its number comes to
 abbrev pub AreJudged : Bundle → List Judged → Type 0

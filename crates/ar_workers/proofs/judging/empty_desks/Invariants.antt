@@ -1,8 +1,8 @@
 use Rattle.std.proofs.Common.{◌≡◌, ◌≤◌, [], length}
 use Rattle.std.specs.List.{AllByRecursion}
 use Rattle.std.specs.Vec.{vec_capacity}
-use Rattle.ar_ordered.specs.Private.Judging.{numbers_judged}
-use Rattle.ar_ordered.proofs.judging.empty_desks.Given as goal
+use Rattle.ar_workers.specs.Private.Judging.{numbers_judged}
+use Rattle.ar_workers.proofs.judging.empty_desks.Given as goal
 
 -- so many desks
 abbrev pub invariant-loop-worker : goal.invariant-loop-worker

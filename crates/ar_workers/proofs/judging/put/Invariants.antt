@@ -1,7 +1,7 @@
 use Rattle.std.proofs.Common.{◌≡◌, ℕ, ◌++◌, length}
 use Rattle.std.specs.Vec.Iter.{into_iter_items, into_iter_len}
-use Rattle.ar_ordered.specs.Private.Judging.{AreJudged, AreKnown, IsKnown, numbers_judged}
-use Rattle.ar_ordered.proofs.judging.put.Given as goal
+use Rattle.ar_workers.specs.Private.Judging.{AreJudged, AreKnown, IsKnown, numbers_judged}
+use Rattle.ar_workers.proofs.judging.put.Given as goal
 
 -- what was judged so far is in the table, and what was there
 abbrev pub invariant-loop-one : goal.invariant-loop-one

@@ -1,8 +1,8 @@
 use Rattle.std.proofs.Common.{◌≡◌, ◌++◌, length}
 use Rattle.std.specs.Vec.Iter.{into_iter_items, into_iter_len}
 use Rattle.ar_queue.specs.Workers.{all_named}
-use Rattle.ar_ordered.specs.Private.Judging.{AreKnown, numbers_judged}
-use Rattle.ar_ordered.proofs.judging.by_number.Given as goal
+use Rattle.ar_workers.specs.Private.Judging.{AreKnown, numbers_judged}
+use Rattle.ar_workers.proofs.judging.by_number.Given as goal
 
 -- what was judged at the desks so far is in the table
 abbrev pub invariant-loop-desk : goal.invariant-loop-desk

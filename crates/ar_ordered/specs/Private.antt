@@ -1,2 +1,0 @@
--- Definitions of private contracts, which follow the code: a reader need not believe them.
-pub mod Judging
