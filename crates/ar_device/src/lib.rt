@@ -2,9 +2,8 @@
 //!
 //! A [`Source`] and a [`Sink`] tell what was read and written and whether that failed. A [`Device`] makes
 //! either of a reader or a writer of the standard library, and keeps the first fault; [`Kept`] is a source
-//! that keeps what was read, for the words of refusals; [`read_input`] reads a whole document, or one byte
-//! more than a document may have. Only want of memory, and a read or a write that failed, can keep them
-//! from that.
+//! that keeps what was read, for the words of refusals; [`read_input`] reads all of an input, or more than
+//! a document may have. Only want of memory, and a read or a write that failed, can keep them from that.
 //!
 //! - [`device`]: readers and writers that remember whether they failed
 //! - [`kept`]: a reader that keeps what was read
