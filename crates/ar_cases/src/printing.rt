@@ -206,7 +206,7 @@ fn put_words<E: Display>(alloc: Global, out: &mut Output, refusal: &E)
     }
 }
 
-pub(crate) fn fault_name(fault: Fault) -> &'static str
+pub fn fault_name(fault: Fault) -> &'static str
     ensures { result.now ≡ fault_name fault }
 {
     match fault {

@@ -16,5 +16,5 @@ mod names;
 mod reports;
 
 pub use conditions::{check_text, list_text};
-pub use names::{fault_name, phase_name};
+pub use names::{fault_name, phase_name, put_verdict};
 pub use reports::{report, run_phases};

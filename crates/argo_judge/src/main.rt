@@ -46,7 +46,10 @@ fn run<R: Env + AllocGlobal + Input + Print + Eprint + Threads + Wait + Sync>(rt
         Ok(Request::CarryOut(command)) => carry_out(rt, command),
         Ok(Request::Show(text)) => match rt.print(text) {
             Ok(()) => status::GOOD,
-            Err(error) => end(rt, ServeError::Write, Some(&error)),
+            Err(error) => {
+                tell(rt, &ServeError::Write, Some(&error));
+                status::DEVICE
+            }
         },
         Err(error) => {
             let _ = eprintln!(rt; "argo_judge: {error}");
@@ -96,7 +99,7 @@ where
     let mut reader = Kept::new(rt.alloc(), Device::new(rt.reader()));
     let mut writer = Device::new(io::writer(rt));
     let outcome = served(rt, command, &mut reader, &mut writer);
-    close(rt, &reader, &writer, outcome)
+    close(rt, &reader, &writer, &outcome)
 }
 
 /// Carries a command out, with workers where it is for them.
@@ -126,45 +129,65 @@ fn close<R: AllocGlobal + Eprint, I, O>(
     rt: &R,
     reader: &Kept<Device<I>>,
     writer: &Device<O>,
-    outcome: Result<Closing, ServeError>,
+    outcome: &Result<Closing, ServeError>,
 ) -> u8 {
     match outcome {
-        Ok(_) => status::status_of(&outcome),
+        Ok(_) => status::status_of(outcome),
         Err(ServeError::Refused(refusal)) => refuse(rt, reader.bytes(), refusal),
-        Err(ServeError::Read) if reader.wants_memory() => end(rt, ServeError::OutOfMemory, None),
-        Err(ServeError::Read) => end(rt, ServeError::Read, reader.source().fault()),
-        Err(ServeError::Write) => end(rt, ServeError::Write, writer.fault()),
-        Err(error) => end(rt, error, None),
+        Err(ServeError::Read) if reader.wants_memory() => out_of_memory(rt),
+        Err(error) => {
+            tell(rt, error, cause(reader, writer, error));
+            status::status_of(outcome)
+        }
+    }
+}
+
+/// What the system says of a failed read or write.
+fn cause<'a, I, O>(
+    reader: &'a Kept<Device<I>>,
+    writer: &'a Device<O>,
+    error: &ServeError,
+) -> Option<&'a io::Error> {
+    match error {
+        ServeError::Read => reader.source().fault(),
+        ServeError::Write => writer.fault(),
+        _ => None,
     }
 }
 
 /// Tells of a refused input in one line.
-fn refuse<R: AllocGlobal + Eprint>(rt: &R, input: &[u8], refusal: Refusal) -> u8 {
-    match refusal_text(rt.alloc(), input, &refusal) {
+fn refuse<R: AllocGlobal + Eprint>(rt: &R, input: &[u8], refusal: &Refusal) -> u8 {
+    match refusal_text(rt.alloc(), input, refusal) {
         Ok(text) => {
             let _ = eprintln!(rt; "argo_judge: {text}");
             status::REFUSED
         }
-        Err(_) => end(rt, ServeError::OutOfMemory, None),
+        Err(_) => out_of_memory(rt),
     }
 }
 
-/// Tells of a fault, and answers its exit status.
-fn end<R: Eprint>(rt: &R, error: ServeError, cause: Option<&io::Error>) -> u8 {
-    tell(rt, &error, cause);
-    status::status_of(&Err(error))
+fn out_of_memory<R: Eprint>(rt: &R) -> u8 {
+    tell(rt, &ServeError::OutOfMemory, None);
+    status::OUT_OF_MEMORY
 }
 
 /// Tells of a fault in one line, with what the system says of it, or with what can be done.
 fn tell<R: Eprint>(rt: &R, error: &ServeError, cause: Option<&io::Error>) {
-    let _ = match (error, cause) {
-        (_, Some(cause)) => eprintln!(rt; "argo_judge: {error}: {cause}"),
-        (ServeError::Work(WorkError::NoThread), None) => {
-            eprintln!(rt; "argo_judge: {error}; try fewer --workers, or --plain, which starts none")
-        }
-        (ServeError::Work(WorkError::Lost { .. }), None) => {
-            eprintln!(rt; "argo_judge: {error}; please report this; --plain judges without workers")
-        }
-        (_, None) => eprintln!(rt; "argo_judge: {error}"),
+    let _ = match cause {
+        Some(cause) => eprintln!(rt; "argo_judge: {error}: {cause}"),
+        None => eprintln!(rt; "argo_judge: {error}{}", advice(error)),
     };
+}
+
+/// What can be done where workers gave no report.
+fn advice(error: &ServeError) -> &'static str {
+    match error {
+        ServeError::Work(WorkError::NoThread) => {
+            "; try fewer --workers, or --plain, which starts none"
+        }
+        ServeError::Work(WorkError::Lost { .. }) => {
+            "; please report this; --plain judges without workers"
+        }
+        _ => "",
+    }
 }

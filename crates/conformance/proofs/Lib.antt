@@ -1,2 +1,1 @@
-pub mod Suiting
 pub mod Reporting

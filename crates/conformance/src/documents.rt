@@ -5,19 +5,18 @@ ghost use Rattle.ar_cases.specs.Calls.{is_one_of};
 ghost use Rattle.conformance.specs.Calls.{document_calls};
 
 use crate::boards::put_core;
-use crate::judges::put_verdict;
-use crate::made::{Made, put_made};
 use crate::parts::{Part, put_all};
 use ar_bundle::{Bundle, Finding, MetricPart, RunPart};
 use ar_cases::fault::{CaseFault, Written};
 use ar_cases::members;
 use ar_cases::output::Output;
-use ar_cases::printing::{put_lines, put_or_none, put_quoted, put_shape};
+use ar_cases::printing::{put_lines, put_or_none, put_quoted, put_refusal, put_shape};
 use ar_document::read_bundle;
 use ar_json::read_json;
+use ar_judge::Verdict;
 use ar_limits::{Event, Limits, Mark, Phase};
 use ar_plain::run_plain;
-use ar_report::{check_text, list_text, phase_name, report, run_phases};
+use ar_report::{check_text, list_text, phase_name, put_verdict, report, run_phases};
 use serde_json::Value as Json;
 use std::alloc::{AllocError, Global};
 
@@ -34,7 +33,7 @@ pub(crate) fn put(alloc: Global, call: &str, case: &Json, out: &mut Output) -> O
         | "run_phases"
         | "bounds"
         | "list"
-        | "core" => Some(put_document(alloc, case, out)),
+        | "core" => Some(put_document(alloc, call, case, out)),
         _ => None,
     }
 }
@@ -49,33 +48,46 @@ fn input_of(alloc: Global, case: &Json) -> Result<Vec<u8>, CaseFault> {
 }
 
 fn put_json(alloc: Global, case: &Json, out: &mut Output) -> Written {
-    let made = read_json(alloc, &input_of(alloc, case)?);
-    put_made(alloc, case, out, made)
+    match read_json(alloc, &input_of(alloc, case)?) {
+        Ok(json) => put_json_text(alloc, &json, out),
+        Err(refusal) => put_refusal(alloc, case, out, refusal),
+    }
+    Ok(())
 }
 
-impl Made for Json {
-    fn answer_case(&self, alloc: Global, _case: &Json, out: &mut Output) -> Written {
-        out.put(self.to_string(alloc)?.as_str());
-        Ok(())
+fn put_json_text(alloc: Global, json: &Json, out: &mut Output) {
+    match json.to_string(alloc) {
+        Ok(text) => out.put(text.as_str()),
+        Err(_) => out.lose(),
     }
 }
 
-fn put_document(alloc: Global, case: &Json, out: &mut Output) -> Written {
-    let made = read_bundle(alloc, &input_of(alloc, case)?);
-    put_made(alloc, case, out, made)
+fn put_document(alloc: Global, call: &str, case: &Json, out: &mut Output) -> Written {
+    match read_bundle(alloc, &input_of(alloc, case)?) {
+        Ok(bundle) => put_bundle(alloc, call, case, &bundle, out),
+        Err(refusal) => {
+            put_refusal(alloc, case, out, refusal);
+            Ok(())
+        }
+    }
 }
 
-impl Made for Bundle {
-    fn answer_case(&self, alloc: Global, case: &Json, out: &mut Output) -> Written {
-        match members::text(case, "call")? {
-            "core" => put_core(alloc, case, self, out),
-            "findings" => put_findings(alloc, self, out),
-            "report" => put_report(alloc, self, out),
-            "run_phases" => put_phases(alloc, self, out),
-            call => {
-                put_shown(alloc, call, self, out);
-                Ok(())
-            }
+/// What a call answers on the bundle of a document.
+fn put_bundle(
+    alloc: Global,
+    call: &str,
+    case: &Json,
+    bundle: &Bundle,
+    out: &mut Output,
+) -> Written {
+    match call {
+        "core" => put_core(alloc, case, bundle, out),
+        "findings" => put_findings(alloc, bundle, out),
+        "report" => put_report(alloc, bundle, out),
+        "run_phases" => put_phases(alloc, bundle, out),
+        _ => {
+            put_shown(alloc, call, bundle, out);
+            Ok(())
         }
     }
 }
@@ -138,16 +150,24 @@ fn put_findings(alloc: Global, bundle: &Bundle, out: &mut Output) -> Written {
         out.put(separator);
         separator = " / ";
         write!(out, "run {}: ", bundle.run_of(number));
-        put_finding(out, finding);
+        put_finding(alloc, finding, out);
         put_event(out, bundle.event(number, finding));
     }
     Ok(())
 }
 
-fn put_finding(out: &mut Output, finding: Finding) {
+fn put_finding(alloc: Global, finding: Finding, out: &mut Output) {
     match finding {
-        Finding::Judged(verdict) => put_verdict(out, verdict),
+        Finding::Judged(verdict) => put_judged(alloc, verdict, out),
         Finding::Stop => out.put("stop"),
+    }
+}
+
+fn put_judged(alloc: Global, verdict: Verdict, out: &mut Output) {
+    let mut text = String::new(alloc);
+    match put_verdict(&mut text, verdict) {
+        Ok(()) => out.put(text.as_str()),
+        Err(_) => out.lose(),
     }
 }
 

@@ -6,40 +6,30 @@
 //! case is told on standard error with its number, from 1, and ends the program with status 2; so empty
 //! lines and remarks are left out before (`conformance/check` does it).
 //!
-//! `ar_cases` answers those on numbers, texts, shapes and values.
+//! `ar_cases` answers those on numbers, texts, shapes and values, and `ar_judge_cases` those on templates,
+//! conditions, code and judges.
 //!
-//! - `templates`, `phases`, `conditions`, `codes`, `judges`, `documents`, `boards`, `commands`: the other calls,
-//!   by their subjects
-//! - `trees`, `typed`, `endings`: conditions as written, conditions as typed, and how runs of code end, printed
+//! - `phases`, `documents`, `boards`, `commands`: the other calls, by their subjects
 //! - `lists`: the lists of a case
-//! - `made`: what a call made of a case, or why it refused it
 //! - `parts`: parts of answers, printed one behind another
 //!
-//! Which names are those of calls is proved of every case (`specs/Calls`), and how runs end is printed
-//! (`specs/Endings`). What these calls answer is only tested, by the suite.
+//! Which names are those of calls is proved of every case (`specs/Calls`). What these calls answer is only
+//! tested, by the suite.
 #![tactic(auto)]
 
 ghost use Rattle.std.specs.Prelude.{◌≡◌, is_some};
 ghost use Rattle.conformance.specs.Calls.{is_call, is_own_call};
 
 mod boards;
-mod codes;
 mod commands;
-mod conditions;
 mod documents;
-mod endings;
-mod judges;
 mod lists;
-mod made;
 mod parts;
 mod phases;
-mod templates;
-mod trees;
-mod typed;
 
 use ar_cases::fault::{CaseFault, LineFault, Written};
+use ar_cases::members;
 use ar_cases::output::Output;
-use ar_cases::{answer, members};
 use serde_json::Value as Json;
 use std::alloc::Global;
 use std::io;
@@ -108,10 +98,13 @@ fn answer_to_case(alloc: Global, case: &Json) -> Result<String, LineFault> {
 fn answer_to(alloc: Global, call: &str, case: &Json) -> Option<Result<String, CaseFault>>
     ensures { is_some result ≡ is_call call.now }
 {
-    match answer(alloc, call, case) {
-        Some(answered) => Some(answered),
-        None => own_answer(alloc, call, case),
+    if let Some(answered) = ar_cases::answer(alloc, call, case) {
+        return Some(answered);
     }
+    if let Some(answered) = ar_judge_cases::answer(alloc, call, case) {
+        return Some(answered);
+    }
+    own_answer(alloc, call, case)
 }
 
 /// What a call of this program's own subjects answers.
@@ -126,19 +119,7 @@ fn own_answer(alloc: Global, call: &str, case: &Json) -> Option<Result<String, C
 fn put(alloc: Global, call: &str, case: &Json, out: &mut Output) -> Option<Written>
     ensures { is_some result ≡ is_own_call call.now }
 {
-    if let Some(written) = templates::put(alloc, call, case, out) {
-        return Some(written);
-    }
     if let Some(written) = phases::put(alloc, call, case, out) {
-        return Some(written);
-    }
-    if let Some(written) = conditions::put(alloc, call, case, out) {
-        return Some(written);
-    }
-    if let Some(written) = codes::put(alloc, call, case, out) {
-        return Some(written);
-    }
-    if let Some(written) = judges::put(alloc, call, case, out) {
         return Some(written);
     }
     if let Some(written) = documents::put(alloc, call, case, out) {

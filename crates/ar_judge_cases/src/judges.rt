@@ -2,7 +2,7 @@
 
 ghost use Rattle.std.specs.Prelude.{◌≡◌, IfOk, is_some};
 ghost use Rattle.ar_cases.specs.Calls.{is_one_of};
-ghost use Rattle.conformance.specs.Calls.{judge_calls};
+ghost use Rattle.ar_judge_cases.specs.Calls.{judge_calls};
 ghost use Rattle.ar_bundle.specs.Bundle.{JudgesShape, SampleSuits};
 ghost use Rattle.ar_judge.specs.Verdict.{sample_view};
 ghost use Rattle.ar_value.specs.View.{shape_view};
@@ -11,11 +11,10 @@ use crate::made::{Made, put_made};
 use ar_cases::fault::{CaseFault, Written};
 use ar_cases::members;
 use ar_cases::output::Output;
-use ar_cases::printing::{put_answer, put_quoted, put_refusal};
+use ar_cases::printing::{fault_name, put_answer, put_quoted, put_refusal};
 use ar_json::{ShapeError, ShapeFault, read_shape, read_value};
 use ar_judge::{BuildCause, Cause, Condition, Judge, Sample, Verdict};
 use ar_manifest::BoundMetric;
-use ar_report::fault_name;
 use ar_tested::{Ended, run_tested};
 use ar_value::{Fault, Shape, SharedShape, Text, Value};
 use ar_verified::Verified;
@@ -185,7 +184,7 @@ fn put_verdict_of(
     Ok(())
 }
 
-pub(crate) fn put_verdict(out: &mut Output, verdict: Verdict) {
+fn put_verdict(out: &mut Output, verdict: Verdict) {
     match verdict {
         Verdict::Successful => out.put("Successful"),
         Verdict::Failed => out.put("Failed"),

@@ -4,16 +4,15 @@ ghost use Rattle.std.specs.Prelude.{◌≡◌, is_some, true};
 ghost use Rattle.ar_value.specs.Fits.{fits};
 ghost use Rattle.ar_value.specs.View.{shape_view, value_view};
 ghost use Rattle.ar_cases.specs.Calls.{is_one_of};
-ghost use Rattle.conformance.specs.Calls.{code_calls};
+ghost use Rattle.ar_judge_cases.specs.Calls.{code_calls};
 
 use crate::endings::put_ended;
 use crate::judges::put_bounds_of;
 use crate::made::{Made, granted, put_made};
-use crate::parts::{Part, put_all};
 use ar_cases::fault::{CaseFault, Written};
 use ar_cases::members;
 use ar_cases::output::Output;
-use ar_cases::printing::{put_lines, put_quoted, put_refusal};
+use ar_cases::printing::{put_between, put_lines, put_quoted, put_refusal};
 use ar_check::check;
 use ar_code::{Code, decode, encode, listing};
 use ar_compile::{CompileError, compile, in_limits};
@@ -79,12 +78,11 @@ fn put_listing(alloc: Global, out: &mut Output, code: &Code) {
 
 fn put_texts(out: &mut Output, name: &str, texts: &[String]) {
     out.put(name);
-    put_all(out, ",", texts);
-}
-
-impl Part for String {
-    fn put(&self, out: &mut Output) {
-        put_quoted(out, self.as_str());
+    let mut first = true;
+    for text in texts {
+        put_between(out, first, ",");
+        first = false;
+        put_quoted(out, text.as_str());
     }
 }
 

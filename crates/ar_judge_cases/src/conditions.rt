@@ -2,16 +2,15 @@
 
 ghost use Rattle.std.specs.Prelude.{◌≡◌, is_some};
 ghost use Rattle.ar_cases.specs.Calls.{is_one_of};
-ghost use Rattle.conformance.specs.Calls.{condition_calls};
+ghost use Rattle.ar_judge_cases.specs.Calls.{condition_calls};
 
 use crate::made::{Made, put_made};
-use crate::parts::{Part, put_all};
 use crate::trees::put_tree;
 use crate::typed::put_typed;
 use ar_cases::fault::Written;
 use ar_cases::members;
 use ar_cases::output::Output;
-use ar_cases::printing::{put_decimal, put_pair, put_quoted, put_refusal};
+use ar_cases::printing::{put_between, put_decimal, put_pair, put_quoted, put_refusal};
 use ar_check::check;
 use ar_condition::{Tree, Typed};
 use ar_syntax::{Token, TokenKind, parse, tokens};
@@ -38,17 +37,20 @@ fn put_tokens(alloc: Global, case: &Json, out: &mut Output) -> Written {
 impl Made for Vec<Token> {
     fn answer_case(&self, _alloc: Global, _case: &Json, out: &mut Output) -> Written {
         out.put("[");
-        put_all(out, ", ", self.as_slice());
+        let mut first = true;
+        for token in self.as_slice() {
+            put_between(out, first, ", ");
+            first = false;
+            put_token(out, token);
+        }
         out.put("]");
         Ok(())
     }
 }
 
-impl Part for Token {
-    fn put(&self, out: &mut Output) {
-        write!(out, "{}-{} ", self.span.start, self.span.end);
-        put_kind(out, &self.kind);
-    }
+fn put_token(out: &mut Output, token: &Token) {
+    write!(out, "{}-{} ", token.span.start, token.span.end);
+    put_kind(out, &token.kind);
 }
 
 fn put_kind(out: &mut Output, kind: &TokenKind) {

@@ -2,7 +2,7 @@
 
 ghost use Rattle.std.specs.Prelude.{◌≡◌, is_some};
 ghost use Rattle.ar_cases.specs.Calls.{is_one_of};
-ghost use Rattle.conformance.specs.Calls.{template_calls};
+ghost use Rattle.ar_judge_cases.specs.Calls.{template_calls};
 
 use ar_cases::fault::{CaseFault, Written};
 use ar_cases::members;

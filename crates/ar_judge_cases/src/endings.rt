@@ -2,7 +2,7 @@
 
 ghost use Rattle.std.specs.Prelude.{◌++◌, codes, decimal};
 ghost use Rattle.ar_cases.specs.Output.{Writes};
-ghost use Rattle.conformance.specs.Endings.{done_text, ended_text};
+ghost use Rattle.ar_judge_cases.specs.Endings.{done_text, ended_text};
 
 use ar_cases::output::Output;
 use ar_cases::printing::put_answer;
