@@ -18,7 +18,8 @@ use Rattle.ar_cases.specs.declared.fault.CaseFault.TheVariants.{Member}
 use Rattle.ar_cases.specs.declared.output.Output.{Output}
 use Rattle.ar_cases.specs.Calls.{arithmetic_calls, is_one_of}
 use Rattle.ar_cases.specs.Members.{decimal_member, is_memory, json_member, or_member, text_member, whole_member}
-use Rattle.ar_cases.specs.Printing.{fault_name, number_text, quoted, truth_text}
+use Rattle.ar_value.specs.Fault.{fault_name}
+use Rattle.ar_cases.specs.Printing.{number_text, quoted, truth_text}
 
 -- the answer stands behind what was there, unless memory ran out, or the case is refused
 abbrev pub Answers : Result ⊤ CaseFault → (earlier later : Output) → (answer : Result (List ℕ) CaseFault) → Type 0

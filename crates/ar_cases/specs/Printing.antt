@@ -11,7 +11,7 @@ use Rattle.ar_value.specs.Value as values
 use Rattle.ar_value.specs.declared.decimal.Number.{Number}
 use Rattle.ar_value.specs.declared.decimal.Number.TheVariants.{Whole, Decimal}
 use Rattle.ar_value.specs.declared.fault.Fault.{Fault}
-use Rattle.ar_value.specs.declared.fault.Fault.TheVariants.{IndexOutOfRange, NilOperand, Overflow, DivisionByZero}
+use Rattle.ar_value.specs.Fault.{fault_name}
 
 -- ---- texts
 
@@ -97,12 +97,6 @@ abbrev mutual
   fields_text first (values.field name value others) = (between first (codes ",") ++ (quoted name ++ (codes ":" ++ value_text value))) ++ fields_text false others
 
 -- ---- what a condition says
-
-abbrev pub fault_name : Fault → List ℕ
-fault_name IndexOutOfRange = codes "IndexOutOfRange"
-fault_name NilOperand = codes "NilOperand"
-fault_name Overflow = codes "Overflow"
-fault_name DivisionByZero = codes "DivisionByZero"
 
 abbrev pub answer_text : Result Bool Fault → List ℕ
 answer_text (Ok truth) = truth_text truth

@@ -13,9 +13,7 @@ ghost use Rattle.ar_cases.specs.Output.{Writes};
 use crate::fault::{CaseFault, Written};
 use crate::members;
 use crate::output::Output;
-use crate::printing::{
-    fault_name, put_decimal, put_number, put_or_none, put_quoted, put_refusal, put_truth,
-};
+use crate::printing::{put_decimal, put_number, put_or_none, put_quoted, put_refusal, put_truth};
 use ar_value::{Decimal, Fault, Number, Text, compare, digits, whole};
 use serde_json::Value as Json;
 use std::alloc::{AllocError, Global};
@@ -125,7 +123,7 @@ fn put_outcome(out: &mut Output, outcome: Result<Number, Fault>)
 {
     match outcome {
         Ok(number) => put_number(out, number),
-        Err(fault) => out.put(fault_name(fault)),
+        Err(fault) => out.put(fault.name()),
     }
 }
 

@@ -11,7 +11,7 @@ ghost use Rattle.ar_value.specs.Value.{fields_of, items_of};
 ghost use Rattle.ar_value.specs.View.{field_shape_view, field_view, shape_view, value_view};
 ghost use Rattle.ar_cases.specs.Members.{is_true};
 ghost use Rattle.ar_cases.specs.Output.{Extends, Writes};
-ghost use Rattle.ar_cases.specs.Printing.{answer_text, between, code_escape, decimal_text, escaped, fault_name, field_shapes_text, fields_text, fraction_text, items_text, lines_text, number_text, quoted, shape_text, truth_text, value_text};
+ghost use Rattle.ar_cases.specs.Printing.{answer_text, between, code_escape, decimal_text, escaped, field_shapes_text, fields_text, fraction_text, items_text, lines_text, number_text, quoted, shape_text, truth_text, value_text};
 
 use crate::members;
 use crate::output::Output;
@@ -206,24 +206,13 @@ fn put_words<E: Display>(alloc: Global, out: &mut Output, refusal: &E)
     }
 }
 
-pub fn fault_name(fault: Fault) -> &'static str
-    ensures { result.now ≡ fault_name fault }
-{
-    match fault {
-        Fault::IndexOutOfRange => "IndexOutOfRange",
-        Fault::NilOperand => "NilOperand",
-        Fault::Overflow => "Overflow",
-        Fault::DivisionByZero => "DivisionByZero",
-    }
-}
-
 /// What a condition says of a value.
 pub fn put_answer(out: &mut Output, answer: Result<bool, Fault>)
     ensures { Writes out.old out.new (answer_text answer) }
 {
     match answer {
         Ok(truth) => put_truth(out, truth),
-        Err(fault) => put_pair(out, "fault", fault_name(fault)),
+        Err(fault) => put_pair(out, "fault", fault.name()),
     }
 }
 

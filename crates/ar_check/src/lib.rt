@@ -9,7 +9,6 @@
 //!   the nodes
 //! - `operand`: a tree with its kind, whose shape is lent where it is a part of a declared one
 //! - `operators`, `list`: operators, and list literals, whose operands have kinds
-//! - `holding`: values that are held while others are made
 //! - [`error`]: why a condition has no kinds
 //! - [`laws`]: what holds of all checked conditions
 //!
@@ -22,7 +21,6 @@
 
 mod build;
 pub mod error;
-mod holding;
 pub mod laws;
 mod list;
 mod operand;

@@ -14,8 +14,8 @@ ghost use Rattle.ar_check.specs.Private.Inside.{boxed_view, kind_view, operand_v
 
 use crate::build;
 use crate::error::TypeError;
-use crate::holding::beside;
 use ar_condition::typed::Typed;
+use ar_value::holding::beside;
 use ar_value::kind;
 use ar_value::operator::{Numbers, Scalar, UnaryOperator};
 use ar_value::sameness::are_same_shapes;

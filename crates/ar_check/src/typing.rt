@@ -21,7 +21,6 @@ ghost use Rattle.ar_check.specs.Memory.{is_memory};
 
 use crate::build::{self, node};
 use crate::error::TypeError;
-use crate::holding::beside;
 use crate::list::{Item, list};
 use crate::operand::{
     Kind, Operand, as_truth, common, field_kind, given, given_unary, is_truth, item_kind,
@@ -30,6 +29,7 @@ use crate::operand::{
 use crate::operators::{binary, is_nil_of, truth, unary, where_wanted};
 use ar_condition::tree::{Binary, Literal, Tree, Unary};
 use ar_condition::typed::Typed;
+use ar_value::holding::beside;
 use ar_value::operator::{BinaryOperator, Predicate, Scalar, UnaryOperator};
 use ar_value::shape::Shape;
 use ar_value::text::Text;

@@ -11,11 +11,11 @@ ghost use Rattle.ar_document.specs.declared.error.BundleError.TheVariants.{TooLa
 
 use crate::entries::read_entries;
 use crate::error::BundleError;
-use crate::holding::beside;
 use crate::opening::{Opened, open};
 use crate::parts::parts_of;
 use ar_bundle::{Bundle, EventPart, RunPart};
 use ar_json::read_json;
+use ar_value::holding::beside;
 use serde_json::Value as Json;
 use std::alloc::Global;
 

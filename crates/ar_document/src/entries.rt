@@ -18,13 +18,13 @@ ghost use Rattle.ar_document.specs.Private.Opened.{IsOpened, opened_view};
 ghost use Rattle.ar_document.specs.declared.error.BundleError.TheVariants.{OutOfMemory, UnknownRun};
 
 use crate::error::BundleError;
-use crate::holding::add;
 use crate::names::Numbers;
 use crate::opening::Opened;
 use ar_bundle::{EventPart, What};
 use ar_json::members::list_of;
 use ar_json::value_reading::{ShapeFault, read_value};
 use ar_judge::Sample;
+use ar_value::holding::add;
 use ar_value::shape::Shape;
 use serde_json::Value as Json;
 use std::alloc::Global;

@@ -10,14 +10,12 @@
 //! - `opening`: the template, its metrics and their shapes; [`runs`]: runs as they are written;
 //!   `names`: numbers by name
 //! - `parts`: a judge and limits for each run and metric; `entries`: what happened
-//! - `holding`: holding values while others are made
 //! - [`laws`]: that an input comes to one thing
 #![tactic(auto)]
 
 pub mod bundle;
 mod entries;
 pub mod error;
-mod holding;
 pub mod laws;
 mod names;
 mod opening;

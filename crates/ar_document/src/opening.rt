@@ -14,12 +14,12 @@ ghost use Rattle.ar_document.specs.Private.Naming.{AreNumbers};
 ghost use Rattle.ar_document.specs.Private.Opened.{IsOpened, metric_names, opened_view};
 
 use crate::error::BundleError;
-use crate::holding::{add, beside};
 use crate::names::{Numbers, add_name};
 use crate::runs::{Run, read_runs};
 use ar_bundle::MetricPart;
 use ar_json::shape_reading::{ShapeError, read_shape};
 use ar_manifest::{ManifestError, Metric, Template};
+use ar_value::holding::{add, beside};
 use ar_value::shared_shape::SharedShape;
 use ar_value::text::Text;
 use serde_json::Value as Json;

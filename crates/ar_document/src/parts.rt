@@ -17,13 +17,13 @@ ghost use Rattle.ar_document.specs.Private.Parts.{IfRefused, RefusesJudge, Refus
 ghost use Rattle.ar_document.specs.declared.error.BundleError.TheVariants.{Bind};
 
 use crate::error::BundleError;
-use crate::holding::{add, beside};
 use crate::opening::Opened;
 use crate::runs::Run;
 use ar_bundle::{Judges, MetricPart, RunLimits, RunPart};
 use ar_judge::{BuildError, Judge};
 use ar_limits::Limits;
 use ar_manifest::{Bound, BoundMetric, ManifestError, Template};
+use ar_value::holding::{add, beside};
 use ar_value::text::Text;
 use std::alloc::{AllocError, Global};
 

@@ -11,10 +11,10 @@ ghost use Rattle.ar_document.specs.Private.Naming.{AreNumbers};
 ghost use Rattle.ar_document.specs.declared.error.BundleError.TheVariants.{DoubleRun};
 
 use crate::error::BundleError;
-use crate::holding::{add, beside};
 use crate::names::{Numbers, add_name};
 use ar_json::members::list_of;
 use ar_manifest::Args;
+use ar_value::holding::{add, beside};
 use ar_value::text::Text;
 use serde_json::{Map, Value as Json};
 use std::alloc::Global;

@@ -11,7 +11,7 @@ use crate::made::{Made, put_made};
 use ar_cases::fault::{CaseFault, Written};
 use ar_cases::members;
 use ar_cases::output::Output;
-use ar_cases::printing::{fault_name, put_answer, put_quoted, put_refusal};
+use ar_cases::printing::{put_answer, put_quoted, put_refusal};
 use ar_json::{ShapeError, ShapeFault, read_shape, read_value};
 use ar_judge::{BuildCause, Cause, Condition, Judge, Sample, Verdict};
 use ar_manifest::BoundMetric;
@@ -204,7 +204,7 @@ fn put_cause(out: &mut Output, cause: Cause) {
 
 fn put_fault(out: &mut Output, condition: &str, fault: Fault) {
     out.put(condition);
-    out.put(fault_name(fault));
+    out.put(fault.name());
 }
 
 fn put_both_bounds(out: &mut Output, judge: &Judge) {

@@ -10,10 +10,10 @@ use crate::arguments::{Args, Arguments};
 use crate::binding::Scope;
 use crate::bound::{Bound, BoundMetric};
 use crate::error::ManifestError;
-use crate::holding::{add, beside};
 use crate::limit::{effective_count, limit_of_number, limit_of_text};
 use crate::template::{Limit, Metric, Template};
 use ar_value::Text;
+use ar_value::holding::{add, beside};
 use std::alloc::Global;
 
 /// `failureLimit`, where a metric has none.

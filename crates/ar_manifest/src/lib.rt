@@ -21,7 +21,6 @@
 //! | [`laws`] | what holds of binding, for all texts |
 //! | `reader`, `dry_run` | reading a JSON document as a template, and which metrics `dryRun` names |
 //! | `binding`, `limit`, `binder` | binding a text, a limit, and a template's metrics |
-//! | `holding` | holding values while others are made |
 //!
 //! In `specs`, `Template` and `DryRun` define reading, `Cut` where a text is cut at its braces,
 //! `Binding` what becomes of a text, `Bound` limits, counts and the order of refusals. `Private`
@@ -34,7 +33,6 @@ mod binding;
 mod bound;
 mod dry_run;
 mod error;
-mod holding;
 pub mod laws;
 mod limit;
 mod reader;

@@ -1,6 +1,6 @@
 //! Reading a template from JSON.
 
-ghost use Rattle.std.specs.Prelude.{◌≡◌, [], IfOk, IsOk, false, length, map, option_map, true};
+ghost use Rattle.std.specs.Prelude.{◌≡◌, [], if◌then◌else◌, Err, IfOk, IsOk, Ok, false, length, map, option_map, true};
 ghost use Rattle.std.specs.List.{list_any};
 ghost use Rattle.serde_json.specs.Find.{as_u64};
 ghost use Rattle.serde_json.specs.View.{number_view, view};
@@ -14,10 +14,10 @@ ghost use Rattle.ar_manifest.specs.Template.{HasNoArguments, argument_of, argume
 use crate::arguments::Arguments;
 use crate::dry_run::with_dry_run;
 use crate::error::ManifestError;
-use crate::holding::{add, beside, unless};
 use crate::template::{Limit, Metric, MetricLimits, Metrics, Template};
 use ar_json::members::{list_of, member, member_of_member, text_member, text_or};
 use ar_value::Text;
+use ar_value::holding::{add, beside};
 use serde_json::{Number, Value as Json};
 use std::alloc::{AllocError, Global};
 
@@ -180,6 +180,13 @@ fn metric(alloc: Global, json: &Json, earlier: &[Metric]) -> Result<Metric, Mani
     let metric = named_metric(alloc, json, name, i)?;
     let is_refused = member(json, "consecutiveSuccessLimit").is_some();
     unless(metric, is_refused, ManifestError::Unsupported(i))
+}
+
+/// What is held, unless it is refused. It is of any type here, so that it is let go in one step.
+fn unless<A: Drop, E: Drop>(held: A, is_refused: bool, refusal: E) -> Result<A, E>
+    ensures { result ≡ (if is_refused then Err refusal else Ok held) }
+{
+    if is_refused { Err(refusal) } else { Ok(held) }
 }
 
 /// The metrics of a JSON list.

@@ -1,7 +1,6 @@
--- Names of phases, faults, verdicts and effects, as reports print them.
+-- Names of phases, verdicts and effects, as reports print them.
 use Rattle.std.specs.Prelude.{ℕ, List, codes, ◌++◌}
-use Rattle.ar_value.specs.declared.fault.Fault.{Fault}
-use Rattle.ar_value.specs.declared.fault.Fault.TheVariants.{IndexOutOfRange, NilOperand, Overflow, DivisionByZero}
+use Rattle.ar_value.specs.Fault.{fault_name}
 use Rattle.ar_json.specs.declared.value_reading.ShapeFault.{ShapeFault}
 use Rattle.ar_json.specs.declared.value_reading.ShapeFault.TheVariants.{WrongKind, FloatNumber, NotFinite, BadDecimal, OutOfRange, ListTooLong, MissingField, OutOfMemory}
 use Rattle.ar_limits.specs.declared.event.Effect.{Effect}
@@ -20,12 +19,6 @@ phase_name phases.Successful = codes "Successful"
 phase_name phases.Failed = codes "Failed"
 phase_name phases.Error = codes "Error"
 phase_name phases.Inconclusive = codes "Inconclusive"
-
-abbrev pub fault_name : Fault → List ℕ
-fault_name IndexOutOfRange = codes "IndexOutOfRange"
-fault_name NilOperand = codes "NilOperand"
-fault_name Overflow = codes "Overflow"
-fault_name DivisionByZero = codes "DivisionByZero"
 
 -- a bundle has no misfit that is want of memory, so that no report prints the last name
 abbrev pub misfit_name : ShapeFault → List ℕ

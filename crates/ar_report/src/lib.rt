@@ -7,7 +7,7 @@
 //! code (`specs/Check`).
 //!
 //! - `conditions`: the lines of conditions
-//! - `names`: phases, faults, verdicts and effects as they are printed
+//! - `names`: phases, verdicts and effects as they are printed
 //! - `reports`: the lines of a report, and the phases of runs
 #![tactic(auto)]
 
@@ -16,5 +16,5 @@ mod names;
 mod reports;
 
 pub use conditions::{check_text, list_text};
-pub use names::{fault_name, phase_name, put_verdict};
+pub use names::{phase_name, put_verdict};
 pub use reports::{report, run_phases};

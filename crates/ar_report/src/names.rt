@@ -1,12 +1,11 @@
-//! Phases, faults, verdicts and effects as they are printed.
+//! Phases, verdicts and effects as they are printed.
 
 ghost use Rattle.std.specs.Prelude.{◌≡◌, ◌++◌, OnOk, string_bytes};
-ghost use Rattle.ar_report.specs.Names.{cause_text, effect_text, fault_name, misfit_name, phase_name, verdict_text};
+ghost use Rattle.ar_report.specs.Names.{cause_text, effect_text, misfit_name, phase_name, verdict_text};
 
 use ar_json::value_reading::ShapeFault;
 use ar_judge::{Cause, Verdict};
 use ar_limits::{Effect, Phase};
-use ar_value::fault::Fault;
 use std::alloc::AllocError;
 use std::fmt::Write;
 
@@ -20,17 +19,6 @@ pub fn phase_name(phase: Phase) -> &'static str
         Phase::Failed => "Failed",
         Phase::Error => "Error",
         Phase::Inconclusive => "Inconclusive",
-    }
-}
-
-pub fn fault_name(fault: Fault) -> &'static str
-    ensures { result.now ≡ fault_name fault }
-{
-    match fault {
-        Fault::IndexOutOfRange => "IndexOutOfRange",
-        Fault::NilOperand => "NilOperand",
-        Fault::Overflow => "Overflow",
-        Fault::DivisionByZero => "DivisionByZero",
     }
 }
 
@@ -70,8 +58,8 @@ fn put_cause(out: &mut String, cause: Cause) -> Result<(), AllocError>
     match cause {
         Cause::Provider => out.push_str("provider"),
         Cause::Shape(fault) => write!(out, "shape {}", misfit_name(fault)),
-        Cause::Success(fault) => write!(out, "success {}", fault_name(fault)),
-        Cause::Failure(fault) => write!(out, "failure {}", fault_name(fault)),
+        Cause::Success(fault) => write!(out, "success {}", fault.name()),
+        Cause::Failure(fault) => write!(out, "failure {}", fault.name()),
     }
 }
 

@@ -1,4 +1,5 @@
 pub mod Answer
+pub mod Fault
 pub mod Digits
 pub mod Decimal
 pub mod Arithmetic

@@ -4,6 +4,7 @@ ghost use Rattle.std.specs.Prelude.{◌≡◌};
 ghost use Rattle.ar_value.specs.Decimal.{in_millionths, order};
 
 use std::cmp::Ordering;
+use std::fmt;
 use std::marker::Model;
 use thiserror::Error;
 
@@ -30,12 +31,29 @@ impl Model for Decimal {
 /// Why a text is no decimal.
 #[derive(Clone, Copy, Debug, Error)]
 pub enum NumberFault {
-    #[error("BadDecimal: expected digits with at most one point and an exponent or none, as 0.95 or 9.5e-1")]
     BadDecimal,
-    #[error("NotFinite: expected a finite number")]
     NotFinite,
-    #[error("OutOfRange: expected a number from -9223372036854.775808 to 9223372036854.775807, once it is cut to six digits after the point")]
     OutOfRange,
+}
+
+impl NumberFault {
+    fn words(self) -> &'static str {
+        match self {
+            NumberFault::BadDecimal => {
+                "BadDecimal: expected digits with at most one point and an exponent or none, as 0.95 or 9.5e-1"
+            }
+            NumberFault::NotFinite => "NotFinite: expected a finite number",
+            NumberFault::OutOfRange => {
+                "OutOfRange: expected a number from -9223372036854.775808 to 9223372036854.775807, once it is cut to six digits after the point"
+            }
+        }
+    }
+}
+
+impl fmt::Display for NumberFault {
+    fn fmt<W: fmt::Write>(&self, f: &mut fmt::Formatter<W>) -> fmt::Result {
+        f.write_str(self.words())
+    }
 }
 
 impl Decimal {

@@ -20,6 +20,7 @@
 //! - [`fitting`]: which values fit
 //! - [`kind`]: kinds of expressions; `widening` joins shapes; [`sameness`]: which are the same;
 //!   [`shared_shape`]: shapes with several owners
+//! - [`holding`]: values that are held while others are made
 //! - [`laws`]: what holds of kinds
 #![tactic(auto)]
 
@@ -29,6 +30,7 @@ mod decimal_text;
 pub mod digits;
 pub mod fault;
 pub mod fitting;
+pub mod holding;
 pub mod kind;
 pub mod laws;
 pub mod operator;

@@ -80,14 +80,21 @@ fn copy_of(alloc: Global, shape: &Shape) -> Result<Shape, AllocError>
         Shape::Decimal => Ok(Shape::Decimal),
         Shape::Text => Ok(Shape::Text),
         Shape::List { item, max } => Ok(Shape::List {
-            item: Box::new(alloc, copy_of(alloc, item)?)?,
+            item: boxed_copy_of(alloc, item)?,
             max: *max,
         }),
         Shape::Object(fields) => Ok(Shape::Object(FieldShapes {
             items: copies_of(alloc, &fields.items)?,
         })),
-        Shape::Optional(plain) => Ok(Shape::Optional(Box::new(alloc, copy_of(alloc, plain)?)?)),
+        Shape::Optional(plain) => Ok(Shape::Optional(boxed_copy_of(alloc, plain)?)),
     }
+}
+
+#[cycle(copy_of)]
+fn boxed_copy_of(alloc: Global, shape: &Shape) -> Result<Box<Shape>, AllocError>
+    ensures { IfOk result (λ copy. shape_view copy.value ≡ shape_view shape.now) }
+{
+    Ok(Box::new(alloc, copy_of(alloc, shape)?)?)
 }
 
 #[cycle(copy_of)]
@@ -106,7 +113,7 @@ fn copies_of(alloc: Global, fields: &[FieldShape]) -> Result<Vec<FieldShape>, Al
 fn field_copy_of(alloc: Global, field: &FieldShape) -> Result<FieldShape, AllocError>
     ensures { IfOk result (λ copy. field_shape_view copy ≡ field_shape_view field.now) }
 {
-    let shape = copy_of(alloc, &field.shape)?;
     let name = Text::of(alloc, field.name.as_str())?;
+    let shape = copy_of(alloc, &field.shape)?;
     Ok(FieldShape { name, shape })
 }

@@ -1,4 +1,4 @@
-use Rattle.std.proofs.Common.{◌∙◌, map, arith}
+use Rattle.std.proofs.Common.{◌≡◌, ◌+◌, ◌∙◌, length, length-append, map, arith}
 use Rattle.std.proofs.lemmas.List.{length-map}
 use Rattle.std.proofs.lemmas.Result.{err_from_is_err_and}
 use Rattle.serde_json.specs.View.{view}
@@ -20,10 +20,11 @@ pub loop-number-preserved : goal.loop-number-preserved
 loop-number-preserved c =
     let step = entry_in (opened_view c.args.opened.now) in
     let makes = c.in_ok-entry.ensures.exact (map entry_view c.loop-number.entries.items) (length-map c.loop-number.entries.items entry_view ∙ c.loop-number.invariant.each) in
+    let grown : length c.add.new.list.items ≡ length c.loop-number.entries.items + 1 = rw c.in_ok-add.ensures (length-append _ _) in
     record {
-      made = step_more (λ json. view json) entry_view step c.args.items.now c.loop-number.number c.loop-number.entries.items _ c.index-items-number.result c.in_ok-entry.entry c.add.new.list.items c.loop-number-test.true c.index-items-number.is makes c.in_ok-add.ensures.items c.loop-number.invariant.made;
-      each = omega (arith, c.in_ok-add.ensures.len, c.loop-number.invariant.each);
-      entries = rw c.in_ok-add.ensures.items (one_more _ c.loop-number.entries.items c.in_ok-entry.entry c.loop-number.invariant.entries c.in_ok-entry.ensures.entry);
+      made = step_more (λ json. view json) entry_view step c.args.items.now c.loop-number.number c.loop-number.entries.items _ c.index-items-number.result c.in_ok-entry.entry c.add.new.list.items c.loop-number-test.true c.index-items-number.is makes c.in_ok-add.ensures c.loop-number.invariant.made;
+      each = omega (arith, grown, c.loop-number.invariant.each);
+      entries = rw c.in_ok-add.ensures (one_more _ c.loop-number.entries.items c.in_ok-entry.entry c.loop-number.invariant.entries c.in_ok-entry.ensures.entry);
     }
 
 pub returns-clause-exact : goal.returns-clause-exact

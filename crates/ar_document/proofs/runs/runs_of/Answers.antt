@@ -1,4 +1,4 @@
-use Rattle.std.proofs.Common.{arith}
+use Rattle.std.proofs.Common.{◌≡◌, ◌+◌, length, length-append, arith}
 use Rattle.std.proofs.lemmas.Result.{err_from_is_err_and}
 use Rattle.serde_json.specs.View.{view}
 use Rattle.ar_document.specs.Opening.{run_of}
@@ -13,10 +13,12 @@ returns-in_err-made-clause-exact c =
     (step_fault (λ json. view json) (λ (run : Run). run) (λ earlier. run_of) c.args.items.now c.loop-item.item-index c.loop-item.runs.items _ c.item-item.result c.in_err-made.field-0.0 c.loop-item-test.true c.item-item.is c.in_err-made.ensures c.loop-item.invariant.made)
 
 pub loop-item-preserved : goal.loop-item-preserved
-loop-item-preserved c = record {
-  made = step_more (λ json. view json) (λ (run : Run). run) (λ earlier. run_of) c.args.items.now c.loop-item.item-index c.loop-item.runs.items _ c.item-item.result c.in_ok-made.made c.add.new.list.items c.loop-item-test.true c.item-item.is c.in_ok-made.ensures c.in_ok-add.ensures.items c.loop-item.invariant.made;
-  each = omega (arith, c.in_ok-add.ensures.len, c.loop-item.invariant.each);
-}
+loop-item-preserved c =
+    let grown : length c.add.new.list.items ≡ length c.loop-item.runs.items + 1 = rw c.in_ok-add.ensures (length-append _ _) in
+    record {
+      made = step_more (λ json. view json) (λ (run : Run). run) (λ earlier. run_of) c.args.items.now c.loop-item.item-index c.loop-item.runs.items _ c.item-item.result c.in_ok-made.made c.add.new.list.items c.loop-item-test.true c.item-item.is c.in_ok-made.ensures c.in_ok-add.ensures c.loop-item.invariant.made;
+      each = omega (arith, grown, c.loop-item.invariant.each);
+    }
 
 pub returns-clause-exact : goal.returns-clause-exact
 returns-clause-exact c = as_it_is _ c.loop-item.runs.items (step_end (λ json. view json) (λ (run : Run). run) (λ earlier. run_of) c.args.items.now c.loop-item.item-index c.loop-item.runs.items _ c.loop-item-test.false c.loop-item.invariant.made)

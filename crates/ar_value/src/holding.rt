@@ -1,12 +1,12 @@
 //! Holding values while others are made. What is held is of any type here, so that it is let go in
 //! one step where another can't be made, and not once for each of its variants.
 
-ghost use Rattle.std.specs.Prelude.{◌≡◌, Err, IfErr, IfOk, Ok};
+ghost use Rattle.std.specs.Prelude.{◌≡◌, ◌++◌, ◌∷◌, [], Err, IfErr, IfOk, Ok, OnOk};
 
 use std::alloc::AllocError;
 
 /// What is held, beside another value, if that could be made.
-pub(crate) fn beside<A: Drop, B: Drop, E: Drop>(held: A, made: Result<B, E>) -> Result<(A, B), E>
+pub fn beside<A: Drop, B: Drop, E: Drop>(held: A, made: Result<B, E>) -> Result<(A, B), E>
     ensures ok { IfOk result (λ both. (made ≡ Ok both.1) × (both.0 ≡ held)) }
     ensures err { IfErr result (λ refusal. made ≡ Err refusal) }
 {
@@ -14,4 +14,16 @@ pub(crate) fn beside<A: Drop, B: Drop, E: Drop>(held: A, made: Result<B, E>) -> 
         Ok(made) => Ok((held, made)),
         Err(refusal) => Err(refusal),
     }
+}
+
+/// Adds an item to a list, or lets it go where there is no memory for it.
+///
+/// # Errors
+///
+/// Want of memory.
+pub fn add<T: Drop>(list: &mut Vec<T>, item: T) -> Result<(), AllocError>
+    ensures { OnOk result (list.new.items ≡ list.old.items ++ item ∷ []) }
+{
+    list.push(item)?;
+    Ok(())
 }
