@@ -19,14 +19,11 @@ use Rattle.ar_compile.specs.Compiled.{compiled}
 use Rattle.ar_compile.specs.Ends.{EndsWith}
 use Rattle.ar_verified.proofs.Safe.{few_operands, verified_is_safe}
 use Rattle.ar_verified.specs.Safety.{IsSafe}
-use Rattle.ar_verified.specs.Verdict.{Verified}
-use Rattle.ar_judge.specs.Condition.{Condition, IsBuilt, condition_of, refused_as, said, typed_of}
+use Rattle.ar_judge.specs.Condition.{Condition, IsBuilt, refused_as, said, typed_of}
 use Rattle.ar_judge.specs.Headline.{HeadlineHolds, HoldsWhereThere, JudgeHeadlineHolds, JudgesAsMeant, RunsAsMeant, run_answer}
-use Rattle.ar_judge.specs.Verdict.{AreBuilt, IsJudge, Judge, judge_of, said_of, verdict_by}
+use Rattle.ar_judge.specs.Verdict.{AreBuilt, IsJudge, Judge, said_of, verdict_by}
 use Rattle.ar_judge.specs.declared.error.BuildCause.TheVariants.{Kinds}
-use Rattle.ar_judge.specs.Private.Building.{BuildsEach}
-use Rattle.ar_judge.specs.Private.Readiness.{IsRunnable}
-use Rattle.ar_judge.proofs.Running.{built, in_limits, one_answer}
+use Rattle.ar_judge.proofs.Running.{in_limits, one_answer}
 
 -- ---- conditions
 
@@ -134,15 +131,3 @@ judge_holds shape success failure judge is = record {
   failure_holds = each_holds shape failure judge.failure is.failure_is;
   verdicts = judges shape success failure judge is;
 }
-
--- ---- what is built
-
--- the condition of a text that was parsed and checked, with the verified code of its tree
-pub built_holds : (shape : Shape) (text kept : List ℕ) (tree : Expression) (condition : Typed) (verified : Verified) → kept ≡ text → parse_of text ≡ Ok tree → checked shape tree ≡ Ok condition → IsRunnable shape condition verified
-    → HeadlineHolds shape text (condition_of kept verified)
-built_holds shape text kept tree condition verified same parsed is runnable =
-    condition_holds shape text (condition_of kept verified) (subst (λ kept. IsBuilt shape text (condition_of kept verified)) (sym same) (built shape text tree condition verified parsed is runnable))
-
--- the judge of two texts
-pub both_hold : (shape : Shape) (success failure : Option (List ℕ)) (one other : Option Condition) → BuildsEach shape success (Ok one) → BuildsEach shape failure (Ok other) → JudgeHeadlineHolds shape success failure (judge_of one other)
-both_hold shape success failure one other success_is failure_is = judge_holds shape success failure (judge_of one other) (record { success_is = success_is; failure_is = failure_is })

@@ -1,7 +1,8 @@
 -- Conditions that are built of texts, and what they say when they are run.
-use Rattle.std.proofs.Common.{◌≡◌, ℕ, ◌+◌, List, Bool, true, None, Some, Result, Ok, refl, sym, subst, arith}
+use Rattle.std.proofs.Common.{◌≡◌, ◌<◌, ℕ, ◌+◌, List, Bool, true, None, Some, Result, Ok, Err, refl, sym, ap, ◌∙◌, subst, arith}
 use Rattle.ar_value.specs.Fits.{fits}
 use Rattle.ar_value.specs.Shape.{Shape}
+use Rattle.ar_value.specs.declared.shape.Shape.{Shape as Declared}
 use Rattle.ar_value.specs.Value.{Value}
 use Rattle.ar_value.specs.View.{shape_view}
 use Rattle.ar_value.specs.declared.fault.Fault.{Fault}
@@ -11,14 +12,20 @@ use Rattle.ar_condition.specs.Meaning.{answer_of, mean}
 use Rattle.ar_condition.specs.Typed.{Typed}
 use Rattle.ar_syntax.specs.Parse.{parse_of}
 use Rattle.ar_check.specs.Check.{checked}
-use Rattle.ar_op.specs.Code.{Code}
+use Rattle.ar_op.specs.Code.{Code, most_entries}
 use Rattle.ar_compile.proofs.Checked.{checked_in_limits}
+use Rattle.ar_compile.specs.Compiled.{compiled}
 use Rattle.ar_compile.specs.Ends.{EndsWith}
+use Rattle.ar_compile.specs.Length.{length_of}
+use Rattle.ar_compile.specs.declared.error.CompileError.{CompileError}
+use Rattle.ar_compile.specs.declared.error.CompileError.TheVariants.{TooManyOps, OutOfMemory}
 use Rattle.ar_operand.proofs.Ends as runs
 use Rattle.ar_operand.specs.Run.{IsDone}
-use Rattle.ar_verified.specs.Verdict.{Verified}
-use Rattle.ar_judge.specs.Condition.{IsBuilt, condition_of, said, typed_of}
-use Rattle.ar_judge.specs.Private.Readiness.{IsReady, IsRunnable, Means}
+use Rattle.ar_verified.specs.Verdict.{IsCause, IsFault, IsVerified, Verified}
+use Rattle.ar_verified.specs.declared.error.Cause.{Cause}
+use Rattle.ar_verified.specs.declared.error.Cause.TheVariants as causes
+use Rattle.ar_judge.specs.Condition.{IsBuilt, IsRefused, condition_of, of_compiler, of_verifier, said, typed_of}
+use Rattle.ar_judge.specs.Private.Readiness.{IsCodeOf, IsReady, Means}
 
 -- a text that is parsed and checked has the tree that was checked
 pub typed_as : (shape : Shape) (text : List ℕ) (tree : Expression) (condition : Typed) → parse_of text ≡ Ok tree → checked shape tree ≡ Ok condition → typed_of shape text ≡ Ok condition
@@ -28,27 +35,43 @@ typed_as shape text tree condition parsed is = rw (parsed, is) refl
 pub in_limits : (shape : Shape) (tree : Expression) (condition : Typed) → WrittenInLimits tree → checked shape tree ≡ Ok condition → InLimits condition
 in_limits shape tree condition written is = checked_in_limits shape tree condition is written
 
--- the verified code of a text's tree is ready to be run
-pub ready : (shape : Shape) (text : List ℕ) (tree : Expression) (condition : Typed) (verified : Verified) → parse_of text ≡ Ok tree → checked shape tree ≡ Ok condition → IsRunnable shape condition verified → IsReady text verified
-ready shape text tree condition verified parsed is runnable =
+-- the code of a text's tree, which isn't too long for it
+pub has_code : (shape : Shape) (text : List ℕ) (tree : Expression) (condition : Typed) (code : Code) → parse_of text ≡ Ok tree → checked shape tree ≡ Ok condition → (most_entries < length_of condition → Ok code ≡ Err TooManyOps) → code ≡ compiled condition → Means shape condition code → IsCodeOf shape text code
+has_code shape text tree condition code parsed is too_long code_is means =
+    let few : most_entries < length_of condition → ⊥ = λ long. let same = too_long long in absurd cc in
+    record { tree = condition; typed = typed_as shape text tree condition parsed is; short = omega (arith, few); code_is = code_is; means = means }
+
+-- a tree that is too long
+pub has_no_code : (shape : Shape) (text : List ℕ) (tree : Expression) (condition : Typed) (error : CompileError) → parse_of text ≡ Ok tree → checked shape tree ≡ Ok condition → (error ≡ TooManyOps → most_entries < length_of condition) → IsRefused shape text (of_compiler error)
+has_no_code shape text tree condition TooManyOps parsed is long = (refl, record { tree = condition; typed = typed_as shape text tree condition parsed is; long = long refl })
+has_no_code shape text tree condition OutOfMemory parsed is long = tt
+
+-- verified, it is ready to be run
+pub ready : (shape : Declared) (text : List ℕ) (code : Code) (verified : Verified) → IsCodeOf (shape_view shape) text code → verified.code ≡ code → verified.shape ≡ shape → IsReady text verified
+ready shape text code verified is code_is shape_is =
     record {
-      tree = condition;
-      typed = subst (λ shape. typed_of shape text ≡ Ok condition) (sym runnable.shape_is) (typed_as shape text tree condition parsed is);
-      means = subst (λ shape. Means shape condition verified.code) (sym runnable.shape_is) (subst (λ code. Means shape condition code) (sym runnable.code_is) (runnable.means tree is));
+      tree = is.tree;
+      typed = subst (λ shape. typed_of (shape_view shape) text ≡ Ok is.tree) (sym shape_is) is.typed;
+      means = subst (λ shape. Means (shape_view shape) is.tree verified.code) (sym shape_is) (subst (λ code. Means (shape_view shape) is.tree code) (sym code_is) is.means);
     }
 
 -- and is what the text is built to
-pub built : (shape : Shape) (text : List ℕ) (tree : Expression) (condition : Typed) (verified : Verified) → parse_of text ≡ Ok tree → checked shape tree ≡ Ok condition → IsRunnable shape condition verified → IsBuilt shape text (condition_of text verified)
-built shape text tree condition verified parsed is runnable =
+pub built : (shape : Declared) (text : List ℕ) (code : Code) (verified : Verified) → IsCodeOf (shape_view shape) text code → verified.code ≡ code → verified.shape ≡ shape → IsVerified code (shape_view shape) verified.budget verified.depth → IsBuilt (shape_view shape) text (condition_of text verified)
+built shape text code verified is code_is shape_is accepted =
     record {
       text_is = refl;
-      shape_is = runnable.shape_is;
-      tree = condition;
-      typed = typed_as shape text tree condition parsed is;
-      short = runnable.short;
-      code_is = runnable.code_is;
-      accepted = runnable.accepted;
+      shape_is = ap shape_view shape_is;
+      tree = is.tree;
+      typed = is.typed;
+      short = is.short;
+      code_is = code_is ∙ is.code_is;
+      accepted = subst (λ code. IsVerified code (shape_view shape) verified.budget verified.depth) is.code_is accepted;
     }
+
+-- code that the verifier refuses is a text's that can't be run
+pub is_unsafe : (shape : Shape) (text : List ℕ) (code : Code) (cause : Cause) → IsCodeOf shape text code → IsCause code shape cause → IsRefused shape text (of_verifier cause)
+is_unsafe shape text code (causes.Fault place reason) is fault = record { tree = is.tree; typed = is.typed; short = is.short; fault = subst (λ code. IsFault code shape place reason) is.code_is fault }
+is_unsafe shape text code causes.OutOfMemory is fault = tt
 
 -- a run of code has one answer
 pub one_answer : (code : Code) (value : Value) (fuel cost : ℕ) (answer meant : Result Bool Fault) → IsDone code value fuel answer cost → EndsWith code value meant → answer ≡ meant

@@ -3,19 +3,18 @@
 ghost use Rattle.std.specs.Prelude.{◌≡◌, Some, true, IfOk, IsOk};
 ghost use Rattle.ar_value.specs.Fits.{fits};
 ghost use Rattle.ar_value.specs.View.{shape_view, value_view};
-ghost use Rattle.ar_condition.specs.Limits.{InLimits};
-ghost use Rattle.ar_condition.specs.Views.{typed_view};
 ghost use Rattle.ar_machine.specs.Filter.{HasNoFilter};
 ghost use Rattle.ar_judge.specs.Condition.{BuildsTo, said};
 ghost use Rattle.ar_judge.specs.Headline.{HeadlineHolds};
-ghost use Rattle.ar_judge.specs.Private.Readiness.{Readies};
+ghost use Rattle.ar_judge.specs.Private.Readiness.{HasCode};
 
 use crate::error::BuildCause;
 use ar_check::check;
 use ar_compile::compile;
-use ar_condition::Typed;
 use ar_machine::{Answer, run};
+use ar_op::code::Code;
 use ar_syntax::parse;
+use ar_value::shape::Shape;
 use ar_value::shared_shape::SharedShape;
 use ar_value::text::Text;
 use ar_value::value::Value;
@@ -23,6 +22,7 @@ use ar_verified::Verified;
 use ar_verify::verify;
 use std::alloc::{AllocError, Global};
 use std::marker::Model;
+use std::mem;
 
 /// A condition's text with its verified code. Contracts see it as the `Condition` of
 /// `specs/Condition`.
@@ -53,18 +53,20 @@ impl Condition {
     /// # Errors
     ///
     /// The first fault of its grammar, of its kinds, or of its code.
-    #[tactic(auto, using(crate::proofs::Running::in_limits, crate::proofs::Running::ready, crate::proofs::Running::built))]
     pub fn build(alloc: Global, text: &str, shape: SharedShape) -> Result<Condition, BuildCause>
         ensures built { BuildsTo (shape_view shape) text.now result }
         // On each value of the shape its code ends within its budget, is never stuck, and answers what the
         // text means.
         ensures headline { IfOk result (HeadlineHolds (shape_view shape) text.now) }
     {
-        let tree = parse(alloc, text)?;
-        let tree = check(alloc, tree, shape.get())?;
-        let verified = runnable(alloc, &tree, shape)?;
-        let text = Text::of(alloc, text)?;
-        Ok(Condition { text, verified })
+        let code = code_of(alloc, text, shape.get())?;
+        match verify(alloc, code, shape) {
+            Ok(verified) => Ok(Condition {
+                text: Text::of(alloc, text)?,
+                verified,
+            }),
+            Err(refused) => Err(refused.cause.into()),
+        }
     }
 
     /// The text that it was built of.
@@ -97,14 +99,13 @@ impl Condition {
     }
 }
 
-/// The verified code of a condition that was checked for a shape.
-fn runnable(alloc: Global, tree: &Typed, shape: SharedShape) -> Result<Verified, BuildCause>
-    requires { InLimits (typed_view tree.now) }
-    ensures { Readies (shape_view shape) (typed_view tree.now) result }
+/// The code of the tree of a text that has kinds where `result` has a shape.
+fn code_of(alloc: Global, text: &str, shape: &Shape) -> Result<Code, BuildCause>
+    ensures { HasCode (shape_view shape.now) text.now result }
 {
-    let code = compile(alloc, tree)?;
-    match verify(alloc, code, shape) {
-        Ok(verified) => Ok(verified),
-        Err(refused) => Err(refused.cause.into()),
-    }
+    let tree = check(alloc, parse(alloc, text)?, shape)?;
+    let code = compile(alloc, &tree);
+    // By a call, which lets go of any tree in one step: here each kind of it would be a step of its own.
+    mem::drop(tree);
+    Ok(code?)
 }

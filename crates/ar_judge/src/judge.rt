@@ -46,7 +46,6 @@ impl Judge {
     ///
     /// The first text, the success condition's before the failure condition's, that is no condition
     /// that can be run, and why.
-    #[tactic(auto, using(crate::proofs::Refusing::success_told, crate::proofs::Refusing::failure_told))]
     pub fn build(
         alloc: Global,
         metric: &BoundMetric,

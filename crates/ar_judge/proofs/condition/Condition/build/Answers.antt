@@ -1,10 +1,16 @@
 use Rattle.std.proofs.Common.{rules}
-use Rattle.ar_value.specs.View.{shape_view}
-use Rattle.ar_condition.specs.Views.{expression_of, typed_view}
-use Rattle.ar_judge.proofs.Headline.{built_holds}
+use Rattle.ar_judge.proofs.Headline.{condition_holds}
+use Rattle.ar_judge.proofs.Running.{built, is_unsafe, ready}
 use Rattle.ar_judge.proofs.condition.Condition.build.Goals as goal
 
-pub returns-clause-headline : goal.returns-clause-headline
-returns-clause-headline c =
-    built_holds (shape_view c.args.shape) c.args.text.now c.in_ok-text.text (expression_of c.in_ok-tree.tree) (typed_view c.in_ok-tree-2.tree) c.in_ok-verified.verified
-    c.in_ok-text.ensures (search rules) (search rules) c.in_ok-verified.ensures
+pub returns-in_ok-of-in-Ok-clause-built : goal.returns-in_ok-of-in-Ok-clause-built
+returns-in_ok-of-in-Ok-clause-built c = search (rules, built)
+
+pub returns-in_ok-of-in-Ok-clause-headline : goal.returns-in_ok-of-in-Ok-clause-headline
+returns-in_ok-of-in-Ok-clause-headline c = condition_holds _ _ _ (returns-in_ok-of-in-Ok-clause-built c)
+
+pub returns-in-Err-clause-built : goal.returns-in-Err-clause-built
+returns-in-Err-clause-built c = search (rules, is_unsafe)
+
+pub invariant_of-result : goal.invariant_of-result
+invariant_of-result c = search (rules, ready)
