@@ -1,21 +1,18 @@
 -- What workers have of a board.
-use Rattle.std.proofs.Common.{◌≡◌, ◌<◌, ◌≤◌, ◌↔◌, ℕ, zero, suc, ◌+◌, ◌==◌, Bool, true, false, List, [], ◌∷◌, ◌++◌, length, get_or, set, Some, Result, Ok, Err, refl, sym, ◌∙◌, ap, subst, arith}
-use Rattle.std.specs.Prelude.{IfErr, cond, slice_get}
+use Rattle.std.proofs.Common.{◌≡◌, ◌<◌, ◌≤◌, ℕ, zero, suc, ◌+◌, ◌==◌, Bool, true, false, List, [], ◌∷◌, ◌++◌, length, get_or, set, Some, refl, sym, ◌∙◌, ap, subst, arith}
+use Rattle.std.specs.Prelude.{cond, slice_get}
 use Rattle.std.proofs.lemmas.Bool.Decides.{nat_tests}
 use Rattle.std.proofs.lemmas.List.{length_push, map_push}
 use Rattle.std.proofs.lemmas.List.Sums.{sum_by_push}
-use Rattle.ar_bundle.specs.Bundle.{Bundle, run_of}
+use Rattle.ar_bundle.specs.Bundle.{Bundle}
 use Rattle.ar_bundle.specs.declared.bundle.EventPart.{EventPart}
-use Rattle.ar_board.specs.Board.{AreSeated, IsUnseen, Seat, received_under, receipts_of, seat_of}
-use Rattle.ar_cell.specs.Cell.{CanBe, Cell, IsCell, IsFresh, authors_at, entries_under, lock_of, posts_of}
+use Rattle.ar_board.specs.Board.{AreSeated, Seat, received_under, receipts_of, seat_of}
+use Rattle.ar_cell.specs.Cell.{entries_under, lock_of}
 use Rattle.ar_board.specs.Private.Closing.{AreGiven, AreOwn}
 use Rattle.ar_board.specs.Private.Seats.{PerLock, AllAre, IsOneMore, IsSeat, at_lock, one_under, receipts_under}
 use Rattle.ar_board.proofs.UnderLocks.{by_four, none_of_each, one_in_all, under_four}
 use Rattle.ar_cell.specs.declared.receipt.Receipt.{Receipt}
 use Rattle.ar_bundle.proofs.HistoryLemmas.{all_push}
-use Rattle.ar_cell.specs.declared.snapshot.LookFault.{LookFault}
-use Rattle.ar_cell.specs.declared.snapshot.LookFault.TheVariants.{OutOfMemory, Stale}
-use Rattle.ar_cell.specs.declared.snapshot.Snapshot.{Snapshot}
 
 -- ---- opening
 
@@ -83,20 +80,7 @@ given_next bundle seats receipts parts amounts part one after after_amounts seat
 pub none_given : (bundle : Bundle) (parts amounts : PerLock) → AllAre 0 parts → AllAre 0 amounts → AreGiven bundle [] [] parts amounts
 none_given bundle parts amounts no_part nothing = record { lists = refl; own = tt; as_many = no_part; counted = none_of_each amounts nothing }
 
-pub nothing_left : {A : Type 0} (xs : List A) → length xs ≡ 0 → xs ≡ []
-nothing_left [] none = refl
-nothing_left (x ∷ xs) none = absurd (omega arith)
-
 -- ---- posting
-
-count_push : (lock : ℕ) (receipts : List Receipt) (receipt : Receipt) → receipts_under lock (receipts ++ receipt ∷ []) ≡ receipts_under lock receipts + one_under (lock_of receipt.run) lock
-count_push lock receipts receipt = by_test (lock_of receipt.run == lock) refl where
-  pushed : receipts_under lock (receipts ++ receipt ∷ []) ≡ receipts_under lock receipts + cond (lock_of receipt.run == lock) 1 0
-  pushed = sum_by_push (λ (receipt : Receipt). cond (lock_of receipt.run == lock) 1 0) receipts receipt
-
-  by_test : (test : Bool) → (lock_of receipt.run == lock) ≡ test → receipts_under lock (receipts ++ receipt ∷ []) ≡ receipts_under lock receipts + one_under (lock_of receipt.run) lock
-  by_test true is = pushed ∙ ap (λ (one : ℕ). receipts_under lock receipts + one) (rw is refl)
-  by_test false is = pushed ∙ ap (λ (one : ℕ). receipts_under lock receipts + one) (rw is refl)
 
 few_now : (bundle : Bundle) (own : ℕ) (before after : PerLock) → IsOneMore bundle own before after → ((lock : ℕ) → at_lock before lock ≤ entries_under bundle lock) → (lock : ℕ) → at_lock after lock ≤ entries_under bundle lock
 few_now bundle own before after one few lock = by_test (own == lock) refl where
@@ -129,36 +113,3 @@ has_room bundle workers worker own capacity receipts parts before after seat bel
     let room = seat.room in
     let single = one_in_all own below in
     omega arith
-
-pub seat_next : (bundle : Bundle) (workers worker run number place capacity : ℕ) (receipts : List Receipt) (parts after_parts before after : PerLock) → IsSeat bundle workers worker receipts capacity parts before → run_of bundle number ≡ Some run → IsOneMore bundle (lock_of run) before after → AllAre 1 after_parts
-    → IsSeat bundle workers worker (receipts ++ record { run = run; number = number; place = place } ∷ []) capacity after_parts after
-seat_next bundle workers worker run number place capacity receipts parts after_parts before after seat own one single =
-    let receipt : Receipt = record { run = run; number = number; place = place } in
-    record {
-      is_worker = seat.is_worker;
-      own = all_push (λ (receipt : Receipt). run_of bundle receipt.number ≡ Some receipt.run) receipts receipt seat.own own;
-      room = seat.room;
-      part = single;
-      counted = λ lock.
-          let counted = seat.counted lock in
-          let more = one.more lock in
-          let pushed = count_push lock receipts receipt in
-          omega arith;
-      few = few_now bundle (lock_of run) before after one seat.few;
-    }
-
--- ---- looking
-
--- why a cell shows nothing of a run is why a look doesn't
-pub unseen : (bundle : Bundle) (workers lock run : ℕ) (seat : Seat) (cell : Cell) (result : Result Snapshot LookFault) → lock ≡ lock_of run → IsCell bundle workers lock cell
-    → ((IsFresh cell run seat.worker seat.receipts → ⊥) ↔ (result ≡ Err (Stale (posts_of seat.worker (authors_at cell run)))))
-    → IfErr result (CanBe seat.worker (authors_at cell run)) → IfErr result (IsUnseen bundle workers run seat)
-unseen bundle workers lock run seat cell (Ok shown) same is stale fault = tt
-unseen bundle workers lock run seat cell (Err OutOfMemory) same is stale fault = tt
-unseen bundle workers lock run seat cell (Err (Stale posts)) same is stale fault =
-    record {
-      cell = cell;
-      is = subst (λ (lock : ℕ). IsCell bundle workers lock cell) same is;
-      as_many = fault;
-      not_fresh = stale.1 (ap (λ (posts : ℕ). Err (Stale posts)) fault);
-    }

@@ -8,6 +8,7 @@ ghost use Rattle.ar_board.specs.Private.Seats.{AllAre, IsOneMore, per_lock};
 ghost use Rattle.ar_cell.specs.Cell.{lock_of};
 
 use crate::closing::{Room, first_unheld, note_all_stored, note_all_unmet};
+use crate::holding::both;
 use crate::locks::{Blanks, First, Fourth, LockNames, Second, Third};
 use crate::lost::Lost;
 use crate::seat::{Seat, gather, seats_of};
@@ -67,24 +68,26 @@ impl<'b, M: BundleName, L: LockNames> Board<'b, M, L> {
         requires parts { L.parts ≡ M.workers }
         ensures seats { IfOk result (λ made. AreSeated M.workers made.1.items) }
     {
-        let Blanks {
-            first,
-            second,
-            third,
-            fourth,
-        } = blanks;
-        let (first, all_first) = under::open::<M, First<L>>(alloc, first, bundle, workers, 0)?;
-        let (second, all_second) = under::open::<M, Second<L>>(alloc, second, bundle, workers, 1)?;
-        let (third, all_third) = under::open::<M, Third<L>>(alloc, third, bundle, workers, 2)?;
-        let (fourth, all_fourth) = under::open::<M, Fourth<L>>(alloc, fourth, bundle, workers, 3)?;
+        let (first, all_first) = blanks.first.open();
+        let (second, all_second) = blanks.second.open();
+        let (third, all_third) = blanks.third.open();
+        let (fourth, all_fourth) = blanks.fourth.open();
         let all = Shares {
             first: all_first,
             second: all_second,
             third: all_third,
             fourth: all_fourth,
         };
-        let seats = seats_of(alloc, workers, bundle.events(), all)?;
-        let room = Room::new(alloc, bundle.runs().len(), workers, bundle.events())?;
+        let seats = seats_of(alloc, bundle, workers, all)?;
+        let (first, second) = both(
+            under::open(alloc, first, bundle, workers, 0),
+            under::open(alloc, second, bundle, workers, 1),
+        )?;
+        let (third, fourth) = both(
+            under::open(alloc, third, bundle, workers, 2),
+            under::open(alloc, fourth, bundle, workers, 3),
+        )?;
+        let room = Room::new(alloc, bundle, workers)?;
         let board = Board {
             bundle,
             first,

@@ -7,7 +7,7 @@ ghost use Rattle.ar_bundle.specs.Bundle.{IsBundle};
 ghost use Rattle.ar_bundle.specs.Lawful.{numbers_of, times, times_in};
 ghost use Rattle.ar_board.specs.Private.Closing.{AreAllMarked, AreInside, AreMarked, AreOwn, AreStored, FirstUnheld, IsAt, IsBehind, IsLaterOf};
 
-use ar_bundle::{BundleName, Entry, History};
+use ar_bundle::{Bundle, BundleName, Entry, History};
 use ar_cell::Receipt;
 use std::alloc::{AllocError, Global};
 
@@ -28,24 +28,20 @@ pub(crate) struct Room {
 }
 
 impl Room {
-    /// For so many runs, workers and numbers.
-    pub(crate) fn new(
-        alloc: Global,
-        runs: usize,
-        workers: usize,
-        events: u64,
-    ) -> Result<Room, AllocError>
-        ensures histories { IfOk result (λ room. length room.histories.items ≡ runs) }
+    /// For the runs and numbers of a bundle and so many workers.
+    pub(crate) fn new(alloc: Global, bundle: &Bundle, workers: usize) -> Result<Room, AllocError>
+        ensures histories { IfOk result (λ room. length room.histories.items ≡ length bundle.now.runs) }
         ensures no_receipts { IfOk result (λ room. room.receipts.items ≡ []) }
         ensures receipt_room { IfOk result (λ room. workers ≤ vec_capacity room.receipts) }
-        ensures none_unmet { IfOk result (λ room. room.unmet.items ≡ replicate events false) }
-        ensures none_stored { IfOk result (λ room. room.stored.items ≡ replicate events false) }
+        ensures none_unmet { IfOk result (λ room. room.unmet.items ≡ replicate (length bundle.now.entries) false) }
+        ensures none_stored { IfOk result (λ room. room.stored.items ≡ replicate (length bundle.now.entries) false) }
     {
+        let numbers = bundle.events() as usize;
         Ok(Room {
-            histories: no_histories(alloc, runs)?,
+            histories: no_histories(alloc, bundle.runs().len())?,
             receipts: Vec::with_capacity(alloc, workers)?,
-            unmet: vec![in alloc; false; events as usize]?,
-            stored: vec![in alloc; false; events as usize]?,
+            unmet: vec![in alloc; false; numbers]?,
+            stored: vec![in alloc; false; numbers]?,
         })
     }
 }
@@ -56,7 +52,7 @@ fn no_histories(alloc: Global, runs: usize) -> Result<Vec<History>, AllocError>
 {
     let mut histories = Vec::with_capacity(alloc, runs)?;
     for _run in 0..runs {
-        histories.push(History::new(alloc))?;
+        histories.push_reserved(History::new(alloc));
     }
     Ok(histories)
 }

@@ -9,10 +9,12 @@
 //! - [`locks`]: the four locks, and what names their ledgers; `shares`: shares of these
 //! - [`seat`]: what a worker has of a board
 //! - `closing`, [`lost`]: which numbers are lost
+//! - `holding`: values that are made beside one another
 #![tactic(auto)]
 
 pub mod board;
 mod closing;
+mod holding;
 pub mod locks;
 pub mod lost;
 pub mod seat;

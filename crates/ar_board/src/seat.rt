@@ -8,7 +8,7 @@ ghost use Rattle.ar_board.specs.Private.Seats.{AllAre, per_lock};
 
 use crate::locks::LockNames;
 use crate::shares::Shares;
-use ar_bundle::BundleName;
+use ar_bundle::{Bundle, BundleName};
 use ar_cell::Receipt;
 use std::alloc::{AllocError, Global};
 use std::marker::{Model, PhantomData};
@@ -17,12 +17,12 @@ use std::marker::{Model, PhantomData};
 #[tactic(auto, using(crate::proofs::Seats::none_seated, crate::proofs::Seats::seated_next))]
 pub(crate) fn seats_of<M: BundleName, L: LockNames>(
     alloc: Global,
+    bundle: &Bundle,
     workers: usize,
-    events: u64,
     mut all: Shares<L>,
 ) -> Result<Vec<Seat<M, L>>, AllocError>
+    requires bundle { bundle.now ≡ M.bundle }
     requires workers { workers ≡ M.workers }
-    requires events { events ≡ length M.bundle.entries }
     requires parts { AllAre workers (per_lock all.first.parts all.second.parts all.third.parts all.fourth.parts) }
     requires without { AllAre 0 (per_lock all.first.amount all.second.amount all.third.amount all.fourth.amount) }
     ensures { IfOk result (λ seats. AreSeated workers seats.items) }
@@ -30,7 +30,7 @@ pub(crate) fn seats_of<M: BundleName, L: LockNames>(
     let mut seats = Vec::with_capacity(alloc, workers)?;
     for worker in 0..workers {
         let shares = all.split_off();
-        seats.push(Seat::new(alloc, worker, events, shares)?)?;
+        seats.push_reserved(Seat::new(alloc, bundle, worker, shares)?);
     }
     Ok(seats)
 }
@@ -94,12 +94,12 @@ impl<M: BundleName, L: LockNames> Seat<M, L> {
     /// That of a worker that has posted nothing, with a part of each lock's ledger.
     pub(crate) fn new(
         alloc: Global,
+        bundle: &Bundle,
         worker: usize,
-        events: u64,
         shares: Shares<L>,
     ) -> Result<Seat<M, L>, AllocError>
+        requires bundle { bundle.now ≡ M.bundle }
         requires worker { worker < M.workers }
-        requires events { events ≡ length M.bundle.entries }
         requires parts { AllAre 1
             (per_lock shares.first.parts shares.second.parts shares.third.parts shares.fourth.parts) }
         requires nothing { AllAre 0
@@ -108,7 +108,7 @@ impl<M: BundleName, L: LockNames> Seat<M, L> {
     {
         Ok(Seat {
             worker,
-            receipts: Vec::with_capacity(alloc, events as usize)?,
+            receipts: Vec::with_capacity(alloc, bundle.events() as usize)?,
             shares,
             name: PhantomData,
         })

@@ -9,28 +9,24 @@ ghost use Rattle.ar_cell.specs.Cell.{IsUnder, entries_under, lock_of};
 use ar_bundle::{Bundle, BundleName, Finding, History};
 use ar_cell::{Double, LockName, LookFault, Posted, Receipt, RunCell, Snapshot};
 use std::alloc::{AllocError, Global};
-use std::sync::ledger::{Blank, Share};
+use std::sync::ledger::{Book, Share};
 use std::sync::{Mutex, Wait};
 
-/// A lock with its cell, to which nothing was posted, and all parts of its ledger.
+/// A lock with its cell, to which nothing was posted, with the book of the lock's ledger.
 pub(crate) fn open<'b, M: BundleName, L: LockName>(
     alloc: Global,
-    blank: Blank,
+    book: Book<L>,
     bundle: &'b Bundle,
     workers: usize,
     lock: usize,
-) -> Result<(Mutex<RunCell<'b, M, L>>, Share<L>), AllocError>
+) -> Result<Mutex<RunCell<'b, M, L>>, AllocError>
     requires bundle { bundle.now ≡ M.bundle }
     requires workers { workers ≡ M.workers }
     requires lock { lock ≡ L.lock }
-    requires name { blank.name ≡ L.name }
-    requires parts { blank.parts ≡ L.parts }
-    ensures parts { IfOk result (λ made. made.1.parts ≡ L.parts) }
-    ensures nothing { IfOk result (λ made. made.1.amount ≡ 0) }
+    requires book { book.total ≡ 0 }
 {
-    let (book, share) = blank.open::<L>();
     let cell = RunCell::new(alloc, bundle, workers, lock, book)?;
-    Ok((Mutex::new(cell), share))
+    Ok(Mutex::new(cell))
 }
 
 /// A worker's finding of a number goes to the end of its run's history, and its share is one more: no
