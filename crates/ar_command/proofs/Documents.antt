@@ -80,10 +80,10 @@ of_known : (P : List ℕ → Type 0) (bytes : List ℕ) (known : Option (List �
 of_known P bytes None same says = tt
 of_known P bytes (Some input) same says = says input same
 
-pub said_of_whole : (known after : Option (List ℕ)) (bytes : List ℕ) (command : Command) (text : List ℕ) (closing : Closing) → ReadsUpToLimit known after bytes → Says command bytes text closing → IfSome known (λ input. Says command input text closing)
+said_of_whole : (known after : Option (List ℕ)) (bytes : List ℕ) (command : Command) (text : List ℕ) (closing : Closing) → ReadsUpToLimit known after bytes → Says command bytes text closing → IfSome known (λ input. Says command input text closing)
 said_of_whole known after bytes command text closing reads says = of_known (λ input. Says command input text closing) bytes known (same_json known after bytes reads) (λ input same. says_too input bytes same command text closing says)
 
-pub refused_of_whole : (known after : Option (List ℕ)) (bytes : List ℕ) (command : Command) (refusal : Refusal) → ReadsUpToLimit known after bytes → Refuses command bytes refusal → IfSome known (λ input. Refuses command input refusal)
+refused_of_whole : (known after : Option (List ℕ)) (bytes : List ℕ) (command : Command) (refusal : Refusal) → ReadsUpToLimit known after bytes → Refuses command bytes refusal → IfSome known (λ input. Refuses command input refusal)
 refused_of_whole known after bytes command refusal reads refuses = of_known (λ input. Refuses command input refusal) bytes known (same_json known after bytes reads) (λ input same. refuses_too input bytes same command refusal refuses)
 
 pub refused_by : (known after : Option (List ℕ)) (bytes : List ℕ) (command : Command) (Q : WorkError → Type 0) (error : ServeError) (refusal : Refusal) → ReadsUpToLimit known after bytes → IfUnanswered {A = Bool} (Err error) (Refuses command bytes) Q → error ≡ Refused refusal → IfSome known (λ input. Refuses command input refusal)

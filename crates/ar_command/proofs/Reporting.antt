@@ -1,15 +1,41 @@
 -- Lawful histories can be reported.
-use Rattle.std.proofs.Common.{ℕ, List, Ok}
+use Rattle.std.proofs.Common.{◌≡◌, ℕ, List, Result, Ok, Err, string_bytes, subst, sym}
+use Rattle.std.specs.Prelude.{IfOk}
 use Rattle.ar_bundle.specs.Bundle.{Bundle}
 use Rattle.ar_bundle.specs.Lawful.{AllRise, AreHistoriesSoFar, AreLawful}
 use Rattle.ar_bundle.specs.declared.history.Entry.{Entry}
 use Rattle.ar_bundle.proofs.SoFar.{lawful_are_so_far}
 use Rattle.ar_document.specs.Document.{ReadsInput}
-use Rattle.ar_command.specs.Serving.{IsReported, ReportsInOrder}
+use Rattle.ar_command.specs.Private.Refusing.{IfBroken, IfUnanswered}
+use Rattle.ar_command.specs.Serving.{Breaks, IsCauseOf, IsReported, Refuses, ReportsInOrder, Says}
+use Rattle.ar_command.specs.declared.answer.Said.{Said}
 use Rattle.ar_command.specs.declared.serving.Closing.{Closing}
+use Rattle.ar_command.specs.declared.serving.ServeError.{ServeError}
+use Rattle.ar_command.specs.declared.serving.ServeError.TheVariants.{OutOfMemory, Read, Refused, Work, Write}
+use Rattle.ar_command_line.specs.declared.command_line.Command.{Command}
+use Rattle.ar_command_line.specs.declared.command_line.Command.TheVariants as commands
 
 pub lawful : (bundle : Bundle) (histories : List (List Entry)) → AreLawful bundle histories → AreHistoriesSoFar bundle histories
 lawful = lawful_are_so_far
 
 pub in_order : (input text : List ℕ) (closing : Closing) (bundle : Bundle) (histories : List (List Entry)) → ReadsInput input (Ok bundle) → AllRise histories → IsReported bundle histories text closing → ReportsInOrder input text closing
 in_order input text closing bundle histories reads rise reported = record { reports = record { bundle = bundle; reads = reads; histories = histories; reported = reported }; rise = rise }
+
+-- what is said of the bundle of an input is said of the input
+module _ (command : Command) (workers : ℕ) (input : List ℕ) (bundle : Bundle) (reads : ReadsInput input (Ok bundle)) where
+  pub posted_says : command ≡ commands.Run workers → (result : Result Said ServeError) → IfOk result (λ said. (histories : List (List Entry)) × IsReported bundle histories (string_bytes said.text) said.closing) → IfOk result (λ said. Says command input (string_bytes said.text) said.closing)
+  posted_says is (Ok said) run = subst (λ command. Says command input (string_bytes said.text) said.closing) (sym is) (record { bundle = bundle; reads = reads; histories = run.0; reported = run.1 })
+  posted_says is (Err error) run = tt
+
+  pub in_order_says : command ≡ commands.Ordered workers → (result : Result Said ServeError) → IfOk result (λ said. (histories : List (List Entry)) × AllRise histories × IsReported bundle histories (string_bytes said.text) said.closing) → IfOk result (λ said. Says command input (string_bytes said.text) said.closing)
+  in_order_says is (Ok said) run = subst (λ command. Says command input (string_bytes said.text) said.closing) (sym is) (in_order input (string_bytes said.text) said.closing bundle run.0 reads run.1 run.2)
+  in_order_says is (Err error) run = tt
+
+-- and why its workers ended
+pub breaks : (command own : Command) (input : List ℕ) (bundle : Bundle) → ReadsInput input (Ok bundle) → command ≡ own → {A : Type 0} (result : Result A ServeError) → IfBroken result (IsCauseOf own bundle) → IfUnanswered result (Refuses command input) (Breaks command input)
+breaks command own input bundle reads is (Ok x) broken = tt
+breaks command own input bundle reads is (Err (Refused refusal)) broken = absurd broken
+breaks command own input bundle reads is (Err (Work error)) broken = record { bundle = bundle; reads = reads; cause = subst (λ command. IsCauseOf command bundle error) (sym is) broken.0; not_memory = broken.1 }
+breaks command own input bundle reads is (Err OutOfMemory) broken = tt
+breaks command own input bundle reads is (Err Read) broken = absurd broken
+breaks command own input bundle reads is (Err Write) broken = absurd broken

@@ -2,6 +2,7 @@
 use Rattle.std.specs.Prelude.{◌≡◌, ◌≢◌, ◌≤◌, ℕ, Bool, true, false, List, ◌++◌, Option, codes, map, if◌then◌else◌, Result, Ok, Err}
 use Rattle.std.specs.Io.KnownBytes.{Appends}
 use Rattle.std.specs.List.{list_any}
+use Rattle.ar_value.specs.Fault.{fault_name}
 use Rattle.ar_value.specs.declared.fault.Fault.{Fault}
 use Rattle.ar_limits.specs.Metric.{is_unsuccessful}
 use Rattle.ar_limits.specs.declared.phase.Phase.{Phase}
@@ -9,7 +10,6 @@ use Rattle.ar_bundle.specs.Bundle.{Bundle}
 use Rattle.ar_bundle.specs.Lawful.{AllRise, AreLawful, numbers_of}
 use Rattle.ar_bundle.specs.declared.history.Entry.{Entry}
 use Rattle.ar_report.specs.Check.{check_text, list_text}
-use Rattle.ar_report.specs.Names.{fault_name}
 use Rattle.ar_report.specs.Report.{report, run_phases}
 use Rattle.ar_document.specs.Document as document
 use Rattle.ar_document.specs.declared.error.BundleError.{BundleError}

@@ -6,9 +6,9 @@ ghost use Rattle.ar_bundle.specs.Lawful.{AllRise, AreLawful};
 ghost use Rattle.ar_bundle.specs.declared.history.Entry.{Entry};
 ghost use Rattle.ar_limits.specs.Metric.{is_unsuccessful};
 ghost use Rattle.ar_report.specs.Check.{check_text, list_text};
-ghost use Rattle.ar_command.specs.Private.Refusing.{IfRefused, IfUnanswered};
-ghost use Rattle.ar_command.specs.Serving.{Breaks, IsReported, Refuses, Reports, ReportsInOrder, RunsAlone};
-ghost use Rattle.ar_command.specs.Serving.{RunsWith, Says, Shows, Writes, closing_of, line_of};
+ghost use Rattle.ar_command.specs.Private.Refusing.{IfBroken, IfRefused, IfUnanswered};
+ghost use Rattle.ar_command.specs.Serving.{Breaks, IsCauseOf, IsReported, Refuses, ReportsInOrder, RunsAlone, RunsWith};
+ghost use Rattle.ar_command.specs.Serving.{Says, closing_of, line_of};
 ghost use Rattle.ar_command.specs.declared.serving.Closing.TheVariants.{Good};
 ghost use Rattle.ar_command_line.specs.declared.command_line.Command.TheVariants as commands;
 
@@ -21,7 +21,7 @@ use ar_eval::evaluate;
 use ar_limits::Phase;
 use ar_machine::Answer;
 use ar_plain::run_plain;
-use ar_report::{check_text, fault_name, list_text, report, run_phases};
+use ar_report::{check_text, list_text, report, run_phases};
 use ar_workers::{Gate, run_all, run_ordered};
 use std::alloc::{AllocError, Global};
 use std::sync::Wait;
@@ -61,9 +61,10 @@ pub(crate) fn judged<G: Gate, R: Threads + Wait + Sync>(
     ensures said { IfOk result (λ said. Says command input.now (string_bytes said.text) said.closing) }
     ensures ends { IfUnanswered result (Refuses command input.now) (Breaks command input.now) }
 {
+    let bundle = read_bundle(alloc, input)?;
     match command {
-        Command::Run(workers) => posted(rt, alloc, workers, input, gate),
-        Command::Ordered(workers) => put_in_order(rt, alloc, workers, input, gate),
+        Command::Run(workers) => posted(rt, alloc, workers, &bundle, gate),
+        Command::Ordered(workers) => put_in_order(rt, alloc, workers, &bundle, gate),
         Command::Eval | Command::Check | Command::List | Command::Plain => unreachable!(),
     }
 }
@@ -73,17 +74,16 @@ fn posted<G: Gate, R: Threads + Wait + Sync>(
     rt: &R,
     alloc: Global,
     workers: usize,
-    input: &[u8],
+    bundle: &Bundle,
     gate: &G,
 ) -> Result<Said, ServeError>
     requires { (1 ≤ workers) × (workers ≤ MOST_WORKERS) }
-    ensures said { IfOk result (λ said. Reports input.now (string_bytes said.text) said.closing) }
-    ensures ends { IfUnanswered result
-        (Refuses (commands.Run workers) input.now) (Breaks (commands.Run workers) input.now) }
+    ensures said { IfOk result (λ said. (histories : List (List Entry))
+        × IsReported bundle.now histories (string_bytes said.text) said.closing) }
+    ensures ends { IfBroken result (IsCauseOf (commands.Run workers) bundle.now) }
 {
-    let bundle = read_bundle(alloc, input)?;
-    let histories = run_all(rt, alloc, &bundle, workers, gate)?;
-    Ok(report_of(alloc, &bundle, &histories)?)
+    let histories = run_all(rt, alloc, bundle, workers, gate)?;
+    Ok(report_of(alloc, bundle, &histories)?)
 }
 
 /// What a run says whose workers judge and whose numbers are applied in their order.
@@ -91,17 +91,16 @@ fn put_in_order<G: Gate, R: Threads + Wait + Sync>(
     rt: &R,
     alloc: Global,
     workers: usize,
-    input: &[u8],
+    bundle: &Bundle,
     gate: &G,
 ) -> Result<Said, ServeError>
     requires { (1 ≤ workers) × (workers ≤ MOST_WORKERS) }
-    ensures said { IfOk result (λ said. ReportsInOrder input.now (string_bytes said.text) said.closing) }
-    ensures ends { IfUnanswered result
-        (Refuses (commands.Ordered workers) input.now) (Breaks (commands.Ordered workers) input.now) }
+    ensures said { IfOk result (λ said. (histories : List (List Entry)) × AllRise histories
+        × IsReported bundle.now histories (string_bytes said.text) said.closing) }
+    ensures ends { IfBroken result (IsCauseOf (commands.Ordered workers) bundle.now) }
 {
-    let bundle = read_bundle(alloc, input)?;
-    let histories = run_ordered(rt, alloc, &bundle, workers, gate)?;
-    Ok(report_of(alloc, &bundle, &histories)?)
+    let histories = run_ordered(rt, alloc, bundle, workers, gate)?;
+    Ok(report_of(alloc, bundle, &histories)?)
 }
 
 /// The line of what a condition says.
@@ -114,7 +113,7 @@ fn line(alloc: Global, answer: Answer) -> Result<String, AllocError>
         Ok(false) => out.push_str("false\n")?,
         Err(fault) => {
             out.push_str("fault ")?;
-            out.push_str(fault_name(fault))?;
+            out.push_str(fault.name())?;
             out.push_str("\n")?;
         }
     }

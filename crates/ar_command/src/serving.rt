@@ -27,9 +27,9 @@ pub enum Closing {
 /// Why an input is refused.
 #[derive(Clone, Copy, Debug, Error)]
 pub enum Refusal {
-    #[error("{0}")]
+    #[error(transparent)]
     Eval(EvalError),
-    #[error("{0}")]
+    #[error(transparent)]
     Bundle(BundleError),
 }
 
@@ -38,9 +38,9 @@ pub enum Refusal {
 pub enum ServeError {
     #[error("input: Read: the input can't be read")]
     Read,
-    #[error("{0}")]
+    #[error(transparent)]
     Refused(Refusal),
-    #[error("{0}")]
+    #[error(transparent)]
     Work(WorkError),
     #[error("output: Write: the output can't be written")]
     Write,
@@ -122,7 +122,6 @@ impl From<AllocError> for ServeError {
 ///
 /// `Read` and `Write` where the reader or the writer failed, `Refused` for the first fault of the
 /// document, `Work` where a thread couldn't be started or a number was lost.
-#[tactic(auto, using(crate::proofs::Documents::said_of_whole, crate::proofs::Documents::refused_of_whole))]
 pub fn serve<S: Source, W: Sink, G: Gate, R: Threads + Wait + Sync>(
     rt: &R,
     alloc: Global,
@@ -174,7 +173,6 @@ pub fn serve<S: Source, W: Sink, G: Gate, R: Threads + Wait + Sync>(
 ///
 /// `Read` and `Write` where the reader or the writer failed, `Refused` for the first fault of the
 /// document.
-#[tactic(auto, using(crate::proofs::Documents::said_of_whole, crate::proofs::Documents::refused_of_whole))]
 pub fn serve_plain<S: Source, W: Sink>(
     alloc: Global,
     command: Command,

@@ -10,8 +10,9 @@ use Rattle.ar_cell.specs.declared.receipt.Receipt.{Receipt}
 use Rattle.ar_queue.specs.Rule.{HasTakenAll, IsDone}
 use Rattle.ar_queue.specs.declared.queue.View.{View}
 use Rattle.ar_queue.specs.Workers.{AreNamed, IsFeeder}
-use Rattle.ar_workers.specs.Joined.{IsCause, IsNotLost, NameEachOnce, named_by}
+use Rattle.ar_workers.specs.Joined.{IsCause, IsNotLost, IsShown, NameEachOnce, named_by}
 use Rattle.ar_workers.specs.Private.Early.{told}
+use Rattle.ar_workers.specs.Private.Settling.{AreEachOnce}
 use Rattle.ar_queue.specs.declared.side_by_side.Unfinished.{Unfinished}
 use Rattle.ar_queue.specs.declared.side_by_side.Unfinished.TheVariants as early
 use Rattle.ar_workers.specs.declared.error.WorkError.{WorkError}
@@ -24,8 +25,11 @@ pub is_not_lost : (cause : Unfinished) (error : WorkError) → error ≡ told ca
 is_not_lost early.NoThread error is = subst IsNotLost (sym is) tt
 is_not_lost early.OutOfMemory error is = subst IsNotLost (sym is) tt
 
-pub each_once : (events : ℕ) (view : View) (numbers : List ℕ) (receipts : List (List Receipt)) (doubles : List ℕ) → HasTakenAll events view → AreNamed view.taken numbers → ((number : ℕ) → times_in number (named_by receipts) + times_in number doubles ≡ times_in number numbers) → NameEachOnce events receipts doubles
-each_once events view numbers receipts doubles all are named number = named number ∙ sym (are number) ∙ all number
+pub are_each_once : (events : ℕ) (before after : View) (numbers : List ℕ) → after ≡ before → HasTakenAll events after → AreNamed before.taken numbers → AreEachOnce events numbers
+are_each_once events before after numbers same all are number = sym (are number) ∙ (ap (λ (view : View). times_in number view.taken) (sym same) ∙ all number)
+
+pub each_once : (events : ℕ) (numbers : List ℕ) (receipts : List (List Receipt)) (doubles : List ℕ) → AreEachOnce events numbers → ((number : ℕ) → times_in number (named_by receipts) + times_in number doubles ≡ times_in number numbers) → NameEachOnce events receipts doubles
+each_once events numbers receipts doubles are named number = named number ∙ are number
 
 fresh_from : (seats : List Seat) → ((at : ℕ) (seat : Seat) → slice_get seats at ≡ Some seat → seat.receipts ≡ []) → AllByRecursion (λ (seat : Seat). seat.receipts ≡ []) seats
 fresh_from [] each = tt
@@ -43,6 +47,9 @@ all_fresh workers seats are = fresh_from seats (λ at seat there.
     let is : Some seat ≡ Some (seat_of at []) = sym there ∙ are.each at (omega arith) in
     (let same : seat ≡ seat_of at [] = cc in ap (λ (seat : Seat). seat.receipts) same))
 
--- what closing gave for the seats' receipts it gave for those that are handed out
-pub handed_out : (bundle : Bundle) (receipts : List (List Receipt)) (lost : Losing) → IsLost bundle receipts lost → IsLost bundle (map (λ own. own.items) lost.receipts.items) lost
-handed_out bundle receipts lost is = subst (λ own. IsLost bundle own lost) (sym is.same_receipts) is
+-- what closing gave for the seats' receipts, and what these and the doubles name, shows it by those that are handed out
+pub shown : (bundle : Bundle) (receipts : List (List Receipt)) (lost : Losing) (doubles : List ℕ) → NameEachOnce (length bundle.entries) receipts doubles → IsLost bundle receipts lost → IsShown bundle lost doubles
+shown bundle receipts lost doubles once is = record {
+  each_once = subst (λ own. NameEachOnce (length bundle.entries) own doubles) (sym is.same_receipts) once;
+  losing = subst (λ own. IsLost bundle own lost) (sym is.same_receipts) is;
+}

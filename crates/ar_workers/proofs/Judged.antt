@@ -9,11 +9,11 @@ use Rattle.ar_bundle.specs.declared.bundle.EventPart.{EventPart}
 use Rattle.ar_bundle.specs.Lawful.{times_in}
 use Rattle.ar_bundle.specs.declared.finding.Finding.{Finding}
 use Rattle.ar_bundle.proofs.HistoryLemmas.{at_set_other, at_set_same, times_push}
-use Rattle.ar_queue.specs.Rule.{HasTakenAll, once_below}
-use Rattle.ar_queue.specs.declared.queue.View.{View}
+use Rattle.ar_queue.specs.Rule.{once_below}
 use Rattle.ar_queue.proofs.Steps.{times_both}
-use Rattle.ar_queue.specs.Workers.{AreNamed, IsNamed, all_named}
+use Rattle.ar_queue.specs.Workers.{IsNamed, all_named}
 use Rattle.ar_workers.specs.Private.Judging.{AreJudged, AreKnown, IsKnown, numbers_judged}
+use Rattle.ar_workers.specs.Private.Settling.{AreEachOnce}
 use Rattle.ar_workers.specs.declared.judging.Judged.{Judged}
 
 -- ---- one number more is judged
@@ -41,8 +41,11 @@ inside_by_entry : (bundle : Bundle) (number : ℕ) (finding : Finding) (entry : 
 inside_by_entry bundle number finding (Some entry) there is = slice_get_within bundle.entries number entry there
 inside_by_entry bundle number finding None there is = absurd cc
 
-pub found_inside : (bundle : Bundle) (number : ℕ) (finding : Finding) → found bundle number ≡ Some finding → number < length bundle.entries
+found_inside : (bundle : Bundle) (number : ℕ) (finding : Finding) → found bundle number ≡ Some finding → number < length bundle.entries
 found_inside bundle number finding is = inside_by_entry bundle number finding (slice_get bundle.entries number) refl is
+
+pub judged_inside : (bundle : Bundle) (one : Judged) (judged : List Judged) → AreJudged bundle (one ∷ judged) → one.number < length bundle.entries
+judged_inside bundle one judged are = found_inside bundle one.number one.finding (first_judged bundle one judged are).0
 
 known_by_test : (bundle : Bundle) (number : ℕ) (one : Judged) (table : List (Option Finding)) (test : Bool) → (number == one.number) ≡ test → one.number < length table → found bundle one.number ≡ Some one.finding → IsKnown bundle table number → IsKnown bundle (set table one.number (Some one.finding)) number
 known_by_test bundle number one table true is less judged known =
@@ -101,11 +104,10 @@ by_test : (number events : ℕ) (test : Bool) → nat_lt number events ≡ test 
 by_test number events true is less = rw is refl
 by_test number events false is less = absurd (grind (arith, nat_tests))
 
-pub all_known : (bundle : Bundle) (view : View) (numbers : List ℕ) (table : List (Option Finding)) → HasTakenAll (length bundle.entries) view → AreNamed view.taken numbers → AreKnown bundle numbers table → (number : ℕ) → number < length bundle.entries → IsKnown bundle table number
-all_known bundle view numbers table all named known number less =
+pub all_known : (bundle : Bundle) (numbers : List ℕ) (table : List (Option Finding)) → AreEachOnce (length bundle.entries) numbers → AreKnown bundle numbers table → (number : ℕ) → number < length bundle.entries → IsKnown bundle table number
+all_known bundle numbers table each known number less =
     let once = by_test number (length bundle.entries) (nat_lt number (length bundle.entries)) refl less in
-    let taken = all number in
-    let is = named number in
+    let is = each number in
     known number (omega arith)
 
 pub known_inside : (bundle : Bundle) (number : ℕ) (table : List (Option Finding)) → IsKnown bundle table number → number < length table

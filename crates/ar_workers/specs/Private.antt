@@ -1,3 +1,4 @@
 -- Definitions of private contracts, which follow the code: a reader need not believe them.
 pub mod Early
 pub mod Judging
+pub mod Settling

@@ -72,7 +72,6 @@ pub(crate) fn empty_desks<M: BundleName>(
 }
 
 /// Puts what was judged at one desk into a table by number.
-#[tactic(auto, using(crate::proofs::Judged::known_first))]
 fn put<M: BundleName>(desk: Judging<M>, table: &mut Vec<Option<Finding>>)
     requires size { length table.old.items ≡ length M.bundle.entries }
     ensures size { length table.new.items ≡ length table.old.items }

@@ -7,8 +7,9 @@
 //! it in the order of the numbers, which then rise in each history; no number can be lost. [`run_plain`]
 //! of `ar_plain` does so in one thread. A caller sees and may hold what workers do by a [`Gate`].
 //!
-//! - `running`: the queue is made, workers post, the board is closed; `ordered`: workers judge, and their
-//!   findings are put in order
+//! - `running`: workers post, the board is closed; `ordered`: workers judge, and their findings are put in
+//!   order
+//! - `settling`: the queue is made, and each number is settled at one desk
 //! - `posting`: a worker's desk that posts a number; `judging`: one that keeps it
 //! - `error`: why there are no histories; [`laws`]: why a number is lost
 //!
@@ -21,6 +22,7 @@ pub mod laws;
 mod ordered;
 mod posting;
 mod running;
+mod settling;
 
 pub use ar_plain::run_plain;
 pub use ar_queue::{FreeGate, Gate};

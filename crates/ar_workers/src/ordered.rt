@@ -1,20 +1,18 @@
 //! Ordered runs: judged by several workers, and applied in the order of the numbers.
 
 ghost use Rattle.std.specs.Prelude.{◌≡◌, ◌<◌, ◌≤◌, ℕ, IfErr, IfOk, length};
-ghost use Rattle.crossbeam_queue.specs.Passes.{IsPassOf, view};
 ghost use Rattle.ar_bundle.specs.Bundle.{IsBundle};
 ghost use Rattle.ar_bundle.specs.Lawful.{AllRise, AreLawful};
-ghost use Rattle.ar_queue.specs.Workers.{feeding};
 ghost use Rattle.ar_workers.specs.Joined.{IsNotLost};
 ghost use Rattle.ar_workers.specs.Private.Judging.{IsKnown};
 
 use crate::error::WorkError;
 use crate::judging::{Judging, by_number, empty_desks};
+use crate::settling::settle_all;
 use ar_board::MOST_WORKERS;
 use ar_bundle::{Bundle, BundleName, Finding, Histories};
 use ar_plain::Runs;
-use ar_queue::{Gate, Gathered, Item, Queue, QueueName, Unfinished, View, in_threads, learn, open};
-use crossbeam_queue::Pass;
+use ar_queue::{Gate, Unfinished};
 use std::alloc::{AllocError, Global};
 use std::marker::Brand;
 use std::sync::Wait;
@@ -61,45 +59,13 @@ where
     ensures lawful { IfOk result (AreLawful M.bundle) }
     ensures in_order { IfOk result AllRise }
 {
-    let (queue, pass) = open::<M>(alloc)?;
-    ordered_with::<M, Brand, G, R>(rt, alloc, bundle, workers, queue, pass, gate)
-}
-
-/// The same, by a name of the queue, too.
-#[tactic(auto, using(ar_queue::proofs::Feeding::is_done, crate::proofs::Judged::all_known))]
-fn ordered_with<M, T, G, R>(
-    rt: &R,
-    alloc: Global,
-    bundle: &Bundle,
-    workers: usize,
-    queue: Queue<M>,
-    pass: Pass<Item, View>,
-    gate: &G,
-) -> Result<Histories, Unfinished>
-where
-    M: BundleName + Send + Sync,
-    T: QueueName + Send,
-    G: Gate,
-    R: Threads + Wait + Sync,
-    requires bundle { bundle.now ≡ M.bundle }
-    requires some { 1 ≤ workers }
-    requires queue { queue.table.shared.table_id ≡ T.table }
-    requires pass { IsPassOf queue pass }
-    requires fresh_pass { view pass ≡ feeding 0 0 0 }
-    ensures lawful { IfOk result (AreLawful M.bundle) }
-    ensures in_order { IfOk result AllRise }
-{
-    let desks = empty_desks(alloc, workers)?;
-    let Gathered { mut pass, desks } = in_threads::<M, Judging<M>, T, G, R>(
-        rt, alloc, bundle, &queue, desks, pass, gate,
-    )?;
-    learn(&queue, &mut pass);
-    let findings = by_number(alloc, bundle.events(), desks)?;
+    let empty = empty_desks(alloc, workers)?;
+    let settled = settle_all::<M, Judging<M>, G, R>(rt, alloc, bundle, empty, gate)?;
+    let findings = by_number(alloc, bundle.events(), settled)?;
     Ok(applied(alloc, bundle, &findings)?)
 }
 
 /// The histories of a bundle's runs, where it is known what each number comes to.
-#[tactic(auto, using(ar_plain::proofs::Lawful::all_rise, crate::proofs::Judged::known_inside))]
 fn applied(
     alloc: Global,
     bundle: &Bundle,

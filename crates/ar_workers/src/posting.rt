@@ -10,7 +10,7 @@ ghost use Rattle.ar_workers.specs.Joined.{named, named_by};
 use ar_board::{Board, LockNames, Seat};
 use ar_bundle::{Bundle, BundleName};
 use ar_cell::Double;
-use ar_queue::Desk;
+use ar_queue::{Desk, Unfinished};
 use std::alloc::{AllocError, Global};
 use std::sync::Wait;
 
@@ -76,7 +76,7 @@ pub(crate) fn desks_of<'s, 'b, M: BundleName, L: LockNames>(
 pub(crate) fn seats_and_doubles<M: BundleName, L: LockNames>(
     alloc: Global,
     desks: Vec<Posting<'_, '_, M, L>>,
-) -> Result<(Vec<Seat<M, L>>, Vec<u64>), AllocError>
+) -> Result<(Vec<Seat<M, L>>, Vec<u64>), Unfinished>
     ensures named { IfOk result (λ all. (number : ℕ)
         → times_in number (named_by (receipts_of all.0.items)) + times_in number all.1.items
         ≡ times_in number (all_named (λ desk. named desk.seat.receipts desk.doubles.items) desks.entry.items)) }
@@ -85,13 +85,8 @@ pub(crate) fn seats_and_doubles<M: BundleName, L: LockNames>(
     let mut seats = Vec::with_capacity(alloc, desks.len())?;
     let mut doubles = Vec::new(alloc);
     for desk in desks {
-        let Posting {
-            board: _,
-            seat,
-            doubles: own,
-        } = desk;
-        doubles.extend_from_slice(own.as_slice())?;
-        seats.push_reserved(seat);
+        seats.push_reserved(desk.seat);
+        doubles.extend_from_slice(desk.doubles.as_slice())?;
     }
     Ok((seats, doubles))
 }

@@ -2,18 +2,16 @@
 
 ghost use Rattle.std.specs.Prelude.{◌≡◌, ◌≤◌, [], IfErr, IfOk, length};
 ghost use Rattle.std.specs.List.{AllByRecursion};
-ghost use Rattle.crossbeam_queue.specs.Passes.{IsPassOf, view};
 ghost use Rattle.ar_bundle.specs.Lawful.{AreLawful};
-ghost use Rattle.ar_queue.specs.Workers.{feeding};
 ghost use Rattle.ar_board.specs.Board.{receipts_of};
 ghost use Rattle.ar_workers.specs.Joined.{IsCause, NameEachOnce};
 
 use crate::error::WorkError;
 use crate::posting::{Posting, desks_of, seats_and_doubles};
+use crate::settling::settle_all;
 use ar_board::{Blanks, Board, LockNames, MOST_WORKERS, Seat};
 use ar_bundle::{Bundle, BundleName, Histories};
-use ar_queue::{Gate, Gathered, Item, Queue, QueueName, Unfinished, View, in_threads, learn, open};
-use crossbeam_queue::Pass;
+use ar_queue::{Gate, Unfinished};
 use std::alloc::Global;
 use std::marker::Brand;
 use std::sync::Wait;
@@ -43,7 +41,6 @@ pub fn run_all<G: Gate, R: Threads + Wait + Sync>(
 
 /// The same, by names of the bundle and of the board's locks: contracts of a board speak of it by names,
 /// which a call of a function over them picks.
-#[tactic(auto, using(crate::proofs::Ending::all_fresh, crate::proofs::Ending::is_cause))]
 fn run_named<M, L, G, R>(
     rt: &R,
     alloc: Global,
@@ -69,36 +66,25 @@ where
     ensures cause { IfErr result (IsCause M.bundle) }
 {
     let (board, seats) = Board::<M, L>::new(alloc, blanks, bundle, workers)?;
-    let (queue, pass) = open::<M>(alloc)?;
-    let (seats, doubles) = posted_by::<M, L, Brand, G, R>(
-        rt, alloc, bundle, &board, seats, queue, pass, gate,
-    )?;
+    let (seats, doubles) = posted_by::<M, L, G, R>(rt, alloc, bundle, &board, seats, gate)?;
     closed(board, seats, doubles)
 }
 
-/// The seats behind a run of workers at them, and the numbers whose post was a double; by a name of the
-/// queue, too, which can be named only once it is there.
-#[tactic(auto, using(ar_queue::proofs::Feeding::is_done, crate::proofs::Ending::each_once))]
-fn posted_by<M, L, T, G, R>(
+/// The seats behind a run of workers at them, and the numbers whose post was a double.
+fn posted_by<M, L, G, R>(
     rt: &R,
     alloc: Global,
     bundle: &Bundle,
     board: &Board<'_, M, L>,
     seats: Vec<Seat<M, L>>,
-    queue: Queue<M>,
-    pass: Pass<Item, View>,
     gate: &G,
 ) -> Result<(Vec<Seat<M, L>>, Vec<u64>), Unfinished>
 where
     M: BundleName + Send + Sync,
     L: LockNames + Send + Sync,
-    T: QueueName + Send,
     G: Gate,
     R: Threads + Wait + Sync,
     requires bundle { bundle.now ≡ M.bundle }
-    requires queue { queue.table.shared.table_id ≡ T.table }
-    requires pass { IsPassOf queue pass }
-    requires fresh_pass { view pass ≡ feeding 0 0 0 }
     requires seats { (length seats.items ≡ M.workers) × (1 ≤ M.workers) }
     requires fresh { AllByRecursion (λ seat. seat.receipts ≡ []) seats.items }
     ensures each_once { IfOk result (λ all.
@@ -106,15 +92,11 @@ where
     ensures seats { IfOk result (λ all. length all.0.items ≡ M.workers) }
 {
     let desks = desks_of(alloc, board, seats)?;
-    let Gathered { mut pass, desks } = in_threads::<M, Posting<'_, '_, M, L>, T, G, R>(
-        rt, alloc, bundle, &queue, desks, pass, gate,
-    )?;
-    learn(&queue, &mut pass);
-    Ok(seats_and_doubles(alloc, desks)?)
+    let settled = settle_all::<M, Posting<'_, '_, M, L>, G, R>(rt, alloc, bundle, desks, gate)?;
+    seats_and_doubles(alloc, settled)
 }
 
 /// What closing the board gives, with the doubles where a number is lost.
-#[tactic(auto, using(crate::proofs::Ending::handed_out))]
 fn closed<M: BundleName, L: LockNames>(
     board: Board<'_, M, L>,
     seats: Vec<Seat<M, L>>,

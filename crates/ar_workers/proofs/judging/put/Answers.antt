@@ -1,9 +1,20 @@
-use Rattle.std.proofs.Common.{◌≡◌, ◌<◌, ◌∷◌, [], ap, arith, append_assoc, length, subst, refl, ◌∙◌}
+use Rattle.std.proofs.Common.{◌≡◌, ◌<◌, ◌∷◌, [], ap, arith, append_assoc, length, rules, subst, refl, ◌∙◌}
 use Rattle.std.proofs.lemmas.List.{length-set}
 use Rattle.std.specs.Vec.Iter.{into_iter_items}
 use Rattle.ar_workers.specs.Private.Judging.{AreJudged}
-use Rattle.ar_workers.proofs.Judged.{first_judged, found_inside, known_next, still_known}
+use Rattle.ar_workers.proofs.Judged.{first_judged, judged_inside, known_first, known_next, still_known}
 use Rattle.ar_workers.proofs.judging.put.Goals as goal
+
+pub loop-one-init : goal.loop-one-init
+loop-one-init g c = search (rules, known_first)
+
+pub index_mut-requires : goal.index_mut-requires
+index_mut-requires g c =
+    let bundle = g.M.BundleName.bundle in
+    let are : AreJudged bundle (c.in-Some.one ∷ into_iter_items c.next.new.self) = subst (AreJudged bundle) c.in-Some.ensures.steps.0 c.loop-one.invariant.2 in
+    let inside = judged_inside bundle c.in-Some.one (into_iter_items c.next.new.self) are in
+    let size = c.loop-one.invariant.3 in
+    omega (arith, inside, size)
 
 pub loop-one-preserved : goal.loop-one-preserved
 loop-one-preserved g c =
@@ -15,7 +26,7 @@ loop-one-preserved g c =
     let are : AreJudged g.M.BundleName.bundle (c.in-Some.one ∷ into_iter_items c.next.new.self) = subst (AreJudged g.M.BundleName.bundle) steps at.invariant.2 in
     let bundle = g.M.BundleName.bundle in
     let first = first_judged bundle c.in-Some.one (into_iter_items c.next.new.self) are in
-    let inside = found_inside bundle c.in-Some.one.number c.in-Some.one.finding first.0 in
+    let inside = judged_inside bundle c.in-Some.one (into_iter_items c.next.new.self) are in
     let size = at.invariant.3 in
     let less : c.in-Some.one.number < length at.table.items = omega arith in (
       append_assoc at.yielded (c.in-Some.one ∷ []) _ ∙ rw (← steps) at.invariant.0,

@@ -10,7 +10,7 @@ use Rattle.ar_workers.proofs.posting.seats_and_doubles.Given as given
 use Rattle.ar_workers.proofs.posting.seats_and_doubles.Goals as goal
 
 -- what is named of one desk more
-receipts_and_doubles : (g : given.Over) (c : goal.After-drop-own-in-loop-desk g) (number : ℕ)
+receipts_and_doubles : (g : given.Over) (c : goal.After-drop-desk-in-loop-desk g) (number : ℕ)
     → times_in number (named_by (receipts_of c.push_reserved.new.self.items)) + times_in number c.extend_from_slice.new.self.items ≡ times_in number (all_named (λ desk. named desk.seat.receipts desk.doubles.items) (c.loop-desk.yielded ++ c.in-Some.desk ∷ []))
 receipts_and_doubles g c number =
     let seats = ap (λ seats. times_in number (named_by (receipts_of seats))) c.push_reserved.ensures.items in
