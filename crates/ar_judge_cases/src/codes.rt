@@ -89,8 +89,9 @@ fn put_texts(out: &mut Output, name: &str, texts: &[String]) {
 /// The typed tree of a condition that has kinds under a shape.
 fn typed_of(alloc: Global, case: &Json) -> Result<Box<Typed>, CaseFault> {
     let shape = members::shape(alloc, case, "shape")?;
-    let tree = granted(alloc, parse(alloc, members::text(case, "condition")?))?;
-    granted(alloc, check(alloc, Box::into_inner(tree), shape.get()))
+    let tree = granted(alloc, case, parse(alloc, members::text(case, "condition")?))?;
+    let typed = check(alloc, Box::into_inner(tree), shape.get());
+    granted(alloc, case, typed)
 }
 
 /// What such a condition is compiled to.
@@ -114,9 +115,10 @@ fn put_compiled(alloc: Global, case: &Json, out: &mut Output) -> Written {
 /// The code of the member `image`, or else of `condition` under `shape`.
 fn code_of(alloc: Global, case: &Json) -> Result<Box<Code>, CaseFault> {
     if case.get("image").is_none() {
-        granted(alloc, compiled(alloc, case)?)
+        granted(alloc, case, compiled(alloc, case)?)
     } else {
-        granted(alloc, decode(alloc, &members::bytes(alloc, case, "image")?))
+        let code = decode(alloc, &members::bytes(alloc, case, "image")?);
+        granted(alloc, case, code)
     }
 }
 

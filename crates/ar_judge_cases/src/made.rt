@@ -28,13 +28,24 @@ pub(crate) fn put_made<T: Made + Drop, E: Debug + Display + Drop>(
     }
 }
 
-/// What a case takes for granted that can be made; where it can't, the case is refused.
-pub(crate) fn granted<T: Drop, E: Drop>(
+/// What a case takes for granted that can be made; where it can't, memory ran out or the case is refused.
+pub(crate) fn granted<T: Drop, E: Debug + Display + Drop>(
     alloc: Global,
+    case: &Json,
     made: Result<T, E>,
 ) -> Result<Box<T>, CaseFault> {
     match made {
         Ok(made) => Ok(Box::new(alloc, made)?),
-        Err(_) => Err(CaseFault::Member),
+        Err(refusal) => Err(fault_of(alloc, case, refusal)),
+    }
+}
+
+/// Why a case isn't answered for which something can't be made: what tells that memory ran out isn't printed.
+fn fault_of<E: Debug + Display + Drop>(alloc: Global, case: &Json, refusal: E) -> CaseFault {
+    let mut printed = Output::new(alloc);
+    put_refusal(alloc, case, &mut printed, refusal);
+    match printed.finish(Ok(())) {
+        Ok(_) => CaseFault::Member,
+        Err(fault) => fault,
     }
 }
