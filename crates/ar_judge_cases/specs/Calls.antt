@@ -9,7 +9,7 @@ abbrev pub condition_calls : List (List ℕ)
 condition_calls = codes "tokens" ∷ codes "parse" ∷ codes "check" ∷ []
 
 abbrev pub code_calls : List (List ℕ)
-code_calls = codes "decode" ∷ codes "compile" ∷ codes "verify" ∷ codes "run_tested" ∷ []
+code_calls = codes "decode" ∷ codes "compile" ∷ codes "verify" ∷ codes "run_tested" ∷ codes "change_byte" ∷ []
 
 abbrev pub judge_calls : List (List ℕ)
 judge_calls = codes "condition" ∷ codes "run_condition" ∷ codes "judge" ∷ codes "judge_code" ∷ []

@@ -6,6 +6,7 @@ ghost use Rattle.ar_value.specs.View.{shape_view, value_view};
 ghost use Rattle.ar_cases.specs.Calls.{is_one_of};
 ghost use Rattle.ar_judge_cases.specs.Calls.{code_calls};
 
+use crate::changes::{put_cause, put_changes};
 use crate::endings::put_ended;
 use crate::judges::put_bounds_of;
 use crate::made::{Made, granted, put_made};
@@ -21,7 +22,7 @@ use ar_machine::{Outcome, run};
 use ar_syntax::parse;
 use ar_tested::{Ended, run_tested};
 use ar_value::{Shape, Value};
-use ar_verified::{Cause, Refused, Verified};
+use ar_verified::{Refused, Verified};
 use ar_verify::verify;
 use serde_json::Value as Json;
 use std::alloc::{AllocError, Global};
@@ -35,6 +36,7 @@ pub(crate) fn put(alloc: Global, call: &str, case: &Json, out: &mut Output) -> O
         "compile" => Some(put_compiled(alloc, case, out)),
         "verify" => Some(put_verified(alloc, case, out)),
         "run_tested" => Some(put_tested(alloc, case, out)),
+        "change_byte" => Some(put_changes(alloc, case, out)),
         _ => None,
     }
 }
@@ -145,10 +147,7 @@ fn put_accepted(alloc: Global, case: &Json, verified: &Verified, out: &mut Outpu
 }
 
 fn put_refused(alloc: Global, case: &Json, refused: &Refused, out: &mut Output) -> Written {
-    match refused.cause {
-        Cause::Fault { place, reason } => write!(out, "{reason:?} at {place}"),
-        Cause::OutOfMemory => out.lose(),
-    }
+    put_cause(refused.cause, out);
     put_tested_runs(alloc, case, &refused.code, out)
 }
 

@@ -5,6 +5,7 @@
 //!
 //! - `templates`, `conditions`, `codes`, `judges`: the calls, by their subjects
 //! - `trees`, `typed`, `endings`: conditions as written, conditions as typed, and how runs of code end, printed
+//! - `changes`: what comes of an image when one of its bytes is changed
 //! - `made`: what a call made of a case, or why it refused it
 //!
 //! Which names are those of calls is proved of every case (`specs/Calls`), and how runs end is printed
@@ -14,6 +15,7 @@
 ghost use Rattle.std.specs.Prelude.{◌≡◌, is_some};
 ghost use Rattle.ar_judge_cases.specs.Calls.{is_call};
 
+mod changes;
 mod codes;
 mod conditions;
 mod endings;
