@@ -5,10 +5,10 @@ ghost use Rattle.ar_cases.specs.Calls.{is_one_of};
 ghost use Rattle.conformance.specs.Calls.{document_calls};
 
 use crate::boards::put_core;
+use crate::inputs::input_of;
 use crate::parts::{Part, put_all};
 use ar_bundle::{Bundle, Finding, MetricPart, RunPart};
-use ar_cases::fault::{CaseFault, Written};
-use ar_cases::members;
+use ar_cases::fault::Written;
 use ar_cases::output::Output;
 use ar_cases::printing::{put_lines, put_or_none, put_quoted, put_refusal, put_shape};
 use ar_document::read_bundle;
@@ -36,15 +36,6 @@ pub(crate) fn put(alloc: Global, call: &str, case: &Json, out: &mut Output) -> O
         | "core" => Some(put_document(alloc, call, case, out)),
         _ => None,
     }
-}
-
-/// The bytes of the member `document`, or of `bytes`, which is in hexadecimal.
-fn input_of(alloc: Global, case: &Json) -> Result<Vec<u8>, CaseFault> {
-    if case.get("bytes").is_some() {
-        return members::bytes(alloc, case, "bytes");
-    }
-    let document = members::text(case, "document")?;
-    Ok(document.as_bytes().to_vec(alloc)?)
 }
 
 fn put_json(alloc: Global, case: &Json, out: &mut Output) -> Written {

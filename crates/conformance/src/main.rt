@@ -10,6 +10,7 @@
 //! conditions, code and judges.
 //!
 //! - `phases`, `documents`, `boards`, `commands`: the other calls, by their subjects
+//! - `inputs`: the bytes of the documents of cases
 //! - `lists`: the lists of a case
 //! - `parts`: parts of answers, printed one behind another
 //!
@@ -23,6 +24,7 @@ ghost use Rattle.conformance.specs.Calls.{is_call, is_own_call};
 mod boards;
 mod commands;
 mod documents;
+mod inputs;
 mod lists;
 mod parts;
 mod phases;
