@@ -4,7 +4,7 @@ ghost use Rattle.std.specs.Prelude.{◌≡◌, ◌<◌, IfOk, length, true};
 ghost use Rattle.ar_value.specs.Fits.{fits};
 ghost use Rattle.ar_value.specs.View.{shape_view, value_view};
 
-use crate::endings::put_ended;
+use crate::endings::{put_code_fault, put_ended};
 use crate::judges::put_bounds_of;
 use ar_cases::fault::{CaseFault, Written};
 use ar_cases::members;
@@ -15,7 +15,7 @@ use ar_machine::{Outcome, run};
 use ar_tested::{Ended, run_tested};
 use ar_value::Value;
 use ar_value::holding::add;
-use ar_verified::{Cause, Verified};
+use ar_verified::Verified;
 use ar_verify::verify;
 use serde_json::Value as Json;
 use std::alloc::Global;
@@ -119,7 +119,7 @@ fn put_code(
     match verify(alloc, Box::into_inner(code), shape) {
         Ok(verified) => put_accepted(alloc, case, &verified, out),
         Err(refused) => {
-            put_cause(refused.cause, out);
+            put_code_fault(out, refused.cause);
             Ok(())
         }
     }
@@ -135,14 +135,6 @@ fn put_encoding(alloc: Global, image: &[u8], code: &Code, out: &mut Output) {
 fn put_difference(image: &[u8], encoded: &[u8], out: &mut Output) {
     if encoded != image {
         out.put("encoded otherwise, ");
-    }
-}
-
-/// Why code is refused.
-pub(crate) fn put_cause(cause: Cause, out: &mut Output) {
-    match cause {
-        Cause::Fault { place, reason } => write!(out, "{reason:?} at {place}"),
-        Cause::OutOfMemory => out.lose(),
     }
 }
 

@@ -6,8 +6,8 @@ ghost use Rattle.ar_value.specs.View.{shape_view, value_view};
 ghost use Rattle.ar_cases.specs.Calls.{is_one_of};
 ghost use Rattle.ar_judge_cases.specs.Calls.{code_calls};
 
-use crate::changes::{put_cause, put_changes};
-use crate::endings::put_ended;
+use crate::changes::put_changes;
+use crate::endings::{put_code_fault, put_ended};
 use crate::judges::put_bounds_of;
 use crate::made::{Made, granted, put_made};
 use ar_cases::fault::{CaseFault, Written};
@@ -147,7 +147,7 @@ fn put_accepted(alloc: Global, case: &Json, verified: &Verified, out: &mut Outpu
 }
 
 fn put_refused(alloc: Global, case: &Json, refused: &Refused, out: &mut Output) -> Written {
-    put_cause(refused.cause, out);
+    put_code_fault(out, refused.cause);
     put_tested_runs(alloc, case, &refused.code, out)
 }
 

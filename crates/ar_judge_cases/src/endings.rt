@@ -1,4 +1,4 @@
-//! How runs of code end, printed.
+//! Why code is refused, and how runs of code end, printed.
 
 ghost use Rattle.std.specs.Prelude.{◌++◌, codes, decimal};
 ghost use Rattle.ar_cases.specs.Output.{Writes};
@@ -8,6 +8,7 @@ use ar_cases::output::Output;
 use ar_cases::printing::put_answer;
 use ar_machine::Outcome;
 use ar_tested::Ended;
+use ar_verified::Cause;
 
 /// How a run of code ends.
 pub(crate) fn put_ended(out: &mut Output, ended: Ended)
@@ -31,4 +32,12 @@ fn put_stuck(out: &mut Output, place: usize)
     ensures { Writes out.old out.new (codes "stuck " ++ decimal place) }
 {
     write!(out, "stuck {place}");
+}
+
+/// Why code is refused. Memory ran out where that is the cause.
+pub(crate) fn put_code_fault(out: &mut Output, cause: Cause) {
+    match cause {
+        Cause::Fault { place, reason } => write!(out, "{reason:?} at {place}"),
+        Cause::OutOfMemory => out.lose(),
+    }
 }

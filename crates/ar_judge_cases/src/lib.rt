@@ -4,7 +4,8 @@
 //! texts, shapes and values, are in `ar_cases`.
 //!
 //! - `templates`, `conditions`, `codes`, `judges`: the calls, by their subjects
-//! - `trees`, `typed`, `endings`: conditions as written, conditions as typed, and how runs of code end, printed
+//! - `trees`, `typed`, `endings`: conditions as written, conditions as typed, and why code is refused and how its
+//!   runs end, printed
 //! - `changes`: what comes of an image when one of its bytes is changed
 //! - `made`: what a call made of a case, or why it refused it
 //!
