@@ -1,0 +1,124 @@
+"""Random changes of conditions and of bytes: tokens and whole parts of a condition, and single bytes."""
+
+from grammar import parse
+from refused import Refused
+from tokens import tokens_of
+
+SPELT = (
+    'true false nil result len isNil default all any count filter and or not in foo x '
+    '+ - * / % == != < > <= >= ! && || ? : , . ( ) [ ] { } # 0 1 2.5 .5 9223372036854775808 0.1234567 0x 0xff "a" '
+    "'b' len( all(result, ?? ?. ^ | & = ; $ ` @ é _ \" ' // /* */ \\ not\tin"
+).split(' ')
+BYTES = b'\x00\t\n\r !"#$%&\'()*+,-./0123456789:;<=>?@AZ[\\]^_`aezn{|}~\x7f\x80\xbf\xc0\xc3\xe2\xed\xf0\xff'
+CHARACTERS = '\x00\t\n"\'\\\x7fé€😀'
+LONG = (15, 16, 17, 62, 63, 64, 65, 66)
+PARTS = 40
+
+
+def pieces(text):
+    """The spellings of the tokens of a condition, or its characters where it has none."""
+    try:
+        tokens = tokens_of(text)
+    except Refused:
+        return list(text)
+    code = text.encode()
+    return [code[start:end].decode() for _, _, start, end in tokens]
+
+
+def swapped(source, words):
+    if len(words) > 1:
+        one, other = source.randrange(len(words)), source.randrange(len(words))
+        words[one], words[other] = words[other], words[one]
+
+
+def changed_words(source, words):
+    """One change of a list of tokens."""
+    place = source.randrange(len(words) + 1)
+    way = source.randrange(6)
+    if way == 0:
+        words.insert(place, source.choice(SPELT))
+    elif way == 1 and words:
+        words[place % len(words)] = source.choice(SPELT)
+    elif way == 2 and words:
+        del words[place % len(words)]
+    elif way == 3:
+        swapped(source, words)
+    elif way == 4 and words:
+        words.insert(place, source.choice(words))
+    else:
+        del words[place:place + source.randrange(1, 4)]
+    return words
+
+
+def is_condition(text):
+    try:
+        parse(text)
+    except Refused:
+        return False
+    return True
+
+
+def part(source, words):
+    """The places of some tokens that are a condition by themselves, or None."""
+    for _ in range(PARTS if words else 0):
+        start = source.randrange(len(words))
+        end = min(len(words), start + source.choice((1, 1, 3, 3, 4, 5, 6, 7, 9)))
+        if is_condition(' '.join(words[start:end])):
+            return start, end
+    return None
+
+
+def with_part(source, words, others):
+    """The tokens, one part of them changed for a part of others."""
+    here, there = part(source, words), part(source, others)
+    if here and there:
+        words[here[0]:here[1]] = others[there[0]:there[1]]
+    return words
+
+
+def repeated(source, text):
+    """A condition inside so many openers, or as so many items, that a limit is near."""
+    count = source.choice(LONG)
+    return source.choice((
+        '!' * count + text, '(' * count + text + ')' * count, '-' * count + text, '[' * count + text + ']' * count,
+        'true?' * count + text + ':false' * count, f'[{",".join(["1"] * count)}] == nil or {text}',
+        'any(result,' * 5 + text + ')' * 5, '(' * (count - 1) + f'len({text}' + ')' * count,
+        'all(result,{' * count + text + '})' * count, ' ' * (4_096 - len(text.encode())) + text + ' ' * (count % 3)))
+
+
+def changed_condition(source, text, other):
+    """A condition with one to three changes; `other` is one from which parts are taken."""
+    if source.random() < 0.03:
+        return repeated(source, text)
+    if source.random() < 0.1:
+        return changed_text(source, text)
+    words = pieces(text)
+    for _ in range(source.choice((1, 1, 1, 2, 3))):
+        words = with_part(source, words, pieces(other)) if source.random() < 0.4 else changed_words(source, words)
+    return source.choice((' ', ' ', ' ', '')).join(words)
+
+
+def changed_text(source, text):
+    """A text with one character changed, put in or left out."""
+    place = source.randrange(len(text) + 1)
+    fresh = source.choice(('', source.choice(SPELT), source.choice(CHARACTERS)))
+    return text[:place] + fresh + text[place + source.randrange(2):]
+
+
+def changed_bytes(source, code):
+    """Bytes with one to three changes: a byte changed, put in or left out, or the end cut off."""
+    code = bytearray(code)
+    for _ in range(source.choice((1, 1, 1, 2, 3))):
+        place = source.randrange(len(code) + 1)
+        way = source.randrange(8)
+        if way < 3 and place < len(code):
+            code[place] = source.choice(BYTES) if source.random() < 0.7 else source.randrange(256)
+        elif way < 5:
+            code[place:place] = bytes([source.choice(BYTES)])
+        elif way < 7:
+            del code[place:place + source.choice((1, 1, 2, 5))]
+        elif source.random() < 0.3:
+            del code[place:]
+        elif place < len(code):
+            code[place] ^= 1 << source.randrange(8)
+    return bytes(code)

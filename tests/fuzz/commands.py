@@ -1,0 +1,88 @@
+"""What the commands of the program have to write of a document, by docs/FORMATS.md, read apart from the program."""
+
+import re
+
+from answers import eval_answer
+from bundles import read_bundle
+from jsontext import read_json
+from refused import Refused
+from reports import BAD, bounds_lines, list_lines, report, run_phases
+
+PLAIN = ('run', '--plain')
+ORDERED = ('run', '--ordered', '--workers', '2')
+COMMANDS = (PLAIN, ORDERED, ('check',), ('list',))
+MEMBERS = {'UnknownRun': r'\[{}\]\.run', 'UnknownMetric': r'\[{}\]\.metric', 'BadEntry': r'(?:\[{}\])?'}
+NAME = r'"(?:[^"\\]|\\.)*"(?:\.\.)?'
+
+
+def of_condition(refused):
+    """Where a refused condition stands in its text, and its name."""
+    if refused.name == 'Verifier':
+        return '', refused.details[1]
+    inner = refused.details[0]
+    if refused.name == 'Compiler':
+        return '', inner.name
+    return f', byte {(inner.details or (4_096,))[0]}', inner.name
+
+
+def where_of(refused):
+    """How the line of a refused bundle begins, as a regular expression, and the name in it."""
+    name, details = refused.name, refused.details
+    if name in ('TooLarge', 'Utf8OrJson'):
+        return 'document', name
+    if name == 'Manifest':
+        return 'manifest(?:, .*|: .*)?', details[0].name
+    if name in ('ShapeMissing', 'Shapes'):
+        return f'shapes: metric {details[0]} {NAME}', details[1].name if name == 'Shapes' else name
+    if name == 'Runs':
+        return 'runs', name
+    if name == 'DoubleRun':
+        return fr'runs\[{details[0]}\]', name
+    if name == 'Bind':
+        return f'run {details[0]} {NAME}, metric {details[1].details[0]} {NAME}', details[1].name
+    if name == 'Build':
+        side = details[2].name.lower() + 'Condition'
+        at, inner = of_condition(details[2].details[0])
+        return f'run {details[0]} {NAME}, metric {details[1]} {NAME}, {side}{at}', inner
+    return 'measurements' + MEMBERS.get(name, '').format(*details), name
+
+
+def refusal(where, name):
+    return 2, b'', fr'argo_judge: {where}: {name}(?:: .*)?\n'
+
+
+def text_of(lines):
+    return ''.join(f'{line}\n' for line in lines).encode()
+
+
+def expected_of_bundle(words, document):
+    """The status of a command, its output, and the regular expression of its line on standard error."""
+    try:
+        bundle = read_bundle(document)
+    except Refused as refused:
+        return refusal(*where_of(refused))
+    if words[0] == 'run':
+        status = 1 if any(phase in BAD for phase in run_phases(bundle)) else 0
+        return status, text_of(report(bundle)), ''
+    return 0, text_of(bounds_lines(bundle) if words[0] == 'check' else list_lines(bundle)), ''
+
+
+def expected_of_eval(document):
+    try:
+        json = read_json(document)
+    except Refused as refused:
+        return refusal('document', refused.name)
+    if not isinstance(json, dict) or not isinstance(json.get('condition'), str) or not {'shape', 'value'} <= set(json):
+        return refusal('document', 'BadDocument')
+    line, is_refused = eval_answer(json['condition'], json['shape'], json['value'])
+    if is_refused:
+        return refusal(*(re.escape(part) for part in line.rsplit(': ', 1)))
+    return 0, f'{line}\n'.encode(), ''
+
+
+def expected_of(words, document):
+    return expected_of_eval(document) if words == ('eval',) else expected_of_bundle(words, document)
+
+
+def is_right(expected, got):
+    return got[:2] == expected[:2] and re.fullmatch(expected[2], got[2]) is not None
