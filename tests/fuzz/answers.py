@@ -19,7 +19,8 @@ from tokens import tokens_of
 
 
 def joined(lines):
-    return ' / '.join(lines)
+    """Several lines in one, as an answer has them; line feeds in names and texts are written as those between lines."""
+    return ' / '.join(lines).replace('\n', ' / ')
 
 
 def ended(outcome):

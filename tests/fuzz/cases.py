@@ -56,7 +56,7 @@ def condition_cases(source, corpus):
     about = {'condition': text, 'shape': declared}
     yield answered({'call': 'parse', 'condition': text})
     yield answered({'call': 'check', **about})
-    if is_plain(value):
+    if fits_a_line(value):
         yield answered({'call': 'run_condition', **about, 'value': value})
     if source.random() < 0.2:
         yield answered({'call': 'tokens', 'condition': text})

@@ -13,6 +13,11 @@ BYTES = b'\x00\t\n\r !"#$%&\'()*+,-./0123456789:;<=>?@AZ[\\]^_`aezn{|}~\x7f\x80\
 CHARACTERS = '\x00\t\n"\'\\\x7fé€😀'
 LONG = (15, 16, 17, 62, 63, 64, 65, 66)
 PARTS = 40
+# What is put between the bytes of a document.
+SNIPPETS = (
+    b'\\ud800', b'\\udc00', b'\\ud83d\\ude00', b'\\u00e9', b'\\u0000', b'\\u00g0', b'\\/', b'\\b', b'\\x', b'\\n',
+    b'\\', b'\xef\xbb\xbf', b'\xed\xa0\x80', b'\xf0\x9f\x98\x80', b'\xc2\xa0', b'\x0b', b' \n', b'NaN', b'-', b'1e5',
+    b'.0', b'0', b'/**/', b',', b'{}', b'[[', b'""', b'null')
 
 
 def pieces(text):
@@ -110,8 +115,10 @@ def changed_bytes(source, code):
     code = bytearray(code)
     for _ in range(source.choice((1, 1, 1, 2, 3))):
         place = source.randrange(len(code) + 1)
-        way = source.randrange(8)
-        if way < 3 and place < len(code):
+        way = source.randrange(10)
+        if way > 7:
+            code[place:place] = source.choice(SNIPPETS)
+        elif way < 3 and place < len(code):
             code[place] = source.choice(BYTES) if source.random() < 0.7 else source.randrange(256)
         elif way < 5:
             code[place:place] = bytes([source.choice(BYTES)])

@@ -1,8 +1,9 @@
 """One document with each of its bytes changed, and each of its proper prefixes."""
 
-import random
+import itertools
 
 from answers import answer_of
+from cases import in_document
 
 DOCUMENT = (
     b'{"manifest":{"apiVersion":"argoproj.io/v1alpha1","kind":"AnalysisTemplate","metadata":{"name":"t"},"spec":'
@@ -10,8 +11,7 @@ DOCUMENT = (
     b'"runs":[{"name":"r0"},{"name":"r1"}],"measurements":[{"run":"r0","metric":"m","value":["0.99"]},'
     b'{"run":"r1","metric":"m","value":["0.96"]}]}'
 )
-SEED = 20240705
-SAMPLE = 24
+AT_A_TIME = 8_000
 
 
 def prefixes():
@@ -20,16 +20,17 @@ def prefixes():
         yield {'call': 'report', 'bytes': DOCUMENT[:length].hex()}, 'Utf8OrJson'
 
 
-def changed_documents(whole):
-    """The document with a byte changed: to each other value, or to some."""
-    source = random.Random(SEED)
+def changes():
+    """The document with each byte changed to each other value."""
     for place, byte in enumerate(DOCUMENT):
-        others = [other for other in range(256) if other != byte]
-        for other in others if whole else sorted(source.sample(others, SAMPLE)):
-            yield DOCUMENT[:place] + bytes([other]) + DOCUMENT[place + 1:]
+        for other in range(256):
+            if other != byte:
+                case = in_document({'call': 'report'}, DOCUMENT[:place] + bytes([other]) + DOCUMENT[place + 1:])
+                yield case, answer_of(case)
 
 
-def changes(whole):
-    for document in changed_documents(whole):
-        case = {'call': 'report', 'bytes': document.hex()}
-        yield case, answer_of(case)
+def cases_of_bytes():
+    """All of these, some at a time."""
+    cases = itertools.chain(prefixes(), changes())
+    while some := list(itertools.islice(cases, AT_A_TIME)):
+        yield some

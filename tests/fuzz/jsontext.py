@@ -39,7 +39,7 @@ def constant(spelt):
 
 
 def look_at(value):
-    """Looks for lone surrogates in texts; members of objects were looked at as they were read."""
+    """Looks for lone surrogates, which only escapes make; members of objects were looked at as they were read."""
     if isinstance(value, str):
         if SURROGATE.search(value):
             raise Bad('a lone surrogate')
@@ -55,12 +55,13 @@ def members(pairs):
     return dict(pairs)
 
 
-DECODER = json.JSONDecoder(object_pairs_hook=members, parse_float=float_of, parse_int=whole_of,
-                           parse_constant=constant)
+NUMBERS = {'parse_float': float_of, 'parse_int': whole_of, 'parse_constant': constant}
+DECODER = json.JSONDecoder(**NUMBERS)
+CAREFUL = json.JSONDecoder(object_pairs_hook=members, **NUMBERS)
 
 
 def levels_of(text):
-    """How deep arrays and objects nest in a JSON text."""
+    """How deep arrays and objects nest in a text, if it is JSON."""
     level = deepest = 0
     for sign in re.sub(r'[^\[\]{}]', '', STRING.sub('', text)):
         level += 1 if sign in '[{' else -1
@@ -68,21 +69,26 @@ def levels_of(text):
     return deepest
 
 
+def value_of(text):
+    if text.startswith('\ufeff'):
+        raise Bad('a byte order mark')
+    if text.count('[') + text.count('{') > LEVELS and levels_of(text) > LEVELS:
+        raise Bad('more levels than the program takes')
+    if '\\u' not in text:
+        return DECODER.decode(text)
+    value = CAREFUL.decode(text)
+    look_at(value)
+    return value
+
+
 def read_json(code):
     """The value of a JSON text in UTF-8, or its refusal."""
     if len(code) > LARGEST_INPUT:
         raise Refused('TooLarge')
     try:
-        text = code.decode()
-        if text.startswith('\ufeff'):
-            raise Bad('a byte order mark')
-        value = DECODER.decode(text)
-        look_at(value)
-    except (ValueError, RecursionError):
+        return value_of(code.decode())
+    except ValueError:
         raise Refused('Utf8OrJson') from None
-    if text.count('[') + text.count('{') > LEVELS and levels_of(text) > LEVELS:
-        raise Refused('Utf8OrJson')
-    return value
 
 
 def is_whole(value):
