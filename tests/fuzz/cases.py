@@ -173,6 +173,8 @@ def value_cases(source, corpus):
     declared, value = shape_json(shape), any_value(source, shape)
     if source.random() < 0.5:
         value = changed_json(source, value, 1)
+    elif isinstance(value, list) and source.random() < 0.5:
+        value = value + [source.choice((*value, None, 'x'))] * source.choice((1, 2, 3, 10))
     if fits_a_line(value):
         yield answered({'call': 'read_value', 'shape': declared, 'value': value})
     text = source.choice(DECIMALS)

@@ -7,7 +7,7 @@ from tokens import tokens_of
 SPELT = (
     'true false nil result len isNil default all any count filter and or not in foo x '
     '+ - * / % == != < > <= >= ! && || ? : , . ( ) [ ] { } # 0 1 2.5 .5 9223372036854775808 0.1234567 0x 0xff "a" '
-    "'b' len( all(result, ?? ?. ^ | & = ; $ ` @ é _ \" ' // /* */ \\ not\tin"
+    "'b' len( all(result, ?? ?. ^ | & = ; $ ` @ é _ \" ' // /* */ /*/ /*/*/ \\ not\tin 0.1000000 }.5 ).5 #.5 1."
 ).split(' ')
 BYTES = b'\x00\t\n\r !"#$%&\'()*+,-./0123456789:;<=>?@AZ[\\]^_`aezn{|}~\x7f\x80\xbf\xc0\xc3\xe2\xed\xf0\xff'
 CHARACTERS = '\x00\t\n"\'\\\x7fé€😀'
@@ -86,9 +86,12 @@ def repeated(source, text):
     count = source.choice(LONG)
     return source.choice((
         '!' * count + text, '(' * count + text + ')' * count, '-' * count + text, '[' * count + text + ']' * count,
-        'true?' * count + text + ':false' * count, f'[{",".join(["1"] * count)}] == nil or {text}',
-        'any(result,' * 5 + text + ')' * 5, '(' * (count - 1) + f'len({text}' + ')' * count,
-        'all(result,{' * count + text + '})' * count, ' ' * (4_096 - len(text.encode())) + text + ' ' * (count % 3)))
+        'true?' * count + text + ':false' * count, 'true?1:' * (count - 1) + f'({text})', 'true?1:' * count + text,
+        f'[{",".join(["1"] * count)}] == nil or {text}', 'any(result,' * 5 + text + ')' * 5,
+        '(' * (count - 1) + f'len({text}' + ')' * count, 'all(result,{' * count + text + '})' * count,
+        ' ' * (4_096 - len(text.encode())) + text + ' ' * (count % 3),
+        '1+(' * (count - 4) + 'len([1,1,1,1,1])' + ')' * (count - 4) + '>0', f'[{text},' * 15 + text + ']' * 15,
+        f'all({text},' * 3 + text + ')' * 3, 'any(result,all(#,' * 2 + 'any(result,' + text + ')' * 5))
 
 
 def changed_condition(source, text, other):

@@ -107,8 +107,8 @@ def random_entry(source, runs, metrics, shapes):
     if source.random() < 0.1:
         return run | {'metric': metric, 'error': source.choice((None, 'no answer', {}))}
     value = any_value(source, shapes[metric])
-    if source.random() < 0.08:
-        value = changed_json(source, value, 1)
+    if source.random() < 0.12:
+        value = source.choice((RAW + source.choice(NUMBERS[:9]), changed_json(source, value, 1)))
     return run | {'metric': metric, 'value': value}
 
 
@@ -177,7 +177,7 @@ def retyped(source, value):
         return source.choice((changed_text, changed_text, changed_condition_of))(source, value)
     if isinstance(value, (int, str)) and source.random() < 0.5:
         return source.choice((RAW + source.choice(NUMBERS), source.choice(DECIMALS), str(value), [value]))
-    return source.choice((source.choice(SCALARS), source.choice(SCALARS), nested(source, value)))
+    return source.choice((copied(source.choice(SCALARS)), copied(source.choice(SCALARS)), nested(source, value)))
 
 
 def changed_condition_of(source, text):

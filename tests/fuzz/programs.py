@@ -1,6 +1,7 @@
 """Runs the two programs: cases line by line, and documents with what has to come of them."""
 
 import subprocess
+import tempfile
 
 from answers import line_of
 
@@ -9,13 +10,20 @@ SECONDS_OF_COMMAND = 20
 
 
 def printed(program, lines):
-    """What the program of the suite prints for cases, and what it says where it doesn't answer all."""
-    text = b''.join(line.encode() + b'\n' for line in lines)
-    try:
-        ended = subprocess.run([program], input=text, capture_output=True, timeout=SECONDS, check=False)
-    except subprocess.TimeoutExpired:
-        return [], 'no end'
-    answers = ended.stdout.decode(errors='replace').split('\n')[:-1]
+    """What the program of the suite prints for cases, and what it says where it doesn't answer all.
+
+    Input and output are files: over pipes each answer would wake this process.
+    """
+    with tempfile.TemporaryFile() as cases, tempfile.TemporaryFile() as output:
+        cases.writelines(line.encode() + b'\n' for line in lines)
+        cases.seek(0)
+        try:
+            ended = subprocess.run([program], stdin=cases, stdout=output, stderr=subprocess.PIPE, timeout=SECONDS,
+                                   check=False)
+        except subprocess.TimeoutExpired:
+            return [], 'no end'
+        output.seek(0)
+        answers = output.read().decode(errors='replace').split('\n')[:-1]
     if ended.returncode == 0 and len(answers) == len(lines):
         return answers, None
     said = ended.stderr.decode(errors='replace').strip()
