@@ -8,7 +8,7 @@ import json
 
 from answers import answer_of, line_of, read_json_answer
 from bundles import built
-from changes import changed_bytes, changed_condition, changed_text
+from changes import SPELT, changed_bytes, changed_condition, changed_text
 from documents import (DECIMALS, any_shape, any_value, changed_json, is_plain, nested_shape, random_bundle,
                        random_metric, shape_json, written)
 from expressions import random_condition
@@ -19,7 +19,7 @@ from refused import Refused
 from shapes import read_shape
 
 # How many cases of each sort a seed has; a condition and an image make several each.
-CONDITIONS, IMAGES, DOCUMENTS, TEMPLATES, VALUES, TEXTS = 40, 25, 60, 15, 20, 20
+CONDITIONS, TOKENS, IMAGES, DOCUMENTS, TEMPLATES, VALUES, TEXTS = 40, 20, 25, 60, 15, 20, 20
 FUEL = 200
 WHOLES = [sign * (near + step) for near in (0, 9_223_372_036_854, 2**63, 2**64) for step in (-1, 0, 1)
           for sign in (1, -1)]
@@ -66,6 +66,13 @@ def condition_cases(source, corpus):
         yield answered({'call': 'verify', **about, 'values': values, 'fuel': FUEL})
         for other in values:
             yield answered({'call': 'run_condition', **about, 'value': other})
+
+
+def token_cases(source, corpus):
+    words = [source.choice(SPELT) for _ in range(source.randrange(1, 12))]
+    text = source.choice(('', '', ' ')).join(words)
+    yield answered({'call': 'tokens', 'condition': text})
+    yield answered({'call': 'parse', 'condition': text})
 
 
 # Images
@@ -189,7 +196,8 @@ def value_cases(source, corpus):
 
 def cases_of(source, corpus):
     """All cases of a seed, with their answers."""
-    for count, make in ((CONDITIONS, condition_cases), (IMAGES, image_cases), (DOCUMENTS, document_cases),
-                        (TEMPLATES, template_cases), (VALUES, value_cases), (TEXTS, text_cases)):
+    for count, make in ((CONDITIONS, condition_cases), (TOKENS, token_cases), (IMAGES, image_cases),
+                        (DOCUMENTS, document_cases), (TEMPLATES, template_cases), (VALUES, value_cases),
+                        (TEXTS, text_cases)):
         for _ in range(count):
             yield from make(source, corpus)

@@ -89,6 +89,7 @@ def repeated(source, text):
         'true?' * count + text + ':false' * count, 'true?1:' * (count - 1) + f'({text})', 'true?1:' * count + text,
         f'[{",".join(["1"] * count)}] == nil or {text}', 'any(result,' * 5 + text + ')' * 5,
         '(' * (count - 1) + f'len({text}' + ')' * count, 'all(result,{' * count + text + '})' * count,
+        f'1{"+1" * count}>0', f'result{".a" * count}', f'{text}{" or true" * count}',
         ' ' * (4_096 - len(text.encode())) + text + ' ' * (count % 3),
         '1+(' * (count - 4) + 'len([1,1,1,1,1])' + ')' * (count - 4) + '>0', f'[{text},' * 15 + text + ']' * 15,
         f'all({text},' * 3 + text + ')' * 3, 'any(result,all(#,' * 2 + 'any(result,' + text + ')' * 5))
@@ -96,7 +97,7 @@ def repeated(source, text):
 
 def changed_condition(source, text, other):
     """A condition with one to three changes; `other` is one from which parts are taken."""
-    if source.random() < 0.03:
+    if source.random() < 0.05:
         return repeated(source, text)
     if source.random() < 0.1:
         return changed_text(source, text)

@@ -21,9 +21,17 @@ NUMBERS = ('-0', '0', '1', '-1', '1.0', '1e3', '-0.0', '1e400', '-1e999', '1E-99
            '.5', '1.', '0x1', '9223372036854775808', '-9223372036854775808', '-9223372036854775809',
            '18446744073709551615', '18446744073709551616', '1000000000', '1000000001', '10000', '10001', '9' * 400,
            '0e9999', 'NaN', 'Infinity')
+# Numbers that a document may have, at and outside the ranges of wholes.
+FLOATS = ('-0', '-0', '-0', '0', '-1', '1.0', '1e3', '-0.0', '1E-999', '9223372036854775807', '9223372036854775808',
+          '-9223372036854775808', '-9223372036854775809', '18446744073709551615', '18446744073709551616', '1000000001')
 DECIMALS = ('NaN', 'Inf', '+Inf', '-Inf', '', '.', '+.5', '1e', '1e1000', '1e-999', '0e999', '9.3e12', '0,95',
             '-0.0000019', '1e6', '5.', ' 1', '-9223372036854.7758089', '9223372036854.775808', '0' * 63 + '1',
             '0' * 64 + '1', '1_0', '١')
+# Places of arguments, most of which are none: `n` and `x` are arguments, and `x` has no value.
+BRACES = ('{{args.n}}', '{{ args.n }}', '{{  args.n}}', '{{\targs.n}}', '{{args.n\n}}', '{{args.n\u00a0}}',
+          '{{args.n }', '{{args.}}', '{{{args.n}}', '{{args.n}}{{args.x', '{{args.n}}{{args.n}}', '{{}}', '{{ }}',
+          '{{args. n}}',
+          '}}{{args.n}}', '{{args.n}}}}', '{{Args.n}}', '{{args.x}}', '{{n}}', '{{args.n', '{ {args.n}}', '{{}}}}')
 MOST = (10_001, -1, 1.5, '3', True, None, 2**63, 2**64 - 1, 2**64, [])
 SCALARS = (None, True, False, 0, 1, -1, 2, 7, '', 'x', '1', '0.95', 'result > 0', '{{args.x}}', '{{', [], {}, [1],
            ['a'], {'name': 'm'}, 'bool', 'whole', 'decimal', {'list': 'whole', 'max': 3}, '.*', 'argoproj.io/v1alpha1')
@@ -81,6 +89,8 @@ def good_condition(source, shape):
 
 
 def random_limit(source):
+    if source.random() < 0.08:
+        return source.choice((source.choice(BRACES), RAW + source.choice(FLOATS)))
     limit = source.choice((0, 0, 1, 1, 2, 3))
     return source.choice((limit, limit, limit, str(limit), '{{args.n}}', f'{{{{ args.{source.choice("nnnx")} }}}}'))
 
@@ -89,7 +99,9 @@ def random_metric(source, name, shape):
     metric = {'name': name}
     for field, share in (('successCondition', 0.8), ('failureCondition', 0.4)):
         if source.random() < share:
-            metric[field] = good_condition(source, shape)
+            text = good_condition(source, shape)
+            braces = source.choice(BRACES)
+            metric[field] = text if source.random() < 0.9 else source.choice((f'{braces} > 0 or {text}', braces))
     for field in ('failureLimit', 'inconclusiveLimit', 'consecutiveErrorLimit'):
         if source.random() < 0.4:
             metric[field] = random_limit(source)
@@ -108,8 +120,26 @@ def random_entry(source, runs, metrics, shapes):
         return run | {'metric': metric, 'error': source.choice((None, 'no answer', {}))}
     value = any_value(source, shapes[metric])
     if source.random() < 0.12:
-        value = source.choice((RAW + source.choice(NUMBERS[:9]), changed_json(source, value, 1)))
+        value = source.choice((RAW + source.choice(FLOATS), changed_json(source, value, 1)))
     return run | {'metric': metric, 'value': value}
+
+
+def odd_entries(source, run, metric):
+    """Entries of which most are refused, each for another reason."""
+    runs, metrics = source.choice((run, 'nobody')), source.choice((metric, 'nothing'))
+    odd = ({'run': runs, 'metric': metrics, 'value': 1}, {'run': runs, 'metric': metrics, 'error': None},
+           {'run': runs, 'stop': True, 'metric': 7}, {'run': runs, 'stop': 1, 'metric': metrics, 'value': None},
+           {'run': runs, 'metric': metrics}, {'run': runs, 'metric': metrics, 'value': None, 'error': None},
+           {'metric': metrics, 'value': 1}, {'run': runs, 'value': 1}, {'run': runs, 'stop': True, 'value': 1}, 7, None)
+    return [source.choice(odd) for _ in range(source.choice((1, 1, 2)))]
+
+
+def random_entries(source, runs, metrics, shapes):
+    entries = [random_entry(source, runs, metrics, shapes) for _ in range(source.randrange(9))]
+    if source.random() < 0.15:
+        place = source.randrange(len(entries) + 1)
+        entries[place:place] = odd_entries(source, runs[0]['name'], metrics[0]['name'])
+    return entries
 
 
 def random_bundle(source):
@@ -128,7 +158,7 @@ def random_bundle(source):
         'manifest': {'apiVersion': 'argoproj.io/v1alpha1', 'kind': kind, 'metadata': {'name': 't'}, 'spec': spec},
         'shapes': {name: shape_json(shape) for name, shape in shapes.items()},
         'runs': runs,
-        'measurements': [random_entry(source, runs, metrics, shapes) for _ in range(source.randrange(9))],
+        'measurements': random_entries(source, runs, metrics, shapes),
     }
 
 
@@ -224,7 +254,7 @@ def written(source, value):
     indent = source.choice((None, None, None, 1))
     text = json.dumps(value, ensure_ascii=source.random() < 0.3, indent=indent,
                       separators=None if indent else (',', ':'))
-    for spelt in NUMBERS:
+    for spelt in NUMBERS + FLOATS:
         text = text.replace(f'"{RAW}{spelt}"', spelt)
     return text.replace(AGAIN, '')
 
