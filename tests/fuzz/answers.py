@@ -120,7 +120,7 @@ def judge_code_answer(case):
 
 
 def place_and_name(refused):
-    """A refused condition in the words of `eval`, up to the colon behind its name."""
+    """A refused condition in the words of `eval`, up to the colon after its name."""
     if refused.name == 'Verifier':
         return f'condition: {refused.details[1]}'
     refused = refused.details[0]

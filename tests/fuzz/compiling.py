@@ -59,7 +59,7 @@ class Writer:
 
 
 def operation(tree):
-    """The operation behind the operands of a tree."""
+    """The operation after the operands of a tree."""
     operator = tree.operator
     if operator in ('whole', 'decimal', 'text') and not tree.children:
         return 'Push' + operator.capitalize(), tree.content

@@ -46,9 +46,9 @@ def shape_json(kind):
 
 
 def decimal_text(source, millionths):
-    before, behind = divmod(abs(millionths), 1_000_000)
+    before, after = divmod(abs(millionths), 1_000_000)
     sign = '-' if millionths < 0 else source.choice(('', '', '+'))
-    digits = f'{before}.{behind:06}'
+    digits = f'{before}.{after:06}'
     exponents = (f'{abs(millionths)}e-6', f'{abs(millionths)}.5E-06')
     return sign + source.choice((digits, digits + '9', digits + '00', *exponents))
 

@@ -71,7 +71,7 @@ class Maker:
     # Operands by kind
 
     def scalar(self, kind, depth):
-        return {'bool': self.truth, 'whole': self.whole, 'decimal': self.number, 'text': self.text}[kind](depth)
+        return {'bool': self.boolean, 'whole': self.whole, 'decimal': self.number, 'text': self.text}[kind](depth)
 
     def leaf(self, kinds, literals):
         found = self.reach(lambda kind: plain(kind) in kinds) if self.chance(0.6) else None
@@ -80,7 +80,7 @@ class Maker:
     def common(self, make, depth):
         """A choice between two operands, or one in the place of another that is nil."""
         if self.chance(0.5):
-            return self.joined(self.group(self.truth(depth - 1)), '?', self.maybe(make, depth), ':', make(depth - 1))
+            return self.joined(self.group(self.boolean(depth - 1)), '?', self.maybe(make, depth), ':', make(depth - 1))
         return f'default({self.maybe(make, depth)}, {make(depth - 1)})'
 
     def maybe(self, make, depth):
@@ -126,23 +126,23 @@ class Maker:
 
     def over(self, name, text, kind, depth):
         self.items.append(kind)
-        holds = self.truth(depth - 1)
+        holds = self.boolean(depth - 1)
         self.items.pop()
         return f'{name}({text}, {{{holds}}})' if self.chance(0.4) else f'{name}({text}, {holds})'
 
     def loop(self, name, depth):
         return self.over(name, *self.list(depth - 1), depth)
 
-    def truth(self, depth):
+    def boolean(self, depth):
         if depth <= 0 or self.chance(0.08):
             return self.leaf(('bool',), ('true', 'false'))
         return self.one_of(
             lambda: self.compared(depth), lambda: self.compared(depth), lambda: self.equal(depth),
             lambda: self.member(depth), lambda: self.nil_test(depth),
-            lambda: self.pick(('!', 'not ')) + self.group(self.truth(depth - 1)),
-            lambda: self.two(self.truth, (' and ', ' or ', '&&', '||'), depth),
+            lambda: self.pick(('!', 'not ')) + self.group(self.boolean(depth - 1)),
+            lambda: self.two(self.boolean, (' and ', ' or ', '&&', '||'), depth),
             lambda: self.loop(self.pick(('all', 'any')), depth), lambda: self.loop(self.pick(('all', 'any')), depth),
-            lambda: f'({self.common(self.truth, depth)})')
+            lambda: f'({self.common(self.boolean, depth)})')
 
     def compared(self, depth):
         return self.two(self.number, ('<', '<=', '>', '>='), depth)
@@ -162,4 +162,4 @@ class Maker:
 
 
 def random_condition(source, shape):
-    return Maker(source, shape).truth(source.choice((1, 2, 2, 3, 3, 4)))
+    return Maker(source, shape).boolean(source.choice((1, 2, 2, 3, 3, 4)))

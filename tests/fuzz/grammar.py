@@ -196,7 +196,7 @@ class Reader:
         return tree(name, place, tuple(arguments))
 
     def predicate(self):
-        """A predicate; behind one without braces one is still inside, until the `)` or `,` that ends it."""
+        """A predicate; after one without braces one is still inside, until the `)` or `,` that ends it."""
         self.inside += 1
         if self.is_sign('{'):
             self.begin()

@@ -76,7 +76,7 @@ class Reader:
             raise Refused('BadNumber', start)
         return number
 
-    def truth(self):
+    def boolean(self):
         byte = self.byte()
         if byte > 1:
             raise Refused('BadNumber', self.at - 1)
@@ -113,7 +113,7 @@ class Reader:
             raise Refused('UnknownOp', start)
         name = NAMES[code - 1]
         if name == 'PushBool':
-            return (name, self.truth())
+            return (name, self.boolean())
         if name in ('PushWhole', 'PushDecimal'):
             return (name, self.signed())
         if name == 'MakeList':
@@ -148,7 +148,7 @@ def resolved(image):
 
 
 def listing(image):
-    """The lines of a listing; behind the number of a text or a name stands the text itself."""
+    """The lines of a listing; after the number of a text or a name stands the text itself."""
     lists = {'PushText': image.texts, 'Field': image.names}
     lines = []
     for place, op in enumerate(image.operations):

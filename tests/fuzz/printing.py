@@ -13,8 +13,8 @@ def shown_text(text):
 
 
 def shown_decimal(millionths):
-    before, behind = divmod(abs(millionths), 1_000_000)
-    return ('-' if millionths < 0 else '') + f'{before}.{str(behind).rjust(6, "0").rstrip("0") or "0"}'
+    before, after = divmod(abs(millionths), 1_000_000)
+    return ('-' if millionths < 0 else '') + f'{before}.{str(after).rjust(6, "0").rstrip("0") or "0"}'
 
 
 def by_bytes(name):

@@ -51,11 +51,11 @@ def decimal_of(text):
     if text in NOT_FINITE:
         raise Refused('NotFinite')
     found = DECIMAL.fullmatch(text)
-    sign, before, _, behind, exponent = found.groups() if found else [None] * 5
-    digits = (before or '') + (behind or '')
+    sign, before, _, after, exponent = found.groups() if found else [None] * 5
+    digits = (before or '') + (after or '')
     if not found or not 1 <= len(digits) <= DIGITS:
         raise Refused('BadDecimal')
-    power = int(exponent or 0) + 6 - len(behind or '')
+    power = int(exponent or 0) + 6 - len(after or '')
     millionths = int(digits) * 10**power if power >= 0 else int(digits) // 10**-power
     return in_range(-millionths if sign == '-' else millionths)
 

@@ -102,8 +102,8 @@ def bound_text(number, text, arguments, own):
     """A text with arguments in the place of what is between braces."""
     bound = ''
     while '{{' in text:
-        before, _, behind = text.partition('{{')
-        between, closed, text = behind.partition('}}')
+        before, _, after = text.partition('{{')
+        between, closed, text = after.partition('}}')
         if not closed:
             raise Refused('OpenBraces', number)
         between = between.strip(' ')

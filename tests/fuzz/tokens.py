@@ -45,10 +45,10 @@ def number_token(code, found):
     start, end = found.span()
     spelt = found.group().decode()
     if '.' in spelt:
-        before, behind = spelt.split('.')
-        if len(behind) > 6:
+        before, after = spelt.split('.')
+        if len(after) > 6:
             raise Refused('LiteralTooFine', start)
-        sort, value = 'decimal', int(before or '0') * 1_000_000 + int(behind.ljust(6, '0'))
+        sort, value = 'decimal', int(before or '0') * 1_000_000 + int(after.ljust(6, '0'))
     else:
         base = {'0x': 16, '0o': 8, '0b': 2}.get(spelt[:2], 10)
         sort, value = 'whole', int(spelt[2:] if base != 10 else spelt, base)
@@ -93,7 +93,7 @@ def sign_token(code, at):
 
 
 def token_at(code, at, tokens):
-    """The token that begins here, behind these tokens."""
+    """The token that begins here, after these tokens."""
     if found := WORD.match(code, at):
         word = found.group().decode()
         return ('word' if word in WORDS else 'name', word, at, found.end())
