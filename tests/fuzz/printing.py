@@ -4,7 +4,7 @@ import re
 
 from rules import is_list, is_optional, is_record
 
-ESCAPED = {'"': '\\"', '\\': '\\\\', '\n': '\\n', '\r': '\\r', '\t': '\\t', '\b': '\\b', '\f': '\\f'}
+ESCAPED = {'"': '\\"', '\\': '\\\\', '\n': '\\n', '\r': '\\r', '\t': '\\t'}
 SPECIAL = re.compile('["\\\\\x00-\x1f]')
 
 
