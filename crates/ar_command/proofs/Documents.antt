@@ -1,6 +1,6 @@
 -- What was read of an input says as much as all of it.
 use Rattle.std.proofs.Common.{◌≡◌, ℕ, ◌≤◌, Bool, true, false, List, [], ◌++◌, length, Option, Some, None, Result, Ok, Err, refl, sym, subst, ◌∙◌, ap, arith, length-append, append-nil}
-use Rattle.std.specs.Prelude.{IfOk, IfSome, OnOk, nat_lt}
+use Rattle.std.specs.Prelude.{IfOk, IfSome, OnErr, OnOk, nat_lt}
 use Rattle.std.proofs.lemmas.Bool.Decides.{nat_tests}
 use Rattle.ar_value.specs.Answer.{◌>>=◌}
 use Rattle.ar_value.specs.declared.fault.Fault.{Fault}
@@ -11,7 +11,8 @@ use Rattle.ar_json.specs.Document.{json_in, most_bytes}
 use Rattle.ar_document.specs.declared.error.BundleError.{BundleError}
 use Rattle.ar_device.specs.Input.{ReadsUpToLimit}
 use Rattle.ar_eval.specs.Evaluation.{Evaluates, Follows, of_json, prepared, prepared_input}
-use Rattle.ar_command.specs.Serving.{Refuses, Reports, Says}
+use Rattle.ar_command.specs.Serving.{Refuses, Reports, Says, WritesFront}
+use Rattle.ar_device.specs.Output.{AppendsFront}
 use Rattle.ar_eval.specs.declared.eval.EvalError.{EvalError}
 use Rattle.ar_command.specs.declared.serving.Closing.{Closing}
 use Rattle.ar_command_line.specs.declared.command_line.Command.{Command}
@@ -103,3 +104,14 @@ pub written_of_whole : (known after : Option (List ℕ)) (bytes : List ℕ) (com
 written_of_whole known after bytes command text own before contents (Ok closing) reads says same goes =
     with_text known command text closing (Appends before contents) (said_of_whole known after bytes command text closing reads (subst (Says command bytes text) (sym same) says)) goes
 written_of_whole known after bytes command text own before contents (Err error) reads says same goes = tt
+
+front_of : (known : Option (List ℕ)) (command : Command) (text : List ℕ) (closing : Closing) (before contents : Option (List ℕ)) → IfSome known (λ input. Says command input text closing) → AppendsFront before contents text
+    → IfSome known (WritesFront command before contents)
+front_of None command text closing before contents says goes = tt
+front_of (Some input) command text closing before contents says goes = record { text = text; closing = closing; says = says; wrote = goes }
+
+pub cut_of_whole : (known after : Option (List ℕ)) (bytes : List ℕ) (command : Command) (text : List ℕ) (own : Closing) (before contents : Option (List ℕ)) (result : Result Closing ServeError) → ReadsUpToLimit known after bytes → Says command bytes text own
+    → OnErr result (AppendsFront before contents text) → result ≡ Err Write → IfSome known (WritesFront command before contents)
+cut_of_whole known after bytes command text own before contents (Ok closing) reads says goes is = absurd cc
+cut_of_whole known after bytes command text own before contents (Err error) reads says goes is =
+    front_of known command text own before contents (said_of_whole known after bytes command text own reads says) goes

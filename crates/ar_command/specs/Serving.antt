@@ -15,6 +15,7 @@ use Rattle.ar_document.specs.Document as document
 use Rattle.ar_document.specs.declared.error.BundleError.{BundleError}
 use Rattle.ar_document.specs.declared.error.BundleError.TheVariants as bundle
 use Rattle.ar_eval.specs.Evaluation.{Evaluates}
+use Rattle.ar_device.specs.Output.{AppendsFront}
 use Rattle.ar_device.specs.declared.input.InputError.{InputError}
 use Rattle.ar_device.specs.declared.input.InputError.TheVariants as input
 use Rattle.ar_eval.specs.declared.eval.EvalError.{EvalError}
@@ -89,6 +90,22 @@ pub record IsCarriedOut (command : Command) (taken_before taken_after contents_b
   pub took : Appends taken_before taken_after input
   pub says : Says command input text closing
   pub wrote : Appends contents_before contents_after text
+
+-- a command's output was cut: a front of what it says of the bytes that were taken was written
+pub record IsCut (command : Command) (taken_before taken_after contents_before contents_after : Option (List ℕ)) : Type 0 where
+  pub input : List ℕ
+  pub text : List ℕ
+  pub closing : Closing
+  pub took : Appends taken_before taken_after input
+  pub says : Says command input text closing
+  pub wrote : AppendsFront contents_before contents_after text
+
+-- a front of what a command says of an input was written
+pub record WritesFront (command : Command) (contents_before contents_after : Option (List ℕ)) (input : List ℕ) : Type 0 where
+  pub text : List ℕ
+  pub closing : Closing
+  pub says : Says command input text closing
+  pub wrote : AppendsFront contents_before contents_after text
 
 -- ---- what is refused
 

@@ -3,8 +3,8 @@
 //! [`serve`] runs a document with workers and [`serve_plain`] carries out the other commands, over
 //! any reader and writer, and their contracts are the program's promise: what is written is what the
 //! command says of the bytes that were taken, or the input is refused by the first fault that stands
-//! in it and nothing is written. Only want of memory, a failed read or write, a thread that can't be
-//! started and a lost number can keep them from that. What is left to the program are the words of
+//! in it and nothing is written. Only out of memory, a failed read or write, a thread that can't be
+//! started and a lost number can keep them from that; after a failed write a front of it is written. What is left to the program are the words of
 //! refusals and the exit status. What `eval` answers is `ar_eval`'s.
 //!
 //! - [`serving`]: a command, from the bytes read to the bytes written
@@ -19,6 +19,6 @@ pub mod serving;
 pub mod status;
 
 pub use ar_command_line::Command;
-pub use ar_device::{Device, DeviceFault, Kept, Sink, Source};
+pub use ar_device::{Device, DeviceFault, Kept, Sink, Source, write_output};
 pub use ar_eval::{EvalError, eval};
 pub use serving::{Closing, Refusal, ServeError, serve, serve_plain};

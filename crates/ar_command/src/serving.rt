@@ -1,13 +1,14 @@
 //! A command, carried out from the bytes read to the bytes written.
 
-ghost use Rattle.std.specs.Prelude.{◌≡◌, ◌≢◌, ℕ, List, false, true, Err, IfErr, IfOk, IfSome, OnOk, string_bytes};
+ghost use Rattle.std.specs.Prelude.{◌≡◌, ◌≢◌, ℕ, List, false, true, Err, IfErr, IfOk, IfSome, OnErr, OnOk, string_bytes};
 ghost use Rattle.std.specs.Io.KnownBytes.{Appends};
-ghost use Rattle.ar_command.specs.Serving.{IsBroken, IsCarriedOut, IsRefused, Refuses, RunsAlone, RunsWith, Says};
+ghost use Rattle.ar_command.specs.Serving.{IsBroken, IsCarriedOut, IsCut, IsRefused, Refuses, RunsAlone, RunsWith, Says, WritesFront};
+ghost use Rattle.ar_device.specs.Output.{AppendsFront};
 
 use crate::answer::{Said, answer, judged};
 use ar_board::MOST_WORKERS;
 use ar_command_line::Command;
-use ar_device::{InputError, Sink, Source, read_input};
+use ar_device::{InputError, Sink, Source, read_input, write_output};
 use ar_document::BundleError;
 use ar_eval::EvalError;
 use ar_workers::{Gate, WorkError};
@@ -116,7 +117,7 @@ impl From<AllocError> for ServeError {
 }
 
 /// Reads a document, runs it with workers, and writes the report. A refused document, workers that
-/// give no histories, or want of memory, have nothing written.
+/// give no histories, or out of memory, have nothing written.
 ///
 /// # Errors
 ///
@@ -158,6 +159,13 @@ pub fn serve<S: Source, W: Sink, G: Gate, R: Threads + Wait + Sync>(
     ensures write { result ≡ Err ServeError.Write → W.has_failed writer.new ≡ true }
     ensures write_told { W.has_failed writer.new ≡ true → result ≡ Err ServeError.Write }
 
+    // What a failed write leaves written is a front of what the command says of the bytes that were taken,
+    // and of all bytes where they are known.
+    ensures cut { result ≡ Err ServeError.Write → IsCut command (S.taken reader.old) (S.taken reader.new)
+        (W.contents writer.old) (W.contents writer.new) }
+    ensures cut_of_known { result ≡ Err ServeError.Write → IfSome (S.remaining reader.old)
+        (WritesFront command (W.contents writer.old) (W.contents writer.new)) }
+
     // Only a failed write leaves anything written.
     ensures silent { IfErr result (λ e. e ≢ ServeError.Write → writer.new ≡ writer.old) }
 {
@@ -167,7 +175,7 @@ pub fn serve<S: Source, W: Sink, G: Gate, R: Threads + Wait + Sync>(
 }
 
 /// Reads a document, carries a command for one thread out on it, and writes the answer. A refused
-/// document, or want of memory, has nothing written.
+/// document, or out of memory, has nothing written.
 ///
 /// # Errors
 ///
@@ -206,6 +214,13 @@ pub fn serve_plain<S: Source, W: Sink>(
     ensures write { result ≡ Err ServeError.Write → W.has_failed writer.new ≡ true }
     ensures write_told { W.has_failed writer.new ≡ true → result ≡ Err ServeError.Write }
 
+    // What a failed write leaves written is a front of what the command says of the bytes that were taken,
+    // and of all bytes where they are known.
+    ensures cut { result ≡ Err ServeError.Write → IsCut command (S.taken reader.old) (S.taken reader.new)
+        (W.contents writer.old) (W.contents writer.new) }
+    ensures cut_of_known { result ≡ Err ServeError.Write → IfSome (S.remaining reader.old)
+        (WritesFront command (W.contents writer.old) (W.contents writer.new)) }
+
     // Only a failed write leaves anything written.
     ensures silent { IfErr result (λ e. e ≢ ServeError.Write → writer.new ≡ writer.old) }
 {
@@ -219,10 +234,11 @@ fn write<W: Sink>(writer: &mut W, said: &Said) -> Result<Closing, ServeError>
     requires { W.has_failed writer.old ≡ false }
     ensures closing { IfOk result (λ closing. closing ≡ said.now.closing) }
     ensures wrote { OnOk result (Appends (W.contents writer.old) (W.contents writer.new) (string_bytes said.now.text)) }
+    ensures front { OnErr result (AppendsFront (W.contents writer.old) (W.contents writer.new) (string_bytes said.now.text)) }
     ensures works { OnOk result (W.has_failed writer.new ≡ false) }
     ensures fails { IfErr result (λ e. (e ≡ ServeError.Write) × (W.has_failed writer.new ≡ true)) }
 {
-    match writer.write_all(said.text.as_bytes()) {
+    match write_output(writer, said.text.as_bytes()) {
         Ok(()) => Ok(said.closing),
         Err(_) => Err(ServeError::Write),
     }

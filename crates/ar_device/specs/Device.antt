@@ -2,7 +2,7 @@
 use Rattle.std.specs.Prelude.{Bool, Option, None, Some, Result, Ok, Err, is_some}
 use Rattle.std.specs.declared.io.Error.{Error}
 use Rattle.ar_device.specs.declared.device.Device.{Device}
-use Rattle.ar_device.specs.declared.device.DeviceFault.{DeviceFault}
+use Rattle.ar_device.specs.declared.stream.DeviceFault.{DeviceFault}
 
 -- the reader or the writer
 abbrev pub inner_of : {T : Type 0} → Device T → T

@@ -1,3 +1,5 @@
+pub mod Retrying
 pub mod Device
 pub mod Kept
 pub mod Input
+pub mod Output

@@ -4,7 +4,7 @@ ghost use Rattle.std.specs.Prelude.{◌≡◌, false, true, IfOk, length};
 ghost use Rattle.std.specs.Io.KnownBytes.{Appends};
 ghost use Rattle.ar_device.specs.Input.{ReadsUpToLimit};
 
-use crate::device::Source;
+use crate::stream::Source;
 use ar_json::document::MOST_BYTES;
 use std::alloc::{AllocError, Global};
 

@@ -1,6 +1,6 @@
 //! A source that keeps what was read.
 
-use crate::device::{DeviceFault, Source};
+use crate::stream::{DeviceFault, Source};
 use std::alloc::Global;
 
 /// A source that keeps what was read, for the words of a refusal. Where memory for it is refused it

@@ -3,6 +3,7 @@
 //! - `workers`: runs with workers, two of which judge at once, at `gates`
 //! - `serving`: documents that are served with workers
 //! - `commands`: commands on inputs that come a byte at a time, that can't be read, and that are kept
+//! - `writing`: commands whose output is cut, taken bit by bit, interrupted, or can't be flushed
 //! - `laws`: laws of these
 #![tactic(auto)]
 
@@ -16,3 +17,5 @@ mod laws;
 mod serving;
 #[cfg(test)]
 mod workers;
+#[cfg(test)]
+mod writing;

@@ -17,6 +17,7 @@ ghost use Rattle.ar_command_line.specs.declared.command_line.Command.TheVariants
 use ar_board::MOST_WORKERS;
 use ar_command::{
     Closing, Command, Device, Kept, Refusal, ServeError, Sink, Source, serve, serve_plain, status,
+    write_output,
 };
 use ar_command_line::{UsageError, command_of, shown};
 use ar_workers::{FreeGate, WorkError};
@@ -44,19 +45,25 @@ fn main(rt: HostRuntime) -> ExitCode {
 fn run<R: Env + AllocGlobal + Input + Print + Eprint + Threads + Wait + Sync>(rt: &R) -> u8 {
     match requested(rt) {
         Ok(Request::CarryOut(command)) => carry_out(rt, command),
-        Ok(Request::Show(text)) => match rt.print(text) {
-            Ok(()) => status::GOOD,
-            Err(error) => {
-                tell(rt, &ServeError::Write, Some(&error));
-                status::DEVICE
-            }
-        },
+        Ok(Request::Show(text)) => show(rt, text.as_str()),
         Err(error) => {
             let _ = eprintln!(rt; "argo_judge: {error}");
             match error {
                 UsageError::Words | UsageError::Workers | UsageError::Conflict => status::REFUSED,
                 UsageError::OutOfMemory => status::OUT_OF_MEMORY,
             }
+        }
+    }
+}
+
+/// Writes a text, and answers the exit status.
+fn show<R: Print + Eprint>(rt: &R, text: &str) -> u8 {
+    let mut writer = Device::new(io::writer(rt));
+    match write_output(&mut writer, text.as_bytes()) {
+        Ok(()) => status::GOOD,
+        Err(_) => {
+            tell(rt, &ServeError::Write, writer.fault());
+            status::DEVICE
         }
     }
 }
