@@ -1,5 +1,6 @@
 pub mod Lists
 pub mod Beside
 pub mod Well
+pub mod Room
 pub mod Gathered
 pub mod Unstuck
