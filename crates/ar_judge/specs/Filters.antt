@@ -1,10 +1,11 @@
 -- Which conditions have a `filter`.
 use Rattle.std.specs.Prelude.{◌≡◌, Bool, true, false, ◌||◌, List, ℕ, Ok}
 use Rattle.ar_value.specs.Shape.{Shape}
+use Rattle.ar_value.specs.Value.{Value}
 use Rattle.ar_value.specs.declared.operator.Predicate.TheVariants.{Filter}
 use Rattle.ar_condition.specs.Typed.{Typed, Typeds}
 use Rattle.ar_condition.specs.Typed as typed
-use Rattle.ar_machine.specs.Filter.{HasNoFilter}
+use Rattle.ar_machine.specs.Filter.{BeginsNoFilter}
 use Rattle.ar_judge.specs.Condition.{Condition, typed_of}
 
 abbrev mutual
@@ -26,6 +27,6 @@ abbrev mutual
   have_filter typed.none = false
   have_filter (typed.more first others) = has_filter first || have_filter others
 
--- where a text's typed tree has no `filter`, the code of its condition has none
+-- where a text's typed tree has no `filter`, no run of its condition's code begins one
 abbrev pub FiltersAsWritten : Shape → (text : List ℕ) → Condition → Type 0
-FiltersAsWritten shape text condition = (tree : Typed) → typed_of shape text ≡ Ok tree → has_filter tree ≡ false → HasNoFilter condition.verified.code
+FiltersAsWritten shape text condition = (tree : Typed) → typed_of shape text ≡ Ok tree → has_filter tree ≡ false → (value : Value) → BeginsNoFilter condition.verified.code value

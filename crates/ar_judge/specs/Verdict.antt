@@ -7,7 +7,7 @@ use Rattle.ar_value.specs.View.{shape_view, value_view}
 use Rattle.ar_value.specs.declared.fault.Fault.{Fault}
 use Rattle.ar_json.specs.declared.value_reading.ShapeFault.{ShapeFault}
 use Rattle.ar_json.specs.declared.value_reading.ShapeFault.TheVariants as shape_fault
-use Rattle.ar_machine.specs.Filter.{HasNoFilter}
+use Rattle.ar_machine.specs.Filter.{BeginsNoFilter}
 use Rattle.ar_judge.specs.Condition.{Condition, IsBuilt, IsRefused, said}
 use Rattle.ar_judge.specs.declared.error.BuildCause.{BuildCause}
 use Rattle.ar_judge.specs.declared.error.BuildCause.TheVariants as causes
@@ -72,16 +72,21 @@ Suits judge provider = Unit {0}
 Suits judge (misfit fault) = fault ≢ shape_fault.OutOfMemory
 Suits judge (measured value) = FitsEach value judge.success × FitsEach value judge.failure
 
--- a condition that is there has no `filter`
-abbrev pub HasNoFilterIfThere : Option Condition → Type 0
-HasNoFilterIfThere (Some condition) = HasNoFilter condition.verified.code
-HasNoFilterIfThere None = Unit {0}
+-- the run of a condition that is there begins no loop of a `filter` over items
+abbrev pub BeginsNoFilterIfThere : Value → Option Condition → Type 0
+BeginsNoFilterIfThere value (Some condition) = BeginsNoFilter condition.verified.code value
+BeginsNoFilterIfThere value None = Unit {0}
 
--- judging takes no memory: nothing was measured, or no condition has a `filter`
+abbrev pub UnlessFault : Option (Result Bool Fault) → Type 0 → Type 0
+UnlessFault (Some (Err fault)) P = Unit {0}
+UnlessFault said P = P
+
+-- judging takes no memory: nothing was measured, or no run of a condition begins a loop of a `filter` over items; the
+-- failure condition is not run where the success condition comes to a fault
 abbrev pub TakesNoMemory : Judge → Sample → Type 0
 TakesNoMemory judge provider = Unit {0}
 TakesNoMemory judge (misfit fault) = Unit {0}
-TakesNoMemory judge (measured value) = HasNoFilterIfThere judge.success × HasNoFilterIfThere judge.failure
+TakesNoMemory judge (measured value) = BeginsNoFilterIfThere value judge.success × UnlessFault (option_and_then (said_of value) judge.success) (BeginsNoFilterIfThere value judge.failure)
 
 -- ---- judges of texts
 

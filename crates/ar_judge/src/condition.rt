@@ -3,7 +3,7 @@
 ghost use Rattle.std.specs.Prelude.{◌≡◌, Some, true, IfOk, IsOk};
 ghost use Rattle.ar_value.specs.Fits.{fits};
 ghost use Rattle.ar_value.specs.View.{shape_view, value_view};
-ghost use Rattle.ar_machine.specs.Filter.{HasNoFilter};
+ghost use Rattle.ar_machine.specs.Filter.{BeginsNoFilter};
 ghost use Rattle.ar_judge.specs.Condition.{BuildsTo, said};
 ghost use Rattle.ar_judge.specs.Headline.{HeadlineHolds};
 ghost use Rattle.ar_judge.specs.Private.Readiness.{HasCode};
@@ -86,14 +86,14 @@ impl Condition {
     ///
     /// # Errors
     ///
-    /// Want of memory alone, which a run of a condition with a `filter` takes.
+    /// Out of memory alone, which only the begin of a loop of a `filter` over items takes.
     #[tactic(auto, using(crate::proofs::Running::run_says))]
     pub fn answer(&self, alloc: Global, value: &Value) -> Result<Answer, AllocError>
         requires { fits (value_view value.now) (shape_view self.now.verified.shape) ≡ true }
         ensures exact { IfOk result (λ answer.
             said (shape_view self.now.verified.shape) self.now.text (value_view value.now) ≡ Some answer) }
-        // A condition without `filter` is run whatever memory is left.
-        ensures without_memory { HasNoFilter self.now.verified.code → IsOk result }
+        // A run that begins no loop of a `filter` over items succeeds whatever memory is left.
+        ensures without_memory { BeginsNoFilter self.now.verified.code (value_view value.now) → IsOk result }
     {
         Ok(run(alloc, &self.verified, value)?.answer)
     }

@@ -3,7 +3,7 @@
 ghost use Rattle.std.specs.Prelude.{◌≡◌, IfErr, IfOk, IsOk, None, option_and_then, option_map};
 ghost use Rattle.ar_value.specs.View.{shape_view, value_view};
 ghost use Rattle.ar_judge.specs.Headline.{JudgeHeadlineHolds};
-ghost use Rattle.ar_judge.specs.Verdict.{FitsEach, HasNoFilterIfThere, HasNoText, IsJudge, RefusesTexts, Suits, TakesNoMemory, said_of, sample_view, verdict, verdict_by};
+ghost use Rattle.ar_judge.specs.Verdict.{FitsEach, BeginsNoFilterIfThere, HasNoText, IsJudge, RefusesTexts, Suits, TakesNoMemory, said_of, sample_view, verdict, verdict_by};
 ghost use Rattle.ar_judge.specs.Private.Building.{BuildsEach, failure_refused, success_refused};
 
 use crate::condition::Condition;
@@ -59,7 +59,7 @@ impl Judge {
             (JudgeHeadlineHolds (shape_view shape.now) metric.now.success_condition metric.now.failure_condition) }
         ensures refused { IfErr result
             (RefusesTexts (shape_view shape.now) metric.now.success_condition metric.now.failure_condition) }
-        // Where there is no text, want of memory is never answered.
+        // Where there is no text, out of memory is never answered.
         ensures without_memory { HasNoText metric.now.success_condition metric.now.failure_condition → IsOk result }
     {
         let success = built(alloc, &metric.success_condition, shape).map_err(success_refused)?;
@@ -88,11 +88,11 @@ impl Judge {
     ///
     /// # Errors
     ///
-    /// Want of memory alone, which runs of conditions with a `filter` take.
+    /// Out of memory alone, which only the begin of a loop of a `filter` over items takes.
     pub fn judge(&self, alloc: Global, sample: &Sample) -> Result<Verdict, AllocError>
         requires { Suits self.now (sample_view sample.now) }
         ensures exact { IfOk result (λ found. found ≡ verdict self.now (sample_view sample.now)) }
-        // Where no condition with a `filter` is run, want of memory is never answered.
+        // Where no run of a condition begins a loop of a `filter` over items, out of memory is never answered.
         ensures without_memory { TakesNoMemory self.now (sample_view sample.now) → IsOk result }
     {
         match sample {
@@ -151,7 +151,7 @@ fn said(
 ) -> Result<Option<Answer>, AllocError>
     requires { FitsEach (value_view value.now) condition.now }
     ensures said { IfOk result (λ said. said ≡ option_and_then (said_of (value_view value.now)) condition.now) }
-    ensures without_memory { HasNoFilterIfThere condition.now → IsOk result }
+    ensures without_memory { BeginsNoFilterIfThere (value_view value.now) condition.now → IsOk result }
 {
     match condition {
         Some(condition) => Ok(Some(condition.answer(alloc, value)?)),

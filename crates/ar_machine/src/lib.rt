@@ -2,14 +2,14 @@
 //!
 //! [`run`] runs verified code on a value of its shape. By its contract it ends with the answer of the
 //! machine in `ar_op/specs/Machine`, which tests every operand, and with what that run costs, within the
-//! code's budget (`IsDone` of `ar_operand/specs/Run`). Only want of memory can keep it from that. Nothing but
-//! the lists that `filter` gives takes memory, so [`run`] succeeds on code without `filter` (`specs/Filter`)
-//! whatever memory is left.
+//! code's budget (`IsDone` of `ar_operand/specs/Run`). Only out of memory can keep it from that. Nothing but
+//! the begin of a loop of a `filter` over items takes memory, so [`run`] succeeds whatever memory is left where
+//! no state of the run stands at one (`specs/Filter`).
 //!
 //! Verified code is never stuck, so each step finds the operands that it takes, of their kinds: what else
 //! there might be is `unreachable!()`, by proof. Values are lent by the measured value and the code; the
 //! stacks and the list literals lie in the run's own frame. A loop of a `filter` takes memory once, at its
-//! begin, for as many items as it may keep.
+//! begin, for as many items as it goes over: so none of its steps takes memory (`specs/Private/Room`).
 //!
 //! - `runs`: runs; `steps`: what each operation does
 //! - `effects`: operations that go on to the next place; `loops`: the begin and the step of a loop;
