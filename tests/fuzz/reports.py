@@ -80,12 +80,10 @@ def run_phases(bundle):
 
 
 def conditions(bundle):
-    """For each condition the beginning of its line, its code and its bounds; of a metric without one its line alone."""
+    """For each condition the beginning of its line, its code and its bounds."""
     for run in bundle['runs']:
         for metric, judges in zip(run['metrics'], run['judges']):
             begin = f'run {run["name"]} metric {metric["name"]}'
-            if judges == (None, None):
-                yield f'{begin} has no condition: each measured value is Successful', None, None
             for judge, side in zip(judges, ('success', 'failure')):
                 if judge:
                     yield f'{begin} {side}', judge[1], judge[2]
@@ -93,7 +91,7 @@ def conditions(bundle):
 
 def bounds_lines(bundle):
     """What `check` writes."""
-    return [f'{begin} operations={len(ops)} depth={bounds[0]} budget={bounds[1]}' if ops else begin
+    return [f'{begin} operations={len(ops)} depth={bounds[0]} budget={bounds[1]}'
             for begin, ops, bounds in conditions(bundle)]
 
 
@@ -101,5 +99,5 @@ def list_lines(bundle):
     """What `list` writes."""
     lines = []
     for begin, ops, _ in conditions(bundle):
-        lines += [begin] + (listing(image_of(ops)) if ops else [])
+        lines += [begin] + listing(image_of(ops))
     return lines

@@ -11,7 +11,7 @@ use Rattle.ar_cell.specs.declared.receipt.Receipt.{Receipt}
 use Rattle.ar_cell.proofs.Places.{times_own}
 use Rattle.ar_board.specs.Board.{AreAsMany, IsClosed, IsUnmetAmong}
 use Rattle.ar_board.specs.Private.Closing.{AreAllMarked, AreMet, AreStored, IsThere, IsUnheld, StoredAs}
-use Rattle.ar_board.specs.Private.Seats.{PerLock}
+use Rattle.ar_board.specs.Seats.{PerLock}
 use Rattle.ar_board.proofs.Given.{AreOfCells, are_histories, so_far}
 use Rattle.ar_board.proofs.Marks.{of_all}
 

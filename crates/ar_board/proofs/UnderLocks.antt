@@ -6,7 +6,8 @@ use Rattle.std.proofs.lemmas.Bool.Decides.{nat_tests}
 use Rattle.std.proofs.lemmas.List.Sums.{sum_by-cons}
 use Rattle.ar_bundle.specs.Bundle.{Bundle}
 use Rattle.ar_cell.specs.Cell.{entries_under, lock_of}
-use Rattle.ar_board.specs.Private.Seats.{PerLock, AllAre, IsOneMore, at_lock, per_lock, one_under}
+use Rattle.ar_board.specs.Seats.{PerLock, AllAre, at_lock, per_lock}
+use Rattle.ar_board.specs.Private.Seats.{IsOneMore, one_under}
 
 -- a run is under one of four locks
 pub under_four : (run : ℕ) → lock_of run < 4

@@ -4,7 +4,8 @@ ghost use Rattle.std.specs.Prelude.{◌≡◌, ◌<◌, ◌≤◌, [], false, If
 ghost use Rattle.ar_bundle.specs.Bundle.{found, run_of};
 ghost use Rattle.std.specs.Vec.{vec_capacity};
 ghost use Rattle.ar_board.specs.Board.{AreSeated, IsClosed, IsLost, IsReceived, IsSeen, IsUnseen, receipts_of};
-ghost use Rattle.ar_board.specs.Private.Seats.{AllAre, IsOneMore, per_lock};
+ghost use Rattle.ar_board.specs.Seats.{AllAre, per_lock};
+ghost use Rattle.ar_board.specs.Private.Seats.{IsOneMore};
 ghost use Rattle.ar_cell.specs.Cell.{lock_of};
 
 use crate::closing::{Room, first_unheld, note_all_stored, note_all_unmet};

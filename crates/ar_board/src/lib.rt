@@ -21,6 +21,8 @@ pub mod seat;
 mod shares;
 mod under;
 
+pub use ar_bundle::{Bundle, Entry, EventPart, Finding, Histories, MetricPart, RunPart, What};
+pub use ar_cell::{Double, LookFault, Posted, Receipt, RunCell, Snapshot};
 pub use board::{Board, MOST_WORKERS};
 pub use locks::{Blanks, LockNames};
 pub use lost::Lost;

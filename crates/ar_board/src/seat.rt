@@ -4,7 +4,7 @@ ghost use Rattle.std.specs.Prelude.{◌≡◌, ◌<◌, ◌≤◌, [], IfOk, len
 ghost use Rattle.std.specs.Vec.{vec_capacity};
 ghost use Rattle.ar_board.specs.Board.{AreSeated, seat_of};
 ghost use Rattle.ar_board.specs.Private.Closing.{AreGiven};
-ghost use Rattle.ar_board.specs.Private.Seats.{AllAre, per_lock};
+ghost use Rattle.ar_board.specs.Seats.{AllAre, per_lock};
 
 use crate::locks::LockNames;
 use crate::shares::Shares;
@@ -79,7 +79,7 @@ pub struct Seat<M: BundleName, L: LockNames> {
 impl<M: BundleName, L: LockNames> Model for Seat<M, L> {
     ghost use Rattle.std.specs.Vec.{vec_capacity};
     ghost use Rattle.ar_board.specs.Board.{Seat, seat_of};
-    ghost use Rattle.ar_board.specs.Private.Seats.{IsSeat, per_lock};
+    ghost use Rattle.ar_board.specs.Seats.{IsSeat, per_lock};
 
     ghost Value = { Seat };
 

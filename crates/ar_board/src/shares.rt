@@ -15,7 +15,7 @@ pub(crate) struct Shares<L: LockNames> {
 }
 
 impl<L: LockNames> Shares<L> {
-    ghost use Rattle.ar_board.specs.Private.Seats.{AllAre, at_lock, per_lock};
+    ghost use Rattle.ar_board.specs.Seats.{AllAre, at_lock, per_lock};
 
     /// One part of each ledger is split off; there is no amount.
     pub(crate) fn split_off(&mut self) -> Shares<L>

@@ -27,5 +27,6 @@ mod operand;
 mod operators;
 mod typing;
 
+pub use ar_condition::Typed;
 pub use error::TypeError;
 pub use typing::check;

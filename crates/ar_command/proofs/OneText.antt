@@ -23,7 +23,7 @@ use Rattle.serde_json.specs.Data.{Data}
 use Rattle.ar_eval.specs.Evaluation.{Prepared}
 use Rattle.ar_eval.specs.Evaluation as evaluation
 use Rattle.ar_eval.specs.declared.eval.EvalError.{EvalError}
-use Rattle.ar_report.specs.Check.{bounds_text, condition_name, condition_text, judge_text, judges_text, listed_text, runs_text, unjudged_line, unjudged_text, verified_of}
+use Rattle.ar_report.specs.Check.{bounds_text, condition_name, condition_text, judge_text, judges_text, listed_text, runs_text, verified_of}
 use Rattle.ar_command.specs.Alike.{AreSameConditions, AreSameJudges, AreSameRuns, IsSameBundle, IsSameCondition, IsSameRun}
 use Rattle.ar_command.specs.Serving.{Says, line_of}
 use Rattle.ar_command.specs.declared.serving.Closing.{Closing}
@@ -114,16 +114,6 @@ module _ (text : Verified → List ℕ) (alike : (one other : Condition) → IsS
   same_condition_text name None (Some other) same = absurd same
   same_condition_text name None None same = refl
 
-  same_unjudged_text : (line : List ℕ) (one other its also : Option Condition) → AreSameConditions one other → AreSameConditions its also
-      → unjudged_text line (verified_of one) (verified_of its) ≡ unjudged_text line (verified_of other) (verified_of also)
-  same_unjudged_text line (Some one) (Some other) its also same equal = refl
-  same_unjudged_text line (Some one) None its also same equal = absurd same
-  same_unjudged_text line None (Some other) its also same equal = absurd same
-  same_unjudged_text line None None (Some its) (Some also) same equal = refl
-  same_unjudged_text line None None (Some its) None same equal = absurd equal
-  same_unjudged_text line None None None (Some also) same equal = absurd equal
-  same_unjudged_text line None None None None same equal = refl
-
   same_judges_text : (run : List ℕ) (metrics others : List MetricPart) (one other : List Judge) → map metric_view metrics ≡ map metric_view others → AreSameJudges one other
       → judges_text text run metrics one ≡ judges_text text run others other
   same_judges_text run [] [] one other named same = refl
@@ -138,8 +128,7 @@ module _ (text : Verified → List ℕ) (alike : (one other : Condition) → IsS
       let name : metric.name ≡ its.name = ap (λ (m : Metric). m.name) head in
       let success = same_condition_text (condition_name run its.name (codes "success")) judge.success also.success same.0.0 in
       let failure = same_condition_text (condition_name run its.name (codes "failure")) judge.failure also.failure same.0.1 in
-      let neither = same_unjudged_text (unjudged_line run its.name) judge.success also.success judge.failure also.failure same.0.0 same.0.1 in
-      let own : judge_text text run metric.name judge ≡ judge_text text run its.name also = rw name (rw success (rw failure (rw neither refl))) in
+      let own : judge_text text run metric.name judge ≡ judge_text text run its.name also = rw name (rw success (rw failure refl)) in
       let behind = same_judges_text run metrics others one other rest same.1 in
       rw own (rw behind refl)
 

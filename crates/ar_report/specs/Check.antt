@@ -22,20 +22,11 @@ condition_text text name None = []
 abbrev pub verified_of : Option Condition → Option Verified
 verified_of condition = option_map (λ condition. condition.verified) condition
 
--- what is told of a metric that has none
-unfoldable pub unjudged_line : (run metric : List ℕ) → List ℕ
-unjudged_line run metric = condition_name run metric (codes "has no condition: each measured value is Successful\n")
-
-abbrev pub unjudged_text : (line : List ℕ) → (success failure : Option Verified) → List ℕ
-unjudged_text line None None = line
-unjudged_text line success failure = []
-
--- the texts of a metric's conditions, success before failure, or that it has none
+-- the texts of a metric's conditions, success before failure
 abbrev pub judge_text : (Verified → List ℕ) → (run metric : List ℕ) → Judge → List ℕ
 judge_text text run metric judge =
     condition_text text (condition_name run metric (codes "success")) (verified_of judge.success)
-    ++ (condition_text text (condition_name run metric (codes "failure")) (verified_of judge.failure)
-    ++ unjudged_text (unjudged_line run metric) (verified_of judge.success) (verified_of judge.failure))
+    ++ condition_text text (condition_name run metric (codes "failure")) (verified_of judge.failure)
 
 -- the texts of a run's conditions, metric by metric
 abbrev pub judges_text : (Verified → List ℕ) → (run : List ℕ) → List MetricPart → List Judge → List ℕ

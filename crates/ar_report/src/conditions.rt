@@ -2,7 +2,7 @@
 
 ghost use Rattle.std.specs.Prelude.{◌≡◌, ◌++◌, IfOk, OnOk, option_map, string_bytes};
 ghost use Rattle.ar_bundle.specs.Bundle.{IsRun};
-ghost use Rattle.ar_report.specs.Check.{bounds_text, check_text, condition_name, condition_text, judge_text, judges_text, list_text, listed_text, runs_text, unjudged_line, unjudged_text};
+ghost use Rattle.ar_report.specs.Check.{bounds_text, check_text, condition_name, condition_text, judge_text, judges_text, list_text, listed_text, runs_text};
 ghost use Rattle.ar_report.specs.Private.Shown.{shown_text};
 
 use crate::reports::put_counted;
@@ -89,30 +89,6 @@ fn put_condition(
     Ok(())
 }
 
-/// Tells of a metric that has no condition: a name that is misspelt leaves one without.
-#[tactic(auto, unfolding(crate::specs::Check::unjudged_line))]
-fn put_unjudged(
-    out: &mut String,
-    run: &str,
-    metric: &str,
-    success: Option<&Verified>,
-    failure: Option<&Verified>,
-) -> Result<(), AllocError>
-    ensures { OnOk result (string_bytes out.new ≡ string_bytes out.old
-        ++ unjudged_text (unjudged_line run.now metric.now)
-        (option_map (λ verified. verified.now) success.entry) (option_map (λ verified. verified.now) failure.entry)) }
-{
-    if success.is_some() || failure.is_some() {
-        return Ok(());
-    }
-    put_name(
-        out,
-        run,
-        metric,
-        "has no condition: each measured value is Successful\n",
-    )
-}
-
 /// The conditions of a metric of a run.
 fn put_judge(
     alloc: Global,
@@ -126,8 +102,7 @@ fn put_judge(
         (string_bytes out.new ≡ string_bytes out.old ++ judge_text (shown_text shown) run.now metric.now judge.now) }
 {
     put_condition(alloc, out, shown, run, metric, "success", judge.success())?;
-    put_condition(alloc, out, shown, run, metric, "failure", judge.failure())?;
-    put_unjudged(out, run, metric, judge.success(), judge.failure())
+    put_condition(alloc, out, shown, run, metric, "failure", judge.failure())
 }
 
 /// The conditions of a run.

@@ -8,6 +8,7 @@ use ar_document::read_bundle;
 use ar_workers::{Gate, run_all, run_ordered};
 use std::alloc::Global;
 use std::hint::spin_loop;
+use std::process::Abort;
 use std::sync::Wait;
 use std::sync::atomic::{AtomicUsize, Ordering};
 use std::test::Fail;
@@ -100,6 +101,17 @@ struct Crowd {
 }
 
 impl Crowd {
+    fn new() -> Crowd {
+        Crowd {
+            came: [
+                AtomicUsize::new(0),
+                AtomicUsize::new(0),
+                AtomicUsize::new(0),
+            ],
+            met: AtomicUsize::new(0),
+        }
+    }
+
     /// Whether all of the workers have come.
     fn is_whole(&self) -> bool {
         self.came.iter().all(|came| came.load(Ordering::SeqCst) > 0)
@@ -122,21 +134,28 @@ impl Gate for Crowd {
     }
 }
 
-/// As many workers as were asked for come to the gate, each with a number of its own, and once for it.
-#[test]
-fn each_worker_comes(rt: HostRuntime) -> Result<(), Fail> {
-    let crowd = Crowd {
-        came: [
-            AtomicUsize::new(0),
-            AtomicUsize::new(0),
-            AtomicUsize::new(0),
-        ],
-        met: AtomicUsize::new(0),
-    };
-    histories(&rt, rt.alloc(), THREE_ENTRIES, 3, &crowd)?;
+/// As many workers as were asked for came to the gate, each with a number of its own, and once for it.
+fn assert_crowd(rt: &impl Abort, crowd: &Crowd) {
     for came in &crowd.came {
         assert_eq!(rt; came.load(Ordering::SeqCst), 1);
     }
     assert_eq!(rt; crowd.met.load(Ordering::SeqCst), 3);
+}
+
+/// Three workers come that post to a board.
+#[test]
+fn each_worker_comes(rt: HostRuntime) -> Result<(), Fail> {
+    let crowd = Crowd::new();
+    histories(&rt, rt.alloc(), THREE_ENTRIES, 3, &crowd)?;
+    assert_crowd(&rt, &crowd);
+    Ok(())
+}
+
+/// Three workers come of an ordered run.
+#[test]
+fn each_ordered_worker_comes(rt: HostRuntime) -> Result<(), Fail> {
+    let crowd = Crowd::new();
+    assert!(rt; is_in_order(&rt, rt.alloc(), &crowd)?);
+    assert_crowd(&rt, &crowd);
     Ok(())
 }

@@ -44,6 +44,7 @@ mod state;
 mod step;
 pub mod token;
 
+pub use ar_condition::Tree;
 pub use error::SyntaxError;
 pub use parser::parse;
 pub use scanner::tokens;

@@ -34,6 +34,11 @@ fn put_line<T: Debug>(text: &mut String, answer: &T) -> Result<(), Fail> {
     Ok(())
 }
 
+/// Two runs that are measured three times each: the first succeeds at its second measurement, the second
+/// fails at its second.
+const THREE_EACH: &str =
+    r#"{"manifest":{"apiVersion":"argoproj.io/v1alpha1","kind":"AnalysisTemplate","metadata":{"name":"t"},"spec":{"metrics":[{"name":"m","interval":"1m","count":2,"successCondition":"result > 0"}]}},"shapes":{"m":"whole"},"runs":[{"name":"r0"},{"name":"r1"}],"measurements":[{"run":"r0","metric":"m","value":1},{"run":"r1","metric":"m","value":1},{"run":"r0","metric":"m","value":2},{"run":"r0","metric":"m","value":0},{"run":"r1","metric":"m","value":0},{"run":"r1","metric":"m","value":5}]}"#;
+
 /// A receipt that no seat has.
 const ELSEWHERE: &[Receipt] = &[Receipt {
     run: 0,
@@ -216,16 +221,17 @@ fn put_board<M: BundleName, L: LockNames, R: Wait>(
     put_closed(text, &board.close(seats))
 }
 
-/// What calls at a new board of the bundle of two runs come to, and what closing gives, a line each.
-fn on_two_runs<R: Wait>(
+/// What calls at a new board of a document's bundle come to, and what closing gives, a line each.
+fn on_board<R: Wait>(
     rt: &R,
     alloc: Global,
+    document: &str,
     workers: usize,
     calls: &[Call],
 ) -> Result<String, Fail>
     requires most { (1 ≤ workers) × (workers ≤ 16) }
 {
-    let bundle = read_bundle(alloc, TWO_RUNS.as_bytes())?;
+    let bundle = read_bundle(alloc, document.as_bytes())?;
     let blanks = Blanks::new(workers as u64);
     let mut text = String::new(alloc);
     put_board::<Brand, Brand, R>(rt, alloc, &bundle, workers, blanks, calls, &mut text)?;
@@ -241,7 +247,7 @@ fn one_seat(rt: HostRuntime) -> Result<(), Fail> {
         Call::Post(0, 0),
         Call::Look(0, 0),
     ];
-    let lost = on_two_runs(&rt, rt.alloc(), 1, &calls)?;
+    let lost = on_board(&rt, rt.alloc(), TWO_RUNS, 1, &calls)?;
     assert_eq!(rt;
         lost.as_str(),
         "Ok(Posted { place: 0, effect: Closed(Successful) })
@@ -251,7 +257,13 @@ Ok(Snapshot { phase: Successful, metrics: [Successful], posts: [1] })
 lost 1: 0 / / [[Receipt { run: 0, number: 0, place: 0 }]]
 "
     );
-    let all = on_two_runs(&rt, rt.alloc(), 1, &[Call::Post(0, 0), Call::Post(0, 1)])?;
+    let all = on_board(
+        &rt,
+        rt.alloc(),
+        TWO_RUNS,
+        1,
+        &[Call::Post(0, 0), Call::Post(0, 1)],
+    )?;
     assert_eq!(rt;
         all.as_str(),
         "Ok(Posted { place: 0, effect: Closed(Successful) })
@@ -270,7 +282,7 @@ fn two_seats(rt: HostRuntime) -> Result<(), Fail> {
         Call::Post(1, 0),
         Call::Post(1, 1),
     ];
-    let both = on_two_runs(&rt, rt.alloc(), 2, &calls)?;
+    let both = on_board(&rt, rt.alloc(), TWO_RUNS, 2, &calls)?;
     assert_eq!(rt;
         both.as_str(),
         "Ok(Posted { place: 0, effect: Closed(Successful) })
@@ -287,7 +299,7 @@ Ok(Posted { place: 0, effect: Closed(Successful) })
 #[test]
 fn held_lock(rt: HostRuntime) -> Result<(), Fail> {
     let calls = [Call::Post(0, 0), Call::Look(0, 0), Call::Hold(0)];
-    let held = on_two_runs(&rt, rt.alloc(), 1, &calls)?;
+    let held = on_board(&rt, rt.alloc(), TWO_RUNS, 1, &calls)?;
     assert_eq!(rt;
         held.as_str(),
         "Ok(Posted { place: 0, effect: Closed(Successful) })
@@ -298,6 +310,55 @@ Err(Stale(1))
 Ok(Posted { place: 0, effect: Closed(Successful) })
 Ok(Snapshot { phase: Successful, metrics: [Successful], posts: [1] })
 0 / 1 / "
+    );
+    Ok(())
+}
+
+/// Two seats post three numbers to each of two runs under different locks; after each post both see it.
+#[test]
+fn posts_of_two_seats(rt: HostRuntime) -> Result<(), Fail> {
+    let calls = [
+        Call::Post(0, 0),
+        Call::Look(0, 0),
+        Call::Look(1, 0),
+        Call::Post(1, 2),
+        Call::Look(0, 0),
+        Call::Look(1, 0),
+        Call::Post(0, 3),
+        Call::Look(0, 0),
+        Call::Look(1, 0),
+        Call::Post(1, 1),
+        Call::Look(0, 1),
+        Call::Look(1, 1),
+        Call::Post(0, 4),
+        Call::Look(0, 1),
+        Call::Look(1, 1),
+        Call::Post(1, 5),
+        Call::Look(0, 1),
+        Call::Look(1, 1),
+    ];
+    let answers = on_board(&rt, rt.alloc(), THREE_EACH, 2, &calls)?;
+    assert_eq!(rt;
+        answers.as_str(),
+        "Ok(Posted { place: 0, effect: Applied })
+Ok(Snapshot { phase: Running, metrics: [Running], posts: [1, 0] })
+Ok(Snapshot { phase: Running, metrics: [Running], posts: [1, 0] })
+Ok(Posted { place: 1, effect: Closed(Successful) })
+Ok(Snapshot { phase: Successful, metrics: [Successful], posts: [1, 1] })
+Ok(Snapshot { phase: Successful, metrics: [Successful], posts: [1, 1] })
+Ok(Posted { place: 2, effect: Late })
+Ok(Snapshot { phase: Successful, metrics: [Successful], posts: [2, 1] })
+Ok(Snapshot { phase: Successful, metrics: [Successful], posts: [2, 1] })
+Ok(Posted { place: 0, effect: Applied })
+Ok(Snapshot { phase: Running, metrics: [Running], posts: [0, 1] })
+Ok(Snapshot { phase: Running, metrics: [Running], posts: [0, 1] })
+Ok(Posted { place: 1, effect: Closed(Failed) })
+Ok(Snapshot { phase: Failed, metrics: [Failed], posts: [1, 1] })
+Ok(Snapshot { phase: Failed, metrics: [Failed], posts: [1, 1] })
+Ok(Posted { place: 2, effect: Late })
+Ok(Snapshot { phase: Failed, metrics: [Failed], posts: [1, 2] })
+Ok(Snapshot { phase: Failed, metrics: [Failed], posts: [1, 2] })
+0 2 3 / 1 4 5 / "
     );
     Ok(())
 }

@@ -8,7 +8,7 @@ use Rattle.ar_cell.specs.Cell.{ArePut, Cell, IsCell, histories_of, history_at, l
 use Rattle.ar_cell.specs.Receipts.{IsMet, numbers_at}
 use Rattle.ar_cell.specs.declared.receipt.Receipt.{Receipt}
 use Rattle.ar_board.specs.Board.{IsUnmet, IsUnmetAmong, Seat, receipts_of, received_under}
-use Rattle.ar_board.specs.Private.Seats.{AllAre, PerLock, at_lock}
+use Rattle.ar_board.specs.Seats.{AllAre, PerLock, at_lock}
 
 -- receipts of the runs of their numbers
 abbrev pub AreOwn : Bundle → List Receipt → Type 0

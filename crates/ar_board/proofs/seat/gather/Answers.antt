@@ -5,7 +5,7 @@ use Rattle.std.specs.Vec.Iter.{into_iter_items}
 use Rattle.ar_cell.specs.declared.receipt.Receipt.{Receipt}
 use Rattle.ar_board.specs.Board.{Seat}
 use Rattle.ar_board.specs.Private.Closing.{AreGiven}
-use Rattle.ar_board.specs.Private.Seats.{per_lock}
+use Rattle.ar_board.specs.Seats.{per_lock}
 use Rattle.ar_board.proofs.Seats.{given_next}
 use Rattle.ar_board.proofs.seat.gather.Goals as goal
 

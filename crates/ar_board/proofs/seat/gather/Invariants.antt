@@ -2,7 +2,7 @@ use Rattle.std.proofs.Common.{◌≡◌, ◌≤◌, ◌++◌, length, map}
 use Rattle.std.specs.Vec.{vec_capacity}
 use Rattle.std.specs.Vec.Iter.{into_iter_items, into_iter_len}
 use Rattle.ar_board.specs.Private.Closing.{AreGiven}
-use Rattle.ar_board.specs.Private.Seats.{per_lock}
+use Rattle.ar_board.specs.Seats.{per_lock}
 use Rattle.ar_board.proofs.seat.gather.Given as goal
 
 -- what the seats so far had

@@ -1,7 +1,7 @@
 use Rattle.std.proofs.Common.{◌≡◌, ◌≤◌, ◌+◌, ℕ}
 use Rattle.std.specs.Vec.{vec_capacity}
 use Rattle.ar_board.specs.Board.{AreSeated}
-use Rattle.ar_board.specs.Private.Seats.{AllAre, per_lock}
+use Rattle.ar_board.specs.Seats.{AllAre, per_lock}
 use Rattle.ar_board.proofs.seat.seats_of.Given as goal
 
 -- the seats so far with room for all, and the parts that are left

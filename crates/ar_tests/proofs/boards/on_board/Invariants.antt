@@ -1,4 +1,4 @@
-use Rattle.ar_tests.proofs.boards.on_two_runs.Given as goal
+use Rattle.ar_tests.proofs.boards.on_board.Given as goal
 
 -- the board is of the bundle, for so many workers, and its ledgers are those of the blanks
 abbrev pub ghosts-put_board-M-BundleName : goal.ghosts-put_board-M-BundleName
