@@ -9,9 +9,9 @@ use Rattle.ar_json.specs.Members.{text_member}
 
 -- ---- characters
 
--- separators of lines, and marks of direction
+-- separators of lines, marks of direction, and characters without width
 abbrev pub is_mark : (character : ℕ) → Bool
-is_mark character = is_in_range 0x200E 0x200F character || (is_in_range 0x2028 0x202E character || is_in_range 0x2066 0x2069 character)
+is_mark character = character == 0x061C || (is_in_range 0x200B 0x200F character || (is_in_range 0x2028 0x202E character || (is_in_range 0x2060 0x2069 character || character == 0xFEFF)))
 
 -- a terminal may do something else at the character than show it behind the one before
 abbrev pub moves : (character : ℕ) → Bool

@@ -19,12 +19,19 @@ const MOST_CHARACTERS: usize = 64;
 const MOST_ITEMS: usize = 8;
 
 /// Whether a terminal may do something else at a character than show it behind the one before: at
-/// controls, separators of lines and marks of direction.
+/// controls, separators of lines, marks of direction and characters without width.
 fn moves(character: char) -> bool
     ensures { result ≡ moves character }
 {
     character.is_control()
-        || matches!(character, '\u{200e}'..='\u{200f}' | '\u{2028}'..='\u{202e}' | '\u{2066}'..='\u{2069}')
+        || matches!(
+            character,
+            '\u{61c}'
+                | '\u{200b}'..='\u{200f}'
+                | '\u{2028}'..='\u{202e}'
+                | '\u{2060}'..='\u{2069}'
+                | '\u{feff}'
+        )
 }
 
 /// A character by its code.
