@@ -5,6 +5,7 @@ use Rattle.ar_value.specs.Fits.{fits}
 use Rattle.ar_value.specs.Shape.{Shape}
 use Rattle.ar_value.specs.View.{shape_view}
 use Rattle.ar_json.specs.declared.value_reading.ShapeFault.TheVariants as shape_fault
+pub use Rattle.ar_limits.specs.Replay.{most_events}
 use Rattle.ar_judge.specs.Condition.{Condition}
 use Rattle.ar_judge.specs.Verdict.{Judge, Sample, TakesNoMemory, measured, misfit, provider, sample_view, verdict}
 use Rattle.ar_judge.specs.declared.verdict.Verdict.{Verdict}
@@ -77,9 +78,6 @@ most_metrics = 64
 
 abbrev pub most_runs : ℕ
 most_runs = 64
-
-abbrev pub most_events : ℕ
-most_events = 100000
 
 pub record IsBundle (bundle : Bundle) : Type 0 where
   pub few_metrics : length bundle.metrics ≤ most_metrics

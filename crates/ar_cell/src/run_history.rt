@@ -3,11 +3,11 @@
 ghost use Rattle.std.specs.Prelude.{◌≡◌, ◌<◌, ◌≤◌, [], ◌∷◌, ◌++◌, IfOk, length};
 ghost use Rattle.std.specs.Vec.{vec_capacity};
 ghost use Rattle.ar_limits.specs.Metric.{HasPositiveCounts};
-ghost use Rattle.ar_limits.specs.Replay.{ForEachReplay, IsOfMetricBelow, Replays};
+ghost use Rattle.ar_limits.specs.Replay.{ForEachReplay, IsOfMetricBelow, Replays, most_events};
 ghost use Rattle.ar_limits.specs.Run.{effect_of};
 
 use ar_bundle::{Entry, Finding};
-use ar_limits::{Effect, Event, Limits, MOST_EVENTS, RunState};
+use ar_limits::{Effect, Event, Limits, RunState};
 use std::alloc::{AllocError, Global};
 
 /// The entries of a run, with room for all that the run can have, and where it stands behind them.
@@ -35,7 +35,7 @@ impl RunHistory {
     /// There is room for it.
     pub fn append(&mut self, number: u64, finding: Finding, event: Event) -> Effect
         requires room { length self.old.entries.items < vec_capacity self.old.entries }
-        requires few { self.old.state.handed < MOST_EVENTS }
+        requires few { self.old.state.handed < most_events }
         requires metric { IsOfMetricBelow (length self.old.state.limits) event }
         ensures entry { self.new.entries.items ≡ self.old.entries.items
             ++ record { number = number; finding = finding; effect = result } ∷ [] }

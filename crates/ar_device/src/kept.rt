@@ -52,7 +52,9 @@ impl<S> Kept<S> {
 }
 
 impl<S: Source> Source for Kept<S> {
-    ghost use Rattle.std.specs.Prelude.{◌||◌, Some};
+    ghost use Rattle.std.specs.Prelude.{◌≡◌, ◌||◌, ◌⊎◌, ◌++◌, true, IfOk, OnErr, OnOk, Some, take};
+    ghost use Rattle.std.specs.Io.{ReadsAtMost};
+    ghost use Rattle.std.specs.Io.KnownBytes.{ReadConsumes};
     ghost use Rattle.ar_device.specs.Kept as kept;
 
     ghost remaining = { λ k. S.remaining (kept.source_of k) };
@@ -61,7 +63,17 @@ impl<S: Source> Source for Kept<S> {
 
     ghost has_failed = { λ k. kept.wants_memory k || S.has_failed (kept.source_of k) };
 
-    fn read(&mut self, buf: &mut [u8]) -> Result<usize, DeviceFault> {
+    fn read(&mut self, buf: &mut [u8]) -> Result<usize, DeviceFault>
+        ensures bound { ReadsAtMost result buf.new }
+        ensures bytes { ReadConsumes (S.remaining (kept.source_of self.old)) (S.remaining (kept.source_of self.new)) result buf.new }
+        ensures takes { IfOk result (λ count. kept.bytes_of self.new ≡ kept.bytes_of self.old ++ take count buf.new) }
+        ensures works { OnOk result ((kept.wants_memory self.new || S.has_failed (kept.source_of self.new))
+            ≡ (kept.wants_memory self.old || S.has_failed (kept.source_of self.old))) }
+        ensures fails { OnErr result ((kept.wants_memory self.new || S.has_failed (kept.source_of self.new)) ≡ true) }
+        // Out of memory is told before the source is read, and a failed read of the source never as that.
+        ensures cause { OnErr result (kept.IsOutOfMemory self.old self.new
+            ⊎ kept.IsFailed S.has_failed self.old self.new) }
+    {
         if self.bytes.reserve(buf.len()).is_err() {
             self.wants_memory = true;
             return Err(DeviceFault);

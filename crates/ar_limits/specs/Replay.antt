@@ -7,6 +7,10 @@ use Rattle.ar_limits.specs.declared.limits.Limits.{Limits}
 use Rattle.ar_limits.specs.declared.phase.Phase.{Phase}
 use Rattle.ar_limits.specs.Run.{run_phase, metric_phases, metric_counts}
 
+-- the most events that a run takes, late ones included
+abbrev pub most_events : ℕ
+most_events = 100000
+
 -- where a run stands: what its `RunState` shows
 pub record Standing : Type 0 where
   -- of each metric

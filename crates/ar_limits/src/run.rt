@@ -2,7 +2,7 @@
 
 ghost use Rattle.std.specs.Prelude.{◌≡◌, ◌+◌, ◌<◌, [], ◌∷◌, ◌++◌, length, slice_get, IfOk};
 ghost use Rattle.ar_limits.specs.Metric.{HasPositiveCounts};
-ghost use Rattle.ar_limits.specs.Replay.{Replays, ForEachReplay, IsOfMetricBelow};
+ghost use Rattle.ar_limits.specs.Replay.{Replays, ForEachReplay, IsOfMetricBelow, most_events};
 ghost use Rattle.ar_limits.specs.Run.{effect_of, metric_counts, metric_phases, run_phase};
 
 use crate::counts::Counts;
@@ -53,7 +53,7 @@ impl RunState {
     /// `MOST_EVENTS` events at most. No memory is taken, and only the event that closes the run goes
     /// over its metrics.
     pub fn apply(&mut self, event: Event) -> Effect
-        requires room { self.old.handed < MOST_EVENTS }
+        requires room { self.old.handed < most_events }
         requires metric { IsOfMetricBelow (length self.old.limits) event }
 
         ensures replays { ForEachReplay self.old (λ limits events.

@@ -67,6 +67,14 @@ fn listed_names<'a>(
     Ok(names)
 }
 
+/// The items of what is found at `spec.dryRun`.
+fn items(json: &Json) -> Result<&[Json], ManifestError>
+    ensures { Gives (λ _. false) (λ items. map (λ json. view json) items.now) result
+        (there_or (BadDryRun 0) (list_of (view json.now))) }
+{
+    list_of(json).ok_or(ManifestError::BadDryRun(0))
+}
+
 /// The names at `spec.dryRun`.
 fn dry_names<'a>(
     alloc: Global,
@@ -78,11 +86,7 @@ fn dry_names<'a>(
 {
     match found {
         None => Ok(Vec::new(alloc)),
-        Some(json) => listed_names(
-            alloc,
-            list_of(json).ok_or(ManifestError::BadDryRun(0))?,
-            metrics,
-        ),
+        Some(json) => listed_names(alloc, items(json)?, metrics),
     }
 }
 

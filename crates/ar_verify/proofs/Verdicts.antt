@@ -1,7 +1,7 @@
 -- What the verifier's passes found is the verdict.
-use Rattle.std.proofs.Common.{◌≡◌, ◌<◌, ◌≤◌, ℕ, true, false, length, Ok, refl, subst, inr, arith}
+use Rattle.std.proofs.Common.{◌≡◌, ◌<◌, ◌≤◌, ℕ, Bool, true, false, length, Result, Ok, Err, refl, subst, sym, inr, arith}
 use Rattle.std.proofs.lemmas.Bool.Decides.{nat_tests}
-use Rattle.std.specs.Prelude.{nat_le}
+use Rattle.std.specs.Prelude.{IfErr, IfOk, if◌then◌else◌, nat_le}
 use Rattle.ar_value.specs.Shape.{Shape}
 use Rattle.ar_op.specs.Code.{Code}
 use Rattle.ar_verified.specs.Budget.{IsBudget}
@@ -43,3 +43,9 @@ module _ (code : Code) (shape : Shape) (found : Summary) (places : places_pass c
       let capped = is_cost shape is_known.sents passes are_most in
       let number_is = capped.is in
       inr (refl, refl, record { sents = is_known.sents; passes = passes; cost = capped.cost; way = capped.dearest.way; too_dear = omega arith })
+
+-- what a test decides, as either answer has it
+pub by_test : {B C : Type 0} (test : Bool) (x : B) (c : C) (result : Result B C) (P : B → Type 0) (Q : C → Type 0) → result ≡ (if test then Ok x else Err c) → (test ≡ true → P x) → (test ≡ false → Q c)
+    → IfOk result P × IfErr result Q
+by_test true x c result P Q is good bad = (subst (λ r. IfOk r P) (sym is) (good refl), subst (λ r. IfErr r Q) (sym is) tt)
+by_test false x c result P Q is good bad = (subst (λ r. IfOk r P) (sym is) tt, subst (λ r. IfErr r Q) (sym is) (bad refl))

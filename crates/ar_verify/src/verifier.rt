@@ -1,10 +1,12 @@
 //! The verifier's passes, one after the other.
 
-ghost use Rattle.std.specs.Prelude.{◌≡◌, IfErr, IfOk};
+ghost use Rattle.std.specs.Prelude.{◌≡◌, Err, IfErr, IfOk, Ok, if◌then◌else◌, nat_le};
 ghost use Rattle.ar_value.specs.View.{shape_view};
 ghost use Rattle.ar_op.specs.Code.{IsCode};
 ghost use Rattle.ar_verified.specs.Safety.{RunsSafely};
-ghost use Rattle.ar_verified.specs.Verdict.{IsCause, IsVerified};
+ghost use Rattle.ar_verified.specs.Verdict.{IsCause, IsVerified, greatest_budget};
+ghost use Rattle.ar_verified.specs.declared.error.Cause.TheVariants.{Fault};
+ghost use Rattle.ar_verified.specs.declared.error.Reason.TheVariants.{BudgetTooLarge};
 
 use crate::arrivals::find_arrivals;
 use crate::budget::{budget, is_payable};
@@ -21,6 +23,21 @@ struct Bounds {
     depth: usize,
 }
 
+/// The bounds of code without another fault, unless its budget is too large. This takes no memory.
+fn unless_too_large(budget: u64, depth: usize) -> Result<Bounds, Cause>
+    ensures { result ≡ (if nat_le budget greatest_budget then Ok (record { budget = budget; depth = depth })
+        else Err (Fault 0 BudgetTooLarge)) }
+{
+    if is_payable(budget) {
+        Ok(Bounds { budget, depth })
+    } else {
+        Err(Cause::Fault {
+            place: 0,
+            reason: Reason::BudgetTooLarge,
+        })
+    }
+}
+
 fn check(alloc: Global, code: &Code, shape: &SharedShape) -> Result<Bounds, Cause>
     ensures accepted { IfOk result (λ bounds. IsVerified code.now (shape_view shape.now) bounds.budget bounds.depth) }
     ensures refused { IfErr result (IsCause code.now (shape_view shape.now)) }
@@ -29,16 +46,7 @@ fn check(alloc: Global, code: &Code, shape: &SharedShape) -> Result<Bounds, Caus
     check_places(alloc, code.ops())?;
     let arrivals = find_arrivals(alloc, code, shape)?;
     let budget = budget(alloc, code, &arrivals.most_items)?;
-    if !is_payable(budget) {
-        return Err(Cause::Fault {
-            place: 0,
-            reason: Reason::BudgetTooLarge,
-        });
-    }
-    Ok(Bounds {
-        budget,
-        depth: arrivals.depth,
-    })
+    unless_too_large(budget, arrivals.depth)
 }
 
 /// Verifies code for a shape of the measured value, which verified code keeps. It is accepted if it has no fault, and refused
@@ -46,7 +54,7 @@ fn check(alloc: Global, code: &Code, shape: &SharedShape) -> Result<Bounds, Caus
 ///
 /// # Errors
 ///
-/// The code, with its fault or want of memory.
+/// The code, with its fault or out of memory.
 pub fn verify(alloc: Global, code: Code, shape: SharedShape) -> Result<Verified, Refused>
     ensures accepted { IfOk result (λ verified. (verified.code ≡ code) × (verified.shape ≡ shape)
         × IsVerified code (shape_view shape) verified.budget verified.depth) }

@@ -1,9 +1,11 @@
 use Rattle.std.proofs.Common.{length, ap, sym, subst, ◌∙◌}
+use Rattle.std.specs.Prelude.{nat_le}
+use Rattle.ar_verified.specs.Verdict.{IsCause, IsVerified, greatest_budget}
 use Rattle.ar_value.specs.View.{shape_view}
 use Rattle.ar_verified.specs.Places.{places_pass}
 use Rattle.ar_verify.specs.Private.Costs.{IsCost}
 use Rattle.ar_verify.specs.Private.Table.{summary_view}
-use Rattle.ar_verify.proofs.Verdicts.{has_passed, is_too_dear, is_verified, so_many}
+use Rattle.ar_verify.proofs.Verdicts.{by_test, has_passed, is_too_dear, is_verified, so_many}
 use Rattle.ar_verify.proofs.verifier.check.Goals as goal
 
 pub budget-requires-clause-passed : goal.budget-requires-clause-passed
@@ -15,12 +17,12 @@ budget-requires-clause-counted c =
     ap length c.deref.ensures.value
     ∙ so_many c.args.code.now (shape_view c.args.shape.now) (summary_view c.in_ok-arrivals.arrivals) (ap places_pass (sym c.ops.ensures.ops) ∙ c.in_ok-check_places.ensures) c.in_ok-arrivals.ensures
 
-pub returns-then-not-is_payable-clause-refused : goal.returns-then-not-is_payable-clause-refused
-returns-then-not-is_payable-clause-refused c =
-    is_too_dear c.args.code.now (shape_view c.args.shape.now) (summary_view c.in_ok-arrivals.arrivals) (ap places_pass (sym c.ops.ensures.ops) ∙ c.in_ok-check_places.ensures) c.in_ok-arrivals.ensures c.in_ok-budget.budget
-    (subst (λ most. IsCost c.args.code.now most 0 c.in_ok-budget.budget) c.deref.ensures.value c.in_ok-budget.ensures) (sym c.is_payable.ensures ∙ c.if-not-is_payable.true)
-
-pub returns-clause-accepted : goal.returns-clause-accepted
-returns-clause-accepted c =
-    is_verified c.args.code.now (shape_view c.args.shape.now) (summary_view c.in_ok-arrivals.arrivals) (ap places_pass (sym c.ops.ensures.ops) ∙ c.in_ok-check_places.ensures) c.in_ok-arrivals.ensures c.in_ok-budget.budget
-    (subst (λ most. IsCost c.args.code.now most 0 c.in_ok-budget.budget) c.deref.ensures.value c.in_ok-budget.ensures) (sym c.is_payable.ensures ∙ c.if-not-is_payable.false)
+pub returns : goal.returns
+returns c =
+    let passed = ap places_pass (sym c.ops.ensures.ops) ∙ c.in_ok-check_places.ensures in
+    let cost = subst (λ most. IsCost c.args.code.now most 0 c.in_ok-budget.budget) c.deref.ensures.value c.in_ok-budget.ensures in
+    let told = by_test (nat_le c.in_ok-budget.budget greatest_budget) _ _ c.unless_too_large.result
+    (λ bounds. IsVerified c.args.code.now (shape_view c.args.shape.now) bounds.budget bounds.depth) (IsCause c.args.code.now (shape_view c.args.shape.now)) c.unless_too_large.ensures
+    (is_verified c.args.code.now (shape_view c.args.shape.now) (summary_view c.in_ok-arrivals.arrivals) passed c.in_ok-arrivals.ensures c.in_ok-budget.budget cost)
+    (is_too_dear c.args.code.now (shape_view c.args.shape.now) (summary_view c.in_ok-arrivals.arrivals) passed c.in_ok-arrivals.ensures c.in_ok-budget.budget cost) in
+    record { accepted = told.0; refused = told.1; code = search }
