@@ -3,9 +3,11 @@
 ghost use Rattle.std.specs.Prelude.{◌≡◌, [], false, map, option_map};
 ghost use Rattle.std.specs.List.{list_any};
 ghost use Rattle.serde_json.specs.View.{view};
-ghost use Rattle.ar_value.specs.Answer.{Gives, each_behind};
+ghost use Rattle.ar_value.specs.Answer.{Gives, each_behind, there_or};
 ghost use Rattle.ar_manifest.specs.DryRun.{dry_name, dry_names, names_metric, with_dry, with_dry_run};
+ghost use Rattle.ar_json.specs.Members.{list_of};
 ghost use Rattle.ar_manifest.specs.Refusals.{is_memory};
+ghost use Rattle.ar_manifest.specs.declared.error.ManifestError.TheVariants.{BadDryRun};
 
 use crate::error::ManifestError;
 use crate::template::{Metric, Metrics};
