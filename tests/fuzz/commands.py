@@ -7,6 +7,7 @@ from bundles import read_bundle
 from jsontext import read_json
 from refused import Refused
 from reports import BAD, bounds_lines, list_lines, report, run_phases
+from cautions import cautions
 
 PLAIN = ('run', '--plain')
 ORDERED = ('run', '--ordered', '--workers', '2')
@@ -64,7 +65,9 @@ def expected_of_bundle(words, document):
     if words[0] == 'run':
         status = 1 if any(phase in BAD for phase in run_phases(bundle)) else 0
         return status, text_of(report(bundle)), ''
-    return 0, text_of(bounds_lines(bundle) if words[0] == 'check' else list_lines(bundle)), ''
+    if words[0] == 'check':
+        return 0, text_of(bounds_lines(bundle)), re.escape(text_of(cautions(read_json(document))).decode())
+    return 0, text_of(list_lines(bundle)), ''
 
 
 def expected_of_eval(document):

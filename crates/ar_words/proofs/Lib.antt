@@ -3,3 +3,4 @@ pub mod Escapes
 pub mod Found
 pub mod Listed
 pub mod Still
+pub mod WarningLines

@@ -1,3 +1,4 @@
 pub mod Private
 pub mod Names
 pub mod Words
+pub mod Warnings

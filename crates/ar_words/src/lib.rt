@@ -6,6 +6,7 @@
 //!
 //! - `texts`: the texts, by the refusals
 //! - `lists`: lists of a document, whose items have names; `names`: names as they are shown
+//! - `warnings`: what a document has that is probably not meant
 //! - [`laws`]: what holds of each name that is shown
 #![tactic(auto)]
 
@@ -13,5 +14,7 @@ pub mod laws;
 mod lists;
 mod names;
 mod texts;
+mod warnings;
 
 pub use texts::{bundle_text, eval_text};
+pub use warnings::warnings_text;

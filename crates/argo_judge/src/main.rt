@@ -27,7 +27,7 @@ use std::rt::Env;
 use std::sync::Wait;
 use std::thread::Threads;
 use std::{env, io};
-use words::refusal_text;
+use words::{refusal_text, warning_lines};
 
 /// What a command line can ask for.
 #[derive(Drop)]
@@ -106,7 +106,25 @@ where
     let mut reader = Kept::new(rt.alloc(), Device::new(rt.reader()));
     let mut writer = Device::new(io::writer(rt));
     let outcome = served(rt, command, &mut reader, &mut writer);
+    if warns(command, &outcome) {
+        warn(rt, reader.bytes());
+    }
     close(rt, &reader, &writer, &outcome)
+}
+
+/// Whether a command that was carried out warns of what its document has that is probably not meant.
+fn warns(command: Command, outcome: &Result<Closing, ServeError>) -> bool {
+    matches!(command, Command::Check) && outcome.is_ok()
+}
+
+/// Tells of what a document has that is probably not meant, a line each.
+fn warn<R: AllocGlobal + Eprint>(rt: &R, input: &[u8]) {
+    let _ = match warning_lines(rt.alloc(), input) {
+        Ok(lines) => eprint!(rt; "{lines}"),
+        Err(_) => eprintln!(rt;
+            "argo_judge: warning: out of memory: the document is not looked at"
+        ),
+    };
 }
 
 /// Carries a command out, with workers where it is for them.

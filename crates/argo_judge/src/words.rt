@@ -1,8 +1,8 @@
-//! The words of a refusal of an input, with the place where it ceases to be JSON.
+//! The words of a refusal of an input, with the place where it ceases to be JSON, and of warnings.
 
 use ar_command::{EvalError, Refusal};
 use ar_document::BundleError;
-use ar_words::{bundle_text, eval_text};
+use ar_words::{bundle_text, eval_text, warnings_text};
 use serde_json::Value as Json;
 use std::alloc::{AllocError, Global};
 
@@ -20,6 +20,14 @@ pub(crate) fn refusal_text(
         Err(error) if error.is_memory() => Err(AllocError),
         Err(error) if is_no_json(refusal) => no_json_text(alloc, refusal, &error),
         Err(_) => format!(in alloc; "{refusal}"),
+    }
+}
+
+/// The warnings of an input that was answered, a line each.
+pub(crate) fn warning_lines(alloc: Global, input: &[u8]) -> Result<String, AllocError> {
+    match Json::from_slice(alloc, input) {
+        Ok(document) => warnings_text(alloc, &document),
+        Err(_) => Err(AllocError),
     }
 }
 
