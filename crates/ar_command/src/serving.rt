@@ -234,7 +234,8 @@ fn write<W: Sink>(writer: &mut W, said: &Said) -> Result<Closing, ServeError>
     requires { W.has_failed writer.old ≡ false }
     ensures closing { IfOk result (λ closing. closing ≡ said.now.closing) }
     ensures wrote { OnOk result (Appends (W.contents writer.old) (W.contents writer.new) (string_bytes said.now.text)) }
-    ensures front { OnErr result (AppendsFront (W.contents writer.old) (W.contents writer.new) (string_bytes said.now.text)) }
+    ensures front { OnErr result
+        (AppendsFront (W.contents writer.old) (W.contents writer.new) (string_bytes said.now.text)) }
     ensures works { OnOk result (W.has_failed writer.new ≡ false) }
     ensures fails { IfErr result (λ e. (e ≡ ServeError.Write) × (W.has_failed writer.new ≡ true)) }
 {

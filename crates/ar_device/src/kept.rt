@@ -65,7 +65,8 @@ impl<S: Source> Source for Kept<S> {
 
     fn read(&mut self, buf: &mut [u8]) -> Result<usize, DeviceFault>
         ensures bound { ReadsAtMost result buf.new }
-        ensures bytes { ReadConsumes (S.remaining (kept.source_of self.old)) (S.remaining (kept.source_of self.new)) result buf.new }
+        ensures bytes { ReadConsumes (S.remaining (kept.source_of self.old)) (S.remaining (kept.source_of self.new))
+            result buf.new }
         ensures takes { IfOk result (λ count. kept.bytes_of self.new ≡ kept.bytes_of self.old ++ take count buf.new) }
         ensures works { OnOk result ((kept.wants_memory self.new || S.has_failed (kept.source_of self.new))
             ≡ (kept.wants_memory self.old || S.has_failed (kept.source_of self.old))) }

@@ -50,7 +50,8 @@ pub trait Sink {
     fn write(&mut self, buf: &[u8]) -> Result<usize, DeviceFault>
         ensures bound { WritesAtMost result buf.now }
         ensures bytes { WriteAppends (contents self.old) (contents self.new) result buf.now }
-        ensures works { IfOk result (λ count. has_failed self.new ≡ (has_failed self.old || takes_nothing count buf.now)) }
+        ensures works { IfOk result (λ count.
+            has_failed self.new ≡ (has_failed self.old || takes_nothing count buf.now)) }
         ensures fails { OnErr result (has_failed self.new ≡ true) };
 
     /// Hands on what was written and is still held back.

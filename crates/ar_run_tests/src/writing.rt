@@ -64,7 +64,8 @@ impl Narrow {
     /// Takes none of the bytes, of which there may be none.
     fn take_nothing(&mut self, buf: &[u8]) -> Result<usize, DeviceFault>
         ensures none { IfOk result (λ count. count ≡ 0) }
-        ensures works { IfOk result (λ count. self.new.has_failed ≡ (self.old.has_failed || takes_nothing count buf.now)) }
+        ensures works { IfOk result (λ count.
+            self.new.has_failed ≡ (self.old.has_failed || takes_nothing count buf.now)) }
         ensures fails { OnErr result (self.new.has_failed ≡ true) }
     {
         if buf.is_empty() {
