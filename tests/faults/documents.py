@@ -1,0 +1,184 @@
+"""The documents that the program is run on, with what docs/FORMATS.md, docs/PHASES.md, docs/MACHINE.md and
+docs/VERIFIER.md say of them, worked out by hand."""
+
+import json
+from typing import NamedTuple
+
+NONE = 'successful=0 failed=0 inconclusive=0 error=0 consecutiveError=0'
+ONE = 'successful=1 failed=0 inconclusive=0 error=0 consecutiveError=0'
+
+
+class Answer(NamedTuple):
+    """What a command answers: its status, its output, and how many lines it writes to standard error."""
+
+    status: int
+    output: str
+    lines: int = 0
+
+
+class Document(NamedTuple):
+    """A document for `run`, `check` and `list`, with the answer of each."""
+
+    text: str
+    run: Answer
+    check: Answer
+    list: Answer
+
+    def answer(self, words):
+        """The answer to a command line."""
+        return getattr(self, words.split()[0])
+
+
+def manifest_of(*metrics):
+    return {'apiVersion': 'argoproj.io/v1alpha1', 'kind': 'AnalysisTemplate', 'metadata': {'name': 't'},
+            'spec': {'metrics': list(metrics)}}
+
+
+def document_of(metrics, shapes, runs, entries):
+    document = {'manifest': manifest_of(*metrics), 'shapes': shapes, 'runs': [{'name': name} for name in runs],
+                'measurements': entries}
+    return json.dumps(document, separators=(',', ':'))
+
+
+def measured(run, metric, value):
+    return {'run': run, 'metric': metric, 'value': value}
+
+
+def with_events_sorted(report):
+    """A report with the event lines of each run in one order, whatever order the workers came in."""
+    keyed, run = [], 0
+    for line in report.splitlines(keepends=True):
+        run += line.startswith('run ')
+        keyed.append(((run, line if line.startswith('event ') else ''), line))
+    return ''.join(line for _, line in sorted(keyed, key=lambda it: it[0]))
+
+
+def is_answer(ended, answer, words=''):
+    """Whether a run ended with the answer. Of `run` alone the events of a run stand in any order."""
+    output, expected = ended.output, answer.output
+    if words.startswith('run') and '--plain' not in words and '--ordered' not in words:
+        output, expected = with_events_sorted(output), with_events_sorted(expected)
+    return (ended.status, output, ended.errors.count('\n')) == (answer.status, expected, answer.lines)
+
+
+# Two runs of two metrics: one is stopped, and one fails.
+POSITIVE = {'interval': '1m', 'count': 3, 'successCondition': 'result > 0'}
+STOPPED = Document(
+    text=document_of([{'name': name, **POSITIVE} for name in 'ab'], {'a': 'whole', 'b': 'whole'}, ['r0', 'r1'],
+                     [{'run': 'r0', 'stop': True}, measured('r1', 'a', 0)]),
+    run=Answer(1, f'''\
+run r0 Successful
+metric a Successful {NONE}
+metric b Successful {NONE}
+event 0 stop closed Successful
+run r1 Failed
+metric a Failed successful=0 failed=1 inconclusive=0 error=0 consecutiveError=0
+metric b Successful {NONE}
+event 1 a Failed closed Failed
+'''),
+    check=Answer(0, '''\
+run r0 metric a success operations=4 depth=2 budget=4
+run r0 metric b success operations=4 depth=2 budget=4
+run r1 metric a success operations=4 depth=2 budget=4
+run r1 metric b success operations=4 depth=2 budget=4
+'''),
+    list=Answer(0, ''.join(f'''\
+run {run} metric {metric} success
+0 LoadResult
+1 PushWhole 0
+2 GtW
+3 Return
+''' for run in ('r0', 'r1') for metric in 'ab')))
+
+# Two runs of one metric, which takes the first of a list.
+RATES = Document(
+    text=document_of([{'name': 'm', 'successCondition': 'result[0] >= 0.95'}], {'m': {'list': 'decimal', 'max': 10}},
+                     ['r0', 'r1'], [measured('r0', 'm', ['0.99']), measured('r1', 'm', ['0.96'])]),
+    run=Answer(0, f'''\
+run r0 Successful
+metric m Successful {ONE}
+event 0 m Successful closed Successful
+run r1 Successful
+metric m Successful {ONE}
+event 1 m Successful closed Successful
+'''),
+    check=Answer(0, '''\
+run r0 metric m success operations=6 depth=2 budget=6
+run r1 metric m success operations=6 depth=2 budget=6
+'''),
+    list=Answer(0, ''.join(f'''\
+run {run} metric m success
+0 LoadResult
+1 PushWhole 0
+2 Index
+3 PushDecimal 950000
+4 GeD
+5 Return
+''' for run in ('r0', 'r1'))))
+
+# A metric whose condition takes memory as it is evaluated.
+FILTERED = {'name': 'm', 'interval': '1m', 'failureLimit': 5, 'successCondition': 'len(filter(result, # > 1)) == 2'}
+WHOLES = {'m': {'list': 'whole', 'max': 5}}
+FILTERS = Document(
+    text=document_of([FILTERED], WHOLES, ['r0'], [measured('r0', 'm', value) for value in ([1, 2, 3], [1], [2, 0, 5])]),
+    run=Answer(0, '''\
+run r0 Running
+metric m Running successful=2 failed=1 inconclusive=0 error=0 consecutiveError=0
+event 0 m Successful applied
+event 1 m Failed applied
+event 2 m Successful applied
+'''),
+    check=Answer(0, 'run r0 metric m success operations=10 depth=2 budget=26\n'),
+    list=Answer(0, '''\
+run r0 metric m success
+0 LoadResult
+1 FilterEnter 5
+2 Item
+3 PushWhole 1
+4 GtW
+5 FilterStep 1
+6 Len
+7 PushWhole 2
+8 EqNumber
+9 Return
+'''))
+BUNDLES = {'stopped': STOPPED, 'rates': RATES, 'filters': FILTERS}
+
+# A template without shapes: the command is refused.
+SHAPELESS = json.dumps({'manifest': manifest_of(FILTERED)})
+
+
+def repeated(runs, entries):
+    """A document whose every measurement is successful and takes memory, of so many runs in turn, which stay open; and
+    its report."""
+    names = [f'r{run}' for run in range(runs)]
+    text = document_of([FILTERED], WHOLES, names, [measured(names[it % runs], 'm', [1, 2, 3]) for it in range(entries)])
+    lines = []
+    for run, name in enumerate(names):
+        own = range(run, entries, runs)
+        lines += [f'run {name} Running', f'metric m Running successful={len(own)} {ONE.split(" ", 1)[1]}']
+        lines += [f'event {number} m Successful applied' for number in own]
+    return text, Answer(0, ''.join(f'{line}\n' for line in lines))
+
+
+# Documents for `eval`
+
+
+def condition(text, shape, value):
+    return json.dumps({'condition': text, 'shape': shape, 'value': value}, separators=(',', ':'))
+
+
+LISTED = {'list': 'whole', 'max': 5}
+RECORDS = {'list': {'record': {'codes': LISTED, 'limit': 'whole'}}, 'max': 3}
+VALUES = [{'codes': [200, 204], 'limit': 300}, {'codes': [500], 'limit': 300}]
+REFUSED = {'record': {'a': {'list': {'optional': 'decimal'}, 'max': 3}, 'b': 'text'}}
+DECIMAL = condition('result >= 0.95', 'decimal', '0.9523809523809523')
+# By what they show: the document, its answer, and the least number of growths of memory that it takes.
+CONDITIONS = {
+    'a decimal': (DECIMAL, Answer(0, 'true\n'), 20),
+    'a kind that has no order': (condition('result > 1', REFUSED, {'a': [], 'b': ''}), Answer(2, '', 1), 30),
+    'a filter': (condition('len(filter(result, # > 1)) == 2', LISTED, [1, 2, 3]), Answer(0, 'true\n'), 30),
+    'a fault': (condition('result[0] in [1, 2.5] or 1 / 0 > 0', LISTED, [3]), Answer(0, 'fault DivisionByZero\n'), 30),
+    'records': (condition('any(result, all(.codes, # >= 500) and .limit < 400)', RECORDS, VALUES),
+                Answer(0, 'true\n'), 30),
+}

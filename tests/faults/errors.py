@@ -1,0 +1,30 @@
+"""What the program says on standard error where something was refused it, in one line."""
+
+import os
+
+OUT_OF_MEMORY = 'argo_judge: out of memory\n'
+NO_THREAD = ("argo_judge: run: NoThread: a thread for a worker couldn't be started; "
+             'try fewer --workers, or --plain, which starts none\n')
+READ = "argo_judge: input: Read: the input can't be read: "
+WRITE = "argo_judge: output: Write: the output can't be written: "
+TOO_LARGE = 'argo_judge: document: TooLarge: expected at most 16777216 bytes\n'
+
+
+def is_out_of_memory(ended):
+    return ended[:3] == (3, '', OUT_OF_MEMORY)
+
+
+def is_without_thread(ended):
+    return ended[:3] == (5, '', NO_THREAD)
+
+
+def has_failed_to_read(ended, number):
+    """Nothing was written, and the line tells the system's error of this number."""
+    return ended[:3] == (4, '', f'{READ}{os.strerror(number)} (os error {number})\n')
+
+
+def has_failed_to_write(ended, written, number=None):
+    """Just these bytes were written, and the line tells the system's error of this number, if there is one."""
+    if number is not None:
+        return ended[:3] == (4, written, f'{WRITE}{os.strerror(number)} (os error {number})\n')
+    return ended[:2] == (4, written) and ended.errors.startswith(WRITE) and ended.errors.count('\n') == 1

@@ -1,0 +1,77 @@
+"""Runs the program while a preloaded library refuses, cuts, interrupts or delays what it asks the system for."""
+
+import contextlib
+import os
+import pathlib
+import subprocess
+import sys
+from typing import NamedTuple, Union
+
+HERE = pathlib.Path(__file__).resolve().parent
+ROOT = HERE.parent.parent
+BUILT = ROOT / 'crates/argo_judge/out/argo_judge'
+# A run that takes longer never ends, as where workers wait for each other.
+SECONDS = 60
+NO_END = 'no end'
+
+
+def path_of_program():
+    """The program that the command line names, or else that of this repository, built first where that is due."""
+    if len(sys.argv) < 2:
+        subprocess.run([ROOT / 'bin/argo_judge', '--version'], stdout=subprocess.DEVNULL, check=True)
+    path = os.path.abspath(sys.argv[1]) if len(sys.argv) > 1 else str(BUILT)
+    if not os.access(path, os.X_OK):
+        sys.exit(f'{path} is not there: bin/argo_judge proves and builds it')
+    return path
+
+
+class Ended(NamedTuple):
+    """How a run ended, and whether the library refused it something."""
+
+    status: Union[int, str]
+    output: str
+    errors: str
+    refused: bool = False
+
+
+@contextlib.contextmanager
+def telling():
+    """A file to which the library tells each refusal; each run has its own, since runs are side by side."""
+    told = os.memfd_create('refusals')
+    try:
+        yield told
+    finally:
+        os.close(told)
+
+
+class Program:
+    """The built program, and the library of refuse.c, which is made in the folder."""
+
+    def __init__(self, path, folder):
+        self.path = str(path)
+        self.library = os.path.join(folder, 'refuse.so')
+        source = str(HERE / 'refuse.c')
+        subprocess.run(['cc', '-shared', '-fPIC', '-O1', '-o', self.library, source, '-ldl'], check=True)
+
+    def run(self, words, document='', **asked):
+        """Runs the program on a document with what is asked of the library, as REFUSE_CALL=3."""
+        with telling() as told:
+            variables = {name: str(value) for name, value in asked.items()}
+            environment = {**os.environ, 'LD_PRELOAD': self.library, 'TELL_ON': str(told), **variables}
+            ended = self.start(words, input=document.encode(), env=environment, pass_fds=(told,))
+            return ended._replace(refused=os.fstat(told).st_size > 0)
+
+    def start(self, words, **given):
+        """Runs the program without the library, with what is given to subprocess.run."""
+        streams = {'stdout': subprocess.PIPE, 'stderr': subprocess.PIPE, **given}
+        if 'input' not in given:
+            streams.setdefault('stdin', subprocess.DEVNULL)
+        try:
+            ended = subprocess.run([self.path, *words.split()], timeout=SECONDS, check=False, **streams)
+        except subprocess.TimeoutExpired:
+            return Ended(NO_END, '', '')
+        return Ended(ended.returncode, decoded(ended.stdout), decoded(ended.stderr))
+
+
+def decoded(written):
+    return (written or b'').decode(errors='replace')
