@@ -3,7 +3,7 @@
 import errno
 import itertools
 import os
-import subprocess
+import threading
 import time
 from functools import partial
 
@@ -22,12 +22,13 @@ MOST_BYTES = 16_777_216
 
 def jobs(program):
     """What is done to reads and writes, each as a job that can run beside the others."""
-    made = [partial(cut_output, program, words) for words in ALL]
-    made += [partial(take_nothing, program), partial(interrupt, program), partial(give_little, program)]
+    made = [partial(cut_output, program, *case) for case in outputs(program)]
+    made += [partial(job, program) for job in (take_nothing, interrupt, give_little)]
     made += [partial(fail_reads, program, *case) for case in cases()]
     made += [partial(read_largest, program, *case) for case in (('eval', DECIMAL, Answer(0, 'true\n')),
                                                                 ('run --plain', RATES.text, RATES.run))]
-    return made + [partial(job, program) for job in (read_folder, fill_output, read_slowly)]
+    made += [partial(job, program) for job in (read_folder, fill_output, close_streams, read_slowly)]
+    return made + [partial(leave_output, program, pipe_without_reader())]
 
 
 def cases():
@@ -36,13 +37,23 @@ def cases():
     return made + [('eval', text, answer) for text, answer, _ in CONDITIONS.values()]
 
 
+def shown(program):
+    """Command lines without documents."""
+    return [(words, '', Answer(0, program.start(words).output)) for words in ('--help', '--version')]
+
+
+def outputs(program):
+    """The runs whose output is cut at each byte."""
+    made = [(words, STOPPED.text, STOPPED.answer(words)) for words in ALL]
+    return made + [('eval', DECIMAL, Answer(0, 'true\n'))] + shown(program)[1:]
+
+
 # Answers that stay what they are
 
 
 def interrupt(program, counts):
     """Every other read and write is interrupted, and each is made again: the answers are as without."""
-    shown = [(words, '', Answer(0, program.start(words).output)) for words in ('--help', '--version')]
-    for words, document, answer in cases() + shown:
+    for words, document, answer in cases() + shown(program):
         for asked in ({}, {'READ_AT_MOST': PIECE, 'WRITE_AT_MOST': PIECE}):
             ended = program.run(words, document, INTERRUPT=1, **asked)
             counts.expect(is_answer(ended, answer, words), f'{words}, interrupted {asked}: {ended} of {document}')
@@ -50,7 +61,7 @@ def interrupt(program, counts):
 
 def give_little(program, counts):
     """Reads give a few bytes, and writes take a few: the answers are as without."""
-    for (words, document, answer), width in itertools.product(cases(), WIDTHS):
+    for (words, document, answer), width in itertools.product(cases() + shown(program), WIDTHS):
         reads, writes = {'READ_AT_MOST': width}, {'WRITE_AT_MOST': width}
         for asked in (reads, writes, {**reads, **writes}):
             ended = program.run(words, document, **asked)
@@ -59,14 +70,20 @@ def give_little(program, counts):
 
 def read_slowly(program, counts):
     """A byte at a time, with pauses."""
-    with subprocess.Popen([program.path, 'eval'], stdin=subprocess.PIPE, stdout=subprocess.PIPE,
-                          stderr=subprocess.PIPE) as run:
-        for byte in DECIMAL.encode():
-            run.stdin.write(bytes([byte]))
-            run.stdin.flush()
-            time.sleep(0.002)
-        output, errors = run.communicate()
-    counts.expect((run.returncode, output, errors) == (0, b'true\n', b''), f'a byte at a time: {output} {errors}')
+    given, taken = os.pipe()
+    feeding = threading.Thread(target=feed, args=(taken, DECIMAL.encode()))
+    feeding.start()
+    ended = program.start('eval', stdin=given)
+    feeding.join()
+    os.close(given)
+    counts.expect(ended == Ended(0, 'true\n', ''), f'a byte at a time: {ended}')
+
+
+def feed(pipe, document):
+    for byte in document:
+        os.write(pipe, bytes([byte]))
+        time.sleep(0.002)
+    os.close(pipe)
 
 
 def read_largest(program, words, document, answer, counts):
@@ -81,15 +98,14 @@ def read_largest(program, words, document, answer, counts):
 # Outputs that end early
 
 
-def cut_output(program, words, counts):
+def cut_output(program, words, document, answer, counts):
     """A writer that takes so many bytes and then fails has had just these, however few it takes at a time."""
-    answer = STOPPED.answer(words)
     for taken in range(len(answer.output)):
         for asked in ({}, {'WRITE_AT_MOST': 7, 'INTERRUPT': 1}):
-            ended = program.run(words, STOPPED.text, TAKE_BYTES=taken, **asked)
+            ended = program.run(words, document, TAKE_BYTES=taken, **asked)
             good = has_failed_to_write(ended, answer.output[:taken], errno.ENOSPC)
             counts.expect(good, f'{words}, a writer of {taken} bytes, {asked}: {ended}')
-    ended = program.run(words, STOPPED.text, TAKE_BYTES=len(answer.output))
+    ended = program.run(words, document, TAKE_BYTES=len(answer.output))
     counts.expect(is_answer(ended, answer, words), f'{words}, a writer of all bytes: {ended}')
 
 
@@ -110,6 +126,36 @@ def fill_output(program, counts):
             ended = program.start(words, input=document.encode(), stdout=full)
         good = is_answer(ended, answer) if answer.status == 2 else has_failed_to_write(ended, '', errno.ENOSPC)
         counts.expect(good, f'{words} into a full output: {ended}')
+
+
+def pipe_without_reader():
+    """The end of a pipe to write to. It is made before runs are side by side, since each of them has for a moment all
+    that is open as it starts, so the other end, too."""
+    given, taken = os.pipe()
+    os.close(given)
+    return taken
+
+
+def leave_output(program, pipe, counts):
+    """A pipe that nobody reads any more."""
+    for words, document, _ in outputs(program):
+        ended = program.start(words, input=document.encode(), stdout=pipe)
+        counts.expect(has_failed_to_write(ended, '', errno.EPIPE), f'{words} into a pipe that nobody reads: {ended}')
+    os.close(pipe)
+
+
+def close_streams(program, counts):
+    """Standard streams that are closed; and a line on standard error that can't be written changes no status."""
+    def through(redirection):
+        return {'input': STOPPED.text.encode(), 'through': ('sh', '-c', f'exec "$0" "$@" {redirection}')}
+    for words in ALL:
+        ended = program.start(words, **through('>&-'))
+        counts.expect(has_failed_to_write(ended, '', errno.EBADF), f'{words} into a closed output: {ended}')
+        ended = program.start(words, **through('<&-'))
+        counts.expect(has_failed_to_read(ended, errno.EBADF), f'{words} of a closed input: {ended}')
+        for errors in ('2>&-', '2>/dev/full'):
+            ended = program.start(words, **through(f'>/dev/full {errors}'))
+            counts.expect(ended == Ended(4, '', ''), f'{words} into a full output, {errors}: {ended}')
 
 
 # Inputs that fail

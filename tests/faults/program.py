@@ -13,6 +13,8 @@ BUILT = ROOT / 'crates/argo_judge/out/argo_judge'
 # A run that takes longer never ends, as where workers wait for each other.
 SECONDS = 60
 NO_END = 'no end'
+# After so many runs that never ended no other one is started.
+MOST_WITHOUT_END = 8
 
 
 def path_of_program():
@@ -23,6 +25,10 @@ def path_of_program():
     if not os.access(path, os.X_OK):
         sys.exit(f'{path} is not there: bin/argo_judge proves and builds it')
     return path
+
+
+class LeftOut(Exception):
+    """A run that is not started, since too many before it never ended."""
 
 
 class Ended(NamedTuple):
@@ -49,6 +55,7 @@ class Program:
 
     def __init__(self, path, folder):
         self.path = str(path)
+        self.without_end = 0
         self.library = os.path.join(folder, 'refuse.so')
         source = str(HERE / 'refuse.c')
         subprocess.run(['cc', '-shared', '-fPIC', '-O1', '-o', self.library, source, '-ldl'], check=True)
@@ -61,14 +68,19 @@ class Program:
             ended = self.start(words, input=document.encode(), env=environment, pass_fds=(told,))
             return ended._replace(refused=os.fstat(told).st_size > 0)
 
-    def start(self, words, **given):
-        """Runs the program without the library, with what is given to subprocess.run."""
+    def start(self, words, through=(), **given):
+        """Runs the program without the library, through a command that starts it if there is one, with what is given to
+        subprocess.run."""
+        if self.without_end >= MOST_WITHOUT_END:
+            raise LeftOut
         streams = {'stdout': subprocess.PIPE, 'stderr': subprocess.PIPE, **given}
         if 'input' not in given:
             streams.setdefault('stdin', subprocess.DEVNULL)
         try:
-            ended = subprocess.run([self.path, *words.split()], timeout=SECONDS, check=False, **streams)
+            command = [*through, self.path, *words.split()]
+            ended = subprocess.run(command, timeout=SECONDS, check=False, **streams)
         except subprocess.TimeoutExpired:
+            self.without_end += 1
             return Ended(NO_END, '', '')
         return Ended(ended.returncode, decoded(ended.stdout), decoded(ended.stderr))
 
