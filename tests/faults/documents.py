@@ -54,7 +54,7 @@ def with_events_sorted(report):
 
 
 def is_answer(ended, answer, words=''):
-    """Whether a run ended with the answer. Of `run` alone the events of a run stand in any order."""
+    """Whether a run ended with the answer. Of `run` alone the events of a run come in any order."""
     output, expected = ended.output, answer.output
     if words.startswith('run') and '--plain' not in words and '--ordered' not in words:
         output, expected = with_events_sorted(output), with_events_sorted(expected)

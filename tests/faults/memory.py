@@ -88,14 +88,15 @@ def refuse_workers(program, words, counts):
     measurements.
     """
     document, answer = repeated(RUNS, MEASUREMENTS)
-    name, wanting = f'{words}, growths of workers', 0
+    name, lasting = f'{words}, growths of workers', 0
     for growth in range(1, MOST_GROWTHS):
         ended = program.run(words, document, REFUSE_CALL=growth, REFUSE_ON_WORKERS=1)
         if not ended.refused:
             counts.expect(is_answer(ended, answer, words), f'{name}, with all {growth - 1}: {ended}')
-            counts.expect(wanting >= MEASUREMENTS, f'{name}: of {growth - 1} refusals only {wanting} were for good')
+            good = lasting >= MEASUREMENTS
+            counts.expect(good, f'{name}: of {growth - 1} refusals only {lasting} left a run out of memory')
             return
-        wanting += is_out_of_memory(ended)
+        lasting += is_out_of_memory(ended)
         counts.expect(has_ended_as_it_may(ended, words, answer), f'{name}, {growth} refused: {ended}')
     counts.expect(False, f'{name}: no run was without refusal')
 
