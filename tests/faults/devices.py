@@ -113,7 +113,7 @@ def take_nothing(program, counts):
     """A write that takes nothing has failed: just the bytes before it were written."""
     for words in RUNS:
         report = STOPPED.run.output
-        for taken in [*range(0, len(report), 11), len(report) - 1]:
+        for taken in range(len(report)):
             ended = program.run(words, STOPPED.text, TAKE_BYTES=taken, TAKE_NOTHING=1)
             good = has_failed_to_write(ended, report[:taken])
             counts.expect(good, f'{words}, nothing taken after {taken} bytes: {ended}')

@@ -10,7 +10,7 @@ from program import ROOT
 
 EXAMPLE = ROOT / 'examples/bundles/success-rate'
 WITH_WORKERS = ('run --workers 2', 'run --ordered --workers 2')
-# A report is made of lists that are asked for again, with less memory, where it was refused them. Nothing else is.
+# A report is made of lists whose first growth is asked for again where it was refused. Nothing else is.
 MAY_CARRY_ON = WITH_WORKERS + ('run --plain',)
 MOST_GROWTHS = 5_000
 # A document of a template takes at least so many growths, and a command line so many.
