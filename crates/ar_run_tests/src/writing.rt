@@ -205,6 +205,7 @@ struct Interrupted<'a> {
     rest: &'a [u8],
     written: Vec<u8>,
     is_next: bool,
+    is_flushed: bool,
 }
 
 impl<'a> Interrupted<'a> {
@@ -213,6 +214,7 @@ impl<'a> Interrupted<'a> {
             rest,
             written: Vec::new(alloc),
             is_next,
+            is_flushed: false,
         }
     }
 
@@ -242,17 +244,21 @@ impl Write for Interrupted<'_> {
     }
 
     fn flush(&mut self) -> io::Result<()> {
-        self.interrupt()
+        self.interrupt()?;
+        self.is_flushed = true;
+        Ok(())
     }
 }
 
-/// Whether a document is served though each other call is interrupted.
+/// Whether a document is served, and the report is flushed, though each other call is interrupted.
 fn is_served_though_interrupted(alloc: Global, is_next: bool) -> bool {
     let mut reader = Device::new(Interrupted::new(alloc, DOCUMENT.as_bytes(), is_next));
     let mut output = Interrupted::new(alloc, b"", is_next);
     let mut writer = Device::new(&mut output);
     let outcome = serve_plain(alloc, Command::Plain, &mut reader, &mut writer);
-    matches!(outcome, Ok(Closing::Bad)) && output.written.as_slice() == REPORT.as_bytes()
+    matches!(outcome, Ok(Closing::Bad))
+        && output.written.as_slice() == REPORT.as_bytes()
+        && output.is_flushed
 }
 
 /// A call that a signal interrupts is made again.
