@@ -1,8 +1,10 @@
 """What the recipes share: JSON without rounding, command lines, and refusals of one line.
 
 A fraction is read as the text that stands there, since the engine takes decimals as texts; a whole number
-keeps its digits, however many there are.
+keeps its digits.
 """
+from ending import Refused, one_line, run_recipe, tell  # before what takes time to load
+
 import argparse
 import json
 import os
@@ -10,11 +12,11 @@ import re
 import subprocess
 import sys
 
-ENGINE = os.path.join(os.path.dirname(os.path.dirname(os.path.realpath(__file__))), "bin", "argo_judge")
-
-
-class Refused(Exception):
-    """Input that a recipe can't use: where it stands, and what was expected."""
+ROOT = os.path.dirname(os.path.dirname(os.path.realpath(__file__)))
+ENGINE = os.path.join(ROOT, "crates", "argo_judge", "out", "argo_judge")
+ENGINE_HELP = "argo_judge, where it isn't the one that bin/prove argo_judge built here"
+# What a whole number may have for the engine to read the document.
+MOST_DIGITS = 309
 
 
 class CommandLine(argparse.ArgumentParser):
@@ -29,42 +31,64 @@ def command_line(text, **more):
     return CommandLine(description=text, formatter_class=argparse.RawDescriptionHelpFormatter, **more)
 
 
-def run_recipe(main):
-    """Runs a recipe: what it refuses is one line on standard error, with status 2."""
-    try:
-        sys.exit(main())
-    except Refused as refusal:
-        name = sys.argv[0].rsplit("/", 1)[-1]
-        print(f"{name}: {refusal}", file=sys.stderr)
-        sys.exit(2)
-    except BrokenPipeError:
-        sys.exit(4)
-
-
 # ---- JSON
+
+class LongNumber(ValueError):
+    """A whole number that the engine can't read."""
+
+
+def whole(digits):
+    if len(digits) > MOST_DIGITS:
+        raise LongNumber(f"a whole number of {len(digits)} digits; expected at most {MOST_DIGITS}")
+    return int(digits)
+
+
+DECODER = json.JSONDecoder(parse_float=str, parse_constant=str, parse_int=whole)
+BLANKS = re.compile(r"[ \t\n\r]*")
+
+
+def decoded(text, at, where, expected):
+    """The JSON value that begins at an offset of a text, and the offset after it."""
+    try:
+        return DECODER.raw_decode(text, at)
+    except json.JSONDecodeError as fault:
+        place = f"line {fault.lineno}, column {fault.colno}" if "\n" in text.rstrip() else f"column {fault.colno}"
+        raise Refused(f"{where}: expected {expected}; the fault is at {place}")
+    except LongNumber as fault:
+        raise Refused(f"{where}: found {fault}")
+    except RecursionError:
+        raise Refused(f"{where}: values in values are too deep; expected at most 127 levels, as the engine reads")
+
+
+def skipped(text, at):
+    return BLANKS.match(text, at).end()
+
 
 def parsed(text, where):
     """The JSON value of a text."""
-    try:
-        return json.loads(text, parse_float=str, parse_constant=str)
-    except json.JSONDecodeError as fault:
-        at = f"line {fault.lineno}, column {fault.colno}" if "\n" in text.rstrip() else f"column {fault.colno}"
-        raise Refused(f"{where}: expected one JSON value; the fault is at {at}")
+    if not text.strip():
+        raise Refused(f"{where}: expected one JSON value, found nothing")
+    value, at = decoded(text, skipped(text, 0), where, "one JSON value")
+    if skipped(text, at) != len(text):
+        line = text.count("\n", 0, at) + 1
+        raise Refused(f"{where}: expected one JSON value; on line {line} more comes after it")
+    return value
 
 
 def parsed_all(text, where):
-    """The JSON values of a text that has one or several behind one another."""
-    decoder = json.JSONDecoder(parse_float=str, parse_constant=str)
-    values, at = [], 0
-    while True:
-        at += len(text[at:]) - len(text[at:].lstrip())
-        if at == len(text):
-            return values
-        try:
-            value, at = decoder.raw_decode(text, at)
-        except json.JSONDecodeError as fault:
-            raise Refused(f"{where}: expected JSON values; the fault is at line {fault.lineno}, column {fault.colno}")
+    """The JSON values of a text that has one or several, one after another."""
+    values, at = [], skipped(text, 0)
+    while at < len(text):
+        value, at = decoded(text, at, where, "JSON values")
         values.append(value)
+        at = skipped(text, at)
+    return values
+
+
+def parsed_lines(text, where):
+    """The JSON values of a text that has one a line; blank lines are none."""
+    lines = enumerate(text.split("\n"), 1)
+    return [parsed(line, f"{where}, line {number}") for number, line in lines if line.strip()]
 
 
 NOT_FINITE = re.compile(r'"(?:[^"\\]|\\.)*"|[+-]?\bInf\b|\bNaN\b')
@@ -75,38 +99,67 @@ def measured(text):
     writes them, and else the text itself."""
     quoted = NOT_FINITE.sub(lambda found: found[0] if found[0].startswith('"') else f'"{found[0]}"', text)
     try:
-        return json.loads(quoted, parse_float=str, parse_constant=str)
-    except json.JSONDecodeError:
+        return json.loads(quoted, parse_float=str, parse_constant=str, parse_int=whole)
+    except (ValueError, RecursionError):
         return text
 
 
-def read_text(path, where):
+def read_bytes(path, where):
+    """What a file has, or standard input where the path is `-`."""
     try:
-        if path == "-":
-            return sys.stdin.read()
-        with open(path, encoding="utf-8") as file:
-            return file.read()
-    except (OSError, UnicodeDecodeError) as fault:
-        raise Refused(f"{where}: {path} can't be read: {fault}")
+        if path != "-":
+            with open(path, "rb") as file:
+                return file.read()
+        if sys.stdin is None:
+            raise Refused(f"{where}: standard input is closed")
+        return sys.stdin.buffer.read()
+    except (OSError, ValueError) as fault:
+        raise Refused(f"{where}: {path} can't be read: {getattr(fault, 'strerror', None) or fault}")
+
+
+def read_text(path, where):
+    """The text of a file, whose line ends stay as they are."""
+    try:
+        return read_bytes(path, where).decode("utf-8")
+    except UnicodeDecodeError as fault:
+        raise Refused(f"{where}: expected UTF-8; byte {fault.start} is none")
 
 
 def read_json(path, where):
     return parsed(read_text(path, where), where)
 
 
+def write_text(text):
+    """Writes a text to standard output, in UTF-8 whatever the locale is."""
+    sys.stdout.buffer.write(text.encode("utf-8"))
+
+
 def write_json(value):
-    json.dump(value, sys.stdout, ensure_ascii=False, indent=2)
-    sys.stdout.write("\n")
+    """Writes a JSON value: all of it or, where it can't be told, nothing."""
+    write_text(json.dumps(value, ensure_ascii=False, indent=2) + "\n")
+
+
+def shown(value):
+    """A value as a line shows it: JSON, of which the first 64 characters are enough."""
+    text = one_line(json.dumps(value, ensure_ascii=False))
+    return text if len(text) <= 64 else f"{text[:64]}.."
 
 
 # ---- the engine
 
-def judged(engine, words, made, **more):
-    """A start of the engine on a document, with its status."""
+def started(engine, words, **more):
+    """A start of the engine. Where none is built it is refused: a recipe never starts a proof."""
+    if engine == ENGINE and not os.path.isfile(ENGINE):
+        raise Refused(f"{ENGINE} isn't there; expected the program, which {ROOT}/bin/prove argo_judge builds")
     try:
-        return subprocess.run([engine, *words], input=json.dumps(made), text=True, **more)
+        return subprocess.run([engine, *words], **more)
     except OSError as fault:
         raise Refused(f"{engine} can't be started: {fault.strerror}")
+
+
+def judged(engine, words, made, **more):
+    """A start of the engine on a document, with its status."""
+    return started(engine, words, input=json.dumps(made), text=True, **more)
 
 
 # ---- objects

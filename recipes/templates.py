@@ -1,5 +1,5 @@
 """Templates and the shapes of their metrics, and documents of argo_judge made of them."""
-from documents import Refused, member, objects, parsed, read_json
+from documents import Refused, member, objects, parsed, read_json, shown
 
 API_VERSION = "argoproj.io/v1alpha1"
 ANNOTATION = "argo-judge/shapes"
@@ -50,11 +50,11 @@ def with_conditions(template):
 
 def chosen_metric(template, name):
     """The metric of a name; without a name the only one that there is."""
-    names = [metric["name"] for metric in metrics_of(template) if "name" in metric]
+    names = [metric["name"] for metric in metrics_of(template) if isinstance(member(metric, "name"), str)]
     if name is None and len(names) == 1:
         return names[0]
     if name not in names:
-        listed = ", ".join(f'"{one}"' for one in names) or "none"
+        listed = ", ".join(shown(one) for one in names) or "none"
         raise Refused(f"--metric: expected one of the template's metrics: {listed}")
     return name
 
@@ -79,7 +79,8 @@ def noted_shapes(owner):
 def shapes_of(template, path, run=None):
     """The shapes of a template's metrics: those of a file, else those of its annotation, else those of a run's.
     Where each metric has a shape of its own none of these is needed."""
-    own = {metric.get("name"): own_shape(metric) for metric in metrics_of(template)}
+    named = [metric for metric in metrics_of(template) if isinstance(member(metric, "name"), str)]
+    own = {metric["name"]: own_shape(metric) for metric in named}
     given = shapes_in(read_json(path, "shapes"), "shapes") if path else noted_shapes(template)
     given = noted_shapes(run) if given is None else given
     if given is None and not all(own.values()):
