@@ -1,8 +1,8 @@
 """AnalysisRuns of Argo Rollouts as documents of argo_judge."""
-from documents import Refused, measured, member, objects
+from documents import Refused, measured, member, objects, shown
 from templates import API_VERSION, document, is_job, shapes_of
 
-DONE = {"Successful", "Failed", "Inconclusive", "Error"}
+DONE = ("Successful", "Failed", "Inconclusive", "Error")
 
 
 def template_of(run):
@@ -35,15 +35,23 @@ def answer_of(measurement, metric):
 def measurements_of(run):
     """The measurements that ended, each with its metric's name and its own object, in the order in which they
     did."""
-    metrics = {member(metric, "name"): metric for metric in objects(member(run, "spec", "metrics"))}
+    metrics = {shown(member(metric, "name")): metric for metric in objects(member(run, "spec", "metrics"))}
     found = []
     for result in objects(member(run, "status", "metricResults")):
         name = member(result, "name")
         for measurement in objects(member(result, "measurements")):
             if measurement.get("phase") in DONE:
-                found.append((name, measurement, answer_of(measurement, metrics.get(name))))
-    found.sort(key=lambda one: member(one[1], "finishedAt", default="") or member(one[1], "startedAt", default=""))
+                found.append((name, measurement, answer_of(measurement, metrics.get(shown(name)))))
+    found.sort(key=lambda one: ended_at(one[1]))
     return found
+
+
+def ended_at(measurement):
+    """The time that orders a measurement."""
+    time = member(measurement, "finishedAt", default="") or member(measurement, "startedAt", default="")
+    if not isinstance(time, str):
+        raise Refused(f"input: expected a measurement's `finishedAt` as a time, found {shown(time)}")
+    return time
 
 
 def checked_run(run):

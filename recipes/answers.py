@@ -25,13 +25,12 @@ def add_flags(parser):
 
 def chosen_run(runs, name):
     """The run of a name; without a name the only one that there is."""
-    names = [member(run, "name") for run in runs]
-    if name is None and len(names) == 1 and isinstance(names[0], str):
-        return runs[0]
-    if name not in names:
-        listed = ", ".join(shown(one) for one in names[:8]) or "none"
+    named = [run for run in runs if isinstance(member(run, "name"), str)]
+    chosen = [run for run in named if name is None or run["name"] == name]
+    if len(chosen) != 1:
+        listed = ", ".join(shown(run["name"]) for run in named[:8]) or "none"
         raise Refused(f"--run: expected one of the document's runs: {listed}")
-    return runs[names.index(name)]
+    return chosen[0]
 
 
 def begun_on(words):

@@ -53,19 +53,23 @@ def measurements_of(data, is_flat):
     raise NotAsTold(f"expected the resultType vector, scalar, string or matrix, found {shown(kind)}")
 
 
-def answers_of(answer, number, is_flat, tell):
-    """What an answer measured, as members of entries. Its error and its warnings are told."""
+def answers_of(answer, number, is_flat, notes):
+    """What an answer measured, as members of entries. Notes are of its error, of its warnings, and of a range without
+    series, which measured nothing."""
     warnings = member(answer, "warnings", default=[])
     for warning in warnings if isinstance(warnings, list) else [warnings]:
-        tell(f"answer {number}: warning: {warning if isinstance(warning, str) else shown(warning)}")
+        notes.append(f"answer {number}: warning: {warning if isinstance(warning, str) else shown(warning)}")
     if member(answer, "status") == "error":
         message = member(answer, "error", default="")
         told = message if isinstance(message, str) else shown(message)
-        tell(f"answer {number}: {member(answer, 'errorType', default='error')}: {told or 'no message'}")
+        notes.append(f"answer {number}: {member(answer, 'errorType', default='error')}: {told or 'no message'}")
         return [{"error": message}]
     if member(answer, "status") != "success":
         raise Refused(f"input, answer {number}: expected an answer of Prometheus' HTTP API, an object with a `status`")
     try:
-        return measurements_of(member(answer, "data"), is_flat)
+        found = measurements_of(member(answer, "data"), is_flat)
     except NotAsTold as fault:
         raise Refused(f"input, answer {number}: {fault}")
+    if not found:
+        notes.append(f"answer {number}: a range without series, so nothing was measured")
+    return found

@@ -1,0 +1,123 @@
+"""Starts each recipe, and prints its status and its standard error where it is interrupted while it reads, where its
+output is full, closed or a pipe that nobody reads, and where its input is closed."""
+import json
+import os
+import signal
+import subprocess
+import tempfile
+import time
+from concurrent.futures import ThreadPoolExecutor
+
+HERE = os.path.realpath("../..")
+ENGINE = os.environ["ENGINE"]
+BUNDLE = os.path.realpath("../../../examples/bundles/success-rate.json")
+RUN = os.path.realpath("../../../examples/analysisrun.json")
+SHAPES = os.path.realpath("../analysisrun/shapes.json")
+# Each recipe's words; FIFO stands for a file that is read, and that comes from a pipe where the recipe is interrupted.
+RECIPES = {
+    "from-jsonl": ["--allow-empty", "--add-to", "FIFO", os.devnull],
+    "from-prometheus": ["--allow-empty", "--add-to", "FIFO", os.devnull],
+    "go-on": ["--engine", ENGINE, "FIFO"],
+    "split": ["--runs", "1", "FIFO", "new"],
+    "join": ["parts"],
+    "shapes": ["FIFO"],
+    "from-analysisrun": ["--shapes", SHAPES, RUN],
+    "compare-analysisrun": ["--engine", ENGINE, "--shapes", SHAPES, RUN],
+    "kubectl-argo_judge": ["check", "success-rate", "--engine", ENGINE],
+}
+
+
+def ready(folder, recipe, fifo):
+    """The words of a recipe whose files are in the folder; a fifo in the place of the file that it reads first."""
+    with open(BUNDLE, encoding="utf-8") as file:
+        document = json.load(file)
+    os.makedirs(f"{folder}/parts")
+    part = {**document, "part": {"number": 0, "of": 1}}
+    part["measurements"] = [{**entry, "number": number} for number, entry in enumerate(document["measurements"])]
+    with open(f"{folder}/parts/0.json", "w", encoding="utf-8") as file:
+        json.dump(part, file)
+    with open(BUNDLE.replace(".json", ".run"), "rb") as report, open(f"{folder}/parts/0.report", "wb") as file:
+        file.write(report.read())
+    if not fifo:
+        return [word.replace("FIFO", BUNDLE) for word in RECIPES[recipe]]
+    os.mkfifo(f"{folder}/fifo")
+    os.replace(f"{folder}/fifo", f"{folder}/parts/0.json")
+    return [word.replace("FIFO", "parts/0.json").replace(RUN, "parts/0.json") for word in RECIPES[recipe]]
+
+
+def started(folder, recipe, words, **more):
+    more = {"stdin": subprocess.DEVNULL, "stdout": subprocess.DEVNULL, "stderr": subprocess.PIPE, **more}
+    return subprocess.Popen([f"{HERE}/{recipe}", *words], cwd=folder, text=True, **more)
+
+
+def opened(path):
+    """Opens a fifo to write as soon as somebody reads it."""
+    while True:
+        try:
+            return os.open(path, os.O_WRONLY | os.O_NONBLOCK)
+        except OSError:
+            time.sleep(0.01)
+
+
+def interrupted(folder, recipe):
+    words = ready(folder, recipe, True)
+    if recipe == "kubectl-argo_judge":
+        with open(f"{folder}/kubectl", "w", encoding="utf-8") as file:
+            file.write("#!/bin/sh\nexec cat parts/0.json\n")
+        os.chmod(f"{folder}/kubectl", 0o755)
+    one = started(folder, recipe, words, env={**os.environ, "PATH": f"{folder}:{os.environ['PATH']}"})
+    written = opened(f"{folder}/parts/0.json")
+    one.send_signal(signal.SIGINT)
+    told = one.communicate()[1]
+    os.close(written)
+    return one.returncode, told
+
+
+def output(folder, recipe, **more):
+    one = started(folder, recipe, ready(folder, recipe, False), **more)
+    told = one.communicate()[1]
+    return one.returncode, told
+
+
+def full(folder, recipe):
+    with open("/dev/full", "w") as file:
+        return output(folder, recipe, stdout=file)
+
+
+def unread(folder, recipe):
+    reader, writer = os.pipe()
+    os.close(reader)
+    try:
+        return output(folder, recipe, stdout=writer)
+    finally:
+        os.close(writer)
+
+
+def closed(folder, recipe):
+    return output(folder, recipe, preexec_fn=lambda: os.close(1))
+
+
+def input_closed(folder, recipe):
+    words = [word for word in RECIPES[recipe] if word not in ("FIFO", RUN)] + ["-"]
+    ready(folder, recipe, False)
+    one = started(folder, recipe, words, preexec_fn=lambda: os.close(0))
+    told = one.communicate()[1]
+    return one.returncode, told
+
+
+def tried(case):
+    way, recipe = case
+    with tempfile.TemporaryDirectory() as folder:
+        status, told = way(folder, recipe)
+    return f"{way.__name__} {recipe}: status {status}: {told}" + ("" if told.endswith("\n") else "\n")
+
+
+def main():
+    ways = (interrupted, full, unread, closed)
+    cases = [(way, recipe) for way in ways for recipe in RECIPES]
+    cases += [(input_closed, recipe) for recipe in ("shapes", "from-analysisrun", "compare-analysisrun")]
+    with ThreadPoolExecutor() as side_by_side:
+        print("".join(side_by_side.map(tried, cases)), end="")
+
+
+main()

@@ -1,0 +1,147 @@
+"""Gives each recipe what nobody wants it to read, in each place where it reads something, and says where one doesn't end
+with a status and at most one line on standard error. A recipe is loaded once and run in a fork for each input."""
+import json
+import os
+import random
+import re
+import sys
+import tempfile
+from concurrent.futures import ProcessPoolExecutor
+
+ENGINE = os.environ["ENGINE"]
+HERE = os.path.realpath("../..")
+STATUSES = {0, 1, 2, 3, 4}
+# How many changes of a good file are tried in each place where it is read; more of them by the environment.
+CHANGES, SHOWN = int(os.environ.get("CHANGES", "20")), 3
+# What a recipe tells besides what it refuses.
+NOTE = re.compile("from-prometheus: answer [0-9]+: |shapes: .*: no answer says of what kind it is")
+
+sys.path.insert(0, HERE)
+
+TEMPLATE = {"apiVersion": "argoproj.io/v1alpha1", "kind": "AnalysisTemplate", "metadata": {"name": "t"},
+            "spec": {"args": [{"name": "a"}], "metrics": [{"name": "m", "successCondition": "result > 0"}]}}
+RUN = {"apiVersion": "argoproj.io/v1alpha1", "kind": "AnalysisRun", "metadata": {"name": "r"},
+       "spec": {"metrics": TEMPLATE["spec"]["metrics"], "args": [{"name": "a", "value": "1"}]},
+       "status": {"phase": "Successful", "metricResults": [{"name": "m", "phase": "Successful", "measurements": [
+           {"phase": "Successful", "value": "1", "finishedAt": "2026-01-01T00:00:00Z"},
+           {"phase": "Error", "message": "timeout", "finishedAt": "2026-01-01T00:01:00Z"}]}]}}
+DOCUMENT = {"manifest": TEMPLATE, "shapes": {"m": "decimal"}, "runs": [{"name": "r", "args": {"a": "1"}}], "measurements": [
+    {"run": "r", "metric": "m", "value": 1, "time": "60"}, {"run": "r", "stop": True, "number": 1}]}
+ANSWER = {"status": "success", "warnings": ["w"], "data": {"resultType": "matrix", "result": [
+    {"metric": {}, "values": [[60, "1"], [120.5, "2"]]}]}}
+SHAPES = {"m": "decimal"}
+PART = {**DOCUMENT, "part": {"number": 0, "of": 1}, "measurements": [{**entry, "number": number} for number, entry in
+                                                                     enumerate(DOCUMENT["measurements"])]}
+REPORT = """run r Successful
+metric m Successful successful=1 failed=0 inconclusive=0 error=0 consecutiveError=0
+event 0 m Successful applied
+event 1 stop closed Successful
+"""
+ODD = [None, True, 7, -1, 0.5, "", "x\ny", "\ud800", [], [[]], [None], {}, {"name": None}, {"x": {"x": []}}]
+
+# Each recipe's words, in which a file's name stands for what it has; each file is good, and one after another is not.
+RECIPES = {
+    "from-jsonl": [["--template", "TEMPLATE", "--shapes", "SHAPES", "SHAPES"], ["--add-to", "DOCUMENT", "SHAPES"]],
+    "from-prometheus": [["--template", "TEMPLATE", "--shapes", "SHAPES", "ANSWER"],
+                        ["--flat", "--add-to", "DOCUMENT", "ANSWER"]],
+    "go-on": [["--engine", ENGINE, "DOCUMENT"], ["--document", "DOCUMENT"]],
+    "split": [["--runs", "1", "DOCUMENT", "PARTS"]],
+    "join": [["PART"]],
+    "shapes": [["RUN"], ["DOCUMENT"], ["--metric", "m", "SHAPES"]],
+    "from-analysisrun": [["--shapes", "SHAPES", "RUN"], ["--template", "TEMPLATE", "--shapes", "SHAPES", "RUN"]],
+    "compare-analysisrun": [["--engine", ENGINE, "--shapes", "SHAPES", "RUN"]],
+}
+GOOD = {"TEMPLATE": TEMPLATE, "SHAPES": SHAPES, "DOCUMENT": DOCUMENT, "ANSWER": ANSWER, "RUN": RUN, "PART": PART}
+
+
+def places(value, path=()):
+    """The paths of all members and items of a value."""
+    yield path
+    for key, inner in value.items() if isinstance(value, dict) else enumerate(value) if isinstance(value, list) else ():
+        yield from places(inner, (*path, key))
+
+
+def changed(value, path, odd):
+    """A value with another one at a path."""
+    if not path:
+        return odd
+    if isinstance(value, dict):
+        return {**value, path[0]: changed(value[path[0]], path[1:], odd)}
+    return [*value[:path[0]], changed(value[path[0]], path[1:], odd), *value[path[0] + 1:]]
+
+
+def texts_of(name):
+    """What a file may have that isn't good: bytes that are no JSON, and good ones with an odd value at each place."""
+    yield from (b"", b"\xff", b"\xef\xbb\xbf{}", b"{", b"{} {}", b"[" * 100_000, b"[" * 900 + b"]" * 900, b"7" * 5_000,
+                b'{"a":' * 100_000, b'"' + b"x" * 100_000, b"\0", b"-", b'{"runs":' + b"1" * 5_000 + b"}")
+    changes = [(path, odd) for path in places(GOOD[name]) for odd in ODD]
+    for path, odd in random.Random(7).sample(changes, min(len(changes), CHANGES)):
+        yield json.dumps(changed(GOOD[name], path, odd)).encode()
+
+
+def put(name, text):
+    """Writes a file of that name; a part is in a folder of its own, with its report."""
+    if name == "PART":
+        os.makedirs("PART", exist_ok=True)
+        with open("PART/0.report", "w", encoding="utf-8") as file:
+            file.write(REPORT)
+    with open("PART/0.json" if name == "PART" else name, "wb") as file:
+        file.write(text)
+
+
+def ended(code, words):
+    """The status of a recipe in a fork, and what it wrote to standard error."""
+    child = os.fork()
+    if child == 0:
+        for descriptor, name in enumerate(("/dev/null", "written", "told")):
+            os.dup2(os.open(name, os.O_RDONLY if descriptor == 0 else os.O_WRONLY | os.O_CREAT | os.O_TRUNC), descriptor)
+        sys.argv = words
+        try:
+            exec(code, {"__name__": "__main__"})
+        finally:
+            os._exit(99)
+    status = os.waitstatus_to_exitcode(os.waitpid(child, 0)[1])
+    with open("told", encoding="utf-8", errors="replace") as file:
+        return status, file.read()
+
+
+def fault_of(status, told):
+    """What is wrong with how a recipe ended, if something is. What a good answer has to tell may be several lines."""
+    lines = told.splitlines()
+    ours = [line for line in lines if not NOTE.match(line)]
+    if status not in STATUSES or "Traceback" in told or len(ours) != (status > 1) or not told.endswith("\n") and told:
+        return f"status {status}: {told[-600:]}"
+    return None
+
+
+def tried(recipe, words, name):
+    """How often a recipe was started with a file that isn't good, and the faults."""
+    with tempfile.TemporaryDirectory() as folder:
+        os.chdir(folder)
+        with open(f"{HERE}/{recipe}", encoding="utf-8") as file:
+            code = compile(file.read(), recipe, "exec")
+        starts, faults = 0, []
+        for text in texts_of(name):
+            for good in GOOD:
+                put(good, json.dumps(GOOD[good]).encode())
+            put(name, text)
+            starts += 1
+            fault = fault_of(*ended(code, [recipe, *(word.replace("PARTS", f"parts{starts}") for word in words)]))
+            if fault is not None:
+                faults.append(f"{recipe} {' '.join(words)}, where {name} is {text[:1000]!r}: {fault}")
+        os.chdir("/")
+    return starts, faults
+
+
+def main():
+    cases = [(recipe, words, name) for recipe, all_words in RECIPES.items() for words in all_words
+             for name in dict.fromkeys(words) if name in GOOD]
+    with ProcessPoolExecutor() as side_by_side:
+        found = list(side_by_side.map(tried, *zip(*cases)))
+    for _, faults in found:
+        for fault in faults[:SHOWN]:
+            print(fault)
+    print(f"{sum(starts for starts, _ in found)} starts, {sum(len(faults) for _, faults in found)} faults")
+
+
+main()
