@@ -12,7 +12,7 @@ ENGINE = os.environ["ENGINE"]
 HERE = os.path.realpath("../..")
 STATUSES = {0, 1, 2, 3, 4}
 # How many changes of a good file are tried in each place where it is read; more of them by the environment.
-CHANGES, SHOWN = int(os.environ.get("CHANGES", "20")), 3
+CHANGES, SHOWN = int(os.environ.get("CHANGES", "10")), 3
 # What a recipe tells besides what it refuses.
 NOTE = re.compile("from-prometheus: answer [0-9]+: |shapes: .*: no answer says of what kind it is")
 
@@ -72,8 +72,8 @@ def changed(value, path, odd):
 
 def texts_of(name):
     """What a file may have that isn't good: bytes that are no JSON, and good ones with an odd value at each place."""
-    yield from (b"", b"\xff", b"\xef\xbb\xbf{}", b"{", b"{} {}", b"[" * 100_000, b"[" * 900 + b"]" * 900, b"7" * 5_000,
-                b'{"a":' * 100_000, b'"' + b"x" * 100_000, b"\0", b"-", b'{"runs":' + b"1" * 5_000 + b"}")
+    yield from (b"", b"\xff", b"\xef\xbb\xbf{}", b"{} {}", b"[" * 100_000, b"[" * 900 + b"]" * 900, b'{"a":' * 100_000,
+                b"7" * 5_000, b'{"runs":' + b"1" * 5_000 + b"}")
     changes = [(path, odd) for path in places(GOOD[name]) for odd in ODD]
     for path, odd in random.Random(7).sample(changes, min(len(changes), CHANGES)):
         yield json.dumps(changed(GOOD[name], path, odd)).encode()
