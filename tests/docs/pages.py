@@ -1,4 +1,4 @@
-"""README.md and the pages of docs/: their fenced blocks, and their links."""
+"""README.md and the pages of docs/: their fenced blocks, their links, and how they run the program."""
 import pathlib
 import re
 from dataclasses import dataclass, field
@@ -6,6 +6,9 @@ from dataclasses import dataclass, field
 ROOT = pathlib.Path(__file__).resolve().parent.parent.parent
 PAGES = [ROOT / "README.md", *sorted((ROOT / "docs").glob("*.md"))]
 NOTE = re.compile(r"<!-- (file|not run): (.*) -->")
+# What starts `run` in the order in which workers come, and the files beside the pages that are looked at for it.
+UNORDERED = re.compile(r"(?:argo_judge|\$ENGINE)\"? run(?! --(?:plain|ordered|help)\b)")
+SCRIPTS = ("recipes/*", "recipes/tests/*/command", "examples/scaling/*")
 LINK = re.compile(r"\]\(([^)\s]+)\)")
 
 
@@ -64,3 +67,12 @@ def broken_links(path):
         file = (path.parent / name).resolve() if name else path
         if not file.exists() or anchor and anchor not in anchors_of(file):
             yield target
+
+
+def unordered_runs():
+    """The lines of pages, recipes and examples that start `run` without --plain or --ordered."""
+    scripts = [path for pattern in SCRIPTS for path in sorted(ROOT.glob(pattern)) if path.is_file()]
+    for path in [*PAGES, *scripts]:
+        for number, line in enumerate(path.read_text(encoding="utf-8").splitlines(), 1):
+            if UNORDERED.search(line):
+                yield f"{path.relative_to(ROOT)}:{number}: expected `run --plain` or `run --ordered`"
