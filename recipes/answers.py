@@ -10,15 +10,16 @@ TIME = re.compile(r"-?\d{1,18}(\.\d{1,18})?([eE][+-]?\d{1,2})?", re.ASCII)
 
 def add_flags(parser):
     """What each recipe takes that reads a provider's answers."""
-    parser.add_argument("--template", metavar="FILE", help="the AnalysisTemplate, as kubectl prints it as JSON")
-    parser.add_argument("--add-to", metavar="DOCUMENT", help="add to this document, by its own template; - is standard input")
-    parser.add_argument("--shapes", metavar="FILE", help="a JSON object: for each metric, by its name, a shape")
-    parser.add_argument("--run", metavar="NAME", help="the name of the run; without it `run`, or the one that DOCUMENT has")
-    parser.add_argument("--metric", metavar="NAME", help="the metric that the answers are of")
-    parser.add_argument("--arg", action="append", default=[], metavar="NAME=VALUE",
-                        help="an argument of the run, in the place of one that DOCUMENT has; may be given several times")
-    parser.add_argument("--allow-empty", action="store_true", help="an input without answers is none that went wrong")
-    parser.add_argument("answers", nargs="?", default="-", metavar="FILE", help="the answers; standard input without it")
+    flag = parser.add_argument
+    flag("--template", metavar="FILE", help="the AnalysisTemplate, as kubectl prints it as JSON")
+    flag("--add-to", metavar="DOCUMENT", help="add to this document, by its own template; - is standard input")
+    flag("--shapes", metavar="FILE", help="a JSON object: for each metric, by its name, a shape")
+    flag("--run", metavar="NAME", help="the name of the run; without it `run`, or the one that DOCUMENT has")
+    flag("--metric", metavar="NAME", help="the metric that the answers are of")
+    flag("--arg", action="append", default=[], metavar="NAME=VALUE",
+         help="an argument of the run, in the place of one that DOCUMENT has; may be given several times")
+    flag("--allow-empty", action="store_true", help="take an input without answers, which is refused otherwise")
+    flag("answers", nargs="?", default="-", metavar="FILE", help="the answers; standard input without it")
 
 
 # ---- the document that the answers go to
@@ -91,7 +92,7 @@ def merged(old, new):
 
 
 def with_answers(words, answers_of):
-    """The document with the answers, which `answers_of` reads: a member `value` or `error` each, and a `time` or none."""
+    """The document with the answers, which `answers_of` reads: a `value` or an `error` each, and a `time` or none."""
     begun_document, run = begun(words)
     metric = chosen_metric(begun_document["manifest"], words.metric)
     entries = [{"run": run, "metric": metric, **answer} for answer in answers_of()]

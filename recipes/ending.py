@@ -20,7 +20,7 @@ class Status(Exception):
 
 def one_line(text):
     """A text without line feeds and other characters that a terminal would obey."""
-    return "".join(char if char.isprintable() else char.encode("unicode_escape", "surrogatepass").decode() for char in text)
+    return "".join(char if char.isprintable() else char.encode("unicode_escape").decode() for char in text)
 
 
 def tell(text):

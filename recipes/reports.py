@@ -4,7 +4,7 @@ A name may have spaces and line feeds in it, so a report isn't taken apart into 
 the document, but for phases, counts, verdicts and effects.
 """
 import re
-from dataclasses import dataclass
+from collections import namedtuple
 
 from documents import Refused, member, shown
 
@@ -20,14 +20,9 @@ STOPPED = re.compile(f"(?:{EFFECT})\n", re.ASCII)
 BAD = {"Failed", "Error", "Inconclusive"}
 
 
-@dataclass
-class RunReport:
-    """What a report has of a run: its phase, its lines up to the events, and each event's place in the document's
-    `measurements`, with its line after the number."""
-    name: str
-    phase: str
-    head: str
-    events: list
+# What a report has of a run: its phase, its lines up to the events, and each event's place in the document's
+# `measurements`, with its line after the number.
+RunReport = namedtuple("RunReport", "name phase head events")
 
 
 class Report:
@@ -43,11 +38,11 @@ class Report:
         found = shown(rest) if end >= 0 else f"{shown(rest)} and the end" if rest else "its end"
         raise Refused(f"{self.where}, line {line}: expected {expected}, found {found}")
 
-    def take(self, begin, rest, what):
-        """Reads what begins so and goes on so; `what` names it where it isn't there."""
+    def take(self, begin, rest, what, *names):
+        """Reads what begins so and goes on so; `what` names it, with these names, where it isn't there."""
         matched = self.text.startswith(begin, self.at) and rest.match(self.text, self.at + len(begin))
         if not matched:
-            self.refuse(what)
+            self.refuse(what.format(*map(shown, names)))
         self.at = matched.end()
         return matched
 
@@ -77,14 +72,14 @@ def events_of(document, where):
 def checked_run(report, name, metrics, events):
     """What a report has of a run."""
     begun = report.at
-    phase = report.take(f"run {name} ", RUN, f"the run {shown(name)} with its phase")[1]
+    phase = report.take(f"run {name} ", RUN, "the run {} with its phase", name)[1]
     for metric in metrics:
-        report.take(f"metric {metric} ", METRIC, f"the metric {shown(metric)} of run {shown(name)}, with its counts")
+        report.take(f"metric {metric} ", METRIC, "the metric {} of run {}, with its counts", metric, name)
     head, lines = report.text[begun:report.at], []
     for place, metric in events:
         begun = report.at + len(f"event {place} ")
         called, rest = ("stop", STOPPED) if metric is None else (metric, MEASURED)
-        report.take(f"event {place} {called} ", rest, f"event {place} {shown(called)} of run {shown(name)}")
+        report.take(f"event {place} {called} ", rest, "event {} {} of run {}", place, called, name)
         lines.append((place, report.text[begun:report.at]))
     return RunReport(name, phase, head, lines)
 

@@ -115,22 +115,21 @@ def fault_of(status, told):
 
 
 def tried(recipe, words, name):
-    """How often a recipe was started with a file that isn't good, and the faults."""
+    """The faults of a recipe whose file of that name isn't good."""
     with tempfile.TemporaryDirectory() as folder:
         os.chdir(folder)
         with open(f"{HERE}/{recipe}", encoding="utf-8") as file:
             code = compile(file.read(), recipe, "exec")
-        starts, faults = 0, []
-        for text in texts_of(name):
+        faults = []
+        for number, text in enumerate(texts_of(name)):
             for good in GOOD:
                 put(good, json.dumps(GOOD[good]).encode())
             put(name, text)
-            starts += 1
-            fault = fault_of(*ended(code, [recipe, *(word.replace("PARTS", f"parts{starts}") for word in words)]))
+            fault = fault_of(*ended(code, [recipe, *(word.replace("PARTS", f"parts{number}") for word in words)]))
             if fault is not None:
                 faults.append(f"{recipe} {' '.join(words)}, where {name} is {text[:1000]!r}: {fault}")
         os.chdir("/")
-    return starts, faults
+    return faults
 
 
 def main():
@@ -138,10 +137,10 @@ def main():
              for name in dict.fromkeys(words) if name in GOOD]
     with ProcessPoolExecutor() as side_by_side:
         found = list(side_by_side.map(tried, *zip(*cases)))
-    for _, faults in found:
+    for faults in found:
         for fault in faults[:SHOWN]:
             print(fault)
-    print(f"{sum(starts for starts, _ in found)} starts, {sum(len(faults) for _, faults in found)} faults")
+    print(f"{len(cases)} files, {sum(map(len, found))} faults")
 
 
 main()
