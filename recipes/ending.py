@@ -58,6 +58,8 @@ def explained(fault):
         return REFUSED, str(fault)
     if isinstance(fault, RecursionError):
         return REFUSED, "input: values in values are too deep; expected at most 127 levels, as the engine reads"
+    if isinstance(fault, UnicodeDecodeError):
+        return REFUSED, f"input: expected UTF-8; byte {fault.start} is none"
     if isinstance(fault, UnicodeEncodeError):
         return REFUSED, "input: a text has half of a surrogate pair; expected whole characters"
     if isinstance(fault, MemoryError):

@@ -1,5 +1,5 @@
-"""Runs each block of docs/RECIPES.md and docs/SCALING.md that ends in recipes/join, with an engine that judges and with ones
-that fail on a part."""
+"""Runs each block of docs/RECIPES.md and docs/SCALING.md that ends in recipes/join, with an engine that judges and with
+ones that fail on a part."""
 import os
 import pathlib
 import subprocess
@@ -43,7 +43,8 @@ def run(text, ending):
         (folder / "bin").mkdir()
         (folder / "bin/argo_judge").write_text(FAILING.replace("STATUS", ending), encoding="utf-8")
         (folder / "bin/argo_judge").chmod(0o755)
-        ended = subprocess.run(["bash", "-c", text], cwd=folder, stdout=subprocess.PIPE, stderr=subprocess.DEVNULL, text=True)
+        ended = subprocess.run(["bash", "-c", text], cwd=folder, stdout=subprocess.PIPE, stderr=subprocess.DEVNULL,
+                               text=True)
         return ended.returncode, ended.stdout
 
 

@@ -1,5 +1,5 @@
-"""Gives each recipe what nobody wants it to read, in each place where it reads something, and says where one doesn't end
-with a status and at most one line on standard error. A recipe is loaded once and run in a fork for each input."""
+"""Gives each recipe what nobody wants it to read, in each place where it reads something, and says where one doesn't
+end with a status and at most one line on standard error. A recipe is loaded once and run in a fork for each input."""
 import json
 import os
 import random
@@ -9,12 +9,12 @@ import tempfile
 from concurrent.futures import ProcessPoolExecutor
 
 ENGINE = os.environ["ENGINE"]
-HERE = os.path.realpath("../..")
+HERE, PATH = os.path.realpath("../.."), os.environ["PATH"]
 STATUSES = {0, 1, 2, 3, 4}
 # How many changes of a good file are tried in each place where it is read; more of them by the environment.
 CHANGES, SHOWN = int(os.environ.get("CHANGES", "10")), 3
 # What a recipe tells besides what it refuses.
-NOTE = re.compile("from-prometheus: answer [0-9]+: |shapes: .*: no answer says of what kind it is")
+NOTE = re.compile("from-prometheus: answer [0-9]+: |shapes: .*: no answer says of what kind|argo_judge: warning: ")
 
 sys.path.insert(0, HERE)
 
@@ -25,8 +25,8 @@ RUN = {"apiVersion": "argoproj.io/v1alpha1", "kind": "AnalysisRun", "metadata": 
        "status": {"phase": "Successful", "metricResults": [{"name": "m", "phase": "Successful", "measurements": [
            {"phase": "Successful", "value": "1", "finishedAt": "2026-01-01T00:00:00Z"},
            {"phase": "Error", "message": "timeout", "finishedAt": "2026-01-01T00:01:00Z"}]}]}}
-DOCUMENT = {"manifest": TEMPLATE, "shapes": {"m": "decimal"}, "runs": [{"name": "r", "args": {"a": "1"}}], "measurements": [
-    {"run": "r", "metric": "m", "value": 1, "time": "60"}, {"run": "r", "stop": True, "number": 1}]}
+DOCUMENT = {"manifest": TEMPLATE, "shapes": {"m": "decimal"}, "runs": [{"name": "r", "args": {"a": "1"}}],
+            "measurements": [{"run": "r", "metric": "m", "value": 1, "time": "60"}, {"run": "r", "stop": True}]}
 ANSWER = {"status": "success", "warnings": ["w"], "data": {"resultType": "matrix", "result": [
     {"metric": {}, "values": [[60, "1"], [120.5, "2"]]}]}}
 SHAPES = {"m": "decimal"}
@@ -50,6 +50,8 @@ RECIPES = {
     "shapes": [["RUN"], ["DOCUMENT"], ["--metric", "m", "SHAPES"]],
     "from-analysisrun": [["--shapes", "SHAPES", "RUN"], ["--template", "TEMPLATE", "--shapes", "SHAPES", "RUN"]],
     "compare-analysisrun": [["--engine", ENGINE, "--shapes", "SHAPES", "RUN"]],
+    "kubectl-argo_judge": [["run", "RUN", "--shapes", "SHAPES", "--engine", ENGINE],
+                           ["check", "TEMPLATE", "--arg", "a=1", "--shapes", "SHAPES", "--engine", ENGINE]],
 }
 GOOD = {"TEMPLATE": TEMPLATE, "SHAPES": SHAPES, "DOCUMENT": DOCUMENT, "ANSWER": ANSWER, "RUN": RUN, "PART": PART}
 
@@ -118,6 +120,9 @@ def tried(recipe, words, name):
     """The faults of a recipe whose file of that name isn't good."""
     with tempfile.TemporaryDirectory() as folder:
         os.chdir(folder)
+        put("kubectl", b'#!/bin/sh\ncat "$3"\n')
+        os.chmod("kubectl", 0o755)
+        os.environ["PATH"] = f"{folder}:{PATH}"
         with open(f"{HERE}/{recipe}", encoding="utf-8") as file:
             code = compile(file.read(), recipe, "exec")
         faults = []
@@ -125,7 +130,8 @@ def tried(recipe, words, name):
             for good in GOOD:
                 put(good, json.dumps(GOOD[good]).encode())
             put(name, text)
-            fault = fault_of(*ended(code, [recipe, *(word.replace("PARTS", f"parts{number}") for word in words)]))
+            line = [recipe, *(word.replace("PARTS", f"parts{number}") for word in words)]
+            fault = fault_of(*ended(code, line))
             if fault is not None:
                 faults.append(f"{recipe} {' '.join(words)}, where {name} is {text[:1000]!r}: {fault}")
         os.chdir("/")
