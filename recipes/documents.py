@@ -159,7 +159,7 @@ def started(engine, words, **more):
 
 def judged(engine, words, made, **more):
     """A start of the engine on a document, with its status."""
-    return started(engine, words, input=json.dumps(made), text=True, **more)
+    return started(engine, words, input=json.dumps(made), encoding="utf-8", **more)
 
 
 # ---- objects

@@ -74,6 +74,7 @@ def status_of(main):
     try:
         if sys.stdout is None:
             raise OSError(errno.EBADF, "it is closed")
+        sys.stdout.reconfigure(encoding="utf-8")  # whatever the locale is
         status = main()
     except SystemExit as done:
         status = done.code
