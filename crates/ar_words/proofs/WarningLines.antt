@@ -1,11 +1,53 @@
 -- Lines of warnings, one after another.
 use Rattle.std.proofs.Common.{◌≡◌, ◌<◌, ◌≤◌, ℕ, suc, ◌+◌, List, [], ◌∷◌, ◌++◌, length, map, drop, refl, sym, ◌∙◌, ap, add-one, drop-cons, arith}
-use Rattle.std.specs.Prelude.{flat_map, slice_index_or}
+use Rattle.std.specs.Prelude.{codes, flat_map, if◌then◌else◌, is_ok, slice_index_or, Result, Ok, Err, OnOk}
 use Rattle.std.proofs.Math.ListN.{drop_of_length-le}
 use Rattle.std.proofs.lemmas.List.{append-nil, append_assoc}
 use Rattle.serde_json.specs.View.{view}
 use Rattle.serde_json.specs.declared.value.Value.{Value}
-use Rattle.ar_words.specs.Warnings.{lines_from, metric_lines}
+use Rattle.serde_json.specs.Data.{Data}
+use Rattle.ar_words.specs.Names.{item_text}
+use Rattle.ar_words.specs.Warnings.{Close, close_lines, close_to_metric, condition_line, lines_from, metric_lines, read_over, warning}
+
+-- ---- texts, one behind another
+
+pub on_ok : {A E P Q : Type 0} (result : Result A E) → (P → Q) → OnOk result P → OnOk result Q
+on_ok (Ok x) f p = f p
+on_ok (Err e) f p = tt
+
+pub as_ok : {A E X : Type 0} (result : Result A E) (after good bad : X) → after ≡ (if is_ok result then good else bad) → OnOk result (after ≡ good)
+as_ok (Ok x) after good bad e = e
+as_ok (Err e) after good bad same = tt
+
+pub two : (before first after a b : List ℕ) → first ≡ before ++ a → after ≡ first ++ b → after ≡ before ++ (a ++ b)
+two before first after a b one other = other ∙ (ap (λ text. text ++ b) one ∙ append_assoc before a b)
+
+four : (before first second third after a b c d : List ℕ) → first ≡ before ++ a → second ≡ first ++ b → third ≡ second ++ c → after ≡ third ++ d → after ≡ before ++ (a ++ (b ++ (c ++ d)))
+four before first second third after a b c d one other more last =
+    two before first after a (b ++ (c ++ d)) one (two first second after b (c ++ d) other (two second third after c d more last))
+
+pub is_warning : (before first second third fourth after at words : List ℕ) → first ≡ before ++ codes "argo_judge: warning: " → second ≡ first ++ at → third ≡ second ++ codes ": " → fourth ≡ third ++ words → after ≡ fourth ++ codes "\n"
+    → after ≡ before ++ warning at words
+unfolding warning
+is_warning before first second third fourth after at words one other more following last =
+    two before first after (codes "argo_judge: warning: ") (at ++ (codes ": " ++ (words ++ codes "\n"))) one (four first second third fourth after at (codes ": ") words (codes "\n") other more following last)
+
+pub is_read_over : (name : Close) (first second third fourth after : List ℕ) → first ≡ codes "\"" → second ≡ first ++ name.name → third ≡ second ++ codes "\" is not read; did you mean \"" → fourth ≡ third ++ name.meant → after ≡ fourth ++ codes "\"?"
+    → after ≡ read_over name
+unfolding read_over
+is_read_over name first second third fourth after one other more following last =
+    four first second third fourth after name.name (codes "\" is not read; did you mean \"") name.meant (codes "\"?") other more following last
+    ∙ ap (λ text. text ++ (name.name ++ (codes "\" is not read; did you mean \"" ++ (name.meant ++ codes "\"?")))) one
+
+pub is_metric : (before first after at again : List ℕ) (names : List Close) (number : ℕ) (metric : Data) → at ≡ item_text (codes "metric") number metric → again ≡ item_text (codes "metric") number metric → names ≡ close_to_metric
+    → first ≡ before ++ close_lines at names metric → after ≡ first ++ condition_line again metric → after ≡ before ++ metric_lines number metric
+is_metric before first after at again names number metric named named_again is one other =
+    let text : List ℕ = item_text (codes "metric") number metric in
+    two before first after (close_lines text close_to_metric metric) (condition_line text metric)
+    (one ∙ (ap (λ at. before ++ close_lines at names metric) named ∙ ap (λ names. before ++ close_lines text names metric) is))
+    (other ∙ ap (λ at. first ++ condition_line at metric) named_again)
+
+-- ---- loops
 
 left_at : {A : Type 0} (xs : List A) (place : ℕ) (x : A) → place < length xs → x ≡ slice_index_or xs place x → drop place xs ≡ x ∷ drop (suc place) xs
 left_at xs place x within is = drop-cons xs place x within ∙ ap (λ first. first ∷ drop (suc place) xs) (sym is)

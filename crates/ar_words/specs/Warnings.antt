@@ -43,10 +43,10 @@ read_over name = codes "\"" ++ (name.name ++ (codes "\" is not read; did you mea
 
 -- a warning of a name that an object has
 abbrev pub close_line : (at : List ℕ) → Data → Close → List ℕ
-close_line at object name = if is_some (member name.name object) then warning at (read_over name) else []
+close_line at fields name = if is_some (member name.name fields) then warning at (read_over name) else []
 
 abbrev pub close_lines : (at : List ℕ) → List Close → Data → List ℕ
-close_lines at names object = flat_map (close_line at object) names
+close_lines at names fields = flat_map (close_line at fields) names
 
 -- a text that is missing or empty
 abbrev pub is_left_out : Option (List ℕ) → Bool

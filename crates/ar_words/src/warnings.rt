@@ -59,7 +59,7 @@ fn close_to_metric() -> &'static [Close]
 }
 
 /// A warning of what is at a place.
-#[tactic(auto, unfolding(crate::specs::Warnings::warning))]
+#[tactic(auto, using(crate::proofs::WarningLines::is_warning))]
 fn push_warning(out: &mut String, at: &str, words: &str) -> Result<(), AllocError>
     ensures { OnOk result (string_bytes out.new ≡ string_bytes out.old ++ warning at.now words.now) }
 {
@@ -71,7 +71,7 @@ fn push_warning(out: &mut String, at: &str, words: &str) -> Result<(), AllocErro
 }
 
 /// What is said of a name that is read over.
-#[tactic(auto, unfolding(crate::specs::Warnings::read_over))]
+#[tactic(auto, using(crate::proofs::WarningLines::is_read_over))]
 fn read_over(alloc: Global, name: &str, meant: &str) -> Result<String, AllocError>
     ensures { IfOk result (λ words. string_bytes words ≡ read_over (close name.now meant.now)) }
 {
@@ -89,12 +89,12 @@ fn push_close(
     out: &mut String,
     at: &str,
     object: &Json,
-    name: Close,
+    name: &str,
+    meant: &str,
 ) -> Result<(), AllocError>
     ensures { OnOk result (string_bytes out.new ≡ string_bytes out.old
-        ++ close_line at.now (view object.now) (close name.0.now name.1.now)) }
+        ++ close_line at.now (view object.now) (close name.now meant.now)) }
 {
-    let (name, meant) = name;
     if member(object, name).is_none() {
         return Ok(());
     }
@@ -114,7 +114,7 @@ fn push_all_close(
         ++ close_lines at.now (map (λ name. close name.0.now name.1.now) names.now) (view object.now)) }
 {
     for name in names {
-        push_close(alloc, out, at, object, *name)?;
+        push_close(alloc, out, at, object, name.0, name.1)?;
     }
     Ok(())
 }
@@ -150,6 +150,7 @@ fn push_condition(out: &mut String, at: &str, metric: &Json) -> Result<(), Alloc
 }
 
 /// Warnings of a metric.
+#[tactic(auto, using(crate::proofs::WarningLines::two))]
 fn push_metric(
     alloc: Global,
     out: &mut String,
