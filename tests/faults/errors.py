@@ -3,6 +3,7 @@
 import os
 
 OUT_OF_MEMORY = 'argo_judge: out of memory\n'
+NO_WARNINGS = 'argo_judge: warning: out of memory: the document is not looked at\n'
 NO_THREAD = ("argo_judge: run: NoThread: a thread for a worker couldn't be started; "
              'try fewer --workers, or --plain, which starts none\n')
 READ = "argo_judge: input: Read: the input can't be read: "
@@ -12,6 +13,11 @@ TOO_LARGE = 'argo_judge: document: TooLarge: expected at most 16777216 bytes\n'
 
 def is_out_of_memory(ended):
     return ended[:3] == (3, '', OUT_OF_MEMORY)
+
+
+def is_without_warnings(ended, answer):
+    """The answer is whole, and the line tells that nothing was looked for that deserves a warning."""
+    return ended[:3] == (answer.status, answer.output, NO_WARNINGS)
 
 
 def is_without_thread(ended):

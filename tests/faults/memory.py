@@ -5,7 +5,7 @@ from functools import partial
 from typing import NamedTuple
 
 from documents import BUNDLES, CONDITIONS, SHAPELESS, Answer, is_answer, repeated
-from errors import is_out_of_memory, is_without_thread
+from errors import is_out_of_memory, is_without_thread, is_without_warnings
 from program import ROOT
 
 EXAMPLE = ROOT / 'examples/bundles/success-rate'
@@ -63,6 +63,8 @@ def other_cases(program):
 def has_ended_as_it_may(ended, words, answer):
     """Whether a run to which something was refused told of that, or answered where it may carry on."""
     if is_out_of_memory(ended) or (words in WITH_WORKERS and is_without_thread(ended)):
+        return True
+    if words == 'check' and is_without_warnings(ended, answer):
         return True
     return words in MAY_CARRY_ON and is_answer(ended, answer, words)
 

@@ -4,6 +4,7 @@ import json
 
 from bundles import built, judges_of, read_bundle
 from compiling import compile_tree
+from corpus import document_text
 from grammar import parse
 from images import decode, encode, image_of, listing, resolved
 from jsontext import read_json
@@ -39,7 +40,7 @@ def said(answer):
 
 
 def document_of(case):
-    return case['document'].encode() if 'document' in case else bytes.fromhex(case['bytes'])
+    return document_text(case['document']).encode() if 'document' in case else bytes.fromhex(case['bytes'])
 
 
 def shown_bundle(bundle):

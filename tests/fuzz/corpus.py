@@ -35,6 +35,12 @@ def own_cases():
         yield from lines_of(path)
 
 
+def document_text(document):
+    """The text of a case's document: a text, or a list of texts, each of which may be repeated."""
+    items = document if isinstance(document, list) else [document]
+    return ''.join(item if isinstance(item, str) else item[0] * item[1] for item in items)
+
+
 def is_shape(json_value):
     try:
         read_shape(json_value)
@@ -60,7 +66,7 @@ class Corpus:
         if 'condition' in case:
             self.add_condition(case)
         if 'document' in case:
-            self.add_document(case['document'])
+            self.add_document(document_text(case['document']))
         if 'image' in case and len(case['image']) <= 2 * LONGEST_IMAGE:
             self.images.append((bytes.fromhex(case['image']), case.get('shape', 'whole')))
         if 'template' in case and len(json.dumps(case['template'])) <= LONGEST_DOCUMENT:
