@@ -14,14 +14,14 @@ from program import HERE, Ended
 RUNS = ('run --plain', 'run --ordered', 'run --workers 2')
 ALL = RUNS + ('check', 'list')
 WIDTHS = (1, 2, 7, 100)
-# Of a document that fails to be read, so many bytes are read at a time.
+# Of a document that fails to be read, this many bytes are read at a time.
 PIECE = 50
 MOST_READS = 1_000
 MOST_BYTES = 16_777_216
 
 
 def jobs(program):
-    """What is done to reads and writes, each as a job that can run beside the others."""
+    """What is done to reads and writes, each as a job that can run at the same time as the others."""
     made = [partial(cut_output, program, *case) for case in outputs(program)]
     made += [partial(job, program) for job in (take_nothing, interrupt, give_little)]
     made += [partial(fail_reads, program, *case) for case in cases()]
@@ -99,7 +99,7 @@ def read_largest(program, words, document, answer, counts):
 
 
 def cut_output(program, words, document, answer, counts):
-    """A writer that takes so many bytes and then fails has had just these, however few it takes at a time."""
+    """A writer that takes n bytes and then fails has had just these, however few it takes at a time."""
     for taken in range(len(answer.output)):
         for asked in ({}, {'WRITE_AT_MOST': 7, 'INTERRUPT': 1}):
             ended = program.run(words, document, TAKE_BYTES=taken, **asked)

@@ -149,7 +149,7 @@ SHAPELESS = json.dumps({'manifest': manifest_of(FILTERED)})
 
 
 def repeated(runs, entries):
-    """A document whose every measurement is successful and takes memory, of so many runs in turn, which stay open; and
+    """A document whose every measurement is successful and takes memory, of n runs in turn, which stay open; and
     its report."""
     names = [f'r{run}' for run in range(runs)]
     text = document_of([FILTERED], WHOLES, names, [measured(names[it % runs], 'm', [1, 2, 3]) for it in range(entries)])

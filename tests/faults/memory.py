@@ -13,9 +13,9 @@ WITH_WORKERS = ('run --workers 2', 'run --ordered --workers 2')
 # A report is made of lists whose first growth is asked for again where it was refused. Nothing else is.
 MAY_CARRY_ON = WITH_WORKERS + ('run --plain',)
 MOST_GROWTHS = 5_000
-# A document of a template takes at least so many growths, and a command line so many.
+# A document of a template takes at least this many growths, and a command line this many.
 OF_TEMPLATE, OF_WORDS = 100, 20
-# Each of so many measurements takes memory as it is judged.
+# Each of this many measurements takes memory as it is judged.
 MEASUREMENTS, RUNS = 200, 50
 
 
@@ -30,7 +30,7 @@ class Case(NamedTuple):
 
 
 def jobs(program):
-    """What is refused, each as a job that can run beside the others; the longest first."""
+    """What is refused, each as a job that can run at the same time as the others; the longest first."""
     made = [partial(refuse_workers, program, words) for words in WITH_WORKERS]
     cases = cases_of_bundles() + cases_of_eval() + other_cases(program)
     made += [partial(refuse_growths, program, case) for case in cases]

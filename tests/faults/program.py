@@ -13,7 +13,7 @@ BUILT = ROOT / 'crates/argo_judge/out/argo_judge'
 # A run that takes longer never ends, as where workers wait for each other.
 SECONDS = 60
 NO_END = 'no end'
-# After so many runs that never ended no other one is started.
+# After this many runs that never ended no other one is started.
 MOST_WITHOUT_END = 8
 
 

@@ -11,7 +11,7 @@
      INTERRUPT=1         every other read and write is interrupted, the first one, too.
      READ_AT_MOST=N      a read gives N bytes at most.
      WRITE_AT_MOST=N     a write takes N bytes at most.
-     TAKE_BYTES=N        so many bytes are taken in all; then writes fail as on a full disk.
+     TAKE_BYTES=N        N bytes are taken in all; then writes fail as on a full disk.
      TAKE_NOTHING=1      then they don't fail but take nothing.
 
    Schedules.

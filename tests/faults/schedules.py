@@ -23,7 +23,7 @@ MANY, LONGEST_GO, LONGEST_STOP = 20_000, 0.02, 0.005
 
 
 def jobs(program):
-    """What is done to the threads of runs, each as a job that can run beside the others."""
+    """What is done to the threads of runs, each as a job that can run at the same time as the others."""
     parts = [range(part, SEEDS, PARTS) for part in range(PARTS)]
     made = [partial(sleep, program, seeds) for seeds in parts]
     made += [partial(stop, program, words, seed) for seed, words in enumerate(STOPPED_COMMANDS)]

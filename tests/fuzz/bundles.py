@@ -21,7 +21,7 @@ GRAMMAR = ('TooLong', 'BadCharacter', 'OpenText', 'OpenComment', 'BadEscape', 'L
 
 @functools.lru_cache(maxsize=20_000)
 def built(condition, shape):
-    """A condition's typed tree, its code and its bounds; or the refusal, as it stands inside that of a metric."""
+    """A condition's typed tree, its code and its bounds; or the refusal, as it is inside that of a metric."""
     try:
         tree = check(condition, shape)
     except Refused as refused:

@@ -158,7 +158,7 @@ def text_cases(source, corpus):
 
 
 def fits_a_line(value):
-    """Whether JSON may stand in a case: not too deep, and as it is written."""
+    """Whether JSON may be in a case: not too deep, and as it is written."""
     return is_plain(value) and levels_of(json.dumps(value)) < LEVELS - 2
 
 

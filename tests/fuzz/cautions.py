@@ -23,7 +23,7 @@ CLOSE_TO_METRIC = {
 
 
 def quoted_name(name):
-    """A name as refusals and warnings show it: a JSON string, of at most so many characters."""
+    """A name as refusals and warnings show it: a JSON string, of at most SHOWN characters."""
     shown = SPECIAL.sub(lambda found: ESCAPED.get(found[0]) or f'\\u{ord(found[0]):04x}', name[:SHOWN])
     return f'"{shown}"' + ('..' if len(name) > SHOWN else '')
 

@@ -82,7 +82,7 @@ def with_part(source, words, others):
 
 
 def repeated(source, text):
-    """A condition inside so many openers, or as so many items, that a limit is near."""
+    """A condition inside openers, or as items, of which there are nearly as many as a limit allows."""
     count = source.choice(LONG)
     return source.choice((
         '!' * count + text, '(' * count + text + ')' * count, '-' * count + text, '[' * count + text + ']' * count,

@@ -17,7 +17,7 @@ NAME = r'"(?:[^"\\]|\\.)*"(?:\.\.)?'
 
 
 def of_condition(refused):
-    """Where a refused condition stands in its text, and its name."""
+    """Where in its text a refused condition is at fault, and its name."""
     if refused.name == 'Verifier':
         return '', refused.details[1]
     inner = refused.details[0]

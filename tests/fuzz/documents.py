@@ -15,7 +15,7 @@ FIELDS = (
     'failureCondition interval count failureLimit inconclusiveLimit consecutiveErrorLimit consecutiveSuccessLimit '
     'dryRun metricName run metric error stop list max record optional condition shape'
 ).split()
-# A text that stands for itself without its quotes in the document, and a name that another member has already.
+# A text that means itself without its quotes in the document, and a name that another member has already.
 RAW, AGAIN = '@raw@', '@again@'
 NUMBERS = ('-0', '0', '1', '-1', '1.0', '1e3', '-0.0', '1e400', '-1e999', '1E-999', '9223372036854775807', '01', '+1',
            '.5', '1.', '0x1', '9223372036854775808', '-9223372036854775808', '-9223372036854775809',
@@ -236,7 +236,7 @@ def change_at(source, whole, holder, key):
 
 
 def changed_json(source, value, count):
-    """A JSON value with so many changes; RAW and AGAIN may stand in it."""
+    """A JSON value with n changes; RAW and AGAIN may be in it."""
     root = [copied(value)]
     for _ in range(count):
         found = list(places(root))
@@ -250,7 +250,7 @@ def changed_json(source, value, count):
 
 
 def written(source, value):
-    """The text of a JSON value, in which RAW texts and names that stand AGAIN are what they stand for."""
+    """The text of a JSON value, in which RAW texts and names that come AGAIN are what they mean."""
     indent = source.choice((None, None, None, 1))
     text = json.dumps(value, ensure_ascii=source.random() < 0.3, indent=indent,
                       separators=None if indent else (',', ':'))
@@ -260,6 +260,6 @@ def written(source, value):
 
 
 def is_plain(value):
-    """Whether neither RAW nor AGAIN stands in a JSON value, so that it may stand in a case as it is."""
+    """Whether neither RAW nor AGAIN is in a JSON value, so that it may be in a case as it is."""
     text = json.dumps(value)
     return RAW not in text and AGAIN not in text

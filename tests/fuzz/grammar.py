@@ -1,6 +1,6 @@
 """The grammar of docs/LANGUAGE.md, read apart from the program: the tree of a condition, or where it is refused.
 
-The reader takes token after token, so a refusal stands at the first token that no condition can have there.
+The reader takes token after token, so a refusal is at the first token that no condition can have there.
 """
 
 import collections
@@ -48,7 +48,7 @@ class Reader:
         return self.tokens[self.next][:2] == ('sign', sign)
 
     def spelling(self):
-        """The sign or the word of the language that stands here."""
+        """The sign or the word of the language that is here."""
         sort, content = self.tokens[self.next][:2]
         return content if sort in ('sign', 'word') else None
 

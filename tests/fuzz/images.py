@@ -1,6 +1,6 @@
 """The images of docs/FORMATS.md, read apart from the program: code as bytes, and bytes as code.
 
-Code is here its texts, its names and its operations with numbers of texts and names, as they stand in an image.
+Code is here its texts, its names and its operations with numbers of texts and names, as they are in an image.
 """
 
 import collections
