@@ -1,5 +1,5 @@
 -- What a typed condition means where `result` has a value, and so has the innermost item: a value, or a fault.
-use Rattle.std.specs.Prelude.{pos, Bool, true, false, if◌then◌else◌, Option, Some, Result, Ok, Err}
+use Rattle.std.specs.Prelude.{◌==◌, pos, Bool, true, false, if◌then◌else◌, Option, Some, Result, Ok, Err}
 use Rattle.ar_value.specs.Answer.{◌>>=◌}
 use Rattle.ar_value.specs.Operators.{Failure, Meaning, faulted, field_in, ill_kinded, items_in, one, scalar_item, there, truth, two}
 use Rattle.ar_value.specs.Value.{Value, Items, nil, bool, whole, decimal, text, list, no_items, item, count}
@@ -29,6 +29,10 @@ abbrev pub any_holds : (Value → Result Bool Failure) → Items → Meaning
 any_holds holds no_items = Ok (bool false)
 any_holds holds (item first items) = holds first >>= λ it. if it then Ok (bool true) else any_holds holds items
 
+abbrev pub none_holds : (Value → Result Bool Failure) → Items → Meaning
+none_holds holds no_items = Ok (bool true)
+none_holds holds (item first items) = holds first >>= λ it. if it then Ok (bool false) else none_holds holds items
+
 -- the items of which it holds, in order
 abbrev pub those : (Value → Result Bool Failure) → Items → Result Items Failure
 those holds no_items = Ok no_items
@@ -40,6 +44,8 @@ those holds (item first items) = do
 abbrev pub over : Predicate → (Value → Result Bool Failure) → Items → Meaning
 over predicates.All holds items = all_hold holds items
 over predicates.Any holds items = any_holds holds items
+over predicates.None holds items = none_holds holds items
+over predicates.One holds items = those holds items >>= λ found. Ok (bool (count found == 1))
 over predicates.Count holds items = those holds items >>= λ found. Ok (whole (pos (count found)))
 over predicates.Filter holds items = those holds items >>= λ found. Ok (list found)
 

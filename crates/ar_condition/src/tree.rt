@@ -5,7 +5,7 @@ ghost use Rattle.ar_condition.specs.Expression.{place_of};
 ghost use Rattle.ar_condition.specs.Views.{expression_of};
 
 use ar_value::decimal::Decimal;
-use ar_value::operator::Predicate;
+use ar_value::operator::{Predicate, TextTest};
 use ar_value::text::Text;
 
 /// The value of a literal.
@@ -34,6 +34,7 @@ pub enum Binary {
     Comparison(Comparison),
     In,
     NotIn,
+    TextTest(TextTest),
     Add,
     Subtract,
     Multiply,

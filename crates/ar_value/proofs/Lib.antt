@@ -9,3 +9,5 @@ pub mod WidestLemmas
 pub mod Merges
 pub mod Steps
 pub mod Same
+pub mod TextTests
+pub mod Predicates

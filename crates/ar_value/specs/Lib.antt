@@ -5,6 +5,8 @@ pub mod Decimal
 pub mod Arithmetic
 pub mod DecimalText
 pub mod Value
+pub mod TextTests
+pub mod Predicates
 pub mod Operators
 pub mod Shape
 pub mod Fits

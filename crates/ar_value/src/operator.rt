@@ -1,5 +1,10 @@
 //! The operators of conditions, and the kinds of operands that they tell apart.
 
+ghost use Rattle.std.specs.Prelude.{◌≡◌};
+ghost use Rattle.std.specs.Bool.{Decides};
+ghost use Rattle.ar_value.specs.Predicates.{ends_at, gathers};
+ghost use Rattle.ar_value.specs.TextTests.{Passes, passes};
+
 /// The kinds of a list's items, where these are scalars.
 #[derive(Clone, Copy)]
 pub enum Scalar {
@@ -94,6 +99,32 @@ pub enum BinaryOperator {
     Compare(Compared, Order),
     /// Whether two scalars of a family are equal; either may be nil.
     Equal(Family),
+    /// A test of two texts.
+    TextTest(TextTest),
+}
+
+/// The operators that look for one text, the part, in another, the whole, byte by byte.
+#[derive(Clone, Copy)]
+pub enum TextTest {
+    Contains,
+    StartsWith,
+    EndsWith,
+}
+
+impl TextTest {
+    /// Whether the whole has the part, at its start or end where the test wants it there. The empty text
+    /// passes each test. The time is that of the two lengths.
+    #[tactic(auto, using(crate::proofs::TextTests::contained, crate::proofs::TextTests::started, crate::proofs::TextTests::ended, crate::proofs::TextTests::stands))]
+    pub fn passes(self, whole: &str, part: &str) -> bool
+        ensures exact { result ≡ passes self whole.now part.now }
+        ensures stands { Decides result (Passes self whole.now part.now) }
+    {
+        match self {
+            TextTest::Contains => whole.contains(part),
+            TextTest::StartsWith => whole.starts_with(part),
+            TextTest::EndsWith => whole.ends_with(part),
+        }
+    }
 }
 
 /// The calls that take a list and a predicate on its items.
@@ -101,6 +132,41 @@ pub enum BinaryOperator {
 pub enum Predicate {
     All,
     Any,
+    None,
+    One,
     Count,
     Filter,
+}
+
+/// What a loop keeps of the items of which its predicate holds.
+#[derive(Clone, Copy)]
+pub enum Gather {
+    Nothing,
+    Number,
+    Items,
+}
+
+impl Predicate {
+    /// The truth value of an item that ends the loop at once, and the answer that it then gives.
+    pub fn ends_at(self) -> Option<(bool, bool)>
+        ensures { result ≡ ends_at self }
+    {
+        match self {
+            Predicate::All => Some((false, false)),
+            Predicate::Any => Some((true, true)),
+            Predicate::None => Some((true, false)),
+            Predicate::One | Predicate::Count | Predicate::Filter => None,
+        }
+    }
+
+    /// What its answer takes of the items of which the predicate holds.
+    pub fn gathers(self) -> Gather
+        ensures { result ≡ gathers self }
+    {
+        match self {
+            Predicate::All | Predicate::Any | Predicate::None => Gather::Nothing,
+            Predicate::One | Predicate::Count => Gather::Number,
+            Predicate::Filter => Gather::Items,
+        }
+    }
 }
