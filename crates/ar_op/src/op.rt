@@ -21,14 +21,14 @@ pub enum Source {
     Item,
 }
 
-/// When a jump goes to its place, and what it does with the truth value on top.
+/// When a jump goes to its place, and what it does with the boolean on top.
 #[derive(Clone, Copy)]
 pub enum Jump {
-    /// Where a false truth value is on top, which stays; else on without it.
+    /// Where `false` is on top, which stays; else on without it.
     And,
-    /// Where a true truth value is on top, which stays; else on without it.
+    /// Where `true` is on top, which stays; else on without it.
     Or,
-    /// Takes a truth value, and goes there where it is false.
+    /// Takes a boolean, and goes there where it is false.
     Branch,
     Always,
 }
@@ -39,7 +39,7 @@ pub enum Jump {
 #[derive(Clone, Copy)]
 pub enum Op {
     Push(Source),
-    /// Takes so many scalars of one kind, at most 16, and gives the list of them.
+    /// Takes `count` scalars of one kind, at most 16, and gives the list of them.
     MakeList { scalar: Scalar, count: u8 },
     /// Takes a record and gives its field, by the number of the field's name in the code.
     Field(u32),
@@ -48,12 +48,12 @@ pub enum Op {
     /// Goes to a place, or on.
     Jump(Jump, u32),
     /// Takes a list and begins a loop at its first item. Where there is none it gives the answer and
-    /// goes behind the loop's step, whose place it names.
+    /// goes past the loop's step, whose place it names.
     Enter(Predicate, u32),
-    /// Takes a truth value, and goes on with the next item behind the loop's begin, whose place it
+    /// Takes a boolean, and goes on with the next item after the loop's begin, whose place it
     /// names, or ends the loop and gives the answer.
     Step(Predicate, u32),
-    /// Takes a truth value, which is the answer.
+    /// Takes a boolean, which is the answer.
     Return,
 }
 
