@@ -28,6 +28,7 @@ use Rattle.ar_value.specs.declared.operator.Numbers.TheVariants as numbers
 use Rattle.ar_value.specs.declared.operator.Order.{Order}
 use Rattle.ar_value.specs.declared.operator.Scalar.{Scalar}
 use Rattle.ar_value.specs.declared.operator.Scalar.TheVariants as scalars
+use Rattle.ar_value.specs.declared.operator.TextTest.{TextTest}
 use Rattle.ar_value.specs.declared.operator.UnaryOperator.{UnaryOperator}
 use Rattle.ar_value.specs.declared.operator.UnaryOperator.TheVariants as unary
 use Rattle.ar_value.proofs.Merges.{merge_has_both}
@@ -38,7 +39,7 @@ use Rattle.ar_op.specs.declared.op.Op.{Op}
 use Rattle.ar_op.specs.declared.op.Op.TheVariants.{Push, MakeList, Field, Unary, Binary}
 use Rattle.ar_op.specs.declared.op.Source.{Source}
 use Rattle.ar_op.specs.declared.op.Source.TheVariants as sources
-use Rattle.ar_verified.specs.Effects.{decimal_kind, decimal_shape, decimals_kind, default_kind, effect, equal_kind, family_in, family_of, field_kind, is_compared, is_family, is_number, is_scalar, item_kind, length_kind, list_made, member_kind, needed_kind, of_one_family, on_one, on_two, opposite_kind, order_kind, quotient_kind, negative_kind, pushed_kind, scalar_shape, truth, unary_kind, binary_kind, where_taken, wholes_kind}
+use Rattle.ar_verified.specs.Effects.{decimal_kind, decimal_shape, decimals_kind, default_kind, effect, equal_kind, family_in, family_of, field_kind, is_compared, is_family, is_number, is_scalar, item_kind, length_kind, list_made, member_kind, needed_kind, of_one_family, on_one, on_two, opposite_kind, order_kind, quotient_kind, negative_kind, pushed_kind, scalar_shape, text_test_kind, truth, unary_kind, binary_kind, where_taken, wholes_kind}
 use Rattle.ar_verified.proofs.Values.{Means, MeansKind, both, both_hold, decimal_or_fault, field_means, index_means, on_bool, on_decimal, on_list, on_text, on_whole, whole_or_fault, IsThere}
 
 -- what an operation gives of one operand, and of two, is of the kind that is said
@@ -100,6 +101,16 @@ decimals_sound operator left right v w fit also =
     (λ is. let each = both_hold (is_scalar scalars.Decimal left) (is_scalar scalars.Decimal right) is in
     two_decimals (λ v w. MeansKind (shaped shapes.decimal) (operators.decimals operator v w)) (λ x y. of_decimals operator x y) v w
     (scalar_fits scalars.Decimal left v each.0 fit) (scalar_fits scalars.Decimal right w each.1 also))
+
+two_texts : (P : Value → Value → Type 0) → ((x y : List ℕ) → P (values.text x) (values.text y)) → (v w : Value) → fits v shapes.text ≡ true → fits w shapes.text ≡ true → P v w
+two_texts P each v w fit also = on_text (λ v. P v w) (λ x. on_text (λ w. P (values.text x) w) (λ y. each x y) w also) v fit
+
+text_test_sound : (test : TextTest) → TwoSound text_test_kind (operators.text_test test)
+text_test_sound test left right v w fit also =
+    taken (is_scalar scalars.Text left && is_scalar scalars.Text right) truth (operators.text_test test v w)
+    (λ is. let each = both_hold (is_scalar scalars.Text left) (is_scalar scalars.Text right) is in
+    two_texts (λ v w. MeansKind truth (operators.text_test test v w)) (λ x y. refl) v w
+    (scalar_fits scalars.Text left v each.0 fit) (scalar_fits scalars.Text right w each.1 also))
 
 negative_sound : (of : Numbers) → OneSound (negative_kind of) (operators.negative of)
 negative_sound numbers.Wholes (shaped shapes.whole) v fit = on_whole (λ v. MeansKind (shaped shapes.whole) (operators.negative numbers.Wholes v)) (λ w. whole_or_fault (negation w)) v fit
@@ -330,6 +341,7 @@ binary_sound (binary.Wholes operator) = wholes_sound operator
 binary_sound (binary.Decimals operator) = decimals_sound operator
 binary_sound (binary.Compare of way) = compare_sound of way
 binary_sound (binary.Equal family) = equal_sound family
+binary_sound (binary.TextTest test) = text_test_sound test
 
 -- ---- operands
 

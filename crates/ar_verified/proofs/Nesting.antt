@@ -5,8 +5,9 @@ use Rattle.std.specs.Prelude.{nat_le, nat_lt, ◌==◌}
 use Rattle.std.proofs.lemmas.Bool.{eqb-true, leb-true, ltb-true, le-leb, lt-leb}
 use Rattle.std.proofs.lemmas.Bool.Decides.{leb_tells}
 use Rattle.ar_value.specs.declared.operator.Predicate.{Predicate}
-use Rattle.ar_value.specs.declared.operator.Predicate.TheVariants.{All, Any, Count, Filter}
-use Rattle.ar_op.specs.Machine.{begins_loop, is_same, nth}
+use Rattle.ar_value.specs.Predicates.{is_same}
+use Rattle.ar_value.proofs.Predicates.{same_predicate}
+use Rattle.ar_op.specs.Machine.{begins_loop, nth}
 use Rattle.ar_op.specs.declared.op.Op.{Op}
 use Rattle.ar_op.specs.declared.op.Op.TheVariants.{Jump, Enter, Step}
 use Rattle.ar_verified.specs.Budget.{JumpsTo}
@@ -28,13 +29,6 @@ alike false false to back = refl
 not_true : (a : Bool) → (a ≡ true → ⊥) → a ≡ false
 not_true true no_way = absurd (no_way refl)
 not_true false no_way = refl
-
-same_predicate : (one other : Predicate) → is_same one other ≡ true → one ≡ other
-same_predicate All All h = refl
-same_predicate Any Any h = refl
-same_predicate Count Count h = refl
-same_predicate Filter Filter h = refl
-same_predicate one other h = absurd cc
 
 pub the_same_loops : (one other : List ℕ) → same_loops one other ≡ true → one ≡ other
 the_same_loops [] [] h = refl

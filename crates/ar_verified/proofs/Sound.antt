@@ -9,6 +9,8 @@ use Rattle.std.proofs.Math.Nat.{mul-le-mul_right, suc-mul}
 use Rattle.ar_value.specs.Fits.{all_items, fits}
 use Rattle.ar_value.specs.Kind.{Kind, shaped, fits_kind}
 use Rattle.ar_value.specs.Operators.{Failure, faulted, ill_kinded}
+use Rattle.ar_value.specs.Predicates.{is_same}
+use Rattle.ar_value.proofs.Predicates.{itself as same_as_itself}
 use Rattle.ar_value.specs.Shape.{Shape}
 use Rattle.ar_value.specs.Shape as shapes
 use Rattle.ar_value.specs.Value.{Value, Items, count, item, items_of, no_items}
@@ -16,7 +18,7 @@ use Rattle.ar_value.specs.Value as values
 use Rattle.ar_value.specs.declared.operator.Predicate.{Predicate}
 use Rattle.ar_value.specs.declared.operator.Predicate.TheVariants as predicates
 use Rattle.ar_op.specs.Code.{Code, Inside}
-use Rattle.ar_op.specs.Machine.{Loop, Next, State, answer_of, begins_loop, cost_of, decided, ends, entered, falls, found_by, goes, here, is_same, left, looked_at, next_item, nth, paid, performed, step, stepped, stuck, takes, to}
+use Rattle.ar_op.specs.Machine.{Loop, Next, State, answer_of, begins_loop, cost_of, decided, ends, entered, falls, found_by, goes, here, left, looked_at, next_item, nth, paid, performed, step, stepped, stuck, takes, to}
 use Rattle.ar_op.specs.Machine as machine
 use Rattle.ar_op.specs.declared.op.Op.{Op}
 use Rattle.ar_op.specs.declared.op.Jump.TheVariants.{And, Or, Branch, Always}
@@ -49,6 +51,8 @@ count_found (v ∷ found) = ap suc (count_found found)
 answer_fits : (predicate : Predicate) (shape : Shape) (most : ℕ) (found : List Value) → all_items (λ v. fits v shape) (items_of found) ≡ true → length found ≤ most → fits_kind (answer_of predicate found) (answer_kind predicate shape most) ≡ true
 answer_fits predicates.All shape most found all few = refl
 answer_fits predicates.Any shape most found all few = refl
+answer_fits predicates.None shape most found all few = refl
+answer_fits predicates.One shape most found all few = refl
 answer_fits predicates.Count shape most found all few = refl
 answer_fits predicates.Filter shape most found all few =
     let short : nat_le (count (items_of found)) most ≡ true = rw (count_found found) (grind (arith, nat_tests)) in
@@ -60,6 +64,9 @@ decided_fits predicates.All shape most false = refl
 decided_fits predicates.All shape most true = tt
 decided_fits predicates.Any shape most true = refl
 decided_fits predicates.Any shape most false = tt
+decided_fits predicates.None shape most true = refl
+decided_fits predicates.None shape most false = tt
+decided_fits predicates.One shape most holds = tt
 decided_fits predicates.Count shape most holds = tt
 decided_fits predicates.Filter shape most holds = tt
 
@@ -73,21 +80,14 @@ one_more : (found : List Value) (v : Value) → length (found ++ v ∷ []) ≡ s
 one_more [] v = refl
 one_more (first ∷ found) v = ap suc (one_more found v)
 
-same_predicate : (predicate : Predicate) → is_same predicate predicate ≡ true
-same_predicate predicates.All = refl
-same_predicate predicates.Any = refl
-same_predicate predicates.Count = refl
-same_predicate predicates.Filter = refl
-
 itself : (n : ℕ) → (n == n) ≡ true
 itself n = grind (arith, nat_tests)
 
 -- the items that were found once one more was looked at
-found_more : (predicate : Predicate) (holds : Bool) (loop : Loop) (shape : Shape) → all_items (λ v. fits v shape) (items_of loop.found) ≡ true → fits loop.here shape ≡ true
-    → (all_items (λ v. fits v shape) (items_of (found_by predicate holds loop)) ≡ true) × (length (found_by predicate holds loop) ≤ suc (length loop.found))
-found_more predicates.Count true loop shape all fit = (all_found shape loop.found loop.here all fit, rw (one_more loop.found loop.here) (omega arith))
-found_more predicates.Filter true loop shape all fit = (all_found shape loop.found loop.here all fit, rw (one_more loop.found loop.here) (omega arith))
-found_more predicate holds loop shape all fit = (all, omega arith)
+found_more : (holds : Bool) (loop : Loop) (shape : Shape) → all_items (λ v. fits v shape) (items_of loop.found) ≡ true → fits loop.here shape ≡ true
+    → (all_items (λ v. fits v shape) (items_of (found_by holds loop)) ≡ true) × (length (found_by holds loop) ≤ suc (length loop.found))
+found_more true loop shape all fit = (all_found shape loop.found loop.here all fit, rw (one_more loop.found loop.here) (omega arith))
+found_more false loop shape all fit = (all, omega arith)
 
 same_head : {A : Type 0} (x y : A) (xs ys : List A) → (x ∷ xs) ≡ (y ∷ ys) → x ≡ y
 same_head x y xs ys h = cc
@@ -470,11 +470,11 @@ module _ (code : Code) (shape : Shape) (sents : List Sent) (is : Clean code shap
     looks holds (Some answer) decides operands loops cost =
         left_leads answer operands loops cost (subst (λ decided. IfSome decided (λ answer. fits_kind answer (answer_kind predicate (around enter).item (around enter).most) ≡ true)) decides (decided_fits predicate (around enter).item (around enter).most holds))
     looks holds None decides operands loops cost =
-        let more = found_more predicate holds loop (around enter).item s.in_loop.found s.in_loop.here in
-        next_leads (found_by predicate holds loop) more.0 more.1 loop.rest refl operands loops cost
+        let more = found_more holds loop (around enter).item s.in_loop.found s.in_loop.here in
+        next_leads (found_by holds loop) more.0 more.1 loop.rest refl operands loops cost
 
     begins_it : (loop.enter == enter && begins_loop predicate place (nth code.ops enter)) ≡ true
-    begins_it = both (loop.enter == enter) (begins_loop predicate place (nth code.ops enter)) (rw s.in_loop.of (itself enter)) (rw s.the_enter (both (is_same predicate predicate) (place == place) (same_predicate predicate) (itself place)))
+    begins_it = both (loop.enter == enter) (begins_loop predicate place (nth code.ops enter)) (rw s.in_loop.of (itself enter)) (rw s.the_enter (both (is_same predicate predicate) (place == place) (same_as_itself predicate) (itself place)))
 
   -- what stands behind a Step, and at the begin of its loop's body
   at_step : (place enter : ℕ) (predicate : Predicate) (there : At place (Step predicate enter)) (loop : Loop) (outer : List Loop) (base lower : List Value) → InLoop loop enter base lower → InLoops outer (held code.ops enter) lower

@@ -6,7 +6,7 @@ use Rattle.ar_value.specs.Answer.{◌>>=◌}
 use Rattle.ar_value.specs.Kind.{Kind, shaped, merge}
 use Rattle.ar_value.specs.Shape.{Shape, bool, whole, list}
 use Rattle.ar_value.specs.declared.operator.Predicate.{Predicate}
-use Rattle.ar_value.specs.declared.operator.Predicate.TheVariants.{All, Any, Count, Filter}
+use Rattle.ar_value.specs.declared.operator.Predicate.TheVariants as predicates
 use Rattle.ar_op.specs.Code.{Code}
 use Rattle.ar_op.specs.Machine.{takes}
 use Rattle.ar_op.specs.declared.op.Jump.{Jump}
@@ -99,10 +99,12 @@ to_next place loops None = Err IllKinded
 
 -- what a loop gives over a list of at most so many items of a shape
 abbrev pub answer_kind : Predicate → Shape → (most : ℕ) → Kind
-answer_kind All item most = truth
-answer_kind Any item most = truth
-answer_kind Count item most = shaped whole
-answer_kind Filter item most = shaped (list item most)
+answer_kind predicates.All item most = truth
+answer_kind predicates.Any item most = truth
+answer_kind predicates.None item most = truth
+answer_kind predicates.One item most = truth
+answer_kind predicates.Count item most = shaped whole
+answer_kind predicates.Filter item most = shaped (list item most)
 
 -- to the begin of a loop's body, with the operands below its floor alone, and behind the loop with its answer
 abbrev pub entered : Predicate → (place step : ℕ) → List Kind → List Around → Result (List Sent) Reason

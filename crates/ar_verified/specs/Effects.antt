@@ -140,6 +140,9 @@ order_kind numbers left right = where_taken (is_compared numbers left && is_comp
 abbrev pub equal_kind : Family → (left right : Kind) → Option Kind
 equal_kind family left right = where_taken (is_family family (family_in left) && is_family family (family_in right)) truth
 
+abbrev pub text_test_kind : (left right : Kind) → Option Kind
+text_test_kind left right = where_taken (is_scalar scalars.Text left && is_scalar scalars.Text right) truth
+
 -- ---- operators by their families
 
 abbrev pub unary_kind : UnaryOperator → Kind → Option Kind
@@ -158,6 +161,7 @@ binary_kind (binary.Wholes operator) = wholes_kind operator
 binary_kind (binary.Decimals operator) = decimals_kind
 binary_kind (binary.Compare of way) = order_kind of
 binary_kind (binary.Equal family) = equal_kind family
+binary_kind (binary.TextTest test) = text_test_kind
 
 -- ---- operands from the top; the right one is on top of the left one
 

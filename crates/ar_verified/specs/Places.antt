@@ -2,8 +2,9 @@
 -- Step, holds the places behind its Enter up to its Step.
 use Rattle.std.specs.Prelude.{ℕ, zero, suc, ◌-◌, ◌==◌, Bool, true, false, ◌&&◌, if◌then◌else◌, nat_le, nat_lt, List, [], ◌∷◌, length, Option, Some, None, Result, Ok, Err}
 use Rattle.ar_value.specs.Answer.{◌>>=◌}
+use Rattle.ar_value.specs.Predicates.{is_same}
 use Rattle.ar_value.specs.declared.operator.Predicate.{Predicate}
-use Rattle.ar_op.specs.Machine.{begins_loop, is_same, nth}
+use Rattle.ar_op.specs.Machine.{begins_loop, nth}
 use Rattle.ar_op.specs.declared.op.Op.{Op}
 use Rattle.ar_op.specs.declared.op.Op.TheVariants.{Jump, Enter, Step, Return}
 use Rattle.ar_verified.specs.declared.error.Cause.{Cause}
