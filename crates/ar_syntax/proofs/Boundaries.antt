@@ -9,7 +9,7 @@ use Rattle.std.proofs.lemmas.Bool.{eqb-true, leb-true, le-ltb, ltb-false, ltb-tr
 use Rattle.std.proofs.lemmas.List.{length-take-le}
 use Rattle.std.proofs.lemmas.List.Sums.{take_while-cons}
 use Rattle.std.proofs.lemmas.Str.{IsCharBoundary-after_ascii, IsCharBoundary-from_rest, IsCharBoundary-start, IsUtf8-drop}
-use Rattle.ar_syntax.specs.Token.{Spells, begins_word, comparison_sign, continues_word, is_digit_in, is_quote, letters, spelling}
+use Rattle.ar_syntax.specs.Token.{Spells, begins_word, comparison_sign, continues_word, is_digit_in, is_quote, letters, predicate_letters, spelling, test_letters}
 use Rattle.ar_syntax.specs.Token as spelled
 use Rattle.ar_syntax.specs.Tokens.{BeginsWithGap, begins_block_comment, comment_end, in_line, is_blank, line_comment, word_at}
 use Rattle.ar_syntax.specs.Tokens as cuts
@@ -24,6 +24,10 @@ use Rattle.ar_syntax.specs.declared.token.TokenKind.{TokenKind}
 use Rattle.ar_syntax.specs.declared.token.TokenKind.TheVariants as kinds
 use Rattle.ar_syntax.specs.declared.token.Word.{Word}
 use Rattle.ar_syntax.specs.declared.token.Word.TheVariants as words
+use Rattle.ar_value.specs.declared.operator.Predicate.{Predicate}
+use Rattle.ar_value.specs.declared.operator.Predicate.TheVariants as predicates
+use Rattle.ar_value.specs.declared.operator.TextTest.{TextTest}
+use Rattle.ar_value.specs.declared.operator.TextTest.TheVariants as tests
 use Rattle.ar_syntax.proofs.Fronts.{both_pass, chosen, length-front, list_all-take_while, take_while-front}
 use Rattle.ar_syntax.proofs.Pieces.{IsFront, IsFrontGap}
 
@@ -114,6 +118,19 @@ is_small-small byte h = ltb-true byte 128 h
 EndsAscii-small : (bytes : List ℕ) → 0 < length bytes → list_all is_small bytes ≡ true → EndsAscii bytes
 EndsAscii-small bytes some all = EndsAscii-all is_small bytes is_small-small some all
 
+EndsAscii-test : (test : TextTest) → EndsAscii (test_letters test)
+EndsAscii-test tests.Contains = EndsAscii-small _ (omega arith) refl
+EndsAscii-test tests.StartsWith = EndsAscii-small _ (omega arith) refl
+EndsAscii-test tests.EndsWith = EndsAscii-small _ (omega arith) refl
+
+EndsAscii-predicate : (predicate : Predicate) → EndsAscii (predicate_letters predicate)
+EndsAscii-predicate predicates.All = EndsAscii-small _ (omega arith) refl
+EndsAscii-predicate predicates.Any = EndsAscii-small _ (omega arith) refl
+EndsAscii-predicate predicates.None = EndsAscii-small _ (omega arith) refl
+EndsAscii-predicate predicates.One = EndsAscii-small _ (omega arith) refl
+EndsAscii-predicate predicates.Count = EndsAscii-small _ (omega arith) refl
+EndsAscii-predicate predicates.Filter = EndsAscii-small _ (omega arith) refl
+
 EndsAscii-letters : (word : Word) → EndsAscii (letters word)
 EndsAscii-letters words.Result = EndsAscii-small _ (omega arith) refl
 EndsAscii-letters words.True = EndsAscii-small _ (omega arith) refl
@@ -123,13 +140,11 @@ EndsAscii-letters words.And = EndsAscii-small _ (omega arith) refl
 EndsAscii-letters words.Or = EndsAscii-small _ (omega arith) refl
 EndsAscii-letters words.Not = EndsAscii-small _ (omega arith) refl
 EndsAscii-letters words.In = EndsAscii-small _ (omega arith) refl
+EndsAscii-letters (words.Test test) = EndsAscii-test test
 EndsAscii-letters words.Len = EndsAscii-small _ (omega arith) refl
 EndsAscii-letters words.IsNil = EndsAscii-small _ (omega arith) refl
 EndsAscii-letters words.Default = EndsAscii-small _ (omega arith) refl
-EndsAscii-letters words.All = EndsAscii-small _ (omega arith) refl
-EndsAscii-letters words.Any = EndsAscii-small _ (omega arith) refl
-EndsAscii-letters words.Count = EndsAscii-small _ (omega arith) refl
-EndsAscii-letters words.Filter = EndsAscii-small _ (omega arith) refl
+EndsAscii-letters (words.Over predicate) = EndsAscii-predicate predicate
 
 EndsAscii-comparison : (comparison : Comparison) → EndsAscii (comparison_sign comparison)
 EndsAscii-comparison comparisons.Equal = EndsAscii-small _ (omega arith) refl

@@ -14,7 +14,7 @@ use Rattle.ar_syntax.specs.Grammar as grammar
 use Rattle.ar_syntax.specs.Parse.{SaysTree, parse_of}
 use Rattle.ar_syntax.specs.Refusal.{strict}
 use Rattle.ar_syntax.specs.Roles.{Call, Len, IsNil, Default, Over, Start, Leaf, called, kind_name, kind_start, kind_text, name_of, sign_start, starts, text_value, word_start}
-use Rattle.ar_syntax.specs.Token.{Spells, escape_of, letters, text_at, unescaped, with_byte, with_escape}
+use Rattle.ar_syntax.specs.Token.{Spells, escape_of, letters, predicate_letters, test_letters, text_at, unescaped, with_byte, with_escape}
 use Rattle.ar_syntax.specs.Tokens.{IsSpelled, is_memory, most_condition_bytes, tokens_behind, tokens_of}
 use Rattle.ar_syntax.specs.declared.error.SyntaxError.{SyntaxError}
 use Rattle.ar_syntax.specs.declared.error.SyntaxError.TheVariants.{TooLong}
@@ -25,6 +25,10 @@ use Rattle.ar_syntax.specs.declared.token.TokenKind.{TokenKind}
 use Rattle.ar_syntax.specs.declared.token.TokenKind.TheVariants as kinds
 use Rattle.ar_syntax.specs.declared.token.Word.{Word}
 use Rattle.ar_syntax.specs.declared.token.Word.TheVariants as words
+use Rattle.ar_value.specs.declared.operator.Predicate.{Predicate}
+use Rattle.ar_value.specs.declared.operator.Predicate.TheVariants as predicates
+use Rattle.ar_value.specs.declared.operator.TextTest.{TextTest}
+use Rattle.ar_value.specs.declared.operator.TextTest.TheVariants as tests
 use Rattle.ar_syntax.proofs.Cuts.{AreCut-from_tokens_of}
 use Rattle.ar_syntax.proofs.Texts.{SaysTree-from_parse_of}
 
@@ -94,6 +98,19 @@ condition_short text tokens e = condition_chosen text (nat_lt most_condition_byt
 
 -- ---- what tokens begin
 
+test_letters_short : (test : TextTest) → IsShort (test_letters test)
+test_letters_short tests.Contains = omega arith
+test_letters_short tests.StartsWith = omega arith
+test_letters_short tests.EndsWith = omega arith
+
+predicate_letters_short : (predicate : Predicate) → IsShort (predicate_letters predicate)
+predicate_letters_short predicates.All = omega arith
+predicate_letters_short predicates.Any = omega arith
+predicate_letters_short predicates.None = omega arith
+predicate_letters_short predicates.One = omega arith
+predicate_letters_short predicates.Count = omega arith
+predicate_letters_short predicates.Filter = omega arith
+
 letters_short : (word : Word) → IsShort (letters word)
 letters_short words.Result = omega arith
 letters_short words.True = omega arith
@@ -103,13 +120,11 @@ letters_short words.And = omega arith
 letters_short words.Or = omega arith
 letters_short words.Not = omega arith
 letters_short words.In = omega arith
+letters_short (words.Test test) = test_letters_short test
 letters_short words.Len = omega arith
 letters_short words.IsNil = omega arith
 letters_short words.Default = omega arith
-letters_short words.All = omega arith
-letters_short words.Any = omega arith
-letters_short words.Count = omega arith
-letters_short words.Filter = omega arith
+letters_short (words.Over predicate) = predicate_letters_short predicate
 
 kind_name_short : (kind : TokenKind) (name : List ℕ) → IsShortKind kind → kind_name kind ≡ Some name → IsShort name
 kind_name_short (kinds.Word word) name short is = let same : letters word ≡ name = cc in subst IsShort same (letters_short word)

@@ -45,6 +45,7 @@ looseness-le binaries.And = omega arith
 looseness-le (binaries.Comparison comparison) = omega arith
 looseness-le binaries.In = omega arith
 looseness-le binaries.NotIn = omega arith
+looseness-le (binaries.TextTest test) = omega arith
 looseness-le binaries.Add = omega arith
 looseness-le binaries.Subtract = omega arith
 looseness-le binaries.Multiply = omega arith

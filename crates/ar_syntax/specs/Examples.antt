@@ -7,12 +7,13 @@ use Rattle.ar_syntax.specs.Roles.{follows, is_brace, is_group, is_in, name_of, s
 use Rattle.ar_syntax.specs.Token.{word_of}
 use Rattle.ar_syntax.specs.Tokens.{base_of, front_of, number_of, sign_at, text_of, token_of, tokens_behind, tokens_of}
 use Rattle.ar_syntax.specs.declared.error.SyntaxError.{SyntaxError}
-use Rattle.ar_condition.specs.declared.tree.Comparison.TheVariants.{Equal, Greater}
+use Rattle.ar_condition.specs.declared.tree.Comparison.TheVariants.{Equal, Greater, Less}
 use Rattle.ar_syntax.specs.declared.token.Token.{Token}
 use Rattle.ar_condition.specs.declared.tree.Binary.TheVariants as binaries
 use Rattle.ar_condition.specs.declared.tree.Literal.TheVariants as literals
 use Rattle.ar_value.specs.declared.operator.Predicate.TheVariants.{All}
 use Rattle.ar_value.specs.declared.operator.Predicate.TheVariants as predicates
+use Rattle.ar_value.specs.declared.operator.TextTest.TheVariants.{Contains, StartsWith, EndsWith}
 use Rattle.ar_condition.specs.declared.tree.Unary.TheVariants as unaries
 
 abbrev strict : Rules
@@ -132,3 +133,27 @@ choice_in_choice = refl
 measured_value_alone : said (tokens_of (codes "result")) ≡ Some (ResultAt 0)
 unfolding tokens_of tokens_behind front_of token_of number_of base_of text_of sign_at word_of step starts follows name_of text_value is_in is_group is_brace
 measured_value_alone = refl
+
+text_test : said (tokens_of (codes "result contains \"x\"")) ≡ Some (BinaryAt 7 (binaries.TextTest Contains) (ResultAt 0) (LiteralAt 16 (literals.Text (codes "x"))))
+unfolding tokens_of tokens_behind front_of token_of number_of base_of text_of sign_at word_of step starts follows name_of text_value is_in is_group is_brace
+text_test = refl
+
+text_test_and_comparison : said (tokens_of (codes "result contains \"a\" == true")) ≡ Some (BinaryAt 20 (binaries.Comparison Equal) (BinaryAt 7 (binaries.TextTest Contains) (ResultAt 0) (LiteralAt 16 (literals.Text (codes "a")))) (LiteralAt 23 (literals.Bool true)))
+unfolding tokens_of tokens_behind front_of token_of number_of base_of text_of sign_at word_of step starts follows name_of text_value is_in is_group is_brace
+text_test_and_comparison = refl
+
+text_test_between_levels : said (tokens_of (codes "result contains 'a' + 'b' and true")) ≡ Some (BinaryAt 26 binaries.And (BinaryAt 7 (binaries.TextTest Contains) (ResultAt 0) (BinaryAt 20 binaries.Add (LiteralAt 16 (literals.Text (codes "a"))) (LiteralAt 22 (literals.Text (codes "b"))))) (LiteralAt 30 (literals.Bool true)))
+unfolding tokens_of tokens_behind front_of token_of number_of base_of text_of sign_at word_of step starts follows name_of text_value is_in is_group is_brace
+text_test_between_levels = refl
+
+text_tests_to_the_left : said (tokens_of (codes "result.contains startsWith 'a' endsWith 'b'")) ≡ Some (BinaryAt 31 (binaries.TextTest EndsWith) (BinaryAt 16 (binaries.TextTest StartsWith) (FieldAt 6 (ResultAt 0) (codes "contains")) (LiteralAt 27 (literals.Text (codes "a")))) (LiteralAt 40 (literals.Text (codes "b"))))
+unfolding tokens_of tokens_behind front_of token_of number_of base_of text_of sign_at word_of step starts follows name_of text_value is_in is_group is_brace
+text_tests_to_the_left = refl
+
+none_of_items : said (tokens_of (codes "none(result, # < 0.5)")) ≡ Some (PredicateAt 0 predicates.None (ResultAt 5) (BinaryAt 15 (binaries.Comparison Less) (ItemAt 13) (LiteralAt 17 (literals.Decimal (pos 500000)))))
+unfolding tokens_of tokens_behind front_of token_of number_of base_of text_of sign_at word_of step starts follows name_of text_value is_in is_group is_brace
+none_of_items = refl
+
+one_of_items : said (tokens_of (codes "one(result, {#})")) ≡ Some (PredicateAt 0 predicates.One (ResultAt 4) (ItemAt 13))
+unfolding tokens_of tokens_behind front_of token_of number_of base_of text_of sign_at word_of step starts follows name_of text_value is_in is_group is_brace
+one_of_items = refl

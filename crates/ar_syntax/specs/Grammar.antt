@@ -3,7 +3,7 @@
 --     tern = or | or "?" tern ":" tern
 --     or   = and { ("or" | "||") and }
 --     and  = cmp { ("and" | "&&") cmp }
---     cmp  = add { ("==" | "!=" | "<" | ">" | "<=" | ">=" | "in" | "not" "in") add }
+--     cmp  = add { ("==" | "!=" | "<" | ">" | "<=" | ">=" | "in" | "not" "in" | "contains" | "startsWith" | "endsWith") add }
 --     add  = mul { ("+" | "-") mul }
 --     mul  = una { ("*" | "/" | "%") una }
 --     una  = ("-" | "+" | "!" | "not") una | post
@@ -11,7 +11,7 @@
 --     prim = number | text | "true" | "false" | "nil" | "result" | "#" | "." word
 --          | "(" tern ")" | "[" tern { "," tern } "]" | call
 --     call = ("len" | "isNil") "(" tern ")" | "default" "(" tern "," tern ")"
---          | ("all" | "any" | "count" | "filter") "(" tern "," pred ")"
+--          | ("all" | "any" | "none" | "one" | "count" | "filter") "(" tern "," pred ")"
 --     pred = "{" tern "}" | tern
 --
 -- A rule relates the tokens from a phrase's first on, what the phrase says, and the tokens behind it, inside a predicate or

@@ -439,3 +439,19 @@ two_texts = refl
 number_as_second_field : parse_of (codes "result.len.1") ≡ Err (Unexpected 11)
 unfolding parse_of tree_of fault_of tokens_of tokens_behind front_of token_of number_of base_of text_of sign_at word_of step starts follows name_of text_value is_in is_group is_brace
 number_as_second_field = refl
+
+no_not_contains : parse_of (codes "result not contains \"a\"") ≡ Err (Unexpected 11)
+unfolding parse_of tree_of fault_of tokens_of tokens_behind front_of token_of number_of base_of text_of sign_at word_of step starts follows name_of text_value is_in is_group is_brace
+no_not_contains = refl
+
+text_test_first : parse_of (codes "startsWith 'a'") ≡ Err (Unexpected 0)
+unfolding parse_of tree_of fault_of tokens_of tokens_behind front_of token_of number_of base_of text_of sign_at word_of step starts follows name_of text_value is_in is_group is_brace
+text_test_first = refl
+
+text_test_as_operand : parse_of (codes "result contains contains") ≡ Err (Unexpected 16)
+unfolding parse_of tree_of fault_of tokens_of tokens_behind front_of token_of number_of base_of text_of sign_at word_of step starts follows name_of text_value is_in is_group is_brace
+text_test_as_operand = refl
+
+none_of_one : parse_of (codes "none(result)") ≡ Err (WrongCount 11)
+unfolding parse_of tree_of fault_of tokens_of tokens_behind front_of token_of number_of base_of text_of sign_at word_of step starts follows name_of text_value is_in is_group is_brace
+none_of_one = refl

@@ -18,7 +18,6 @@ use Rattle.ar_syntax.specs.declared.token.Word.TheVariants as words
 use Rattle.ar_condition.specs.declared.tree.Binary.{Binary}
 use Rattle.ar_condition.specs.declared.tree.Binary.TheVariants as binaries
 use Rattle.ar_condition.specs.declared.tree.Literal.TheVariants as literals
-use Rattle.ar_value.specs.declared.operator.Predicate.TheVariants as predicates
 use Rattle.ar_condition.specs.declared.tree.Unary.{Unary}
 use Rattle.ar_condition.specs.declared.tree.Unary.TheVariants as unaries
 
@@ -64,11 +63,11 @@ word_start at words.Not = Prefix unaries.Not
 word_start at words.Len = Calls Len
 word_start at words.IsNil = Calls IsNil
 word_start at words.Default = Calls Default
-word_start at words.All = Calls (Over predicates.All)
-word_start at words.Any = Calls (Over predicates.Any)
-word_start at words.Count = Calls (Over predicates.Count)
-word_start at words.Filter = Calls (Over predicates.Filter)
-word_start at word = NoStart
+word_start at (words.Over predicate) = Calls (Over predicate)
+word_start at words.And = NoStart
+word_start at words.Or = NoStart
+word_start at words.In = NoStart
+word_start at (words.Test test) = NoStart
 
 -- `#`, and a point for its field, stand inside predicates
 abbrev pub sign_start : Bool → ℕ → Sign → Start
@@ -99,8 +98,16 @@ abbrev pub word_follow : Word → Follow
 word_follow words.Or = Operator binaries.Or
 word_follow words.And = Operator binaries.And
 word_follow words.In = Operator binaries.In
+word_follow (words.Test test) = Operator (binaries.TextTest test)
 word_follow words.Not = NotOf
-word_follow word = NoFollow
+word_follow words.Result = NoFollow
+word_follow words.True = NoFollow
+word_follow words.False = NoFollow
+word_follow words.Nil = NoFollow
+word_follow words.Len = NoFollow
+word_follow words.IsNil = NoFollow
+word_follow words.Default = NoFollow
+word_follow (words.Over predicate) = NoFollow
 
 abbrev pub sign_follow : Sign → Follow
 sign_follow (signs.Comparison comparison) = Operator (binaries.Comparison comparison)
@@ -130,13 +137,14 @@ kind_follow kind = NoFollow
 unfoldable pub follows : Token → Follow
 follows token = kind_follow token.kind
 
--- how many levels of operators bind tighter than this one: 0 for `*`, 1 for `+`, 2 for `==` and `in`, 3 for `and`, 4 for `or`
+-- how many levels of operators bind tighter than this one: 0 for `*`, 1 for `+`, 2 for `==`, `in` and `contains`, 3 for `and`, 4 for `or`
 abbrev pub looseness : Binary → ℕ
 looseness binaries.Or = 4
 looseness binaries.And = 3
 looseness (binaries.Comparison comparison) = 2
 looseness binaries.In = 2
 looseness binaries.NotIn = 2
+looseness (binaries.TextTest test) = 2
 looseness binaries.Add = 1
 looseness binaries.Subtract = 1
 looseness binaries.Multiply = 0

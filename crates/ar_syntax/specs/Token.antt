@@ -19,6 +19,10 @@ use Rattle.ar_syntax.specs.declared.token.TokenKind.{TokenKind}
 use Rattle.ar_syntax.specs.declared.token.TokenKind.TheVariants as kinds
 use Rattle.ar_syntax.specs.declared.token.Word.{Word}
 use Rattle.ar_syntax.specs.declared.token.Word.TheVariants as words
+use Rattle.ar_value.specs.declared.operator.Predicate.{Predicate}
+use Rattle.ar_value.specs.declared.operator.Predicate.TheVariants as predicates
+use Rattle.ar_value.specs.declared.operator.TextTest.{TextTest}
+use Rattle.ar_value.specs.declared.operator.TextTest.TheVariants as tests
 
 -- ---- words
 
@@ -28,6 +32,21 @@ begins_word byte = is_ascii_alphabetic byte || byte == 95
 
 abbrev pub continues_word : ℕ → Bool
 continues_word byte = is_ascii_alphanumeric byte || byte == 95
+
+-- how the language spells a test of texts
+abbrev pub test_letters : TextTest → List ℕ
+test_letters tests.Contains = codes "contains"
+test_letters tests.StartsWith = codes "startsWith"
+test_letters tests.EndsWith = codes "endsWith"
+
+-- how the language spells a call with a predicate
+abbrev pub predicate_letters : Predicate → List ℕ
+predicate_letters predicates.All = codes "all"
+predicate_letters predicates.Any = codes "any"
+predicate_letters predicates.None = codes "none"
+predicate_letters predicates.One = codes "one"
+predicate_letters predicates.Count = codes "count"
+predicate_letters predicates.Filter = codes "filter"
 
 -- how the language spells the words that it names
 abbrev pub letters : Word → List ℕ
@@ -39,16 +58,18 @@ letters words.And = codes "and"
 letters words.Or = codes "or"
 letters words.Not = codes "not"
 letters words.In = codes "in"
+letters (words.Test test) = test_letters test
 letters words.Len = codes "len"
 letters words.IsNil = codes "isNil"
 letters words.Default = codes "default"
-letters words.All = codes "all"
-letters words.Any = codes "any"
-letters words.Count = codes "count"
-letters words.Filter = codes "filter"
+letters (words.Over predicate) = predicate_letters predicate
 
 abbrev pub named_words : List Word
-named_words = words.Result ∷ words.True ∷ words.False ∷ words.Nil ∷ words.And ∷ words.Or ∷ words.Not ∷ words.In ∷ words.Len ∷ words.IsNil ∷ words.Default ∷ words.All ∷ words.Any ∷ words.Count ∷ words.Filter ∷ []
+named_words =
+    words.Result ∷ words.True ∷ words.False ∷ words.Nil ∷ words.And ∷ words.Or ∷ words.Not ∷ words.In
+    ∷ words.Test tests.Contains ∷ words.Test tests.StartsWith ∷ words.Test tests.EndsWith
+    ∷ words.Len ∷ words.IsNil ∷ words.Default
+    ∷ words.Over predicates.All ∷ words.Over predicates.Any ∷ words.Over predicates.None ∷ words.Over predicates.One ∷ words.Over predicates.Count ∷ words.Over predicates.Filter ∷ []
 
 -- the word that the language spells so
 unfoldable pub word_of : List ℕ → Option Word

@@ -82,9 +82,9 @@ impl SyntaxError {
             SyntaxError::UnknownName(_) =>
                 "UnknownName: no word of the language, as `result` is, and no name behind a point",
             SyntaxError::WrongCount(_) =>
-                "WrongCount: len and isNil take one argument, default, all, any, count and filter two",
+                "WrongCount: len and isNil take one argument, default, all, any, none, one, count and filter two",
             SyntaxError::ItemOutside(_) =>
-                "ItemOutside: # stands in the predicate of all, any, count or filter alone",
+                "ItemOutside: # is for the predicate of all, any, none, one, count or filter alone",
             SyntaxError::TooManyItems(_) => "TooManyItems: a list has at most 16 items",
             SyntaxError::TooDeep(_) =>
                 "TooDeep: at most 64 levels may be open at once, and a tree has at most 64",

@@ -68,7 +68,7 @@ pub(crate) fn looseness(operator: Binary) -> usize
     match operator {
         Binary::Or => 4,
         Binary::And => 3,
-        Binary::Comparison(_) | Binary::In | Binary::NotIn => 2,
+        Binary::Comparison(_) | Binary::In | Binary::NotIn | Binary::TextTest(_) => 2,
         Binary::Add | Binary::Subtract => 1,
         Binary::Multiply | Binary::Divide | Binary::Remainder => 0,
     }
@@ -93,8 +93,16 @@ fn word_follow(word: Word) -> Follow
         Word::Or => Follow::Operator(Binary::Or),
         Word::And => Follow::Operator(Binary::And),
         Word::In => Follow::Operator(Binary::In),
+        Word::Test(test) => Follow::Operator(Binary::TextTest(test)),
         Word::Not => Follow::NotOf,
-        _ => Follow::NoFollow,
+        Word::Result
+        | Word::True
+        | Word::False
+        | Word::Nil
+        | Word::Len
+        | Word::IsNil
+        | Word::Default
+        | Word::Over(_) => Follow::NoFollow,
     }
 }
 

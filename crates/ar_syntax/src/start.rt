@@ -9,7 +9,6 @@ ghost use Rattle.ar_condition.specs.Views.{expression_of};
 use crate::role::Call;
 use crate::token::{Sign, Token, TokenKind, Word};
 use ar_condition::tree::{Literal, Tree, Unary};
-use ar_value::operator::Predicate;
 use ar_value::text::Text;
 use std::alloc::{AllocError, Global};
 
@@ -69,11 +68,8 @@ fn word_begin(alloc: Global, at: usize, word: Word) -> Result<Begin, AllocError>
         Word::Len => Ok(Begin::Calls(Call::Len)),
         Word::IsNil => Ok(Begin::Calls(Call::IsNil)),
         Word::Default => Ok(Begin::Calls(Call::Default)),
-        Word::All => Ok(Begin::Calls(Call::Over(Predicate::All))),
-        Word::Any => Ok(Begin::Calls(Call::Over(Predicate::Any))),
-        Word::Count => Ok(Begin::Calls(Call::Over(Predicate::Count))),
-        Word::Filter => Ok(Begin::Calls(Call::Over(Predicate::Filter))),
-        Word::And | Word::Or | Word::In => Ok(Begin::NoStart),
+        Word::Over(predicate) => Ok(Begin::Calls(Call::Over(predicate))),
+        Word::And | Word::Or | Word::In | Word::Test(_) => Ok(Begin::NoStart),
     }
 }
 

@@ -1,11 +1,12 @@
 //! Tokens: what a text is made of, besides blanks.
 
 ghost use Rattle.std.specs.Prelude.{◌≡◌, ◌+◌, ◌^◌, ◌<◌};
-ghost use Rattle.ar_syntax.specs.Token.{begins_word, comparison_sign, continues_word, letters, radix, spelling, takes_field, word_of};
+ghost use Rattle.ar_syntax.specs.Token.{begins_word, comparison_sign, continues_word, letters, predicate_letters, radix, spelling, takes_field, test_letters, word_of};
 ghost use Rattle.ar_syntax.specs.Tokens.{token};
 
 use ar_condition::tree::Comparison;
 use ar_value::decimal::Decimal;
+use ar_value::operator::{Predicate, TextTest};
 use ar_value::text::Text;
 
 /// Where a token stands in its text: byte offsets from 0, `end` being the first byte behind it.
@@ -49,13 +50,13 @@ pub enum Word {
     Or,
     Not,
     In,
+    /// The name of an operator on two texts, as `contains`.
+    Test(TextTest),
     Len,
     IsNil,
     Default,
-    All,
-    Any,
-    Count,
-    Filter,
+    /// The name of a call that takes a list and a predicate, as `all`.
+    Over(Predicate),
 }
 
 /// The signs.
@@ -167,7 +168,7 @@ fn comparison_sign(comparison: Comparison) -> &'static str
 }
 
 /// The words that the language names.
-const NAMED_WORDS: [Word; 15] = [
+const NAMED_WORDS: [Word; 20] = [
     Word::Result,
     Word::True,
     Word::False,
@@ -176,13 +177,18 @@ const NAMED_WORDS: [Word; 15] = [
     Word::Or,
     Word::Not,
     Word::In,
+    Word::Test(TextTest::Contains),
+    Word::Test(TextTest::StartsWith),
+    Word::Test(TextTest::EndsWith),
     Word::Len,
     Word::IsNil,
     Word::Default,
-    Word::All,
-    Word::Any,
-    Word::Count,
-    Word::Filter,
+    Word::Over(Predicate::All),
+    Word::Over(Predicate::Any),
+    Word::Over(Predicate::None),
+    Word::Over(Predicate::One),
+    Word::Over(Predicate::Count),
+    Word::Over(Predicate::Filter),
 ];
 
 impl Word {
@@ -199,13 +205,11 @@ impl Word {
             Word::Or => "or",
             Word::Not => "not",
             Word::In => "in",
+            Word::Test(test) => test_letters(test),
             Word::Len => "len",
             Word::IsNil => "isNil",
             Word::Default => "default",
-            Word::All => "all",
-            Word::Any => "any",
-            Word::Count => "count",
-            Word::Filter => "filter",
+            Word::Over(predicate) => predicate_letters(predicate),
         }
     }
 
@@ -218,6 +222,31 @@ impl Word {
             .iter()
             .copied()
             .find(|word| word.letters() == name)
+    }
+}
+
+/// How the language spells a test of texts.
+fn test_letters(test: TextTest) -> &'static str
+    ensures { result.now ≡ test_letters test }
+{
+    match test {
+        TextTest::Contains => "contains",
+        TextTest::StartsWith => "startsWith",
+        TextTest::EndsWith => "endsWith",
+    }
+}
+
+/// How the language spells a call with a predicate.
+fn predicate_letters(predicate: Predicate) -> &'static str
+    ensures { result.now ≡ predicate_letters predicate }
+{
+    match predicate {
+        Predicate::All => "all",
+        Predicate::Any => "any",
+        Predicate::None => "none",
+        Predicate::One => "one",
+        Predicate::Count => "count",
+        Predicate::Filter => "filter",
     }
 }
 
