@@ -58,6 +58,8 @@ default_by_row (typing.of_shape h) = h
 predicate_row : (predicate : Predicate) (over : Shape) → (kind : Shape) × (shaped kind ≡ predicate_kind predicate (shaped over)) × PredicateKind predicate over kind
 predicate_row predicates.All over = (shapes.bool, refl, typing.of_all)
 predicate_row predicates.Any over = (shapes.bool, refl, typing.of_any)
+predicate_row predicates.None over = (shapes.bool, refl, typing.of_none)
+predicate_row predicates.One over = (shapes.bool, refl, typing.of_one)
 predicate_row predicates.Count over = (shapes.whole, refl, typing.of_number)
 predicate_row predicates.Filter over = (over, refl, typing.of_filter)
 
@@ -65,6 +67,8 @@ predicate_row predicates.Filter over = (over, refl, typing.of_filter)
 predicate_by_row : {predicate : Predicate} {over kind : Shape} → PredicateKind predicate over kind → predicate_kind predicate (shaped over) ≡ shaped kind
 predicate_by_row typing.of_all = refl
 predicate_by_row typing.of_any = refl
+predicate_by_row typing.of_none = refl
+predicate_by_row typing.of_one = refl
 predicate_by_row typing.of_number = refl
 predicate_by_row typing.of_filter = refl
 

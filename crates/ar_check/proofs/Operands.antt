@@ -18,7 +18,7 @@ use Rattle.ar_value.specs.Operators.{Failure, Meaning}
 use Rattle.ar_condition.specs.Meaning.{mean}
 use Rattle.ar_value.specs.Operators as operators
 use Rattle.ar_value.proofs.Merges.{common_with_itself}
-use Rattle.ar_check.specs.Operand.{Operand, made_plain, numbers, numbers_in, plain_of, plain_tree, scalar, scalar_of, is_bool, is_truth}
+use Rattle.ar_check.specs.Operand.{Operand, made_plain, numbers, numbers_in, plain_of, plain_tree, scalar, scalar_of, is_bool, is_text, is_text_scalar, is_truth}
 use Rattle.ar_condition.specs.Typed.{Typed}
 use Rattle.ar_condition.specs.Typed as typed
 use Rattle.ar_value.specs.declared.operator.Numbers.{Numbers}
@@ -50,6 +50,10 @@ on_whole P each v h = absurd (cc)
 pub on_decimal : (P : Value → Type 0) → ((d : ℤ) → P (values.decimal d)) → (v : Value) → fits v shapes.decimal ≡ true → P v
 on_decimal P each (values.decimal d) h = each d
 on_decimal P each v h = absurd (cc)
+
+pub on_text : (P : Value → Type 0) → ((letters : List ℕ) → P (values.text letters)) → (v : Value) → fits v shapes.text ≡ true → P v
+on_text P each (values.text letters) h = each letters
+on_text P each v h = absurd (cc)
 
 pub on_list : (P : Value → Type 0) (shape : Shape) (max : ℕ) → ((items : Items) → nat_le (count items) max ≡ true → all_items (λ v. fits v shape) items ≡ true → P (values.list items))
     → (v : Value) → fits v (shapes.list shape max) ≡ true → P v
@@ -94,6 +98,11 @@ numbers_of_scalar None m h = tt
 truth_of_scalar : (scalar : Option Scalar) (m : Meaning) → MeansScalar scalar m → is_bool scalar ≡ true → MeansKind truth_kind m
 truth_of_scalar (Some scalars.Bool) m h is = h
 truth_of_scalar scalar m h is = absurd (cc)
+
+-- scalars that are texts
+text_of_scalar : (scalar : Option Scalar) (m : Meaning) → MeansScalar scalar m → is_text_scalar scalar ≡ true → MeansKind (shaped shapes.text) m
+text_of_scalar (Some scalars.Text) m h is = h
+text_of_scalar scalar m h is = absurd (cc)
 
 -- scalars that are wholes
 whole_of_scalar : (scalar : Option Scalar) (m : Meaning) → MeansScalar scalar m → is_whole_number scalar ≡ true → MeansKind (shaped shapes.whole) m
@@ -158,6 +167,10 @@ module _ (result : Value) (here : Option Value) where
   -- an operand of the kind of truth values, made plain, is one
   pub is_true : (operand : Operand) → Sound result here operand → is_truth operand ≡ true → MeansKind truth_kind (mean result here (made_plain operand))
   is_true operand h is = truth_of_scalar (scalar operand) (mean result here (made_plain operand)) (is_scalar operand h) is
+
+  -- an operand of the kind of texts, made plain, is one
+  pub is_letters : (operand : Operand) → Sound result here operand → is_text operand ≡ true → MeansKind (shaped shapes.text) (mean result here (made_plain operand))
+  is_letters operand h is = text_of_scalar (scalar operand) (mean result here (made_plain operand)) (is_scalar operand h) is
 
   -- an operand of the kind of wholes, made plain, is one
   pub is_index : (operand : Operand) → Sound result here operand → is_whole_number (scalar operand) ≡ true → MeansKind (shaped shapes.whole) (mean result here (made_plain operand))

@@ -4,7 +4,8 @@ use Rattle.std.specs.Prelude.{◌&&◌, not, if◌then◌else◌}
 use Rattle.ar_value.specs.declared.operator.BinaryOperator.TheVariants as binary
 use Rattle.ar_value.specs.declared.operator.UnaryOperator.TheVariants as unary
 use Rattle.ar_value.specs.Answer.{◌>>=◌}
-use Rattle.ar_value.specs.Kind.{Kind, fits_kind}
+use Rattle.ar_value.specs.Kind.{Kind, shaped, fits_kind}
+use Rattle.ar_value.specs.Shape as shapes
 use Rattle.ar_value.specs.Value.{Value}
 use Rattle.ar_value.specs.Value as values
 use Rattle.ar_condition.specs.declared.tree.Comparison.{Comparison}
@@ -13,19 +14,20 @@ use Rattle.ar_condition.specs.declared.tree.Binary.{Binary}
 use Rattle.ar_condition.specs.declared.tree.Binary.TheVariants as binaries
 use Rattle.ar_condition.specs.declared.tree.Unary.{Unary}
 use Rattle.ar_condition.specs.declared.tree.Unary.TheVariants as unaries
-use Rattle.ar_check.specs.Check.{Answer, binary_of, comparison_of, equal_of, equality_of, in_of, negated, same_family, truth_kind, unary_of}
+use Rattle.ar_check.specs.Check.{Answer, binary_of, comparison_of, equal_of, equality_of, in_of, negated, same_family, text_test_of, truth_kind, unary_of}
 use Rattle.ar_value.specs.Operators.{Failure, Meaning}
 use Rattle.ar_condition.specs.Meaning.{mean}
 use Rattle.ar_value.specs.Operators as operators
-use Rattle.ar_check.specs.Operand.{Operand, family_in, is_truth, made_plain, numbers, scalar}
+use Rattle.ar_check.specs.Operand.{Operand, family_in, is_text, is_truth, made_plain, numbers, scalar}
 use Rattle.ar_condition.specs.Typed.{Typed}
 use Rattle.ar_condition.specs.Typed as typed
 use Rattle.ar_value.specs.declared.operator.Arithmetic.TheVariants.{Add, Subtract, Multiply, Divide, Remainder}
 use Rattle.ar_value.specs.declared.operator.Family.{Family}
 use Rattle.ar_value.specs.declared.operator.Order.TheVariants.{Less, LessOrEqual, Greater, GreaterOrEqual}
 use Rattle.ar_value.specs.declared.operator.Scalar.{Scalar}
+use Rattle.ar_value.specs.declared.operator.TextTest.{TextTest}
 use Rattle.ar_check.proofs.Means.{MeansKind, Sound, IsTruth, both, both_hold, either_means, is_sound, means_then, truth_wanted, wanted}
-use Rattle.ar_check.proofs.Operands.{are_numbers, is_true, on_bool}
+use Rattle.ar_check.proofs.Operands.{are_numbers, is_letters, is_true, on_bool, on_text}
 use Rattle.ar_check.proofs.Parts.{in_sound, kind_in_family, kinded_means, one_family}
 use Rattle.ar_check.proofs.Sums.{negative_sound, order_sound, positive_sound, sum_sound}
 
@@ -64,6 +66,15 @@ module _ (result : Value) (here : Option Value) where
       (λ v fit. means_then _ _ (mean result here right) (λ w. operators.equal family v w) k
       (λ w also. kinded_means (operators.is_in_family family v && operators.is_in_family family w) (operators.same v w)
       (both (operators.is_in_family family v) (operators.is_in_family family w) (in_left v fit) (in_right w also))))
+
+  -- a test of two texts gives a boolean
+  text_test_means : (test : TextTest) (left right : Typed) → MeansKind (shaped shapes.text) (mean result here left) → MeansKind (shaped shapes.text) (mean result here right)
+      → MeansKind truth_kind (mean result here (typed.binary (binary.TextTest test) left right))
+  text_test_means test left right h k =
+      means_then _ _ (mean result here left) (λ v. mean result here right >>= λ w. operators.text_test test v w) h
+      (λ v fit. means_then _ _ (mean result here right) (λ w. operators.text_test test v w) k
+      (λ w also. on_text (λ v. MeansKind truth_kind (operators.text_test test v w))
+      (λ among. on_text (λ w. MeansKind truth_kind (operators.text_test test (values.text among) w)) (λ part. refl) w also) v fit))
 
   -- ---- equality
 
@@ -121,6 +132,13 @@ module _ (result : Value) (here : Option Value) where
   truths left right h k is =
       let parts = both_hold (is_truth left) (is_truth right) is in (is_true result here left h parts.0, is_true result here right k parts.1)
 
+  -- a test of texts means its kind
+  text_test_sound : (at : ℕ) (test : TextTest) (left right : Operand) → Sound result here left → Sound result here right → IfOk (text_test_of at test left right) (Sound result here)
+  text_test_sound at test left right h k =
+      wanted result here at (is_text left && is_text right) (typed.binary (binary.TextTest test) (made_plain left) (made_plain right)) truth_kind
+      (λ is. let parts = both_hold (is_text left) (is_text right) is in
+      text_test_means test (made_plain left) (made_plain right) (is_letters result here left h parts.0) (is_letters result here right k parts.1))
+
   -- operators of two operands mean their kinds
   pub binary_sound : (at : ℕ) (operator : Binary) (nil_left nil_right : Bool) (left right : Operand) → Sound result here left → Sound result here right
       → IfOk (binary_of at operator nil_left nil_right left right) (Sound result here)
@@ -133,6 +151,7 @@ module _ (result : Value) (here : Option Value) where
   binary_sound at (binaries.Comparison comparison) nil_left nil_right left right h k = comparison_sound at comparison nil_left nil_right left right h k
   binary_sound at binaries.In nil_left nil_right left right h k = truth_sound (in_of at left right) (in_sound result here at left right h k)
   binary_sound at binaries.NotIn nil_left nil_right left right h k = negated_sound (in_of at left right) (in_sound result here at left right h k)
+  binary_sound at (binaries.TextTest test) nil_left nil_right left right h k = text_test_sound at test left right h k
   binary_sound at binaries.Add nil_left nil_right left right h k = sum_sound result here at Add left right h k
   binary_sound at binaries.Subtract nil_left nil_right left right h k = sum_sound result here at Subtract left right h k
   binary_sound at binaries.Multiply nil_left nil_right left right h k = sum_sound result here at Multiply left right h k

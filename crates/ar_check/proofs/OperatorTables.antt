@@ -11,8 +11,8 @@ use Rattle.ar_value.specs.Shape as shapes
 use Rattle.ar_condition.specs.declared.tree.Comparison.TheVariants as comparisons
 use Rattle.ar_condition.specs.declared.tree.Binary.{Binary}
 use Rattle.ar_condition.specs.declared.tree.Binary.TheVariants as binaries
-use Rattle.ar_check.specs.Check.{Answer, arithmetic_kind, arithmetic_on, binary_of, equal_of, equality_of, in_of, item_shape, member_of, negated, ordering_of, ordered_of, same_family, scalar_shape, calculation_of, arithmetic_in, compared_of, where_there, truth_kind, where_wanted, widened}
-use Rattle.ar_check.specs.Operand.{Operand, operand, family_in, is_truth, made_plain, numbers, plain_of, scalar, scalar_of}
+use Rattle.ar_check.specs.Check.{Answer, arithmetic_kind, arithmetic_on, binary_of, equal_of, equality_of, in_of, item_shape, member_of, negated, ordering_of, ordered_of, same_family, scalar_shape, calculation_of, arithmetic_in, compared_of, where_there, text_test_of, truth_kind, where_wanted, widened}
+use Rattle.ar_check.specs.Operand.{Operand, operand, family_in, is_text, is_truth, made_plain, numbers, plain_of, scalar, scalar_of}
 use Rattle.ar_condition.specs.Typed.{Typed}
 use Rattle.ar_condition.specs.Typed as typed
 use Rattle.ar_check.specs.Typing.{InCommon, IsEquality, IsNumber, IsScalar, Operates, OperatesOnOne, SameFamily, SumOf}
@@ -25,9 +25,10 @@ use Rattle.ar_value.specs.declared.operator.Order.{Order}
 use Rattle.ar_value.specs.declared.operator.Order.TheVariants.{Less, LessOrEqual, Greater, GreaterOrEqual}
 use Rattle.ar_value.specs.declared.operator.Scalar.{Scalar}
 use Rattle.ar_value.specs.declared.operator.Scalar.TheVariants as scalars
+use Rattle.ar_value.specs.declared.operator.TextTest.{TextTest}
 use Rattle.ar_check.proofs.Means.{both_hold}
 use Rattle.ar_check.proofs.Means as means
-use Rattle.ar_check.proofs.Tables.{IsTyped, are_numbers, bind_typed, from_bind, given_kind, is_scalar, items_are, kind_of_numbers, list_within, number_scalar, number_shape, numbers_within, same_kind, scalar_within, shape_of_scalar, then_typed, truth_is, truth_within, wanted_kind, wanted_typed}
+use Rattle.ar_check.proofs.Tables.{IsTyped, are_numbers, bind_typed, from_bind, given_kind, is_scalar, items_are, kind_of_numbers, list_within, number_scalar, number_shape, numbers_within, same_kind, scalar_within, shape_of_scalar, text_is, text_within, then_typed, truth_is, truth_within, wanted_kind, wanted_typed}
 
 -- ---- the rows of scalars
 
@@ -284,6 +285,15 @@ truths_apply at operator left right found tree row h =
     let second = truth_within right.kind sides.1 in
     (first.0, second.0, shapes.bool, first.1, second.1, given.1, row_by operator shapes.bool shapes.bool (plain first.0) (plain second.0) shapes.bool first.2 second.2 row)
 
+-- a test of texts has a row
+texts_apply : (at : ℕ) (test : TextTest) (left right found : Operand) → text_test_of at test left right ≡ Ok found → Applies (binaries.TextTest test) left.kind right.kind found.kind
+texts_apply at test left right found h =
+    let given = wanted_kind at (is_text left && is_text right) (typed.binary (binary.TextTest test) (made_plain left) (made_plain right)) truth_kind found h in
+    let sides = both_hold (is_text left) (is_text right) given.0 in
+    let first = text_within left.kind sides.0 in
+    let second = text_within right.kind sides.1 in
+    (first.0, second.0, shapes.bool, first.1, second.1, given.1, row_by (binaries.TextTest test) shapes.text shapes.text (plain first.0) (plain second.0) shapes.bool first.2 second.2 (typing.text_test test))
+
 -- an operator that is no equality has a row for what it is given
 pub operator_applies : (at : ℕ) (operator : Binary) (nil_left nil_right : Bool) (left right found : Operand)
     → binary_of at operator nil_left nil_right left right ≡ Ok found → IsEquality operator ⊎ Applies operator left.kind right.kind found.kind
@@ -297,6 +307,7 @@ operator_applies at (binaries.Comparison comparisons.Greater) nil_left nil_right
 operator_applies at (binaries.Comparison comparisons.GreaterOrEqual) nil_left nil_right left right found h = inr (order_applies at GreaterOrEqual left right found h)
 operator_applies at binaries.In nil_left nil_right left right found h = inr (in_applies at binaries.In is_in left right found h)
 operator_applies at binaries.NotIn nil_left nil_right left right found h = inr (negated_applies binaries.NotIn left right found (in_of at left right) (in_applies at binaries.NotIn is_not_in left right) h)
+operator_applies at (binaries.TextTest test) nil_left nil_right left right found h = inr (texts_apply at test left right found h)
 operator_applies at binaries.Add nil_left nil_right left right found h = inr (sum_applies at Add left right found h)
 operator_applies at binaries.Subtract nil_left nil_right left right found h = inr (sum_applies at Subtract left right found h)
 operator_applies at binaries.Multiply nil_left nil_right left right found h = inr (sum_applies at Multiply left right found h)
@@ -378,6 +389,14 @@ truths_typed at of beside tree left right h k =
     wanted_typed at (is_truth (operand left (shaped of)) && is_truth (operand right (shaped beside))) tree truth_kind
     (means.both (is_truth (operand left (shaped of))) (is_truth (operand right (shaped beside))) (truth_is (plain of) h) (truth_is (plain beside) k))
 
+-- two texts
+texts_typed : (at : ℕ) (test : TextTest) (of beside : Shape) (left right : Typed) → plain of ≡ shapes.text → plain beside ≡ shapes.text
+    → IsTyped (text_test_of at test (operand left (shaped of)) (operand right (shaped beside))) truth_kind
+texts_typed at test of beside left right h k =
+    wanted_typed at (is_text (operand left (shaped of)) && is_text (operand right (shaped beside)))
+    (typed.binary (binary.TextTest test) (made_plain (operand left (shaped of))) (made_plain (operand right (shaped beside)))) truth_kind
+    (means.both (is_text (operand left (shaped of))) (is_text (operand right (shaped beside))) (text_is (plain of) h) (text_is (plain beside) k))
+
 -- an operator with a row for two operands is typed
 pub operator_typed : (at : ℕ) (nil_left nil_right : Bool) {operator : Binary} {p q shape : Shape} → Operates operator p q shape → (of beside : Shape) (left right : Typed) → plain of ≡ p → plain beside ≡ q
     → IsTyped (binary_of at operator nil_left nil_right (operand left (shaped of)) (operand right (shaped beside))) (shaped shape)
@@ -399,3 +418,4 @@ operator_typed at nil_left nil_right typing.either of beside left right h k = tr
 operator_typed at nil_left nil_right (typing.within same) of beside left right h k = in_typed at same of beside left right h k
 operator_typed at nil_left nil_right (typing.not_within same) of beside left right h k =
     negated_typed (in_of at (operand left (shaped of)) (operand right (shaped beside))) truth_kind (in_typed at same of beside left right h k)
+operator_typed at nil_left nil_right (typing.text_test test) of beside left right h k = texts_typed at test of beside left right h k

@@ -1,6 +1,6 @@
 -- Predicates over the items of a list mean their kinds.
 use Rattle.std.proofs.Common.{◌≡◌, ℕ, suc, pos, Bool, true, false, nat_le, Option, Some, Result, Ok, IfOk, refl, arith}
-use Rattle.std.specs.Prelude.{◌≤◌, if◌then◌else◌}
+use Rattle.std.specs.Prelude.{◌≤◌, ◌==◌, if◌then◌else◌}
 use Rattle.std.proofs.lemmas.Bool.Decides.{nat_tests}
 use Rattle.ar_value.specs.Answer.{◌>>=◌}
 use Rattle.ar_value.specs.Fits.{all_items, fits}
@@ -13,7 +13,7 @@ use Rattle.ar_value.specs.declared.operator.Predicate.{Predicate}
 use Rattle.ar_value.specs.declared.operator.Predicate.TheVariants as predicates
 use Rattle.ar_check.specs.Check.{plain_kind, predicate_kind, predicate_of, truth_kind}
 use Rattle.ar_value.specs.Operators.{Failure, Meaning}
-use Rattle.ar_condition.specs.Meaning.{all_hold, any_holds, mean, over, those}
+use Rattle.ar_condition.specs.Meaning.{all_hold, any_holds, mean, none_holds, over, those}
 use Rattle.ar_value.specs.Operators as operators
 use Rattle.ar_check.specs.Operand.{Operand, made_plain}
 use Rattle.ar_condition.specs.Typed.{Typed}
@@ -65,6 +65,14 @@ module _ (holds : Value → Result Bool Failure) (shape : Shape) (says : Says ho
       means_then (λ it. Unit {0}) _ (holds v) (λ it. if it then Ok (values.bool true) else any_holds holds items) (says v parts.0)
       (λ it any. either_means truth_kind it (Ok (values.bool true)) (any_holds holds items) refl (any_means items parts.1))
 
+  -- whether none holds is a boolean
+  none_means : (items : Items) → AllFit shape items → MeansKind truth_kind (none_holds holds items)
+  none_means values.no_items h = refl
+  none_means (values.item v items) h =
+      let parts = both_hold (fits v shape) (all_items (λ v. fits v shape) items) h in
+      means_then (λ it. Unit {0}) _ (holds v) (λ it. if it then Ok (values.bool false) else none_holds holds items) (says v parts.0)
+      (λ it any. either_means truth_kind it (Ok (values.bool false)) (none_holds holds items) refl (none_means items parts.1))
+
   -- one item more, where it holds
   with_or_without : (it : Bool) (v : Value) (most : ℕ) (others : Items) → fits v shape ≡ true → Among shape most others → Among shape (suc most) (if it then values.item v others else others)
   with_or_without true v most others fit h = (one_more (count others) most h.0, both (fits v shape) (all_items (λ v. fits v shape) others) fit h.1)
@@ -84,6 +92,9 @@ module _ (holds : Value → Result Bool Failure) (shape : Shape) (says : Says ho
       → MeansKind (predicate_kind predicate (shaped (shapes.list shape max))) (over predicate holds items)
   over_means predicates.All max items short all = all_means items all
   over_means predicates.Any max items short all = any_means items all
+  over_means predicates.None max items short all = none_means items all
+  over_means predicates.One max items short all =
+      means_then (Among shape (count items)) _ (those holds items) (λ found. Ok (values.bool (count found == 1))) (those_mean items all) (λ found h. refl)
   over_means predicates.Count max items short all =
       means_then (Among shape (count items)) _ (those holds items) (λ found. Ok (values.whole (pos (count found)))) (those_mean items all) (λ found h. refl)
   over_means predicates.Filter max items short all =

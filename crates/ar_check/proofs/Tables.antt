@@ -7,7 +7,7 @@ use Rattle.ar_value.specs.Shape.{Shape, FieldShapes}
 use Rattle.ar_value.specs.Shape as shapes
 use Rattle.ar_check.specs.Check.{Answer, field_shape, found_field, given, is_whole_number, item_shape, number_kind, scalar_shape, where_wanted}
 use Rattle.ar_value.specs.Shape.{shape_named}
-use Rattle.ar_check.specs.Operand.{Operand, operand, is_bool, numbers_in, plain_of, scalar_of}
+use Rattle.ar_check.specs.Operand.{Operand, operand, is_bool, is_text_scalar, numbers_in, plain_of, scalar_of}
 use Rattle.ar_condition.specs.Typed.{Typed}
 use Rattle.ar_check.specs.declared.error.TypeError.{TypeError}
 use Rattle.ar_value.specs.declared.operator.Numbers.{Numbers}
@@ -93,6 +93,19 @@ truth_within kind h = scalar_within kind scalars.Bool (bool_of_scalar (option_an
 -- what is plainly a truth value is one
 pub truth_is : (shape : Shape) → shape ≡ shapes.bool → is_bool (scalar_of shape) ≡ true
 truth_is shape h = rw h refl
+
+-- texts
+text_of_scalar : (scalar : Option Scalar) → is_text_scalar scalar ≡ true → scalar ≡ Some scalars.Text
+text_of_scalar (Some scalars.Text) h = refl
+text_of_scalar scalar h = absurd (cc)
+
+-- the kind of a text
+pub text_within : (kind : Kind) → is_text_scalar (option_and_then scalar_of (plain_of kind)) ≡ true → (of : Shape) × (kind ≡ shaped of) × (plain of ≡ shapes.text)
+text_within kind h = scalar_within kind scalars.Text (text_of_scalar (option_and_then scalar_of (plain_of kind)) h)
+
+-- what is plainly a text is one
+pub text_is : (shape : Shape) → shape ≡ shapes.text → is_text_scalar (scalar_of shape) ≡ true
+text_is shape h = rw h refl
 
 -- wholes
 whole_of_scalar : (scalar : Option Scalar) → is_whole_number scalar ≡ true → scalar ≡ Some scalars.Whole

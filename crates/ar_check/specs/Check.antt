@@ -18,7 +18,7 @@ use Rattle.ar_value.specs.declared.operator.Predicate.TheVariants as predicates
 use Rattle.ar_condition.specs.declared.tree.Unary.{Unary}
 use Rattle.ar_condition.specs.declared.tree.Unary.TheVariants as unaries
 use Rattle.ar_check.specs.Basics.{literal_kind, most_predicates}
-use Rattle.ar_check.specs.Operand.{Operand, operand, among, family_in, is_truth, made_plain, numbers, plain_of, scalar, scalar_of, turned}
+use Rattle.ar_check.specs.Operand.{Operand, operand, among, family_in, is_text, is_truth, made_plain, numbers, plain_of, scalar, scalar_of, turned}
 use Rattle.ar_condition.specs.Typed.{Typed, typeds}
 use Rattle.ar_condition.specs.Typed as typed
 use Rattle.ar_check.specs.declared.error.TypeError.{TypeError}
@@ -37,6 +37,7 @@ use Rattle.ar_value.specs.declared.operator.Order.{Order}
 use Rattle.ar_value.specs.declared.operator.Order.TheVariants.{Less, LessOrEqual, Greater, GreaterOrEqual}
 use Rattle.ar_value.specs.declared.operator.Scalar.{Scalar}
 use Rattle.ar_value.specs.declared.operator.Scalar.TheVariants as scalars
+use Rattle.ar_value.specs.declared.operator.TextTest.{TextTest}
 
 abbrev pub Answer : Type 0
 Answer = Result Operand TypeError
@@ -202,6 +203,10 @@ comparison_of at comparisons.GreaterOrEqual nil_left nil_right left right = orde
 abbrev pub in_of : ℕ → Operand → Operand → Answer
 in_of at left right = item_shape at (plain_of right.kind) >>= λ shape. member_of at (scalar left) (scalar_of (plain shape)) left.tree (made_plain right)
 
+-- a test of two texts, each made plain
+abbrev pub text_test_of : ℕ → TextTest → Operand → Operand → Answer
+text_test_of at test left right = where_wanted at (is_text left && is_text right) (typed.binary (binary.TextTest test) (made_plain left) (made_plain right)) truth_kind
+
 abbrev pub either_of : ℕ → Operand → Operand → Answer
 either_of at left right = where_wanted at (is_truth left && is_truth right) (typed.either (made_plain left) (made_plain right)) truth_kind
 
@@ -214,6 +219,7 @@ binary_of at binaries.And nil_left nil_right left right = both_of at left right
 binary_of at (binaries.Comparison comparison) nil_left nil_right left right = comparison_of at comparison nil_left nil_right left right
 binary_of at binaries.In nil_left nil_right left right = in_of at left right
 binary_of at binaries.NotIn nil_left nil_right left right = in_of at left right >>= negated
+binary_of at (binaries.TextTest test) nil_left nil_right left right = text_test_of at test left right
 binary_of at binaries.Add nil_left nil_right left right = calculation_of at Add left right
 binary_of at binaries.Subtract nil_left nil_right left right = calculation_of at Subtract left right
 binary_of at binaries.Multiply nil_left nil_right left right = calculation_of at Multiply left right
@@ -333,6 +339,8 @@ over_items at around list typed = do
 abbrev pub predicate_kind : Predicate → Kind → Kind
 predicate_kind predicates.All list = truth_kind
 predicate_kind predicates.Any list = truth_kind
+predicate_kind predicates.None list = truth_kind
+predicate_kind predicates.One list = truth_kind
 predicate_kind predicates.Count list = shaped shapes.whole
 predicate_kind predicates.Filter list = list
 

@@ -67,6 +67,16 @@ is_bool scalar = false
 abbrev pub is_truth : Operand → Bool
 is_truth operand = is_bool (scalar operand)
 
+abbrev pub is_text_scalar : Option Scalar → Bool
+is_text_scalar (Some scalars.Text) = true
+is_text_scalar (Some scalars.Bool) = false
+is_text_scalar (Some scalars.Whole) = false
+is_text_scalar (Some scalars.Decimal) = false
+is_text_scalar None = false
+
+abbrev pub is_text : Operand → Bool
+is_text operand = is_text_scalar (scalar operand)
+
 -- plain numbers beside others: a whole is turned into decimal beside a decimal
 abbrev pub among : Numbers → Numbers → Typed → Typed
 among Decimals Wholes tree = typed.unary unary.ToDecimal tree

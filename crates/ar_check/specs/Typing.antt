@@ -11,6 +11,7 @@ use Rattle.ar_condition.specs.declared.tree.Literal.{Literal}
 use Rattle.ar_condition.specs.declared.tree.Literal.TheVariants as literals
 use Rattle.ar_value.specs.declared.operator.Predicate.{Predicate}
 use Rattle.ar_value.specs.declared.operator.Predicate.TheVariants as predicates
+use Rattle.ar_value.specs.declared.operator.TextTest.{TextTest}
 use Rattle.ar_condition.specs.declared.tree.Unary.{Unary}
 use Rattle.ar_condition.specs.declared.tree.Unary.TheVariants as unaries
 use Rattle.ar_check.specs.Basics.{literal_kind, most_predicates}
@@ -63,6 +64,8 @@ pub data Operates : Binary → Shape → Shape → Shape → Type 0 where
   -- a list of scalars, any of which may be nil
   within : {left item : Shape} {max : ℕ} → SameFamily left (plain item) → Operates binaries.In left (list item max) bool
   not_within : {left item : Shape} {max : ℕ} → SameFamily left (plain item) → Operates binaries.NotIn left (list item max) bool
+  -- whether one text has another, at any place, at its start or at its end
+  text_test : (test : TextTest) → Operates (binaries.TextTest test) text text bool
 
 pub data OperatesOnOne : Unary → Shape → Shape → Type 0 where
   minus : {shape : Shape} → IsNumber shape → OperatesOnOne unaries.Minus shape shape
@@ -77,6 +80,8 @@ pub data IsEquality : Binary → Type 0 where
 pub data PredicateKind : Predicate → Shape → Shape → Type 0 where
   of_all : {over : Shape} → PredicateKind predicates.All over bool
   of_any : {over : Shape} → PredicateKind predicates.Any over bool
+  of_none : {over : Shape} → PredicateKind predicates.None over bool
+  of_one : {over : Shape} → PredicateKind predicates.One over bool
   of_number : {over : Shape} → PredicateKind predicates.Count over whole
   of_filter : {over : Shape} → PredicateKind predicates.Filter over over
 

@@ -6,7 +6,7 @@ ghost use Rattle.ar_value.specs.Kind.{common, nil, shaped};
 ghost use Rattle.ar_value.specs.Kind as shapes;
 ghost use Rattle.ar_value.specs.View.{shape_view};
 ghost use Rattle.ar_check.specs.Check.{field_shape, given, item_shape, plain_kind};
-ghost use Rattle.ar_check.specs.Operand.{is_truth, made_plain, numbers, plain_of, plain_tree, scalar, scalar_of, turned};
+ghost use Rattle.ar_check.specs.Operand.{is_text, is_truth, made_plain, numbers, plain_of, plain_tree, scalar, scalar_of, turned};
 ghost use Rattle.ar_condition.specs.Typed as typed;
 ghost use Rattle.ar_condition.specs.Views.{typed_view};
 ghost use Rattle.ar_check.specs.Memory.{is_memory};
@@ -156,6 +156,13 @@ pub(crate) fn is_truth(operand: &Operand<'_>) -> bool
     ensures { result ≡ is_truth (operand_view operand.now) }
 {
     matches!(scalar(operand), Some(Scalar::Bool))
+}
+
+/// Whether an operand is a text once it is plain.
+pub(crate) fn is_text(operand: &Operand<'_>) -> bool
+    ensures { result ≡ is_text (operand_view operand.now) }
+{
+    matches!(scalar(operand), Some(Scalar::Text))
 }
 
 fn field_in<'a>(at: usize, name: &str, shape: &'a Shape) -> Result<&'a Shape, TypeError>

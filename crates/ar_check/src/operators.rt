@@ -3,7 +3,7 @@
 ghost use Rattle.std.specs.Prelude.{◌≡◌, ◌&&◌, false, IfOk, Some};
 ghost use Rattle.ar_value.specs.declared.operator.UnaryOperator.TheVariants as unary;
 ghost use Rattle.ar_value.specs.Answer.{Gives};
-ghost use Rattle.ar_check.specs.Check.{arithmetic_in, arithmetic_kind, binary_of, compared_of, comparison_of, equality_of, in_of, negated, number_kind, ordering_of, arithmetic_on, calculation_of, given, member_of, truth_kind, unary_of, where_wanted, widened};
+ghost use Rattle.ar_check.specs.Check.{arithmetic_in, arithmetic_kind, binary_of, compared_of, comparison_of, equality_of, in_of, negated, number_kind, ordering_of, arithmetic_on, calculation_of, given, member_of, text_test_of, truth_kind, unary_of, where_wanted, widened};
 ghost use Rattle.ar_check.specs.Operand.{among, family_in};
 ghost use Rattle.ar_condition.specs.Typed as typed;
 ghost use Rattle.ar_condition.specs.Views.{typed_view};
@@ -13,15 +13,15 @@ ghost use Rattle.ar_check.specs.Private.Inside.{boxed_view, connected_of, item_s
 use crate::build::{self, Connective};
 use crate::error::TypeError;
 use crate::operand::{
-    Kind, Operand, both_plain, given, given_unary, into_tree, is_truth, item_shape, made_plain,
-    numbers, scalar, scalar_of,
+    Kind, Operand, both_plain, given, given_unary, into_tree, is_text, is_truth, item_shape,
+    made_plain, numbers, scalar, scalar_of,
 };
 use ar_condition::tree::{Binary, Comparison, Unary};
 use ar_condition::typed::Typed;
 use ar_value::kind::plain;
 use ar_value::operator::{
     Arithmetic, BinaryOperator, Compared, DecimalArithmetic, Family, Numbers, Order, Scalar,
-    UnaryOperator,
+    TextTest, UnaryOperator,
 };
 use ar_value::shape::Shape;
 use std::alloc::{AllocError, Global};
@@ -107,6 +107,7 @@ pub(crate) fn binary<'s>(
         }
         Binary::In => return contains(alloc, at, left, right),
         Binary::NotIn => return negated(alloc, contains(alloc, at, left, right)?),
+        Binary::TextTest(test) => return test_texts(alloc, at, test, left, right),
         Binary::Add => Arithmetic::Add,
         Binary::Subtract => Arithmetic::Subtract,
         Binary::Multiply => Arithmetic::Multiply,
@@ -273,6 +274,23 @@ fn item_scalar(at: usize, list: &Kind<'_>) -> Result<Option<Scalar>, TypeError>
     ensures { Gives (λ _. false) (λ scalar. scalar) result (item_scalar at (kind_view list.now)) }
 {
     Ok(scalar_of(plain(item_shape(at, list)?)))
+}
+
+/// A test of two texts.
+fn test_texts<'s>(
+    alloc: Global,
+    at: usize,
+    test: TextTest,
+    left: Box<Operand<'_>>,
+    right: Box<Operand<'_>>,
+) -> Result<Box<Operand<'s>>, TypeError>
+    ensures { Gives is_memory boxed_view result
+        (text_test_of at test (operand_view left.entry.value) (operand_view right.entry.value)) }
+{
+    let wanted = is_text(&left) && is_text(&right);
+    let (left, right) = both_plain(alloc, left, right)?;
+    let tree = build::binary(alloc, BinaryOperator::TextTest(test), left, right)?;
+    where_wanted(alloc, at, wanted, tree, truth())
 }
 
 fn calculate<'s>(

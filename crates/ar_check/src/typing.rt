@@ -634,7 +634,7 @@ fn predicate_kind<'s>(
     ensures { IfOk result (λ kind. kind_view kind ≡ predicate_kind over (plain_kind (kind_view list.now))) }
 {
     match over {
-        Predicate::All | Predicate::Any => Ok(truth()),
+        Predicate::All | Predicate::Any | Predicate::None | Predicate::One => Ok(truth()),
         Predicate::Count => Ok(Kind::Made(Shape::Whole)),
         Predicate::Filter => plain_kind(alloc, list),
     }
