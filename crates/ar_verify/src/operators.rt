@@ -309,5 +309,8 @@ pub(crate) fn apply_binary<M: ShapeName>(
         BinaryOperator::Equal(family) => {
             where_taken(alloc, are_in_family(family, left, right), Shape::Bool)
         }
+        BinaryOperator::TextTest(_) => {
+            where_taken(alloc, are_scalars(Scalar::Text, left, right), Shape::Bool)
+        }
     }
 }

@@ -4,7 +4,8 @@
 
 ghost use Rattle.std.specs.Prelude.{◌≡◌};
 ghost use Rattle.ar_value.specs.Answer.{Gives};
-ghost use Rattle.ar_op.specs.Machine.{begins_loop, is_same, nth};
+ghost use Rattle.ar_op.specs.Machine.{begins_loop, nth};
+ghost use Rattle.ar_value.specs.Predicates.{is_same};
 ghost use Rattle.ar_op.specs.declared.op.Op.TheVariants.{Enter, Step};
 ghost use Rattle.ar_verified.specs.Memory.{is_memory};
 ghost use Rattle.ar_verified.specs.Places.{all_pass, ends_in_return, ends_loop, forward, has_ops, inside, is_return, names_well, places_pass, unless};

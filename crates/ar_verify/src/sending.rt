@@ -76,7 +76,9 @@ fn answer_kind<M: ShapeName>(
         (λ answer. kind_view answer ≡ answer_kind predicate (list_view list.now).0 (list_view list.now).1) }
 {
     match predicate {
-        Predicate::All | Predicate::Any => Kind::made(alloc, Shape::Bool),
+        Predicate::All | Predicate::Any | Predicate::None | Predicate::One => {
+            Kind::made(alloc, Shape::Bool)
+        }
         Predicate::Count => Kind::made(alloc, Shape::Whole),
         Predicate::Filter => kind_of_list(list),
     }
