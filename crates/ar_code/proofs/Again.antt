@@ -1,9 +1,9 @@
 -- What was written is read again.
-use Rattle.std.proofs.Common.{All, ◌≡◌, ℕ, zero, suc, ◌+◌, ◌*◌, ◌/◌, ◌%◌, ◌^◌, ◌<◌, ◌≤◌, ℤ, pos, negsuc, Bool, true, false, cond, ltb, List, [], ◌∷◌, ◌++◌, length, Some, Ok, refl, sym, ap, subst, ◌∙◌, append_assoc, arith, lit<}
+use Rattle.std.proofs.Common.{All, ◌≡◌, ℕ, zero, suc, ◌+◌, ◌*◌, ◌/◌, ◌%◌, ◌^◌, ◌<◌, ◌≤◌, ℤ, pos, negsuc, Bool, true, false, ◌||◌, cond, eqb, ltb, List, [], ◌∷◌, ◌++◌, length, Some, Ok, refl, sym, ap, subst, ◌∙◌, append_assoc, arith, lit<}
 use Rattle.std.specs.Bool.{Decides}
-use Rattle.std.specs.List.{flat_map, AllByRecursion}
+use Rattle.std.specs.List.{flat_map, list_any, AllByRecursion}
 use Rattle.std.specs.Str.{bytes_eq}
-use Rattle.std.proofs.lemmas.Bool.{le-ltb, lt-ltb, ltb-true}
+use Rattle.std.proofs.lemmas.Bool.{eq-eqb, le-ltb, lt-ltb, ltb-true}
 use Rattle.std.proofs.lemmas.List.{append-nil, drop_at, length-append, take_at}
 use Rattle.std.proofs.lemmas.List.Elements.{All-from_recursion, recursion_from_All}
 use Rattle.std.proofs.lemmas.Slice.Eq.{bytes_eq-Decides}
@@ -24,9 +24,12 @@ use Rattle.ar_value.specs.declared.operator.Family.TheVariants as families
 use Rattle.ar_value.specs.declared.operator.Numbers.TheVariants as of_numbers
 use Rattle.ar_value.specs.declared.operator.Order.TheVariants as orders
 use Rattle.ar_value.specs.declared.operator.Predicate.TheVariants as predicates
+use Rattle.ar_value.specs.declared.operator.TextTest.TheVariants as tests
 use Rattle.ar_value.specs.declared.operator.UnaryOperator.TheVariants as unary
-use Rattle.ar_code.specs.Decoding.{Reading, count_at, decoded, parts_at, whole, cut_number, so_many_ops, so_many_texts, text_at, texts_at, entry_at, op_at, op_of, place, fields_at, items_at, list_at, narrow, number_at, scalar_at, signed, source_at, spelled, sum_of, wide}
-use Rattle.ar_code.specs.Image.{body, code_of, image, magic, version, fields_of, groups, number, op_bytes, scalar_number, source_fields, string, strings, zigzag}
+use Rattle.ar_code.specs.declared.version.Version.{Version}
+use Rattle.ar_code.specs.declared.version.Version.TheVariants.{First, Second}
+use Rattle.ar_code.specs.Decoding.{Reading, all_ops, among, count_at, decoded, parts_at, whole, cut_number, so_many_ops, so_many_texts, text_at, texts_at, entry_at, op_at, op_of, place, fields_at, items_at, list_at, narrow, number_at, scalar_at, signed, source_at, spelled, sum_of, version_at, wide}
+use Rattle.ar_code.specs.Image.{body, code_of, image, is_new, last_code, magic, version_byte, version_of, fields_of, groups, number, op_bytes, scalar_number, source_fields, string, strings, zigzag}
 use Rattle.ar_code.proofs.Loops.{Reads, ops_read, texts_read}
 
 -- ---- numbers
@@ -133,8 +136,7 @@ empty (Step predicate enter) = Step predicate 0
 empty op = op
 
 -- Each operation is found by its code. A row takes its whole family apart.
-found : (op : Op) → op_of (code_of op) ≡ Some (empty op)
-unfolding op_of
+found : (op : Op) → among all_ops (code_of op) ≡ Some (empty op)
 found (Push (sources.Bool holds)) = refl
 found (Unary (unary.Negate of_numbers.Wholes)) = refl
 found (Binary (binary.Wholes arithmetic.Add)) = refl
@@ -144,9 +146,54 @@ found (Binary (binary.Compare compared.Decimals orders.Less)) = refl
 found (Binary (binary.Compare compared.Mixed orders.Less)) = refl
 found (Binary (binary.Equal families.Truth)) = refl
 found (Jump jumps.And place) = refl
+found (Binary (binary.TextTest tests.Contains)) = refl
 found (Enter predicates.All place) = refl
 found (Step predicates.All place) = refl
 found op = refl
+
+-- an operation that images of a version may have
+abbrev IsOf : Version → Op → Type 0
+IsOf version op = ltb (last_code version) (code_of op) ≡ false
+
+-- the second version has each operation
+of_second : (op : Op) → IsOf Second op
+of_second (Push (sources.Bool holds)) = refl
+of_second (Unary (unary.Negate of_numbers.Wholes)) = refl
+of_second (Binary (binary.Wholes arithmetic.Add)) = refl
+of_second (Binary (binary.Decimals on_decimals.Add)) = refl
+of_second (Binary (binary.Compare compared.Wholes orders.Less)) = refl
+of_second (Binary (binary.Compare compared.Decimals orders.Less)) = refl
+of_second (Binary (binary.Compare compared.Mixed orders.Less)) = refl
+of_second (Binary (binary.Equal families.Truth)) = refl
+of_second (Jump jumps.And place) = refl
+of_second (Binary (binary.TextTest tests.Contains)) = refl
+of_second (Enter predicates.All place) = refl
+of_second (Step predicates.All place) = refl
+of_second op = refl
+
+all_of_second : (ops : List Op) → AllByRecursion (IsOf Second) ops
+all_of_second [] = tt
+all_of_second (op ∷ ops) = (of_second op, all_of_second ops)
+
+none_first : (a b : Bool) → (a || b) ≡ false → (a ≡ false) × (b ≡ false)
+none_first false b e = (refl, e)
+none_first true b e = absurd cc
+
+all_of_first : (ops : List Op) → list_any is_new ops ≡ false → AllByRecursion (IsOf First) ops
+all_of_first [] none = tt
+all_of_first (op ∷ ops) none = let first = none_first (is_new op) (list_any is_new ops) none in (first.0, all_of_first ops first.1)
+
+-- code has the operations of its version alone
+of_its_version : (ops : List Op) → AllByRecursion (IsOf (version_of ops)) ops
+of_its_version ops = by_new (list_any is_new ops) refl
+  where
+    by_new : (new : Bool) → list_any is_new ops ≡ new → AllByRecursion (IsOf (cond new Second First)) ops
+    by_new true e = all_of_second ops
+    by_new false e = all_of_first ops e
+
+op_found : (version : Version) (op : Op) → IsOf version op → op_of version (code_of op) ≡ Some (empty op)
+unfolding op_of
+op_found version op is = rw is (found op)
 
 source_again : (end at texts names : ℕ) (source : Source) (rest : List ℕ) → texts ≤ most_entries → InRange (Push source) → Inside texts names (Push source) → source_at end at texts (empty_source source) (source_fields source ++ rest) ≡ Ok (source, rest)
 unfolding source_at
@@ -167,9 +214,9 @@ fields_again end at texts names (Enter predicate step) rest few_texts few_names 
 fields_again end at texts names (Step predicate enter) rest few_texts few_names range inside = rw (narrow_again end enter rest range) refl
 fields_again end at texts names op rest few_texts few_names range inside = refl
 
-op_again : (end texts names : ℕ) (op : Op) (rest : List ℕ) → texts ≤ most_entries → names ≤ most_entries → InRange op → Inside texts names op → op_at end texts names (op_bytes op ++ rest) ≡ Ok (op, rest)
+op_again : (end : ℕ) (version : Version) (texts names : ℕ) (op : Op) (rest : List ℕ) → texts ≤ most_entries → names ≤ most_entries → IsOf version op → InRange op × Inside texts names op → op_at end version texts names (op_bytes op ++ rest) ≡ Ok (op, rest)
 unfolding op_at
-op_again end texts names op rest few_texts few_names range inside = rw (found op, fields_again end (place end (op_bytes op ++ rest)) texts names op rest few_texts few_names range inside) refl
+op_again end version texts names op rest few_texts few_names of (range, inside) = rw (op_found version op of, fields_again end (place end (op_bytes op ++ rest)) texts names op rest few_texts few_names range inside) refl
 
 -- ---- texts
 
@@ -198,16 +245,21 @@ table_again end texts rest few short utf8 =
 
 -- ---- images
 
+both_of_all : {A : Type 0} (P Q : A → Type 0) (xs : List A) → AllByRecursion P xs → AllByRecursion Q xs → AllByRecursion (λ x. P x × Q x) xs
+both_of_all P Q [] p q = tt
+both_of_all P Q (x ∷ xs) p q = ((p.0, q.0), both_of_all P Q xs p.1 q.1)
+
 ops_again : (end texts names : ℕ) (ops : List Op) (rest : List ℕ) → texts ≤ most_entries → names ≤ most_entries → All InRange ops → All (Inside texts names) ops
-    → so_many_ops end texts names (length ops) (flat_map op_bytes ops ++ rest) ≡ Ok (ops, rest)
+    → so_many_ops end (version_of ops) texts names (length ops) (flat_map op_bytes ops ++ rest) ≡ Ok (ops, rest)
 ops_again end texts names ops rest few_texts few_names ranges inside =
-    many_again op_bytes InRange (Inside texts names) (op_at end texts names) (so_many_ops end texts names) (ops_read end texts names) (λ op rest. op_again end texts names op rest few_texts few_names) ops rest
-    (recursion_from_All InRange ops ranges) (recursion_from_All (Inside texts names) ops inside)
+    let version = version_of ops in
+    many_again op_bytes (IsOf version) (λ op. InRange op × Inside texts names op) (op_at end version texts names) (so_many_ops end version texts names) (ops_read end version texts names) (λ op rest. op_again end version texts names op rest few_texts few_names) ops rest
+    (of_its_version ops) (both_of_all InRange (Inside texts names) ops (recursion_from_All InRange ops ranges) (recursion_from_All (Inside texts names) ops inside))
 
 regrouped : (a b c d rest : List ℕ) → (a ++ (b ++ (c ++ d))) ++ rest ≡ a ++ (b ++ (c ++ (d ++ rest)))
 regrouped a b c d rest = simp append_assoc
 
-parts_again : (end : ℕ) (code : Code) (rest : List ℕ) → IsWritable code → parts_at end (body code ++ rest) ≡ Ok (code, rest)
+parts_again : (end : ℕ) (code : Code) (rest : List ℕ) → IsWritable code → parts_at end (version_of code.ops) (body code ++ rest) ≡ Ok (code, rest)
 unfolding parts_at
 parts_again end code rest w =
     let t = strings code.texts in
@@ -224,9 +276,18 @@ parts_again end code rest w =
     refl
 
 -- bytes that begin with an image
+-- a version is read as it is written
+version_again : (end : ℕ) (version : Version) (rest : List ℕ) → version_at end (version_byte version ∷ rest) ≡ Ok (version, rest)
+unfolding version_at
+version_again end First rest = refl
+version_again end Second rest = refl
+
 begun : (code : Code) (rest : List ℕ) → IsWritable code → decoded (image code ++ rest) ≡ whole (length (image code ++ rest)) (code, rest)
 unfolding decoded image
-begun code rest w = rw (parts_again (length (magic ++ version ∷ body code ++ rest)) code rest w) refl
+begun code rest w =
+    let end = length (magic ++ version_byte (version_of code.ops) ∷ body code ++ rest) in
+    let same : eqb (version_byte (version_of code.ops)) (version_byte (version_of code.ops)) ≡ true = eq-eqb (version_byte (version_of code.ops)) (version_byte (version_of code.ops)) refl in
+    rw (version_again end (version_of code.ops) (body code ++ rest), parts_again end code rest w, same) refl
 
 -- the image of code is read as that code
 pub image_again : (code : Code) → IsWritable code → decoded (image code) ≡ Ok code
@@ -250,3 +311,14 @@ trailing end first second (byte ∷ rest) e = absurd cc
 pub one_image : (first second : Code) (rest : List ℕ) → IsWritable first → IsWritable second → image first ++ rest ≡ image second → (first ≡ second) × (rest ≡ [])
 one_image first second rest w v e =
     trailing (length (image first ++ rest)) first second rest (sym (begun first rest w) ∙ ap decoded e ∙ image_again second v)
+
+-- ---- versions
+
+-- an image of version 1 is what it was before there was another
+pub first_image : (code : Code) → list_any is_new code.ops ≡ false → image code ≡ magic ++ 1 ∷ body code
+unfolding image
+first_image code none = rw none refl
+
+pub second_image : (code : Code) → list_any is_new code.ops ≡ true → image code ≡ magic ++ 2 ∷ body code
+unfolding image
+second_image code some = rw some refl

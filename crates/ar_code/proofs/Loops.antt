@@ -4,6 +4,7 @@ use Rattle.std.proofs.lemmas.List.{append-nil}
 use Rattle.ar_value.specs.Answer.{◌>>=◌, Unless}
 use Rattle.ar_op.specs.declared.op.Op.{Op}
 use Rattle.ar_code.specs.Decoding.{Reading, is_memory, op_at, so_many_ops, so_many_texts, text_at}
+use Rattle.ar_code.specs.declared.version.Version.{Version}
 use Rattle.ar_code.specs.declared.error.ImageError.{ImageError}
 use Rattle.ar_code.proofs.Freely.{unless_any}
 
@@ -47,20 +48,20 @@ is_done one many reads front count i bytes total le so_far =
 
 -- ---- operations
 
-pub ops_read : (end texts names : ℕ) → Reads (op_at end texts names) (so_many_ops end texts names)
+pub ops_read : (end : ℕ) (version : Version) (texts names : ℕ) → Reads (op_at end version texts names) (so_many_ops end version texts names)
 unfolding so_many_ops
-ops_read end texts names = record { none = λ bytes. refl; more = λ n bytes. refl }
+ops_read end version texts names = record { none = λ bytes. refl; more = λ n bytes. refl }
 
-pub ops_go_on : (end texts names : ℕ) (front : List Op) (count i : ℕ) (bytes after : List ℕ) (first : Op) (total : Reading (List Op)) → i < count → op_at end texts names bytes ≡ Ok (first, after)
-    → behind front (so_many_ops end texts names (count - i) bytes) ≡ total → behind (front ++ first ∷ []) (so_many_ops end texts names (count - (i + 1)) after) ≡ total
-ops_go_on end texts names = goes_on (op_at end texts names) (so_many_ops end texts names) (ops_read end texts names)
+pub ops_go_on : (end : ℕ) (version : Version) (texts names : ℕ) (front : List Op) (count i : ℕ) (bytes after : List ℕ) (first : Op) (total : Reading (List Op)) → i < count → op_at end version texts names bytes ≡ Ok (first, after)
+    → behind front (so_many_ops end version texts names (count - i) bytes) ≡ total → behind (front ++ first ∷ []) (so_many_ops end version texts names (count - (i + 1)) after) ≡ total
+ops_go_on end version texts names = goes_on (op_at end version texts names) (so_many_ops end version texts names) (ops_read end version texts names)
 
-pub ops_end : (end texts names : ℕ) (error : ImageError) (front : List Op) (count i : ℕ) (bytes : List ℕ) (total : Reading (List Op)) → i < count → op_at end texts names bytes ≡ Err error
-    → behind front (so_many_ops end texts names (count - i) bytes) ≡ total → Unless (is_memory error) (total ≡ Err error)
-ops_end end texts names error front count i bytes total lt h so_far = unless_any (total ≡ Err error) (is_memory error) (ends (op_at end texts names) (so_many_ops end texts names) (ops_read end texts names) error front count i bytes total lt h so_far)
+pub ops_end : (end : ℕ) (version : Version) (texts names : ℕ) (error : ImageError) (front : List Op) (count i : ℕ) (bytes : List ℕ) (total : Reading (List Op)) → i < count → op_at end version texts names bytes ≡ Err error
+    → behind front (so_many_ops end version texts names (count - i) bytes) ≡ total → Unless (is_memory error) (total ≡ Err error)
+ops_end end version texts names error front count i bytes total lt h so_far = unless_any (total ≡ Err error) (is_memory error) (ends (op_at end version texts names) (so_many_ops end version texts names) (ops_read end version texts names) error front count i bytes total lt h so_far)
 
-pub ops_done : (end texts names : ℕ) (front : List Op) (count i : ℕ) (bytes : List ℕ) (total : Reading (List Op)) → count ≤ i → behind front (so_many_ops end texts names (count - i) bytes) ≡ total → total ≡ Ok (front, bytes)
-ops_done end texts names = is_done (op_at end texts names) (so_many_ops end texts names) (ops_read end texts names)
+pub ops_done : (end : ℕ) (version : Version) (texts names : ℕ) (front : List Op) (count i : ℕ) (bytes : List ℕ) (total : Reading (List Op)) → count ≤ i → behind front (so_many_ops end version texts names (count - i) bytes) ≡ total → total ≡ Ok (front, bytes)
+ops_done end version texts names = is_done (op_at end version texts names) (so_many_ops end version texts names) (ops_read end version texts names)
 
 -- ---- texts
 

@@ -3,7 +3,7 @@ use Rattle.std.proofs.Common.{◌≡◌, ℕ, zero, suc, ◌+◌, ◌-◌, ◌<�
 use Rattle.std.specs.List.{slice_get}
 use Rattle.std.proofs.lemmas.Bool.{eqb-true, eq-eqb, ne_eqb}
 use Rattle.ar_op.specs.declared.op.Op.{Op}
-use Rattle.ar_code.specs.Decoding.{all_ops, among, op_of}
+use Rattle.ar_code.specs.Decoding.{all_ops, among}
 use Rattle.ar_code.specs.Image.{code_of}
 
 and_left : (a b : Bool) → (a && b) ≡ true → a ≡ true
@@ -30,13 +30,11 @@ by_place (op ∷ ops) first (suc place) ordered =
     let on : suc first + place ≡ first + suc place = omega arith in
     rw other (by_place ops (suc first) place (and_right (eqb (code_of op) first) (in_order (suc first) ops) ordered) ∙ ap (among ops) on)
 
-pub op_by_place : (code : ℕ) → 0 < code → slice_get all_ops (code - 1) ≡ op_of code
-unfolding op_of
+pub op_by_place : (code : ℕ) → 0 < code → slice_get all_ops (code - 1) ≡ among all_ops code
 op_by_place code positive =
     let whole : 1 + (code - 1) ≡ code = omega arith in
     by_place all_ops 1 (code - 1) refl ∙ ap (among all_ops) whole
 
-pub no_op : (code : ℕ) → code < 1 → op_of code ≡ None
-unfolding op_of
+pub no_op : (code : ℕ) → code < 1 → among all_ops code ≡ None
 no_op zero below = refl
 no_op (suc code) below = absurd (omega (arith, below))

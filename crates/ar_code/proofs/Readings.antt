@@ -8,15 +8,16 @@ use Rattle.std.proofs.lemmas.Bool.{eqb-true, eqb-false, ltb-true, ltb-false}
 use Rattle.std.proofs.lemmas.List.{append-nil, length-take, take-append-drop}
 use Rattle.std.proofs.lemmas.List.Elements.{All-from_recursion}
 use Rattle.std.proofs.lemmas.Slice.Eq.{bytes_eq-Decides}
-use Rattle.ar_value.specs.Answer.{◌>>=◌}
+use Rattle.ar_value.specs.Answer.{◌>>=◌, holds_or}
 use Rattle.ar_value.specs.declared.operator.Scalar.{Scalar}
 use Rattle.ar_op.specs.Code.{Code, Inside, IsCode, IsEntry, code_of_parts, most_entries, most_items}
 use Rattle.ar_op.specs.declared.op.Op.{Op}
 use Rattle.ar_op.specs.declared.op.Op.TheVariants.{Push, MakeList, Field, Jump, Enter, Step}
 use Rattle.ar_op.specs.declared.op.Source.{Source}
 use Rattle.ar_op.specs.declared.op.Source.TheVariants as sources
-use Rattle.ar_code.specs.Decoding.{Reading, all_ops, among, bit_at, coded, count_at, cut_number, decoded, entry_at, expected, fields_at, is_memory, items_at, letters_at, list_at, narrow, number_at, op_at, op_of, parts_at, place, scalar_at, scalar_of, signed, so_many_ops, so_many_texts, source_at, spelled, sum_of, text_at, texts_at, where_scalar, where_spelled, where_text, whole, whole_number, wide}
-use Rattle.ar_code.specs.Image.{bit, body, code_of, fields_of, image, magic, number, op_bytes, scalar_number, string, strings, version, zigzag}
+use Rattle.ar_code.specs.Decoding.{Reading, all_ops, among, bit_at, coded, count_at, cut_number, decoded, entry_at, expected, fields_at, is_memory, items_at, letters_at, list_at, narrow, number_at, op_at, of_version, op_of, parts_at, place, scalar_at, scalar_of, signed, so_many_ops, so_many_texts, source_at, spelled, sum_of, text_at, texts_at, version_at, where_scalar, where_spelled, where_text, whole, whole_number, wide}
+use Rattle.ar_code.specs.Image.{bit, body, code_of, fields_of, image, last_code, magic, number, op_bytes, scalar_number, string, strings, version_byte, version_of, zigzag}
+use Rattle.ar_code.specs.declared.version.Version.{Version}
 use Rattle.ar_code.specs.declared.error.ImageError.{ImageError}
 use Rattle.ar_code.specs.declared.error.ImageError.TheVariants.{BadMagic, BadVersion, OutOfMemory}
 use Rattle.ar_code.proofs.Loops.{Reads, ops_read, texts_read}
@@ -247,9 +248,13 @@ among_coded : (ops : List Op) (code : ℕ) → IsCoded code (among ops code)
 among_coded [] code = tt
 among_coded (op ∷ ops) code = coded_by code op (eqb (code_of op) code) (among ops code) refl (among_coded ops code)
 
-op_coded : (code : ℕ) → IsCoded code (op_of code)
+op_coded : (version : Version) (code : ℕ) → IsCoded code (op_of version code)
 unfolding op_of
-op_coded code = among_coded all_ops code
+op_coded version code = where_it_is (ltb (last_code version) code) (among_coded all_ops code)
+  where
+    where_it_is : (later : Bool) → IsCoded code (among all_ops code) → IsCoded code (cond later None (among all_ops code))
+    where_it_is true is = tt
+    where_it_is false is = is
 
 coded_read : (end at texts names code : ℕ) (op : Option Op) (bytes : List ℕ) → IsCoded code op → Holds (IsOne op_bytes (Inside texts names) (code ∷ bytes)) (coded end at texts names op bytes)
 coded_read end at texts names code None bytes is = refl
@@ -257,10 +262,10 @@ coded_read end at texts names code (Some op) bytes is =
     implied (IsOp texts names op bytes) (IsOne op_bytes (Inside texts names) (code ∷ bytes)) (fields_at end at texts names op bytes) (fields_read end at texts names op bytes)
     (λ x of. (ap (λ (c : ℕ). c ∷ bytes) (sym (of.1 ∙ is)) ∙ ap (λ (l : List ℕ). code_of x.0 ∷ l) of.0, of.2))
 
-op_read : (end texts names : ℕ) (bytes : List ℕ) → Holds (IsOne op_bytes (Inside texts names) bytes) (op_at end texts names bytes)
+op_read : (end : ℕ) (version : Version) (texts names : ℕ) (bytes : List ℕ) → Holds (IsOne op_bytes (Inside texts names) bytes) (op_at end version texts names bytes)
 unfolding op_at
-op_read end texts names [] = refl
-op_read end texts names (code ∷ bytes) = coded_read end (place end (code ∷ bytes)) texts names code (op_of code) bytes (op_coded code)
+op_read end version texts names [] = refl
+op_read end version texts names (code ∷ bytes) = coded_read end (place end (code ∷ bytes)) texts names code (op_of version code) bytes (op_coded version code)
 
 -- ---- images
 
@@ -289,15 +294,15 @@ parts_are bytes texts names count ops of_texts of_names of_count of_ops =
       },
     )
 
-parts_read : (end : ℕ) (bytes : List ℕ) → Holds (IsParts bytes) (parts_at end bytes)
+parts_read : (end : ℕ) (version : Version) (bytes : List ℕ) → Holds (IsParts bytes) (parts_at end version bytes)
 unfolding parts_at
-parts_read end bytes =
+parts_read end version bytes =
     and_then (IsTable bytes) (IsParts bytes) (texts_at end bytes) _ (table_read end bytes)
     (λ texts of_texts. and_then (IsTable texts.1) (IsParts bytes) (texts_at end texts.1) _ (table_read end texts.1)
     (λ names of_names. and_then (IsCount names.1) (IsParts bytes) (count_at end names.1) _ (count_read end names.1)
     (λ count of_count. let t = length texts.0 in
     let n = length names.0 in
-    and_then (AreOps t n count.0 count.1) (IsParts bytes) (so_many_ops end t n count.0 count.1) _ (many_read op_bytes (Inside t n) (op_at end t n) (so_many_ops end t n) (ops_read end t n) (op_read end t n) count.0 count.1)
+    and_then (AreOps t n count.0 count.1) (IsParts bytes) (so_many_ops end version t n count.0 count.1) _ (many_read op_bytes (Inside t n) (op_at end version t n) (so_many_ops end version t n) (ops_read end version t n) (op_read end version t n) count.0 count.1)
     (λ ops of_ops. parts_are bytes texts names count ops of_texts of_names of_count of_ops))))
 
 expected_read : (end : ℕ) (error : ImageError) (wanted bytes : List ℕ) → is_memory error ≡ false → Holds (λ rest. bytes ≡ wanted ++ rest) (expected end error wanted bytes)
@@ -309,9 +314,25 @@ expected_read end error (wanted ∷ others) (byte ∷ bytes) fault =
     (λ is. implied (λ rest. bytes ≡ others ++ rest) P (expected end error others bytes) (expected_read end error others bytes fault)
     (λ rest on. ap (λ (n : ℕ). n ∷ bytes) (eqb-true byte wanted is) ∙ ap (λ (l : List ℕ). wanted ∷ l) on))
 
-whole_read : (end : ℕ) (bytes : List ℕ) (read : Code × List ℕ) → Takes body bytes read → Holds (λ code. bytes ≡ body code) (whole end read)
-whole_read end bytes (code, []) is = is ∙ append-nil (body code)
-whole_read end bytes (code, byte ∷ rest) is = refl
+version_read : (end : ℕ) (bytes : List ℕ) → Holds (Takes (λ version. version_byte version ∷ []) bytes) (version_at end bytes)
+unfolding version_at
+version_read end [] = refl
+version_read end (zero ∷ bytes) = refl
+version_read end (suc zero ∷ bytes) = refl
+version_read end (suc (suc zero) ∷ bytes) = refl
+version_read end (suc (suc (suc byte)) ∷ bytes) = refl
+
+of_version_read : (version : Version) (code : Code) → Holds (λ checked. version_byte version ≡ version_byte (version_of code.ops)) (of_version version code)
+of_version_read version code = by_test (eqb (version_byte version) (version_byte (version_of code.ops))) refl
+  where
+    by_test : (test : Bool) → eqb (version_byte version) (version_byte (version_of code.ops)) ≡ test → Holds (λ checked. version_byte version ≡ version_byte (version_of code.ops)) (holds_or BadVersion test)
+    by_test true same = eqb-true (version_byte version) (version_byte (version_of code.ops)) same
+    by_test false other = refl
+
+whole_read : (end : ℕ) (version : Version) (bytes : List ℕ) (read : Code × List ℕ) → Takes body bytes read → version_byte version ≡ version_byte (version_of read.0.ops)
+    → Holds (λ code. (bytes ≡ body code) × (version_byte version ≡ version_byte (version_of code.ops))) (whole end read)
+whole_read end version bytes (code, []) is same = (is ∙ append-nil (body code), same)
+whole_read end version bytes (code, byte ∷ rest) is same = refl
 
 decoded_read : (bytes : List ℕ) → Holds (λ code. bytes ≡ image code) (decoded bytes)
 unfolding decoded image
@@ -319,13 +340,14 @@ decoded_read bytes =
     let end = length bytes in
     let P : Code → Type 0 = λ code. bytes ≡ image code in
     and_then (λ rest. bytes ≡ magic ++ rest) P (expected end BadMagic magic bytes) _ (expected_read end BadMagic magic bytes refl)
-    (λ versioned m. and_then (λ rest. versioned ≡ version ∷ rest) P (expected end BadVersion (version ∷ []) versioned) _ (expected_read end BadVersion (version ∷ []) versioned refl)
-    (λ parts v. and_then (IsParts parts) P (parts_at end parts) _ (parts_read end parts)
-    (λ read is. implied (λ code. parts ≡ body code) P (whole end read) (whole_read end parts read is.0)
-    (λ code all. m ∙ ap (λ (l : List ℕ). magic ++ l) (v ∙ ap (λ (l : List ℕ). version ∷ l) all)))))
+    (λ versioned m. and_then (Takes (λ version. version_byte version ∷ []) versioned) P (version_at end versioned) _ (version_read end versioned)
+    (λ version v. and_then (IsParts version.1) P (parts_at end version.0 version.1) _ (parts_read end version.0 version.1)
+    (λ read is. and_then (λ checked. version_byte version.0 ≡ version_byte (version_of read.0.ops)) P (of_version version.0 read.0) _ (of_version_read version.0 read.0)
+    (λ checked same. implied (λ code. (version.1 ≡ body code) × (version_byte version.0 ≡ version_byte (version_of code.ops))) P (whole end read) (whole_read end version.0 version.1 read is.0 same)
+    (λ code all. m ∙ ap (λ (l : List ℕ). magic ++ l) (v ∙ (ap (λ (l : List ℕ). version_byte version.0 ∷ l) all.0 ∙ ap (λ (n : ℕ). n ∷ body code) all.1)))))))
 
-pub parts_are_code : (end : ℕ) (bytes : List ℕ) (x : Code × List ℕ) → parts_at end bytes ≡ Ok x → IsCode x.0
-parts_are_code end bytes x e = let is = subst (λ r. Holds (IsParts bytes) r) e (parts_read end bytes) in is.1
+pub parts_are_code : (end : ℕ) (version : Version) (bytes : List ℕ) (x : Code × List ℕ) → parts_at end version bytes ≡ Ok x → IsCode x.0
+parts_are_code end version bytes x e = let is = subst (λ r. Holds (IsParts bytes) r) e (parts_read end version bytes) in is.1
 
 -- what is accepted is the image of what was read
 pub is_image : (bytes : List ℕ) (code : Code) → decoded bytes ≡ Ok code → bytes ≡ image code

@@ -1,7 +1,7 @@
 -- The code whose image bytes are, or the first fault from left to right.
-use Rattle.std.specs.Prelude.{ℕ, zero, suc, ◌+◌, ◌*◌, ◌-◌, ◌/◌, ◌%◌, ◌^◌, ◌==◌, nat_lt, ℤ, pos, negsuc, Bool, true, false, ◌&&◌, if◌then◌else◌, List, [], ◌∷◌, length, take, drop, Option, Some, None, option_map, Result, Ok, Err}
+use Rattle.std.specs.Prelude.{ℕ, zero, suc, ◌+◌, ◌*◌, ◌-◌, ◌/◌, ◌%◌, ◌^◌, ◌==◌, nat_lt, ℤ, pos, negsuc, Bool, true, false, ◌&&◌, if◌then◌else◌, List, [], ◌∷◌, length, take, drop, Option, Some, None, option_map, Result, Ok, Err, ⊤}
 use Rattle.std.specs.Str.{bytes_eq, is_utf8}
-use Rattle.ar_value.specs.Answer.{◌>>=◌}
+use Rattle.ar_value.specs.Answer.{◌>>=◌, holds_or}
 use Rattle.ar_value.specs.declared.operator.Arithmetic.TheVariants.{Add, Subtract, Multiply, Divide, Remainder}
 use Rattle.ar_value.specs.declared.operator.BinaryOperator.TheVariants as binary
 use Rattle.ar_value.specs.declared.operator.Compared.TheVariants as compared
@@ -12,6 +12,7 @@ use Rattle.ar_value.specs.declared.operator.Order.TheVariants.{Less, LessOrEqual
 use Rattle.ar_value.specs.declared.operator.Predicate.TheVariants as predicates
 use Rattle.ar_value.specs.declared.operator.Scalar.{Scalar}
 use Rattle.ar_value.specs.declared.operator.Scalar.TheVariants as scalars
+use Rattle.ar_value.specs.declared.operator.TextTest.TheVariants as tests
 use Rattle.ar_value.specs.declared.operator.UnaryOperator.TheVariants as unary
 use Rattle.ar_op.specs.Code.{Code, most_entries, most_items}
 use Rattle.ar_op.specs.declared.op.Jump.TheVariants as jumps
@@ -19,7 +20,9 @@ use Rattle.ar_op.specs.declared.op.Op.{Op}
 use Rattle.ar_op.specs.declared.op.Op.TheVariants.{Push, MakeList, Field, Unary, Binary, Jump, Enter, Step, Return}
 use Rattle.ar_op.specs.declared.op.Source.{Source}
 use Rattle.ar_op.specs.declared.op.Source.TheVariants as sources
-use Rattle.ar_code.specs.Image.{code_of, magic, number, version}
+use Rattle.ar_code.specs.Image.{code_of, last_code, magic, number, version_byte, version_of}
+use Rattle.ar_code.specs.declared.version.Version.{Version}
+use Rattle.ar_code.specs.declared.version.Version.TheVariants.{First, Second}
 use Rattle.ar_code.specs.declared.error.ImageError.{ImageError}
 use Rattle.ar_code.specs.declared.error.ImageError.TheVariants.{BadMagic, BadVersion, Truncated, BadNumber, UnknownOp, BadText, TooLarge, Trailing, OutOfMemory}
 
@@ -123,15 +126,17 @@ all_ops =
     ∷ Binary (binary.Equal families.Truth) ∷ Binary (binary.Equal families.Number) ∷ Binary (binary.Equal families.Text)
     ∷ Jump jumps.And 0 ∷ Jump jumps.Or 0 ∷ Jump jumps.Branch 0 ∷ Jump jumps.Always 0
     ∷ Enter predicates.All 0 ∷ Step predicates.All 0 ∷ Enter predicates.Any 0 ∷ Step predicates.Any 0
-    ∷ Enter predicates.Count 0 ∷ Step predicates.Count 0 ∷ Enter predicates.Filter 0 ∷ Step predicates.Filter 0 ∷ Return ∷ []
+    ∷ Enter predicates.Count 0 ∷ Step predicates.Count 0 ∷ Enter predicates.Filter 0 ∷ Step predicates.Filter 0 ∷ Return
+    ∷ Enter predicates.None 0 ∷ Step predicates.None 0 ∷ Enter predicates.One 0 ∷ Step predicates.One 0
+    ∷ Binary (binary.TextTest tests.Contains) ∷ Binary (binary.TextTest tests.StartsWith) ∷ Binary (binary.TextTest tests.EndsWith) ∷ []
 
 abbrev pub among : List Op → ℕ → Option Op
 among [] code = None
 among (op ∷ ops) code = if code_of op == code then Some op else among ops code
 
--- the operation that has a code
-unfoldable pub op_of : ℕ → Option Op
-op_of code = among all_ops code
+-- the operation that has a code in images of a version
+unfoldable pub op_of : Version → ℕ → Option Op
+op_of version code = if nat_lt (last_code version) code then None else among all_ops code
 
 abbrev pub scalar_of : ℕ → Option Scalar
 scalar_of zero = Some scalars.Bool
@@ -193,16 +198,16 @@ abbrev pub coded : ℕ → (at texts names : ℕ) → Option Op → List ℕ →
 coded end at texts names None bytes = Err (UnknownOp at)
 coded end at texts names (Some op) bytes = fields_at end at texts names op bytes
 
-unfoldable pub op_at : ℕ → (texts names : ℕ) → List ℕ → Reading Op
-op_at end texts names bytes = do
+unfoldable pub op_at : ℕ → Version → (texts names : ℕ) → List ℕ → Reading Op
+op_at end version texts names bytes = do
   code ← byte_at end bytes
-  coded end (place end bytes) texts names (op_of code.0) code.1
+  coded end (place end bytes) texts names (op_of version code.0) code.1
 
-unfoldable pub so_many_ops : ℕ → (texts names count : ℕ) → List ℕ → Reading (List Op)
-so_many_ops end texts names zero bytes = Ok ([], bytes)
-so_many_ops end texts names (suc count) bytes = do
-  first ← op_at end texts names bytes
-  others ← so_many_ops end texts names count first.1
+unfoldable pub so_many_ops : ℕ → Version → (texts names count : ℕ) → List ℕ → Reading (List Op)
+so_many_ops end version texts names zero bytes = Ok ([], bytes)
+so_many_ops end version texts names (suc count) bytes = do
+  first ← op_at end version texts names bytes
+  others ← so_many_ops end version texts names count first.1
   Ok (first.0 ∷ others.0, others.1)
 
 -- ---- images
@@ -213,12 +218,29 @@ expected end error [] bytes = Ok bytes
 expected end error (wanted ∷ others) [] = Err (Truncated end)
 expected end error (wanted ∷ others) (byte ∷ bytes) = if byte == wanted then expected end error others bytes else Err error
 
-unfoldable pub parts_at : ℕ → List ℕ → Reading Code
-parts_at end bytes = do
+abbrev pub version_named : ℕ → Option Version
+version_named zero = None
+version_named (suc zero) = Some First
+version_named (suc (suc zero)) = Some Second
+version_named (suc (suc (suc byte))) = None
+
+abbrev pub where_version : Option Version → List ℕ → Reading Version
+where_version None bytes = Err BadVersion
+where_version (Some version) bytes = Ok (version, bytes)
+
+unfoldable pub version_at : ℕ → List ℕ → Reading Version
+version_at end bytes = byte_at end bytes >>= λ byte. where_version (version_named byte.0) byte.1
+
+-- an image names the version of its code
+abbrev pub of_version : Version → Code → Result ⊤ ImageError
+of_version version code = holds_or BadVersion (version_byte version == version_byte (version_of code.ops))
+
+unfoldable pub parts_at : ℕ → Version → List ℕ → Reading Code
+parts_at end version bytes = do
   texts ← texts_at end bytes
   names ← texts_at end texts.1
   count ← count_at end names.1
-  ops ← so_many_ops end (length texts.0) (length names.0) count.0 count.1
+  ops ← so_many_ops end version (length texts.0) (length names.0) count.0 count.1
   Ok (record { ops = ops.0; texts = texts.0; names = names.0 }, ops.1)
 
 abbrev pub whole : ℕ → Code × List ℕ → Result Code ImageError
@@ -228,9 +250,10 @@ whole end (code, byte ∷ bytes) = Err (Trailing (place end (byte ∷ bytes)))
 unfoldable pub decoded : List ℕ → Result Code ImageError
 decoded bytes = do
   versioned ← expected (length bytes) BadMagic magic bytes
-  parts ← expected (length bytes) BadVersion (version ∷ []) versioned
-  code ← parts_at (length bytes) parts
-  whole (length bytes) code
+  version ← version_at (length bytes) versioned
+  read ← parts_at (length bytes) version.0 version.1
+  checked ← of_version version.0 read.0
+  whole (length bytes) read
 
 abbrev pub is_memory : ImageError → Bool
 is_memory OutOfMemory = true

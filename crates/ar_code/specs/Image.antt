@@ -1,6 +1,6 @@
 -- The image of code: the bytes that stand for it, each code having one.
 use Rattle.std.specs.Prelude.{ℕ, zero, suc, ◌+◌, ◌*◌, ◌/◌, ◌%◌, nat_lt, ℤ, pos, negsuc, Bool, true, false, if◌then◌else◌, List, [], ◌∷◌, ◌++◌, length}
-use Rattle.std.specs.List.{flat_map}
+use Rattle.std.specs.List.{flat_map, list_any}
 use Rattle.ar_value.specs.declared.operator.Arithmetic.{Arithmetic}
 use Rattle.ar_value.specs.declared.operator.Arithmetic.TheVariants.{Add, Subtract, Multiply, Divide, Remainder}
 use Rattle.ar_value.specs.declared.operator.BinaryOperator.{BinaryOperator}
@@ -18,6 +18,8 @@ use Rattle.ar_value.specs.declared.operator.Predicate.{Predicate}
 use Rattle.ar_value.specs.declared.operator.Predicate.TheVariants as predicates
 use Rattle.ar_value.specs.declared.operator.Scalar.{Scalar}
 use Rattle.ar_value.specs.declared.operator.Scalar.TheVariants as scalars
+use Rattle.ar_value.specs.declared.operator.TextTest.{TextTest}
+use Rattle.ar_value.specs.declared.operator.TextTest.TheVariants as tests
 use Rattle.ar_value.specs.declared.operator.UnaryOperator.{UnaryOperator}
 use Rattle.ar_value.specs.declared.operator.UnaryOperator.TheVariants as unary
 use Rattle.ar_op.specs.Code.{Code}
@@ -27,6 +29,8 @@ use Rattle.ar_op.specs.declared.op.Op.{Op}
 use Rattle.ar_op.specs.declared.op.Op.TheVariants as ops
 use Rattle.ar_op.specs.declared.op.Source.{Source}
 use Rattle.ar_op.specs.declared.op.Source.TheVariants as sources
+use Rattle.ar_code.specs.declared.version.Version.{Version}
+use Rattle.ar_code.specs.declared.version.Version.TheVariants.{First, Second}
 
 -- ---- numbers and texts
 
@@ -103,6 +107,11 @@ equality_code families.Truth = 41
 equality_code families.Number = 42
 equality_code families.Text = 43
 
+abbrev pub text_test_code : TextTest → ℕ
+text_test_code tests.Contains = 61
+text_test_code tests.StartsWith = 62
+text_test_code tests.EndsWith = 63
+
 abbrev pub binary_code : BinaryOperator → ℕ
 binary_code binary.Index = 10
 binary_code binary.Default = 14
@@ -111,6 +120,7 @@ binary_code (binary.Wholes operator) = wholes_code operator
 binary_code (binary.Decimals operator) = decimals_code operator
 binary_code (binary.Compare of order) = comparison_code of order
 binary_code (binary.Equal family) = equality_code family
+binary_code (binary.TextTest test) = text_test_code test
 
 abbrev pub jump_code : Jump → ℕ
 jump_code jumps.And = 44
@@ -121,12 +131,16 @@ jump_code jumps.Always = 47
 abbrev pub enter_code : Predicate → ℕ
 enter_code predicates.All = 48
 enter_code predicates.Any = 50
+enter_code predicates.None = 57
+enter_code predicates.One = 59
 enter_code predicates.Count = 52
 enter_code predicates.Filter = 54
 
 abbrev pub step_code : Predicate → ℕ
 step_code predicates.All = 49
 step_code predicates.Any = 51
+step_code predicates.None = 58
+step_code predicates.One = 60
 step_code predicates.Count = 53
 step_code predicates.Filter = 55
 
@@ -177,12 +191,26 @@ op_bytes op = code_of op ∷ fields_of op
 abbrev pub magic : List ℕ
 magic = 65 ∷ 82 ∷ 67 ∷ 86 ∷ []
 
-abbrev pub version : ℕ
-version = 1
+-- the greatest code of an operation of a version
+abbrev pub last_code : Version → ℕ
+last_code First = 56
+last_code Second = 63
+
+-- an operation that the first version lacks
+abbrev pub is_new : Op → Bool
+is_new op = nat_lt (last_code First) (code_of op)
+
+-- the version of code: the second where it has such an operation, else the first
+abbrev pub version_of : List Op → Version
+version_of ops = if list_any is_new ops then Second else First
+
+abbrev pub version_byte : Version → ℕ
+version_byte First = 1
+version_byte Second = 2
 
 -- texts, names and operations
 abbrev pub body : Code → List ℕ
 body code = strings code.texts ++ (strings code.names ++ (number (length code.ops) ++ flat_map op_bytes code.ops))
 
 unfoldable pub image : Code → List ℕ
-image code = magic ++ version ∷ body code
+image code = magic ++ version_byte (version_of code.ops) ∷ body code

@@ -18,6 +18,8 @@ use Rattle.ar_value.specs.declared.operator.Predicate.{Predicate}
 use Rattle.ar_value.specs.declared.operator.Predicate.TheVariants as predicates
 use Rattle.ar_value.specs.declared.operator.Scalar.{Scalar}
 use Rattle.ar_value.specs.declared.operator.Scalar.TheVariants as scalars
+use Rattle.ar_value.specs.declared.operator.TextTest.{TextTest}
+use Rattle.ar_value.specs.declared.operator.TextTest.TheVariants as tests
 use Rattle.ar_value.specs.declared.operator.UnaryOperator.{UnaryOperator}
 use Rattle.ar_value.specs.declared.operator.UnaryOperator.TheVariants as unary
 use Rattle.ar_op.specs.Code.{Code}
@@ -78,6 +80,11 @@ equality_name families.Truth = codes "EqBool"
 equality_name families.Number = codes "EqNumber"
 equality_name families.Text = codes "EqText"
 
+abbrev pub text_test_name : TextTest → List ℕ
+text_test_name tests.Contains = codes "Contains"
+text_test_name tests.StartsWith = codes "StartsWith"
+text_test_name tests.EndsWith = codes "EndsWith"
+
 abbrev pub binary_name : BinaryOperator → List ℕ
 binary_name binary.Index = codes "Index"
 binary_name binary.Default = codes "Default"
@@ -86,6 +93,7 @@ binary_name (binary.Wholes operator) = wholes_name operator
 binary_name (binary.Decimals operator) = decimals_name operator
 binary_name (binary.Compare of order) = comparison_name of order
 binary_name (binary.Equal family) = equality_name family
+binary_name (binary.TextTest test) = text_test_name test
 
 abbrev pub jump_name : Jump → List ℕ
 jump_name jumps.And = codes "AndJump"
@@ -96,12 +104,16 @@ jump_name jumps.Always = codes "Jump"
 abbrev pub enter_name : Predicate → List ℕ
 enter_name predicates.All = codes "AllEnter"
 enter_name predicates.Any = codes "AnyEnter"
+enter_name predicates.None = codes "NoneEnter"
+enter_name predicates.One = codes "OneEnter"
 enter_name predicates.Count = codes "CountEnter"
 enter_name predicates.Filter = codes "FilterEnter"
 
 abbrev pub step_name : Predicate → List ℕ
 step_name predicates.All = codes "AllStep"
 step_name predicates.Any = codes "AnyStep"
+step_name predicates.None = codes "NoneStep"
+step_name predicates.One = codes "OneStep"
 step_name predicates.Count = codes "CountStep"
 step_name predicates.Filter = codes "FilterStep"
 

@@ -9,7 +9,7 @@ pub enum ImageError {
     /// The bytes don't begin with "ARCV".
     #[error("BadMagic: expected an image, which begins with `ARCV`")]
     BadMagic,
-    #[error("BadVersion: expected version 1")]
+    #[error("BadVersion: expected version 1, or version 2 with an operation that version 1 lacks")]
     BadVersion,
     /// A byte is missing at the end.
     #[error("byte {0}: Truncated: expected more bytes")]
@@ -17,7 +17,7 @@ pub enum ImageError {
     /// The number that begins here isn't in its shortest form, or out of its range.
     #[error("byte {0}: BadNumber: expected a number in its range and its shortest form")]
     BadNumber(usize),
-    #[error("byte {0}: UnknownOp: expected the code of an operation, 1 to 56")]
+    #[error("byte {0}: UnknownOp: expected the code of an operation, 1 to 56, and to 63 in version 2")]
     UnknownOp(usize),
     /// The text that begins here isn't UTF-8, or the operation names a text or name that isn't there.
     #[error("byte {0}: BadText: expected UTF-8, or the number of a text or name that is there")]

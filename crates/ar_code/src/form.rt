@@ -1,14 +1,15 @@
 //! The codes and the names of operations.
 
 ghost use Rattle.std.specs.Prelude.{◌≡◌};
-ghost use Rattle.ar_code.specs.Decoding.{op_of};
-ghost use Rattle.ar_code.specs.Image.{binary_code, code_of, comparison_code, decimals_code, enter_code, equality_code, jump_code, source_code, step_code, unary_code, wholes_code};
-ghost use Rattle.ar_code.specs.Listing.{binary_name, comparison_name, decimals_name, enter_name, equality_name, jump_name, name_of, source_name, step_name, unary_name, wholes_name};
+ghost use Rattle.ar_code.specs.Decoding.{all_ops, among, op_of};
+ghost use Rattle.ar_code.specs.Image.{binary_code, code_of, comparison_code, decimals_code, enter_code, equality_code, jump_code, source_code, step_code, text_test_code, unary_code, wholes_code};
+ghost use Rattle.ar_code.specs.Listing.{binary_name, comparison_name, decimals_name, enter_name, equality_name, jump_name, name_of, source_name, step_name, text_test_name, unary_name, wholes_name};
 
+use crate::version::Version;
 use ar_op::op::{Jump, Op, Source};
 use ar_value::operator::{
     Arithmetic, BinaryOperator, Compared, DecimalArithmetic, Family, Numbers, Order, Predicate,
-    Scalar, UnaryOperator,
+    Scalar, TextTest, UnaryOperator,
 };
 
 /// What an operation is but for its fields: its code in an image, and its name in a listing.
@@ -86,6 +87,7 @@ fn of_binary(operator: BinaryOperator) -> Form
         BinaryOperator::Decimals(operator) => of_decimals(operator),
         BinaryOperator::Compare(compared, order) => of_comparison(compared, order),
         BinaryOperator::Equal(family) => of_equality(family),
+        BinaryOperator::TextTest(test) => of_text_test(test),
     }
 }
 
@@ -145,6 +147,17 @@ fn of_equality(family: Family) -> Form
     }
 }
 
+fn of_text_test(test: TextTest) -> Form
+    ensures code { result.code ≡ text_test_code test }
+    ensures name { result.name.now ≡ text_test_name test }
+{
+    match test {
+        TextTest::Contains => Form::new(61, "Contains"),
+        TextTest::StartsWith => Form::new(62, "StartsWith"),
+        TextTest::EndsWith => Form::new(63, "EndsWith"),
+    }
+}
+
 fn of_jump(jump: Jump) -> Form
     ensures code { result.code ≡ jump_code jump }
     ensures name { result.name.now ≡ jump_name jump }
@@ -164,6 +177,8 @@ fn of_enter(predicate: Predicate) -> Form
     match predicate {
         Predicate::All => Form::new(48, "AllEnter"),
         Predicate::Any => Form::new(50, "AnyEnter"),
+        Predicate::None => Form::new(57, "NoneEnter"),
+        Predicate::One => Form::new(59, "OneEnter"),
         Predicate::Count => Form::new(52, "CountEnter"),
         Predicate::Filter => Form::new(54, "FilterEnter"),
     }
@@ -176,13 +191,15 @@ fn of_step(predicate: Predicate) -> Form
     match predicate {
         Predicate::All => Form::new(49, "AllStep"),
         Predicate::Any => Form::new(51, "AnyStep"),
+        Predicate::None => Form::new(58, "NoneStep"),
+        Predicate::One => Form::new(60, "OneStep"),
         Predicate::Count => Form::new(53, "CountStep"),
         Predicate::Filter => Form::new(55, "FilterStep"),
     }
 }
 
 /// One operation for each code from 1 on, in their order, its fields being empty.
-const OPS: [Op; 56] = [
+const OPS: [Op; 63] = [
     Op::Push(Source::Bool(false)),
     Op::Push(Source::Whole(0)),
     Op::Push(Source::Decimal(0)),
@@ -242,13 +259,32 @@ const OPS: [Op; 56] = [
     Op::Enter(Predicate::Filter, 0),
     Op::Step(Predicate::Filter, 0),
     Op::Return,
+    Op::Enter(Predicate::None, 0),
+    Op::Step(Predicate::None, 0),
+    Op::Enter(Predicate::One, 0),
+    Op::Step(Predicate::One, 0),
+    Op::Binary(BinaryOperator::TextTest(TextTest::Contains)),
+    Op::Binary(BinaryOperator::TextTest(TextTest::StartsWith)),
+    Op::Binary(BinaryOperator::TextTest(TextTest::EndsWith)),
 ];
 
 /// The operation that has a code.
 #[tactic(auto, using(crate::proofs::Ordered::no_op))]
-pub(crate) fn op_of(code: u8) -> Option<Op>
-    ensures { result ≡ op_of code }
+fn op_with(code: u8) -> Option<Op>
+    ensures { result ≡ among all_ops code }
 {
     let place = usize::from(code).checked_sub(1)?;
     OPS.get(place).copied()
+}
+
+/// The operation that has a code in images of a version.
+#[tactic(auto, unfolding(crate::specs::Decoding::op_of))]
+pub(crate) fn op_of(version: Version, code: u8) -> Option<Op>
+    ensures { result ≡ op_of version code }
+{
+    if code > version.last_code() {
+        None
+    } else {
+        op_with(code)
+    }
 }

@@ -3,13 +3,14 @@
 ghost use Rattle.std.specs.Prelude.{◌≡◌, ◌≤◌, false, length, map, option_map, string_bytes, IfOk, Ok};
 ghost use Rattle.ar_value.specs.Answer.{Gives};
 ghost use Rattle.ar_op.specs.Code.{Code as Parts, IsWritable};
-ghost use Rattle.ar_code.specs.Decoding.{bit_at, decoded, entry_at, expected, fields_at, is_memory, items_at, letters_at, list_at, op_at, parts_at, scalar_at, scalar_of, so_many_ops, so_many_texts, source_at, text_at, text_of, texts_at};
+ghost use Rattle.ar_code.specs.Decoding.{bit_at, decoded, entry_at, expected, fields_at, is_memory, items_at, letters_at, list_at, of_version, op_at, parts_at, scalar_at, scalar_of, so_many_ops, so_many_texts, source_at, text_at, text_of, texts_at, version_at, whole};
 ghost use Rattle.ar_code.specs.Image.{image};
 
 use crate::error::ImageError;
 use crate::form::op_of;
-use crate::image_writing::{MAGIC, VERSION};
+use crate::image_writing::MAGIC;
 use crate::reader::{byte_at, count_at, narrow_at, place, signed, wide_at};
+use crate::version::{Version, version_of};
 use ar_op::code::Code;
 use ar_op::op::{Op, Source};
 use ar_value::operator::Scalar;
@@ -179,15 +180,20 @@ fn fields_at(
 
 /// An operation, its code and its fields.
 #[tactic(auto, unfolding(crate::specs::Decoding::op_at))]
-fn op_at(end: usize, tables: Tables, bytes: &[u8]) -> Result<(Op, &[u8]), ImageError>
+fn op_at(
+    end: usize,
+    version: Version,
+    tables: Tables,
+    bytes: &[u8],
+) -> Result<(Op, &[u8]), ImageError>
     requires { length bytes.now ≤ end }
     ensures exact { Gives (λ _. false) (λ read. (read.0, read.1.now)) result
-        (op_at end tables.texts tables.names bytes.now) }
+        (op_at end version tables.texts tables.names bytes.now) }
     ensures shorter { IfOk result (λ read. length read.1.now ≤ length bytes.now) }
 {
     let at = place(end, bytes);
     let (code, rest) = byte_at(end, bytes)?;
-    match op_of(code) {
+    match op_of(version, code) {
         Some(op) => fields_at(end, at, tables, op, rest),
         None => Err(ImageError::UnknownOp(at)),
     }
@@ -197,19 +203,20 @@ fn op_at(end: usize, tables: Tables, bytes: &[u8]) -> Result<(Op, &[u8]), ImageE
 fn ops_at(
     alloc: Global,
     end: usize,
+    version: Version,
     tables: Tables,
     count: usize,
     bytes: &[u8],
 ) -> Result<(Vec<Op>, &[u8]), ImageError>
     requires { length bytes.now ≤ end }
     ensures exact { Gives is_memory (λ read. (read.0.items, read.1.now)) result
-        (so_many_ops end tables.texts tables.names count bytes.now) }
+        (so_many_ops end version tables.texts tables.names count bytes.now) }
     ensures shorter { IfOk result (λ read. length read.1.now ≤ length bytes.now) }
 {
     let mut ops = Vec::new(alloc);
     let mut rest = bytes;
     for _ in 0..count {
-        let (op, after) = op_at(end, tables, rest)?;
+        let (op, after) = op_at(end, version, tables, rest)?;
         ops.push(op)?;
         rest = after;
     }
@@ -310,11 +317,29 @@ fn expected<'b>(
     }
 }
 
+/// The version that the byte in front names.
+#[tactic(auto, unfolding(crate::specs::Decoding::version_at))]
+fn version_at(end: usize, bytes: &[u8]) -> Result<(Version, &[u8]), ImageError>
+    ensures exact { Gives (λ _. false) (λ read. (read.0, read.1.now)) result (version_at end bytes.now) }
+    ensures shorter { IfOk result (λ read. length read.1.now ≤ length bytes.now) }
+{
+    let (byte, rest) = byte_at(end, bytes)?;
+    match Version::named(byte) {
+        Some(version) => Ok((version, rest)),
+        None => Err(ImageError::BadVersion),
+    }
+}
+
 /// Texts, names and operations.
 #[tactic(auto, using(crate::proofs::Freely::gives_freely), unfolding(crate::specs::Decoding::parts_at))]
-fn parts_at(alloc: Global, end: usize, bytes: &[u8]) -> Result<(Code, &[u8]), ImageError>
+fn parts_at(
+    alloc: Global,
+    end: usize,
+    version: Version,
+    bytes: &[u8],
+) -> Result<(Code, &[u8]), ImageError>
     requires { length bytes.now ≤ end }
-    ensures exact { Gives is_memory (λ read. (read.0, read.1.now)) result (parts_at end bytes.now) }
+    ensures exact { Gives is_memory (λ read. (read.0, read.1.now)) result (parts_at end version bytes.now) }
     ensures shorter { IfOk result (λ read. length read.1.now ≤ length bytes.now) }
 {
     let (texts, rest) = texts_at(alloc, end, bytes)?;
@@ -324,7 +349,7 @@ fn parts_at(alloc: Global, end: usize, bytes: &[u8]) -> Result<(Code, &[u8]), Im
         texts: texts.len(),
         names: names.len(),
     };
-    let (ops, rest) = ops_at(alloc, end, tables, count, rest)?;
+    let (ops, rest) = ops_at(alloc, end, version, tables, count, rest)?;
     Ok((Code::of_parts(ops, texts, names), rest))
 }
 
@@ -347,17 +372,37 @@ pub fn decode(alloc: Global, bytes: &[u8]) -> Result<Code, ImageError>
     whole_code(alloc, bytes)
 }
 
+/// The version that an image names has to be that of its code.
+fn of_version(version: Version, code: &Code) -> Result<(), ImageError>
+    ensures { Gives (λ _. false) (λ done. done) result (of_version version code.now) }
+{
+    if version.byte() == version_of(code.ops()).byte() {
+        Ok(())
+    } else {
+        Err(ImageError::BadVersion)
+    }
+}
+
+/// No bytes may be left.
+fn whole(end: usize, code: Code, rest: &[u8]) -> Result<Code, ImageError>
+    requires { length rest.now ≤ end }
+    ensures { Gives (λ _. false) (λ code. code) result (whole end (code, rest.now)) }
+{
+    if rest.is_empty() {
+        Ok(code)
+    } else {
+        Err(ImageError::Trailing(place(end, rest)))
+    }
+}
+
 #[tactic(auto, using(crate::proofs::Freely::gives_freely), unfolding(crate::specs::Decoding::decoded))]
 fn whole_code(alloc: Global, bytes: &[u8]) -> Result<Code, ImageError>
     ensures { Gives is_memory (λ code. code) result (decoded bytes.now) }
 {
     let end = bytes.len();
     let rest = expected(end, &MAGIC, ImageError::BadMagic, bytes)?;
-    let rest = expected(end, &[VERSION], ImageError::BadVersion, rest)?;
-    let (code, rest) = parts_at(alloc, end, rest)?;
-    if rest.is_empty() {
-        Ok(code)
-    } else {
-        Err(ImageError::Trailing(place(end, rest)))
-    }
+    let (version, rest) = version_at(end, rest)?;
+    let (code, rest) = parts_at(alloc, end, version, rest)?;
+    of_version(version, &code)?;
+    whole(end, code, rest)
 }

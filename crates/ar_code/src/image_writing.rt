@@ -8,6 +8,7 @@ ghost use Rattle.ar_code.specs.Decoding.{decoded};
 ghost use Rattle.ar_code.specs.Image.{fields_of, groups, image, number, op_bytes, scalar_number, source_fields, string, strings, zigzag};
 
 use crate::form::form_of;
+use crate::version::version_of;
 use ar_op::code::Code;
 use ar_op::op::{Op, Source};
 use ar_value::operator::Scalar;
@@ -15,9 +16,6 @@ use std::alloc::{AllocError, Global};
 
 /// What an image begins with.
 pub(crate) const MAGIC: [u8; 4] = *b"ARCV";
-
-/// The version of the format.
-pub(crate) const VERSION: u8 = 1;
 
 /// How many bytes stand behind the first of a number at most.
 const MORE_NUMBER_BYTES: usize = 9;
@@ -151,7 +149,7 @@ fn image_of(alloc: Global, code: &Code) -> Result<Vec<u8>, AllocError>
 {
     let mut out = Vec::new(alloc);
     out.extend_from_slice(&MAGIC)?;
-    out.push(VERSION)?;
+    out.push(version_of(code.ops()).byte())?;
     put_strings(&mut out, code.texts())?;
     put_strings(&mut out, code.names())?;
     put_number(&mut out, code.ops().len() as u64)?;

@@ -6,7 +6,7 @@
 //! `specs/Decoding` defines it. What is accepted is the image of what was read, and the image of each
 //! code is accepted. Only want of memory can keep the two from their answers.
 //!
-//! - `form`: the codes and the names of operations
+//! - `form`: the codes and the names of operations; `version`: the versions of images
 //! - `image_writing`, `image_reading`: images; `reader`: numbers in them
 //! - `listings`: code as lines for people
 //! - [`error`]: why bytes are no image
@@ -20,6 +20,7 @@ mod image_writing;
 pub mod laws;
 mod listings;
 mod reader;
+mod version;
 
 pub use ar_op::{Code, Op, code, op};
 pub use error::ImageError;

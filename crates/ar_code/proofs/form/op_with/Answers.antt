@@ -6,7 +6,7 @@ use Rattle.std.proofs.lemmas.Option.{slice_get_past, slice_get_read}
 use Rattle.ar_op.specs.declared.op.Op.{Op}
 use Rattle.ar_code.specs.Decoding.{all_ops}
 use Rattle.ar_code.proofs.Ordered.{op_by_place}
-use Rattle.ar_code.proofs.form.op_of.Goals as goal
+use Rattle.ar_code.proofs.form.op_with.Goals as goal
 
 copied : (ops : List Op) (place : ℕ) (op : Option _) → IsItemAt ops place op → option_copied op ≡ slice_get ops place
 copied ops place None is = sym (slice_get_past ops place is.3)
