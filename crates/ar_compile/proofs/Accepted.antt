@@ -68,6 +68,8 @@ module _ (code : Code) (wanted : Shape) (around : List Around) where
   answer_is : (predicate : Predicate) (shape : Shape) (max : ℕ) → answer_kind predicate shape max ≡ predicate_kind predicate (shaped (shapes.list shape max))
   answer_is predicates.All shape max = refl
   answer_is predicates.Any shape max = refl
+  answer_is predicates.None shape max = refl
+  answer_is predicates.One shape max = refl
   answer_is predicates.Count shape max = refl
   answer_is predicates.Filter shape max = refl
 

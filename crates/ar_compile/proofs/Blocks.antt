@@ -5,8 +5,8 @@ use Rattle.std.specs.Prelude.{◌==◌, nat_lt}
 use Rattle.std.proofs.lemmas.Bool.{le-leb}
 use Rattle.std.proofs.lemmas.Bool.Decides.{leb_tells, nat_tests}
 use Rattle.ar_value.specs.declared.operator.Predicate.{Predicate}
-use Rattle.ar_value.specs.declared.operator.Predicate.TheVariants.{All, Any, Count, Filter}
-use Rattle.ar_op.specs.Machine.{is_same, nth}
+use Rattle.ar_value.proofs.Predicates.{itself as same_predicate}
+use Rattle.ar_op.specs.Machine.{nth}
 use Rattle.ar_op.specs.declared.op.Op.{Op}
 use Rattle.ar_op.specs.declared.op.Jump.TheVariants as jumps
 use Rattle.ar_op.specs.declared.op.Op.TheVariants.{Jump, Enter, Step, Return}
@@ -77,23 +77,17 @@ module _ (ops : List Op) where
   skip_named place target (Jump jumps.Or named) to ahead within = rw to (goes_forward place target ahead within)
   skip_named place target op to ahead within = absurd to
 
-  same : (predicate : Predicate) → is_same predicate predicate ≡ true
-  same All = refl
-  same Any = refl
-  same Count = refl
-  same Filter = refl
-
   itself : (n : ℕ) → (n == n) ≡ true
   itself n = grind (arith, nat_tests)
 
   enter_named : (place step : ℕ) (predicate : Predicate) → place < step → step < length ops → At step (Step predicate place) → names_well ops place (Enter predicate step) ≡ None
-  enter_named place step predicate ahead within there = rw (goes_forward place step ahead within, there, same predicate, itself place) refl
+  enter_named place step predicate ahead within there = rw (goes_forward place step ahead within, there, same_predicate predicate, itself place) refl
 
   step_named : (place enter : ℕ) (predicate : Predicate) → enter < place → place < length ops → At enter (Enter predicate place) → names_well ops place (Step predicate enter) ≡ None
   step_named place enter predicate ahead within there =
       let first : nat_lt enter (length ops) ≡ true = grind (arith, nat_tests) in
       let second : nat_lt enter place ≡ true = grind (arith, nat_tests) in
-      rw (first, second, there, same predicate, itself place) refl
+      rw (first, second, there, same_predicate predicate, itself place) refl
 
   at_begin : (begin place : ℕ) → begin ≤ place → place < suc begin → NamesWell begin → NamesWell place
   at_begin begin place from below well = let same : begin ≡ place = omega arith in subst NamesWell same well

@@ -29,7 +29,7 @@ use Rattle.ar_condition.specs.declared.tree.Unary.TheVariants as unaries
 use Rattle.ar_condition.specs.Typed.{Typed, Typeds, how_many, typeds}
 use Rattle.ar_condition.specs.Typed as typed
 use Rattle.ar_check.specs.Check.{Answer, Item, arithmetic_kind, arithmetic_on, binary_of, body_of, calculation_of, checked, choice_in, choice_of, choice_tree, common_of, comparison_of, condition_of, default_kind, default_of, default_tree, entered, equal_of, equality_of, field_of, field_shape, given, in_common, in_of, index_of, innermost, is_nil_literal, is_whole_number, item_of, item_shape, items_typed, len_of, list_in_common, list_of, member_of, negated, negation_of, no_scalar, ordered_of, ordering_of, over_items, plain_kind, plus_of, predicate_kind, predicate_of, same_family, arithmetic_in, where_there, truth_kind, turned_item, typed_of, unary_of, where_wanted, widened}
-use Rattle.ar_check.specs.Operand.{Operand, among, family_in, is_truth, is_whole, made_plain, numbers, plain_of, plain_tree, scalar, scalar_of, turned}
+use Rattle.ar_check.specs.Operand.{Operand, among, family_in, is_text, is_truth, is_whole, made_plain, numbers, plain_of, plain_tree, scalar, scalar_of, turned}
 use Rattle.ar_check.specs.declared.error.TypeError.{TypeError}
 use Rattle.ar_check.specs.declared.error.TypeError.TheVariants.{NotTruth}
 use Rattle.ar_check.proofs.Means.{answers}
@@ -167,6 +167,8 @@ binary_within at binaries.And nil_left nil_right left right h k = wanted_within 
 binary_within at (binaries.Comparison comparison) nil_left nil_right left right h k = comparison_within at comparison nil_left nil_right left right h k
 binary_within at binaries.In nil_left nil_right left right h k = in_within at left right h k
 binary_within at binaries.NotIn nil_left nil_right left right h k = negated_within (in_of at left right) (in_within at left right h k)
+binary_within at (binaries.TextTest test) nil_left nil_right left right h k =
+    wanted_within at (is_text left && is_text right) (typed.binary (binary.TextTest test) (made_plain left) (made_plain right)) truth_kind (plain_within left h, plain_within right k)
 binary_within at binaries.Add nil_left nil_right left right h k = sum_within at Add left right h k
 binary_within at binaries.Subtract nil_left nil_right left right h k = sum_within at Subtract left right h k
 binary_within at binaries.Multiply nil_left nil_right left right h k = sum_within at Multiply left right h k

@@ -32,7 +32,7 @@ use Rattle.ar_condition.specs.Typed.{Typed, Typeds, typeds, how_many}
 use Rattle.ar_condition.specs.Typed as typed
 use Rattle.ar_check.specs.Basics.{most_predicates}
 use Rattle.ar_check.specs.Check.{Answer, Item, arithmetic_kind, arithmetic_on, binary_of, body_of, calculation_of, checked, choice_in, choice_of, common_of, comparison_of, condition_of, default_kind, default_of, entered, equal_of, equality_of, field_of, field_shape, found_field, given, in_common, in_of, index_of, innermost as innermost_of, is_nil_literal, is_whole_number, item_of, item_shape, items_typed, len_of, list_in_common, list_of, member_of, negated, negation_of, no_scalar, number_kind, ordered_of, ordering_of, over_items, plain_kind, plus_of, predicate_kind, predicate_of, same_family, scalar_shape, arithmetic_in, compared_of, where_there, truth_kind, turned_item, typed_of, unary_of, where_wanted, widened}
-use Rattle.ar_check.specs.Operand.{Operand, among, family_in, is_truth, is_bool, is_whole, made_plain, numbers, numbers_in, plain_of, plain_tree, scalar, scalar_of, turned}
+use Rattle.ar_check.specs.Operand.{Operand, among, family_in, is_text, is_text_scalar, is_truth, is_bool, is_whole, made_plain, numbers, numbers_in, plain_of, plain_tree, scalar, scalar_of, turned}
 use Rattle.ar_check.specs.declared.error.TypeError.TheVariants.{NotTruth, PredicatesTooDeep}
 use Rattle.ar_check.proofs.Lists.{all_suit, common_suits, suits}
 use Rattle.ar_check.proofs.Means.{answers, both_hold}
@@ -101,6 +101,13 @@ module _ (wanted : Shape) (inner : Option Shape) (around : ℕ) where
 
   is_true : (operand : Operand) → Is operand → is_truth operand ≡ true → Has (made_plain operand) truth_kind
   is_true operand h is = truth_of_scalar (scalar operand) (made_plain operand) (is_scalar operand h) is
+
+  text_of_scalar : (found : Option Scalar) (tree : Typed) → HasScalar found tree → is_text_scalar found ≡ true → Has tree (shaped shapes.text)
+  text_of_scalar (Some scalars.Text) tree h is = h
+  text_of_scalar found tree h is = absurd cc
+
+  is_letters : (operand : Operand) → Is operand → is_text operand ≡ true → Has (made_plain operand) (shaped shapes.text)
+  is_letters operand h is = text_of_scalar (scalar operand) (made_plain operand) (is_scalar operand h) is
 
   whole_of_scalar : (found : Option Scalar) (tree : Typed) → HasScalar found tree → is_whole_number found ≡ true → Has tree (shaped shapes.whole)
   whole_of_scalar (Some scalars.Whole) tree h is = h
@@ -298,6 +305,9 @@ module _ (wanted : Shape) (inner : Option Shape) (around : ℕ) where
   binary_kinded at (binaries.Comparison comparison) nil_left nil_right left right h k = comparison_kinded at comparison nil_left nil_right left right h k
   binary_kinded at binaries.In nil_left nil_right left right h k = truth_kinded (in_of at left right) (in_kinded at left right h k)
   binary_kinded at binaries.NotIn nil_left nil_right left right h k = negated_kinded (in_of at left right) (in_kinded at left right h k)
+  binary_kinded at (binaries.TextTest test) nil_left nil_right left right h k =
+      wanted_kinded at (is_text left && is_text right) (typed.binary (binary.TextTest test) (made_plain left) (made_plain right)) truth_kind
+      (λ is. let parts = both_hold (is_text left) (is_text right) is in of_binary (is_letters left h parts.0) (is_letters right k parts.1) refl)
   binary_kinded at binaries.Add nil_left nil_right left right h k = sum_kinded at Add left right h k
   binary_kinded at binaries.Subtract nil_left nil_right left right h k = sum_kinded at Subtract left right h k
   binary_kinded at binaries.Multiply nil_left nil_right left right h k = sum_kinded at Multiply left right h k
