@@ -4,7 +4,8 @@ use Rattle.std.specs.List.{list_any}
 use Rattle.std.proofs.lemmas.List.Folds.{list_any-append}
 use Rattle.ar_value.specs.Shape.{Shape}
 use Rattle.ar_value.specs.declared.operator.Predicate.{Predicate}
-use Rattle.ar_value.specs.declared.operator.Predicate.TheVariants.{All, Any, Count, Filter}
+use Rattle.ar_value.specs.Predicates.{gathers}
+use Rattle.ar_operand.specs.Memory.{keeps_items}
 use Rattle.ar_condition.specs.Typed.{Typed, Typeds}
 use Rattle.ar_condition.specs.Typed as typed
 use Rattle.ar_condition.specs.declared.tree.Literal.{Literal}
@@ -40,10 +41,10 @@ literal_none (literals.Text letters) tables = refl
 
 counted_predicate : (predicate : Predicate) (list body : Typed) → has_filter (typed.predicate predicate list body) ≡ false
     → (has_filter list ≡ false) × (has_filter body ≡ false) × ((place : ℕ) → is_of_filter (Enter predicate place) ≡ false) × ((place : ℕ) → is_of_filter (Step predicate place) ≡ false)
-counted_predicate All list body e = let both = none_first (has_filter list) (has_filter body) e in (both.0, both.1, λ place. refl, λ place. refl)
-counted_predicate Any list body e = let both = none_first (has_filter list) (has_filter body) e in (both.0, both.1, λ place. refl, λ place. refl)
-counted_predicate Count list body e = let both = none_first (has_filter list) (has_filter body) e in (both.0, both.1, λ place. refl, λ place. refl)
-counted_predicate Filter list body e = absurd cc
+counted_predicate predicate list body e =
+    let first = none_first (keeps_items (gathers predicate)) (has_filter list || has_filter body) e in
+    let both = none_first (has_filter list) (has_filter body) first.1 in
+    (both.0, both.1, λ place. first.0, λ place. first.0)
 
 mutual
   none_in : (place : ℕ) (tables : Tables) (tree : Typed) → has_filter tree ≡ false → NoneOf (code_at place tables tree)

@@ -1,8 +1,9 @@
--- Which conditions have a `filter`.
+-- Which conditions have a `filter`: a call that gathers items.
 use Rattle.std.specs.Prelude.{◌≡◌, Bool, true, false, ◌||◌, List, ℕ, Ok}
 use Rattle.ar_value.specs.Shape.{Shape}
 use Rattle.ar_value.specs.Value.{Value}
-use Rattle.ar_value.specs.declared.operator.Predicate.TheVariants.{Filter}
+use Rattle.ar_value.specs.Predicates.{gathers}
+use Rattle.ar_operand.specs.Memory.{keeps_items}
 use Rattle.ar_condition.specs.Typed.{Typed, Typeds}
 use Rattle.ar_condition.specs.Typed as typed
 use Rattle.ar_machine.specs.Filter.{BeginsNoFilter}
@@ -20,8 +21,7 @@ abbrev mutual
   has_filter (typed.either left right) = has_filter left || has_filter right
   has_filter (typed.choice condition met unmet) = has_filter condition || (has_filter met || has_filter unmet)
   has_filter (typed.listed scalar items) = have_filter items
-  has_filter (typed.predicate Filter list body) = true
-  has_filter (typed.predicate predicate list body) = has_filter list || has_filter body
+  has_filter (typed.predicate predicate list body) = keeps_items (gathers predicate) || (has_filter list || has_filter body)
 
   pub have_filter : Typeds → Bool
   have_filter typed.none = false

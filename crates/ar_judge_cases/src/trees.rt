@@ -3,7 +3,7 @@
 use ar_cases::output::Output;
 use ar_cases::printing::{put_decimal, put_quoted, put_truth, put_whole};
 use ar_condition::tree::{Binary, Comparison, Literal, Tree, Unary};
-use ar_value::operator::Predicate;
+use ar_value::operator::{Predicate, TextTest};
 
 pub(crate) fn put_literal(out: &mut Output, literal: &Literal) {
     match literal {
@@ -26,6 +26,14 @@ pub(crate) fn comparison_sign(comparison: Comparison) -> &'static str {
     }
 }
 
+pub(crate) fn test_name(test: TextTest) -> &'static str {
+    match test {
+        TextTest::Contains => "contains",
+        TextTest::StartsWith => "startsWith",
+        TextTest::EndsWith => "endsWith",
+    }
+}
+
 fn binary_sign(operator: Binary) -> &'static str {
     match operator {
         Binary::Or => "or",
@@ -33,6 +41,7 @@ fn binary_sign(operator: Binary) -> &'static str {
         Binary::Comparison(comparison) => comparison_sign(comparison),
         Binary::In => "in",
         Binary::NotIn => "not-in",
+        Binary::TextTest(test) => test_name(test),
         Binary::Add => "+",
         Binary::Subtract => "-",
         Binary::Multiply => "*",
@@ -53,6 +62,8 @@ pub(crate) fn predicate_name(predicate: Predicate) -> &'static str {
     match predicate {
         Predicate::All => "all",
         Predicate::Any => "any",
+        Predicate::None => "none",
+        Predicate::One => "one",
         Predicate::Count => "count",
         Predicate::Filter => "filter",
     }

@@ -1,7 +1,7 @@
 //! Conditions as typed, printed: a node as `(operator kinds child child)`. What the check puts in is written
 //! out: `plain` where nil is a fault, `decimal` where a whole is turned.
 
-use crate::trees::{predicate_name, put_literal};
+use crate::trees::{predicate_name, put_literal, test_name};
 use ar_cases::output::Output;
 use ar_cases::printing::{put_pair, put_quoted};
 use ar_condition::typed::Typed;
@@ -92,6 +92,7 @@ fn put_binary(out: &mut Output, operator: BinaryOperator) {
             put_pair(out, order_sign(order), compared_name(numbers))
         }
         BinaryOperator::Equal(family) => put_pair(out, "==", family_name(family)),
+        BinaryOperator::TextTest(test) => out.put(test_name(test)),
     }
 }
 
