@@ -2,7 +2,7 @@
 
 pub(crate) const HELP: &str =
     "Each command reads one JSON document from standard input and writes its answer to standard output.
-A fault is one line on standard error: where it stands, its name, and what was expected.
+A fault is one line on standard error: where it is, its name, and what was expected.
 
   eval   tries one condition on one value, before it goes into a template
   check  checks a whole document, and tells what each condition may cost at most
@@ -27,14 +27,15 @@ Examples:
   kubectl get analysistemplate success-rate -o json |
     jq '{manifest: ., shapes: {\"success-rate\": {list: \"decimal\", max: 10}}, runs: [{name: \"canary-1\"}],
          measurements: [{run: \"canary-1\", metric: \"success-rate\", value: [\"0.97\"]}]}' |
-    argo_judge run";
+    argo_judge run --plain";
 
 pub(crate) const EVAL_HELP: &str =
     "Standard input is {\"condition\":TEXT,\"shape\":SHAPE,\"value\":VALUE}.
   condition  as a successCondition or failureCondition of Argo Rollouts: `result`, literals,
-             fields, indices, + - * / %, == != < <= > >=, in, not in, and, or, not, ? :, lists,
-             len, isNil, default, all, any, count, filter; {{args.x}} is no part of it: arguments
-             are bound in a template (argo_judge run --help)
+             fields, indices, + - * / %, == != < <= > >=, in, not in, contains, startsWith,
+             endsWith, and, or, not, ? :, lists, len, isNil, default, all, any, none, one, count,
+             filter; {{args.x}} is no part of it: arguments are bound in a template
+             (argo_judge run --help)
   shape      \"bool\", \"whole\", \"decimal\", \"text\", {\"list\":SHAPE,\"max\":NUMBER},
              {\"record\":{NAME:SHAPE,..}} or {\"optional\":SHAPE}
   value      JSON of that shape; a decimal is a text, as \"0.9523\", or a whole number
