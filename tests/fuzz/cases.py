@@ -85,9 +85,10 @@ def image_bytes(source, corpus):
         code, declared = source.choice(corpus.images)
         return code, read_shape(declared)
     shape = any_shape(source)
-    ops = random_code(source, shape, source.choice((1, 2, 3)))
+    version = source.choice((1, 2, 2))
+    ops = random_code(source, shape, source.choice((1, 2, 3)), version)
     if choice == 3:
-        ops = changed(source, ops)
+        ops = changed(source, ops, version)
     return encode(image_of(ops)), shape
 
 
@@ -108,7 +109,9 @@ def changed_tables(source, image):
 
 def image_cases(source, corpus):
     code, shape = image_bytes(source, corpus)
-    if source.random() < 0.6:
+    if source.random() < 0.1:
+        code = code[:4] + bytes([source.choice((0, 1, 1, 2, 2, 3))]) + code[5:]
+    elif source.random() < 0.6:
         code = changed_bytes(source, code)
     yield answered({'call': 'decode', 'image': code.hex()})
     try:

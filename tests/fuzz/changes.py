@@ -5,11 +5,12 @@ from refused import Refused
 from tokens import tokens_of
 
 SPELT = (
-    'true false nil result len isNil default all any count filter and or not in foo x '
+    'true false nil result len isNil default all any none one count filter and or not in contains startsWith endsWith '
+    'foo x None contain none(result, one(#, .contains .one .5contains not\tcontains '
     '+ - * / % == != < > <= >= ! && || ? : , . ( ) [ ] { } # 0 1 2.5 .5 9223372036854775808 0.1234567 0x 0xff "a" '
-    "'b' len( all(result, ?? ?. ^ | & = ; $ ` @ é _ \" ' // /* */ /*/ /*/*/ \\ not\tin 0.1000000 }.5 ).5 #.5 1."
+    "'b' '' 'é' len( all(result, ?? ?. ^ | & = ; $ ` @ é _ \" ' // /* */ /*/ /*/*/ \\ not\tin 0.1000000 }.5 ).5 #.5 1."
 ).split(' ')
-BYTES = b'\x00\t\n\r !"#$%&\'()*+,-./0123456789:;<=>?@AZ[\\]^_`aezn{|}~\x7f\x80\xbf\xc0\xc3\xe2\xed\xf0\xff'
+BYTES = b'\x00\x01\x02\t\n\r !"#$%&\'()*+,-./0123456789:;<=>?@AZ[\\]^_`aezn{|}~\x7f\x80\xbf\xc0\xc3\xe2\xed\xf0\xff'
 CHARACTERS = '\x00\t\n"\'\\\x7fé€😀'
 LONG = (15, 16, 17, 62, 63, 64, 65, 66)
 PARTS = 40
@@ -92,7 +93,11 @@ def repeated(source, text):
         f'1{"+1" * count}>0', f'result{".a" * count}', f'{text}{" or true" * count}',
         ' ' * (4_096 - len(text.encode())) + text + ' ' * (count % 3),
         '1+(' * (count - 4) + 'len([1,1,1,1,1])' + ')' * (count - 4) + '>0', f'[{text},' * 15 + text + ']' * 15,
-        f'all({text},' * 3 + text + ')' * 3, 'any(result,all(#,' * 2 + 'any(result,' + text + ')' * 5))
+        f'all({text},' * 3 + text + ')' * 3, 'any(result,all(#,' * 2 + 'any(result,' + text + ')' * 5,
+        f'one({text},' * 3 + text + ')' * 3,
+        'none(result,' * 5 + text + ')' * 5, 'none(result,one(#,' * 2 + f'none(result,{{{text}' + '})' + ')' * 4,
+        f'{text}{" contains result" * count}', f'result{" startsWith 1" * (count - 1)}',
+        'one(result,' * count + text + ')' * count, f'({text}) contains' * (count % 3 + 1) + " ''"))
 
 
 def changed_condition(source, text, other):

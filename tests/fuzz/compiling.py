@@ -3,6 +3,7 @@
 Operations are those of tests/verifier/rules.py, which hold texts and names themselves.
 """
 
+from grammar import PREDICATES
 from refused import Refused
 from rules import verify
 
@@ -10,7 +11,8 @@ MOST_OPERATIONS = 4_096
 SIGNS = {'+': 'Add', '-': 'Sub', '*': 'Mul', '/': 'Div', '%': 'Rem', 'negative': 'Neg',
          '<': 'Lt', '<=': 'Le', '>': 'Gt', '>=': 'Ge'}
 NAMED = {'result': 'LoadResult', '#': 'Item', 'nil': 'PushNil', 'plain': 'Need', 'decimal': 'ToDecimal',
-         'index': 'Index', 'len': 'Len', 'isNil': 'IsNil', 'default': 'Default', 'in': 'IsIn', 'not': 'Not'}
+         'index': 'Index', 'len': 'Len', 'isNil': 'IsNil', 'default': 'Default', 'in': 'IsIn', 'not': 'Not',
+         'contains': 'Contains', 'startsWith': 'StartsWith', 'endsWith': 'EndsWith'}
 
 
 class Writer:
@@ -34,7 +36,7 @@ class Writer:
             self.aim(jump)
         elif operator == 'choice':
             self.choice(*children)
-        elif operator in ('all', 'any', 'count', 'filter'):
+        elif operator in PREDICATES:
             self.loop(operator.capitalize(), *children)
         else:
             for child in children:

@@ -5,7 +5,7 @@ import json
 from bundles import built
 from changes import changed_condition, changed_text
 from expressions import random_condition
-from generator import SHAPES, random_shape, random_value
+from generator import SHAPES, TEXT_SHAPES, random_shape, random_value
 from refused import Refused
 from rules import is_list, is_optional, is_record
 
@@ -69,11 +69,14 @@ def value_json(source, value):
 
 
 def any_shape(source):
+    if source.random() < 0.15:
+        return source.choice(TEXT_SHAPES)
     return source.choice(SHAPES) if source.random() < 0.6 else random_shape(source)
 
 
 def any_value(source, shape):
-    return value_json(source, random_value(source, shape, source.choice(('any', 'any', 'full', 'empty'))))
+    fill = source.choice(('any', 'any', 'full', 'empty'))
+    return value_json(source, random_value(source, shape, fill, source.choice((1, 2))))
 
 
 def good_condition(source, shape):

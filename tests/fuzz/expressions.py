@@ -4,9 +4,12 @@ from rules import is_list, is_optional, is_record, plain
 
 WHOLES = ('0', '1', '2', '3', '10', '007', '0x1F', '0b10', '0o17', '1000000', '9223372036854775807', '9223372036855')
 DECIMALS = ('0.5', '.5', '0.95', '2.0', '0.000001', '1.999999', '9223372036854.775807', '0.333333', '100.0')
-TEXTS = ('""', "'a'", '"ok"', "'é'", '"retry"', r"'it\'s'", r'"\n\t\\"')
+TEXTS = ('""', "''", "'a'", '"ok"', "'é'", '"aé"', '"€"', "'𐀀'", '"retry"', '"re"', "'try'", '"ab"', r"'it\'s'",
+         r'"\n\t\\"')
+TEXT_TESTS = (' contains ', ' startsWith ', ' endsWith ')
 BLANKS = ('', ' ', ' ', ' ', '  ', '\n', '\t', ' /* why */ ', ' // so\n')
-WORDS = {name.encode(): name for name in ('a', 'b', 'errors', 'p99', 'Values', 'ok', 'retry')}
+WORDS = {name.encode(): name for name in ('a', 'b', 'errors', 'p99', 'Values', 'ok', 'retry', 'contains', 'none', 'one',
+                                          'endsWith')}
 
 
 class Maker:
@@ -142,10 +145,20 @@ class Maker:
             lambda: self.pick(('!', 'not ')) + self.group(self.boolean(depth - 1)),
             lambda: self.two(self.boolean, (' and ', ' or ', '&&', '||'), depth),
             lambda: self.loop(self.pick(('all', 'any')), depth), lambda: self.loop(self.pick(('all', 'any')), depth),
-            lambda: f'({self.common(self.boolean, depth)})')
+            lambda: self.loop(self.pick(('none', 'one')), depth), lambda: self.text_test(depth),
+            lambda: self.text_test(depth), lambda: f'({self.common(self.boolean, depth)})')
 
     def compared(self, depth):
         return self.two(self.number, ('<', '<=', '>', '>='), depth)
+
+    def text_test(self, depth):
+        """A test of two texts, now and then of nil, or with another operator of its level after it."""
+        if self.chance(0.05):
+            return self.two(lambda inner: self.maybe(self.text, inner), TEXT_TESTS, depth)
+        test = self.two(self.text, TEXT_TESTS, depth)
+        if self.chance(0.1):
+            test = self.joined(self.group(test), self.pick(('==', '!=', ' contains ')), self.boolean(0))
+        return test
 
     def equal(self, depth):
         kind = self.pick(('bool', 'whole', 'decimal', 'text'))

@@ -12,13 +12,14 @@ OPENERS = 64
 LEVELS = 64
 ITEMS = 16
 ONE_ARGUMENT = ('len', 'isNil')
-PREDICATES = ('all', 'any', 'count', 'filter')
+PREDICATES = ('all', 'any', 'none', 'one', 'count', 'filter')
+TEXT_TESTS = ('contains', 'startsWith', 'endsWith')
 CALLS = ONE_ARGUMENT + ('default',) + PREDICATES
 
 # Operators between two operands: the tree's operator and how tightly it binds.
 OPERATORS = {'or': ('or', 1), '||': ('or', 1), 'and': ('and', 2), '&&': ('and', 2), 'in': ('in', 3),
              'not': ('not-in', 3)}
-OPERATORS |= {sign: (sign, 3) for sign in ('==', '!=', '<', '>', '<=', '>=')}
+OPERATORS |= {sign: (sign, 3) for sign in ('==', '!=', '<', '>', '<=', '>=', *TEXT_TESTS)}
 OPERATORS |= {sign: (sign, 4) for sign in ('+', '-')}
 OPERATORS |= {sign: (sign, 5) for sign in ('*', '/', '%')}
 UNARY = {'-': '-', '+': '+', '!': 'not', 'not': 'not'}

@@ -14,8 +14,10 @@ NAMES = (
     'PushBool PushWhole PushDecimal PushText PushNil MakeList LoadResult Item Field Index Len Need IsNil Default '
     'ToDecimal IsIn Not AddW SubW MulW DivW RemW NegW AddD SubD MulD DivD NegD LtW LeW GtW GeW LtD LeD GtD GeD '
     'LtM LeM GtM GeM EqBool EqNumber EqText AndJump OrJump BranchFalse Jump AllEnter AllStep AnyEnter AnyStep '
-    'CountEnter CountStep FilterEnter FilterStep Return'
+    'CountEnter CountStep FilterEnter FilterStep Return '
+    'NoneEnter NoneStep OneEnter OneStep Contains StartsWith EndsWith'
 ).split()
+LAST_OF_VERSION_1 = 56
 CODES = {name: code for code, name in enumerate(NAMES, 1)}
 
 Image = collections.namedtuple('Image', 'texts names operations')
@@ -47,9 +49,14 @@ def operation_bytes(op):
     return code + b''.join(unsigned(int(field)) for field in fields)
 
 
+def version_of(operations):
+    return 2 if any(CODES[op[0]] > LAST_OF_VERSION_1 for op in operations) else 1
+
+
 def encode(image):
+    head = MAGIC + bytes([version_of(image.operations)]) + table(image.texts) + table(image.names)
     operations = b''.join(operation_bytes(op) for op in image.operations)
-    return MAGIC + b'\x01' + table(image.texts) + table(image.names) + unsigned(len(image.operations)) + operations
+    return head + unsigned(len(image.operations)) + operations
 
 
 class Reader:
@@ -106,10 +113,10 @@ class Reader:
     def table(self):
         return [self.text() for _ in range(self.count())]
 
-    def operation(self, texts, names):
+    def operation(self, version, texts, names):
         start = self.at
         code = self.byte()
-        if not 1 <= code <= len(NAMES):
+        if not 1 <= code <= (LAST_OF_VERSION_1 if version == 1 else len(NAMES)):
             raise Refused('UnknownOp', start)
         name = NAMES[code - 1]
         if name == 'PushBool':
@@ -132,10 +139,13 @@ def decode(code):
     for byte in MAGIC:
         if reader.byte() != byte:
             raise Refused('BadMagic')
-    if reader.byte() != 1:
+    version = reader.byte()
+    if version not in (1, 2):
         raise Refused('BadVersion')
     texts, names = reader.table(), reader.table()
-    operations = [reader.operation(texts, names) for _ in range(reader.count())]
+    operations = [reader.operation(version, texts, names) for _ in range(reader.count())]
+    if version != version_of(operations):
+        raise Refused('BadVersion')
     if reader.at < len(code):
         raise Refused('Trailing', reader.at)
     return Image(texts, names, operations)

@@ -6,7 +6,7 @@ turned into a decimal; `!=`, `not in`, a comparison with the literal nil and the
 
 import collections
 
-from grammar import PREDICATES, parse
+from grammar import PREDICATES, TEXT_TESTS, parse
 from refused import Refused
 from rules import family, is_list, is_optional, is_record, merge, plain
 
@@ -80,6 +80,8 @@ class Checker:
             return typed('isNil', 'bool', children)
         if operator in ('not', 'and', 'or'):
             return typed(operator, 'bool', [self.want(tree, child, ('bool',)) for child in children])
+        if operator in TEXT_TESTS:
+            return typed(operator, 'bool', [self.want(tree, child, ('text',)) for child in children])
         return self.numbers(tree, children)
 
     def want(self, tree, operand, kinds):

@@ -1,5 +1,6 @@
 """The meaning of docs/LANGUAGE.md, read apart from the program: what a condition says of a value, or its fault."""
 
+from grammar import PREDICATES
 from rules import Fault, arithmetic, equal, exact, in_range, ordered
 
 SIGNS = {'+': 'Add', '-': 'Sub', '*': 'Mul', '/': 'Div', '%': 'Rem', 'negative': 'Neg'}
@@ -23,7 +24,7 @@ def value_of(tree, result, items):
         return result
     if operator == '#':
         return items[-1]
-    if operator in ('all', 'any', 'count', 'filter'):
+    if operator in PREDICATES:
         return over_items(tree, value_of(children[0], result, items)[1], result, items)
     if operator == 'choice':
         return value_of(children[1 if holds(children[0], result, items) else 2], result, items)
@@ -40,7 +41,11 @@ def over_items(tree, values, result, items):
         return ('bool', all(holds(predicate, result, items + [item]) for item in values))
     if tree.operator == 'any':
         return ('bool', any(holds(predicate, result, items + [item]) for item in values))
+    if tree.operator == 'none':
+        return ('bool', not any(holds(predicate, result, items + [item]) for item in values))
     kept = [item for item in values if holds(predicate, result, items + [item])]
+    if tree.operator == 'one':
+        return ('bool', len(kept) == 1)
     return ('whole', len(kept)) if tree.operator == 'count' else ('list', kept)
 
 
@@ -80,6 +85,17 @@ def answer_of(operator, first, last):
         return not first[1]
     if operator == 'isNil':
         return first[0] == 'nil'
+    return text_holds(operator, first[1].encode(), last[1].encode())
+
+
+def text_holds(operator, first, last):
+    """Whether the bytes of a text contain those of another one, or begin or end with them."""
+    if operator == 'contains':
+        return last in first
+    if operator == 'startsWith':
+        return first.startswith(last)
+    if operator == 'endsWith':
+        return first.endswith(last)
     raise ValueError(operator)
 
 

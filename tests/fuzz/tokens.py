@@ -10,7 +10,8 @@ from refused import Refused
 
 LONGEST = 4_096
 LARGEST = 2**63 - 1
-WORDS = set('true false nil result len isNil default all any count filter and or not in'.split())
+WORDS = set('true false nil result len isNil default all any none one count filter and or not in '
+            'contains startsWith endsWith'.split())
 
 BLANKS = re.compile(rb'(?:[ \t\r\n]|//[^\n]*)+')
 WORD = re.compile(rb'[A-Za-z_][A-Za-z0-9_]*')

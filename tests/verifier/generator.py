@@ -1,10 +1,17 @@
-"""Random code of good kinds, random changes of it, shapes and values, for make_codes."""
+"""Random code of good kinds, random changes of it, shapes and values, for make_codes.
 
-from rules import ENTERS, JUMPS, PLAIN, SCALARS, STEPS, has_place, is_list, is_optional, is_record
+Of version 1 there are the operations that images of version 1 have, of version 2 all; what is made of version 1 from
+a seed stays as it is.
+"""
+
+from rules import (ENTERS, ENTERS_1, JUMPS, PLAIN, SCALARS, STEPS, STEPS_1, TEXT_TESTS, has_place, is_list, is_optional,
+                   is_record)
 
 WHOLES = (0, 0, 1, 1, 2, 3, -1, -2, 5, 10, 1000, -7, 2**63 - 1, -(2**63), 9_223_372_036_855)
 DECIMALS = (0, 1, -1, 500_000, 950_000, 1_000_000, 2_000_000, -1_500_000, 2**63 - 1, -(2**63), 333_333)
 TEXTS = ('', 'a', 'b', 'retry', 'é', 'x-y')
+# Texts of which many have, begin or end with another one; the last bytes of é and ũ are the same.
+TEXTS_2 = ('', '', 'a', 'é', 'ab', 'aé', 'éa', 'aab', 'retry', 're', 'try', 'ret', 'ũ', '€', 'a€', '𐀀', 'aé€é')
 NAMES = ('a', 'b', 'errors', 'p99', 'é', '')
 
 LIST_3 = ('list', 'whole', 3)
@@ -23,6 +30,15 @@ SHAPES = (
 )
 
 
+# Shapes of version 2, besides those above: of texts.
+TEXT_SHAPES = (
+    'text', ('optional', 'text'), ('list', 'text', 4), ('list', ('optional', 'text'), 3),
+    ('list', ('list', 'text', 2), 3), ('optional', ('list', 'text', 5)),
+    ('record', (('contains', 'text'), ('none', ('optional', 'text')))),
+    ('list', ('record', (('endsWith', ('optional', 'text')), ('one', ('list', 'bool', 3)))), 3),
+)
+
+
 def random_shape(random, levels=3):
     choice = random.randrange(10 if levels else 4)
     if choice < 5:
@@ -37,19 +53,23 @@ def random_shape(random, levels=3):
     return ('record', tuple((name, random_shape(random, levels - 1)) for name in names))
 
 
-def random_value(random, kind, fill):
+def literals(version):
+    """Values of each scalar kind."""
+    return {'bool': (True, False), 'whole': WHOLES, 'decimal': DECIMALS, 'text': TEXTS if version == 1 else TEXTS_2}
+
+
+def random_value(random, kind, fill, version=1):
     """A value of the kind; fill is 'empty', 'full' or 'any', for lists and what is optional."""
     if is_optional(kind):
         nil = fill == 'empty' or (fill == 'any' and random.random() < 0.4)
-        return ('nil',) if nil else random_value(random, kind[1], fill)
+        return ('nil',) if nil else random_value(random, kind[1], fill, version)
     if is_list(kind):
         most = min(kind[2], 4 if fill == 'full' else 3)
         count = {'empty': 0, 'full': most}.get(fill, random.randrange(most + 1))
-        return ('list', [random_value(random, kind[1], fill) for _ in range(count)])
+        return ('list', [random_value(random, kind[1], fill, version) for _ in range(count)])
     if is_record(kind):
-        return ('record', {name: random_value(random, inner, fill) for name, inner in kind[1]})
-    choices = {'bool': (True, False), 'whole': WHOLES, 'decimal': DECIMALS, 'text': TEXTS}
-    return (kind, random.choice(choices[kind]))
+        return ('record', {name: random_value(random, inner, fill, version) for name, inner in kind[1]})
+    return (kind, random.choice(literals(version)[kind]))
 
 
 class Label:
@@ -62,9 +82,10 @@ class Label:
 class Writer:
     """Writes random code that leaves an operand of a wanted kind."""
 
-    def __init__(self, random, shape):
+    def __init__(self, random, shape, version):
         self.random = random
         self.shape = shape
+        self.version = version
         self.ops = []
         self.items = []
 
@@ -125,8 +146,7 @@ class Writer:
     def leaf(self, kind):
         if self.chance(0.6) and self.reach(lambda found: found == kind):
             return
-        choices = {'bool': (True, False), 'whole': WHOLES, 'decimal': DECIMALS, 'text': TEXTS}
-        self.put('Push' + kind.capitalize(), self.random.choice(choices[kind]))
+        self.put('Push' + kind.capitalize(), self.random.choice(literals(self.version)[kind]))
 
     def choose(self, kind, depth, ways):
         """A leaf, a choice between branches, a default, or one of the ways."""
@@ -177,7 +197,11 @@ class Writer:
             self.branches(lambda: nil.pop()() if nil else self.write(kind, depth - 2), depth)
 
     def truth(self, depth):
-        self.choose('bool', depth, [
+        second = [
+            lambda: self.text_test(depth), lambda: self.text_test(depth), lambda: self.text_test(depth),
+            lambda: self.loop('None', depth), lambda: self.loop('One', depth), lambda: self.loop('One', depth),
+        ]
+        self.choose('bool', depth, (second if self.version == 2 else []) + [
             lambda: self.negated(depth), lambda: self.comparison(depth), lambda: self.comparison(depth),
             lambda: self.comparison(depth), lambda: self.equality(depth),
             lambda: self.membership(depth), lambda: self.nil_test(depth), lambda: self.decided(depth),
@@ -202,6 +226,11 @@ class Writer:
             kind = self.random.choice(('whole', 'decimal')) if family == 'Number' else family.lower()
             self.optional(kind, depth - 1)
         self.put('Eq' + family)
+
+    def text_test(self, depth):
+        for _ in range(2):
+            self.text(depth - 1)
+        self.put(self.random.choice(TEXT_TESTS))
 
     def membership(self, depth):
         kind = self.random.choice(SCALARS)
@@ -307,7 +336,7 @@ class Writer:
 
     def literal_answer(self, family, found):
         """What stands for a loop where there are as many as may be."""
-        if family in ('All', 'Any'):
+        if family in ('All', 'Any', 'None', 'One'):
             return self.put('PushBool', True)
         if family == 'Count':
             return self.put('PushWhole', 1)
@@ -315,8 +344,8 @@ class Writer:
         return self.put('MakeList', 'bool', 0)
 
 
-def random_code(random, shape, depth):
-    writer = Writer(random, shape)
+def random_code(random, shape, depth, version=1):
+    writer = Writer(random, shape, version)
     for _ in range(random.choice((0, 0, 0, 0, 1, 2))):
         writer.write(random.choice(SCALARS), 1)
     writer.truth(depth)
@@ -332,12 +361,13 @@ def moved(ops, at, by):
     return [op[:1] + (op[1] + by,) if has_place(op) and op[1] >= at else op for op in ops]
 
 
-def random_op(random, ops, place):
+def random_op(random, ops, place, version):
     """One operation, of any sort."""
+    loops = ENTERS_1 + STEPS_1 if version == 1 else ENTERS + STEPS
     near = max(0, place + random.choice((-2, -1, 1, 1, 2, 2, 3, 4, 6)))
     sorts = (
         lambda: (random.choice(JUMPS), near),
-        lambda: (random.choice(ENTERS + STEPS), near),
+        lambda: (random.choice(loops), near),
         lambda: (random.choice(list(PLAIN)),),
         lambda: (random.choice(('LtM', 'GeM', 'EqBool', 'EqNumber', 'EqText', 'IsIn', 'Default', 'Index')),),
         lambda: (random.choice(('Need', 'IsNil', 'Len', 'ToDecimal', 'Item', 'LoadResult', 'PushNil', 'Not')),),
@@ -348,23 +378,25 @@ def random_op(random, ops, place):
         lambda: ('Return',),
         lambda: random.choice(ops),
     )
+    if version == 2:
+        sorts += (lambda: (random.choice(TEXT_TESTS),), lambda: ('PushText', random.choice(TEXTS_2)))
     return random.choice(sorts)()
 
 
-def change(random, ops):
+def change(random, ops, version):
     """One operation changed, removed, added or swapped, or one place moved."""
     ops = list(ops)
     at = random.randrange(len(ops))
     placed = [place for place, op in enumerate(ops) if has_place(op)]
     choice = random.randrange(8)
     if choice == 0:
-        ops[at] = random_op(random, ops, at)
+        ops[at] = random_op(random, ops, at, version)
     elif choice in (1, 2):
         ops = moved(ops[:at] + ops[at + 1:], at + 1, -1) if choice == 1 else ops[:at] + ops[at + 1:]
     elif choice in (3, 4):
         if choice == 3:
             ops = moved(ops, at, 1)
-        ops.insert(at, random_op(random, ops, at))
+        ops.insert(at, random_op(random, ops, at, version))
     elif choice == 5:
         other = min(len(ops) - 1, at + 1)
         ops[at], ops[other] = ops[other], ops[at]
@@ -374,7 +406,7 @@ def change(random, ops):
     return ops or [('Return',)]
 
 
-def changed(random, ops):
+def changed(random, ops, version=1):
     for _ in range(random.choice((1, 1, 2))):
-        ops = change(random, ops)
+        ops = change(random, ops, version)
     return ops

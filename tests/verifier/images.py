@@ -10,11 +10,13 @@ NAMES = (
     'PushBool PushWhole PushDecimal PushText PushNil MakeList LoadResult Item Field Index Len Need IsNil Default '
     'ToDecimal IsIn Not AddW SubW MulW DivW RemW NegW AddD SubD MulD DivD NegD LtW LeW GtW GeW LtD LeD GtD GeD '
     'LtM LeM GtM GeM EqBool EqNumber EqText AndJump OrJump BranchFalse Jump AllEnter AllStep AnyEnter AnyStep '
-    'CountEnter CountStep FilterEnter FilterStep Return'
+    'CountEnter CountStep FilterEnter FilterStep Return '
+    'NoneEnter NoneStep OneEnter OneStep Contains StartsWith EndsWith'
 ).split()
+# The operations that version 1 lacks.
+SECOND = NAMES[NAMES.index('Return') + 1:]
 
 MAGIC = b'ARCV'
-VERSION = b'\x01'
 LARGEST = 4096
 LONGEST_LIST = 16
 
@@ -42,10 +44,15 @@ def in_order(words):
     return list(dict.fromkeys(words))
 
 
+def version_of(ops):
+    """The version of the image of these operations."""
+    return 2 if any(op[0] in SECOND for op in ops) else 1
+
+
 def image(ops, unused):
     texts = in_order([op[1] for op in ops if op[0] == 'PushText'] + unused)
     names = in_order([op[1] for op in ops if op[0] == 'Field'] + unused)
-    code = MAGIC + VERSION + table(texts) + table(names) + unsigned(len(ops))
+    code = MAGIC + bytes([version_of(ops)]) + table(texts) + table(names) + unsigned(len(ops))
     return code + b''.join(operation(op, texts, names) for op in ops)
 
 
@@ -127,15 +134,19 @@ class Reader:
         return entries[number]
 
     def head(self):
+        """The version, after the magic."""
         for expected in MAGIC:
             if self.byte() != expected:
                 raise Refused('BadMagic')
-        if self.bytes(1) != VERSION:
+        version = self.byte()
+        if version not in (1, 2):
             raise Refused('BadVersion')
+        return version
 
-    def operation(self, texts, names):
+    def operation(self, version, texts, names):
+        """The next operation in an image of this version."""
         code_at, code = self.at, self.byte()
-        if not 1 <= code <= len(NAMES):
+        if not 1 <= code <= len(NAMES) or version == 1 and NAMES[code - 1] in SECOND:
             raise Refused(f'UnknownOp({code_at})')
         name = NAMES[code - 1]
         if name == 'PushBool':
@@ -158,9 +169,11 @@ class Reader:
         return byte == 1
 
     def code(self):
-        self.head()
+        version = self.head()
         texts, names = self.table(), self.table()
-        ops = [self.operation(texts, names) for _ in range(self.count())]
+        ops = [self.operation(version, texts, names) for _ in range(self.count())]
+        if version_of(ops) != version:
+            raise Refused('BadVersion')
         if self.at < len(self.data):
             raise Refused(f'Trailing({self.at})')
         return ops

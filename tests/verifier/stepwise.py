@@ -4,8 +4,9 @@ It makes what no condition is compiled to: jumps that share an end, operands tha
 the middle, loops whose bodies branch.
 """
 
-from generator import DECIMALS, TEXTS, WHOLES
-from rules import EQUAL, MIXED, PLAIN, SCALARS, answer_kind, given, is_list, is_optional, is_record, merge, taken
+from generator import DECIMALS, WHOLES, literals
+from rules import (ENTERS, ENTERS_1, EQUAL, MIXED, PLAIN, SCALARS, TEXT_TESTS, answer_kind, given, is_list, is_optional,
+                   is_record, merge, taken)
 
 CALM = list(PLAIN) + list(MIXED) + list(EQUAL) + ['Default', 'IsIn', 'Index', 'Len', 'Need', 'IsNil', 'ToDecimal']
 
@@ -15,9 +16,10 @@ class NoWay(Exception):
 
 
 class Stepwise:
-    def __init__(self, random, shape):
+    def __init__(self, random, shape, version):
         self.random = random
         self.shape = shape
+        self.version = version
         self.ops = []
         self.kinds = ()
         self.waiting = []  # [the jumps' places, the kinds at their target, how many loops hold it]
@@ -47,7 +49,7 @@ class Stepwise:
             lambda: ('PushBool', self.random.random() < 0.5),
             lambda: ('PushWhole', self.random.choice(WHOLES)),
             lambda: ('PushDecimal', self.random.choice(DECIMALS)),
-            lambda: ('PushText', self.random.choice(TEXTS)),
+            lambda: ('PushText', self.random.choice(literals(self.version)['text'])),
             lambda: ('PushNil',),
             lambda: ('LoadResult',),
             lambda: ('LoadResult',),
@@ -57,7 +59,8 @@ class Stepwise:
         self.put(*self.random.choice(sorts)())
 
     def calm(self):
-        names = self.random.sample(CALM, len(CALM))
+        calm = CALM if self.version == 1 else CALM + list(TEXT_TESTS)
+        names = self.random.sample(calm, len(calm))
         top = self.kinds[-1] if len(self.kinds) > self.floor() else None
         if is_record(top) and top[1]:
             return self.put('Field', self.random.choice(top[1])[0])
@@ -108,9 +111,9 @@ class Stepwise:
 
     def enter(self):
         if len(self.kinds) > self.floor() and is_list(self.kinds[-1]) and len(self.loops) < 4:
-            family = self.random.choice(('All', 'Any', 'Count', 'Filter'))
+            name = self.random.choice(ENTERS_1 if self.version == 1 else ENTERS)
             self.loops.append((len(self.ops), self.kinds[:-1], self.kinds[-1]))
-            self.ops.append((family + 'Enter', None))
+            self.ops.append((name, None))
             self.kinds = self.kinds[:-1]
 
     def step(self):
@@ -205,10 +208,10 @@ class Stepwise:
         return self.ops
 
 
-def stepwise_code(random, shape, length):
+def stepwise_code(random, shape, length, version=1):
     """Code of about this length."""
     while True:
         try:
-            return Stepwise(random, shape).write(length)
+            return Stepwise(random, shape, version).write(length)
         except NoWay:
             continue
