@@ -17,7 +17,7 @@ pub enum ImageError {
     /// The number that begins here isn't in its shortest form, or out of its range.
     #[error("byte {0}: BadNumber: expected a number in its range and its shortest form")]
     BadNumber(usize),
-    #[error("byte {0}: UnknownOp: expected the code of an operation, 1 to 56, and to 63 in version 2")]
+    #[error("byte {0}: UnknownOp: expected the code of an operation of the image's version")]
     UnknownOp(usize),
     /// The text that begins here isn't UTF-8, or the operation names a text or name that isn't there.
     #[error("byte {0}: BadText: expected UTF-8, or the number of a text or name that is there")]

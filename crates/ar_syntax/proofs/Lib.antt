@@ -25,3 +25,4 @@ pub mod Climbs
 pub mod Stacks
 pub mod Openers
 pub mod Depths
+mod Words

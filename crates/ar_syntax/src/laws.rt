@@ -1,12 +1,14 @@
 //! Laws of the grammar, for all tokens and all texts. A law is the contract of a function that
 //! does nothing.
 
-ghost use Rattle.std.specs.Prelude.{◌≡◌, ◌≢◌, ◌↔◌, ℕ, nat_le, false, List};
+ghost use Rattle.std.specs.Prelude.{◌≡◌, ◌≢◌, ◌↔◌, ℕ, nat_le, false, List, Some};
 ghost use Rattle.ar_syntax.specs.Refusal.{Derives, IsRefused, depth, most_depth};
 ghost use Rattle.ar_syntax.specs.Parse.{IsRefusal, SaysTree, parse_of};
 ghost use Rattle.ar_condition.specs.Expression.{Expression};
 ghost use Rattle.ar_syntax.specs.declared.error.SyntaxError.{SyntaxError};
+ghost use Rattle.ar_syntax.specs.Token.{letters, word_of};
 ghost use Rattle.ar_syntax.specs.declared.token.Token.{Token};
+ghost use Rattle.ar_syntax.specs.declared.token.Word.{Word};
 
 /// Tokens derive at most one tree.
 pub fn one_tree()
@@ -29,6 +31,12 @@ pub fn parse_is_grammar()
         → (parse_of text ≡ Ok tree) ↔ SaysTree text tree }
     ensures refusal { (text : List ℕ) (error : SyntaxError)
         → (parse_of text ≡ Err error) ↔ IsRefusal text error }
+{}
+
+/// Each word that the language names is found by its letters.
+#[tactic(auto, using(crate::proofs::Words::each_is_named))]
+pub fn words_are_named()
+    ensures { (word : Word) → word_of (letters word) ≡ Some word }
 {}
 
 /// No text is refused for want of memory.

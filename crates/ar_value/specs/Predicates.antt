@@ -1,11 +1,11 @@
--- What tells the calls with a predicate apart: at which truth value of an item they end, and what they keep of the items.
+-- At which boolean of an item a call with a predicate ends, and what it keeps of the items.
 use Rattle.std.specs.Prelude.{ℕ, ◌==◌, Bool, true, false, Option, Some, None}
 use Rattle.ar_value.specs.declared.operator.Gather.{Gather}
 use Rattle.ar_value.specs.declared.operator.Gather.TheVariants.{Nothing, Number, Items}
 use Rattle.ar_value.specs.declared.operator.Predicate.{Predicate}
 use Rattle.ar_value.specs.declared.operator.Predicate.TheVariants as predicates
 
--- the truth value of an item that ends the loop at once, and the answer that it then gives
+-- the boolean of an item that ends the loop at once, and the answer that it then gives
 abbrev pub ends_at : Predicate → Option (Bool × Bool)
 ends_at predicates.All = Some (false, false)
 ends_at predicates.Any = Some (true, true)

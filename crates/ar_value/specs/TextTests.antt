@@ -1,10 +1,10 @@
--- Tests of two texts, byte by byte: whether a part is in a whole, at any place, at its start or at its end.
+-- Tests of two texts, byte by byte: whether a part is in a whole, as a substring, a prefix or a suffix.
 use Rattle.std.specs.Prelude.{◌≡◌, ◌-◌, ℕ, Bool, ◌||◌, List, [], ◌∷◌, ◌++◌, length, take, drop}
 use Rattle.std.specs.Str.{bytes_eq}
 use Rattle.ar_value.specs.declared.operator.TextTest.{TextTest}
 use Rattle.ar_value.specs.declared.operator.TextTest.TheVariants.{Contains, StartsWith, EndsWith}
 
--- there are a front and a back, or one of the two, that make the whole of the part
+-- with what is before the part, and what is after it, the part makes the whole
 abbrev pub Passes : TextTest → (whole part : List ℕ) → Type 0
 Passes Contains whole part = (front : List ℕ) × (back : List ℕ) × (whole ≡ front ++ (part ++ back))
 Passes StartsWith whole part = (back : List ℕ) × (whole ≡ part ++ back)

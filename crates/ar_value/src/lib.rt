@@ -15,7 +15,7 @@
 //!   [`digits`] the numbers that digits spell
 //! - [`arithmetic`]: arithmetic of decimals; [`whole`]: of wholes
 //! - [`fault`]: faults of arithmetic and of operands; [`operator`]: operators of conditions, which
-//!   `specs/Operators` defines on values
+//!   `specs/Operators` defines on values, `specs/TextTests` on texts and `specs/Predicates` for loops
 //! - [`text`], [`value`], [`shape`]: texts, values and shapes, which contracts see by `specs/View`
 //! - [`fitting`]: which values fit
 //! - [`kind`]: kinds of expressions; `widening` joins shapes; [`sameness`]: which are the same;

@@ -103,7 +103,7 @@ pub enum BinaryOperator {
     TextTest(TextTest),
 }
 
-/// The operators that look for one text, the part, in another, the whole, byte by byte.
+/// The tests that look for one text, the part, in another, the whole, byte by byte.
 #[derive(Clone, Copy)]
 pub enum TextTest {
     Contains,
@@ -112,8 +112,8 @@ pub enum TextTest {
 }
 
 impl TextTest {
-    /// Whether the whole has the part, at its start or end where the test wants it there. The empty text
-    /// passes each test. The time is that of the two lengths.
+    /// Whether the whole has the part, at its start or end where the test wants it there. Every whole has the
+    /// empty part.
     #[tactic(auto, using(crate::proofs::TextTests::contained, crate::proofs::TextTests::started, crate::proofs::TextTests::ended, crate::proofs::TextTests::stands))]
     pub fn passes(self, whole: &str, part: &str) -> bool
         ensures exact { result ≡ passes self whole.now part.now }
@@ -147,7 +147,7 @@ pub enum Gather {
 }
 
 impl Predicate {
-    /// The truth value of an item that ends the loop at once, and the answer that it then gives.
+    /// The boolean of an item that ends the loop at once, and the answer that it then gives.
     pub fn ends_at(self) -> Option<(bool, bool)>
         ensures { result ≡ ends_at self }
     {
