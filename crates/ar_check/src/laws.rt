@@ -29,7 +29,8 @@ pub fn typing_is_the_table()
     ensures found { (result : Shape) (item : Option Shape) (around : ℕ) (tree : Expression) (found : Operand)
         → typed_of result item around tree ≡ Ok found → HasKind result item around tree found.kind }
     ensures typed { (result : Shape) (item : Option Shape) (around : ℕ) (tree : Expression) (kind : Kind)
-        → HasKind result item around tree kind → (typed : Typed) × (typed_of result item around tree ≡ Ok (operand typed kind)) }
+        → HasKind result item around tree kind
+        → (typed : Typed) × (typed_of result item around tree ≡ Ok (operand typed kind)) }
 {}
 
 /// A tree has at most one kind.
@@ -42,13 +43,15 @@ pub fn one_kind()
 /// `and` with a false left side is false, whatever stands right of it.
 pub fn and_with_false_is_false()
     ensures { (result : Value) (here : Option Value) (left right : Typed)
-        → mean result here left ≡ Ok (values.bool false) → mean result here (typed.both left right) ≡ Ok (values.bool false) }
+        → mean result here left ≡ Ok (values.bool false)
+        → mean result here (typed.both left right) ≡ Ok (values.bool false) }
 {}
 
 /// `or` with a true left side is true, whatever stands right of it.
 pub fn or_with_true_is_true()
     ensures { (result : Value) (here : Option Value) (left right : Typed)
-        → mean result here left ≡ Ok (values.bool true) → mean result here (typed.either left right) ≡ Ok (values.bool true) }
+        → mean result here left ≡ Ok (values.bool true)
+        → mean result here (typed.either left right) ≡ Ok (values.bool true) }
 {}
 
 /// `default(a, b)` of an a that isn't nil is a, where b has no fault.
@@ -63,5 +66,6 @@ pub fn default_of_a_value_is_the_value()
 #[tactic(auto, using(crate::proofs::Defaults::is_the_other))]
 pub fn default_of_nil_is_the_other()
     ensures { (result : Value) (here : Option Value) (operand stand_in : Typed)
-        → mean result here operand ≡ Ok values.nil → mean result here (typed.binary binary.Default operand stand_in) ≡ mean result here stand_in }
+        → mean result here operand ≡ Ok values.nil
+        → mean result here (typed.binary binary.Default operand stand_in) ≡ mean result here stand_in }
 {}

@@ -266,7 +266,8 @@ fn typed_choice<'s>(
     scope: &Scope<'s>,
 ) -> Result<Box<Operand<'s>>, TypeError>
     ensures { Gives is_memory boxed_view result
-        (typed_in scope.now (ChoiceAt at (expression_of condition.value) (expression_of yes.value) (expression_of no.value))) }
+        (typed_in scope.now (ChoiceAt at (expression_of condition.value) (expression_of yes.value)
+        (expression_of no.value))) }
 {
     let condition = child(alloc, condition, scope)?;
     let yes = child(alloc, yes, scope)?;
@@ -345,7 +346,8 @@ fn typed_body(
     scope: &Scope<'_>,
 ) -> Result<(bool, Box<Typed>), TypeError>
     ensures { Gives is_memory (λ found. (found.0, typed_view found.1.value)) result
-        (over_items at scope.now.around (kind_view list.now) (λ shape. inside scope.now shape (expression_of body.value))) }
+        (over_items at scope.now.around (kind_view list.now)
+        (λ shape. inside scope.now shape (expression_of body.value))) }
 {
     let shape = item_shape(at, list)?;
     if scope.around >= MOST_PREDICATES {

@@ -20,7 +20,8 @@ pub fn one_bundle()
 /// be several reports, as many as there are orders of the events.
 pub fn one_text()
     ensures { (command : Command) (input text other : List ℕ) (closing closing_of_other : Closing)
-        → ((workers : ℕ) → command ≢ commands.Run workers) → Says command input text closing → Says command input other closing_of_other
+        → ((workers : ℕ) → command ≢ commands.Run workers) → Says command input text closing
+        → Says command input other closing_of_other
         → (text ≡ other) × (closing ≡ closing_of_other) }
 {}
 

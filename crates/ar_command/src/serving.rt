@@ -141,7 +141,8 @@ pub fn serve<S: Source, W: Sink, G: Gate, R: Threads + Wait + Sync>(
 
     // The same of all bytes of a reader whose bytes are known.
     ensures written_of_known { IfOk result (λ closing. IfSome (S.remaining reader.old)
-        (λ input. (text : List ℕ) × Says command input text closing × Appends (W.contents writer.old) (W.contents writer.new) text)) }
+        (λ input. (text : List ℕ) × Says command input text closing
+        × Appends (W.contents writer.old) (W.contents writer.new) text)) }
 
     // A refusal is the first fault of the bytes that were taken, and of all bytes where they are known.
     ensures refused { (refusal : Refusal) → result ≡ Err (ServeError.Refused refusal)
@@ -197,7 +198,8 @@ pub fn serve_plain<S: Source, W: Sink>(
 
     // The same of all bytes of a reader whose bytes are known.
     ensures written_of_known { IfOk result (λ closing. IfSome (S.remaining reader.old)
-        (λ input. (text : List ℕ) × Says command input text closing × Appends (W.contents writer.old) (W.contents writer.new) text)) }
+        (λ input. (text : List ℕ) × Says command input text closing
+        × Appends (W.contents writer.old) (W.contents writer.new) text)) }
 
     // A refusal is the first fault of the bytes that were taken, and of all bytes where they are known.
     ensures refused { (refusal : Refusal) → result ≡ Err (ServeError.Refused refusal)

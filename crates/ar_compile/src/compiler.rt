@@ -152,7 +152,8 @@ fn put_choice(
 ) -> Result<(), AllocError>
     requires { (InLimits (typed_view condition.now)) × (InLimits (typed_view met.now))
         × (InLimits (typed_view unmet.now))
-        × (place_of draft.old + operations (typed.choice (typed_view condition.now) (typed_view met.now) (typed_view unmet.now)) ≤ 4096) }
+        × (place_of draft.old + operations
+        (typed.choice (typed_view condition.now) (typed_view met.now) (typed_view unmet.now)) ≤ 4096) }
     ensures { OnOk result (draft.new
         ≡ drafted (typed.choice (typed_view condition.now) (typed_view met.now) (typed_view unmet.now)) draft.old) }
 {
@@ -182,7 +183,8 @@ fn put_list(
     requires { (AllInLimits (items_view items.now)) × (how_many (items_view items.now) ≤ 16)
         × (place_of draft.old + operations_of_items (items_view items.now) ≤ 4096) }
     ensures { OnOk result (draft.new
-        ≡ with_op (MakeList scalar (how_many (items_view items.now))) (drafted_items (items_view items.now) draft.old)) }
+        ≡ with_op (MakeList scalar (how_many (items_view items.now)))
+        (drafted_items (items_view items.now) draft.old)) }
 {
     put_items(alloc, draft, items)?;
     let count = items.len() as u8;

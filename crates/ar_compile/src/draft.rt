@@ -29,7 +29,8 @@ impl Model for Draft {
 
     ghost view = { λ d. code_of_parts d.ops.items (map string_bytes d.texts.items) (map string_bytes d.names.items) };
 
-    ghost invariant = { λ d. (length d.texts.items ≤ length d.ops.items) × (length d.names.items ≤ length d.ops.items) };
+    ghost invariant = { λ d. (length d.texts.items ≤ length d.ops.items)
+        × (length d.names.items ≤ length d.ops.items) };
 }
 
 impl Draft {

@@ -87,7 +87,8 @@ fn metric_of(
     number: usize,
 ) -> Result<MetricPart, BundleError>
     ensures { (earlier : List Named) → length earlier ≡ number
-        → Gives is_memory metric_view result (with_shape (option_map (λ json. view json.now) shapes.entry) earlier metric.now) }
+        → Gives is_memory metric_view result
+        (with_shape (option_map (λ json. view json.now) shapes.entry) earlier metric.now) }
 {
     let name = metric.name.as_str();
     let declared = declared(shapes, name).ok_or(BundleError::ShapeMissing(number))?;

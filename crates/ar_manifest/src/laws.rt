@@ -26,7 +26,8 @@ pub fn plain_text_stays()
 pub fn one_reference_gives_way()
     ensures { (arguments : TemplateArguments) (own : RunArguments) (i : ℕ)
         (text before behind between after value : List ℕ)
-        → CutsAtFirst (codes "{{") text before behind → CutsAtFirst (codes "}}") behind between after → Lacks (codes "{{") after
+        → CutsAtFirst (codes "{{") text before behind → CutsAtFirst (codes "}}") behind between after
+        → Lacks (codes "{{") after
         → referred_value arguments own i between ≡ Ok value
         → bound_text arguments own i text ≡ Ok (before ++ (value ++ after)) }
 {}

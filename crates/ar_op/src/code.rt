@@ -25,7 +25,8 @@ impl Model for Code {
 
     ghost view = { λ c. code_of_parts c.ops.items (map string_bytes c.texts.items) (map string_bytes c.names.items) };
 
-    ghost invariant = { λ c. IsCode (code_of_parts c.ops.items (map string_bytes c.texts.items) (map string_bytes c.names.items)) };
+    ghost invariant = { λ c. IsCode
+        (code_of_parts c.ops.items (map string_bytes c.texts.items) (map string_bytes c.names.items)) };
 }
 
 impl Code {

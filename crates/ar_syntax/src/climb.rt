@@ -42,7 +42,8 @@ pub(crate) fn climb(
 fn pop_ended(stack: &mut Vec<Frame>, reach: Reach) -> Option<Frame>
     ensures { MatchOption result
         ((stack.new.items ≡ stack.old.items) × (top_ends reach (frames_of stack.old.items) ≡ false))
-        (λ frame. (frames_of stack.old.items ≡ frame_of frame ∷ frames_of stack.new.items) × (ends reach (frame_of frame) ≡ true)) }
+        (λ frame. (frames_of stack.old.items ≡ frame_of frame ∷ frames_of stack.new.items)
+        × (ends reach (frame_of frame) ≡ true)) }
 {
     if newest_ends(stack, reach) {
         stack.pop()

@@ -45,7 +45,8 @@ fn wait(stack: &mut Vec<Frame>, frame: Frame) -> Result<State, Refusal>
 #[tactic(auto, using(crate::proofs::Openers::opener_left, crate::proofs::Openers::no_opener_left, crate::proofs::Climbs::pops))]
 fn open(stack: &mut Vec<Frame>, frame: Frame) -> Result<State, Refusal>
     ensures { Steps
-        (λ rules. when rules (may_open rules (left (frames_of stack.old.items))) (Want (frame_of frame ∷ frames_of stack.old.items)))
+        (λ rules. when rules (may_open rules (left (frames_of stack.old.items)))
+        (Want (frame_of frame ∷ frames_of stack.old.items)))
         (frames_of stack.new.items) result }
 {
     if left(stack) == 0 {
@@ -163,7 +164,8 @@ fn operate(
     operator: Binary,
 ) -> Result<State, Refusal>
     ensures { Steps
-        (λ rules. operate rules at operator (climbed (looseness operator) (frames_of stack.old.items) (expression_of tree.value)))
+        (λ rules. operate rules at operator
+        (climbed (looseness operator) (frames_of stack.old.items) (expression_of tree.value)))
         (frames_of stack.new.items) result }
 {
     let first = climb(alloc, stack, Reach::Level(looseness(operator)), tree)?;
@@ -298,7 +300,8 @@ fn end_index(
     ender: Ender,
 ) -> Result<State, Refusal>
     ensures { (stack : _) → Steps
-        (λ rules. end_with rules ender (Have (Indexed at (expression_of list.value) ∷ stack) (expression_of tree.value)))
+        (λ rules. end_with rules ender
+        (Have (Indexed at (expression_of list.value) ∷ stack) (expression_of tree.value)))
         stack result }
 {
     match ender {
@@ -348,7 +351,8 @@ fn end_yes(
     ender: Ender,
 ) -> Result<State, Refusal>
     ensures { Steps
-        (λ rules. end_with rules ender (Have (Yes at (expression_of condition.value) ∷ frames_of stack.old.items) (expression_of met.value)))
+        (λ rules. end_with rules ender
+        (Have (Yes at (expression_of condition.value) ∷ frames_of stack.old.items) (expression_of met.value)))
         (frames_of stack.new.items) result }
 {
     match ender {
@@ -471,7 +475,8 @@ fn open_index(
     token: &Token,
 ) -> Result<State, Refusal>
     ensures { Steps
-        (λ rules. open_index rules (frames_of stack.old.items) at (expression_of owner.value) token.now (text_value token.now))
+        (λ rules. open_index rules (frames_of stack.old.items) at (expression_of owner.value) token.now
+        (text_value token.now))
         (frames_of stack.new.items) result }
 {
     match text_of(alloc, token)? {
@@ -503,7 +508,8 @@ fn close_text(
     token: &Token,
 ) -> Result<State, Refusal>
     ensures { Steps
-        (λ rules. close_text rules (frames_of stack.old.items) at (expression_of owner.value) literal.0 literal.1 token.now (follows token.now))
+        (λ rules. close_text rules (frames_of stack.old.items) at
+        (expression_of owner.value) literal.0 literal.1 token.now (follows token.now))
         (frames_of stack.new.items) result }
 {
     let (text_at, text) = literal;
@@ -539,7 +545,8 @@ fn have_indexed(
     token: &Token,
 ) -> Result<State, Refusal>
     ensures { Steps
-        (λ rules. have rules (Indexed at (expression_of list.value) ∷ frames_of stack.old.items) (expression_of tree.value) token.now)
+        (λ rules. have rules (Indexed at (expression_of list.value) ∷ frames_of stack.old.items)
+        (expression_of tree.value) token.now)
         (frames_of stack.new.items) result }
 {
     stack.push(Frame::Indexed { at, list })?;
@@ -555,7 +562,8 @@ fn want_in(
     token: &Token,
 ) -> Result<State, Refusal>
     ensures { Steps
-        (λ rules. when rules (is_in token.now) (Want (RightOf at NotIn (expression_of first.value) ∷ frames_of stack.old.items)))
+        (λ rules. when rules (is_in token.now)
+        (Want (RightOf at NotIn (expression_of first.value) ∷ frames_of stack.old.items)))
         (frames_of stack.new.items) result }
 {
     if is_in(token) {
@@ -583,7 +591,8 @@ fn want_argument(
     token: &Token,
 ) -> Result<State, Refusal>
     ensures { Steps
-        (λ rules. close_empty rules (frames_of stack.old.items) at function token.now (map expression_of so_far.items) (follows token.now))
+        (λ rules. close_empty rules (frames_of stack.old.items) at function token.now (map expression_of so_far.items)
+        (follows token.now))
         (frames_of stack.new.items) result }
 {
     if is_empty_call(&so_far, token) {

@@ -95,7 +95,8 @@ fn widest_object(
     right: &[FieldShape],
 ) -> Result<Option<Shape>, AllocError>
     ensures { IfOk result (λ shape. option_map shape_view shape
-        ≡ option_map object (widest_fields (field_shapes_of (map field_shape_view left.now)) (field_shapes_of (map field_shape_view right.now)))) }
+        ≡ option_map object (widest_fields (field_shapes_of (map field_shape_view left.now))
+        (field_shapes_of (map field_shape_view right.now)))) }
 {
     match widest_fields(alloc, left, right)? {
         Some(items) => Ok(Some(Shape::Object(FieldShapes { items }))),
@@ -111,7 +112,8 @@ fn widest_fields(
     right: &[FieldShape],
 ) -> Result<Option<Vec<FieldShape>>, AllocError>
     ensures { IfOk result (λ fields. option_map (λ vec. field_shapes_of (map field_shape_view vec.items)) fields
-        ≡ widest_fields (field_shapes_of (map field_shape_view left.now)) (field_shapes_of (map field_shape_view right.now))) }
+        ≡ widest_fields (field_shapes_of (map field_shape_view left.now))
+        (field_shapes_of (map field_shape_view right.now))) }
 {
     if left.len() != right.len() {
         return Ok(None);

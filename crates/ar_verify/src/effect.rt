@@ -205,7 +205,8 @@ pub(crate) fn apply<M: ShapeName>(
     kinds: &mut Vec<Kind<M>>,
 ) -> Result<Option<Kind<M>>, AllocError>
     ensures { IfOk result (λ given. Leaves given kinds.new.items
-        (effect code.now (shape_view M.shape) (option_map (λ list. (list_of list.now).0) here.entry) op (from_top kinds.old.items))) }
+        (effect code.now (shape_view M.shape) (option_map (λ list. (list_of list.now).0) here.entry) op
+        (from_top kinds.old.items))) }
 {
     match op {
         Op::Push(source) => pushed(alloc, measured, here, source),

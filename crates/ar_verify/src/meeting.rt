@@ -165,7 +165,8 @@ fn add_part<M: ShapeName>(
     requires alike { all_alike (part_view first.now) (map (λ other. part_view other.value) others.old.items) ≡ true }
     requires form { form (part_view first.now) ≡ form (part_view part.now.value) }
     ensures wider { OnOk result (widest_of (part_view first.now) (map (λ other. part_view other.value) others.new.items)
-        ≡ wider (widest_of (part_view first.now) (map (λ other. part_view other.value) others.old.items)) (part_view part.now.value)) }
+        ≡ wider (widest_of (part_view first.now) (map (λ other. part_view other.value) others.old.items))
+        (part_view part.now.value)) }
     ensures alike { OnOk result
         (all_alike (part_view first.now) (map (λ other. part_view other.value) others.new.items) ≡ true) }
 {

@@ -17,5 +17,6 @@ pub(crate) struct Parts<M: ShapeName> {
     pub first: Rc<Part<M>>,
     /// Each stands once.
     pub others: Vec<Rc<Part<M>>>,
-    ghost alike: { all_alike (part_view first.value) (map (λ other. part_view other.value) others.items) ≡ true } by { Prim.hlevel props },
+    ghost alike: { all_alike (part_view first.value) (map (λ other. part_view other.value) others.items)
+        ≡ true } by { Prim.hlevel props },
 }

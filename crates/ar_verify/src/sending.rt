@@ -337,7 +337,8 @@ fn perform<M: ShapeName>(
     kinds: &mut Vec<Kind<M>>,
 ) -> Result<(), Failure>
     ensures { Meets (λ _. from_top kinds.new.items) result (performed
-        (effect code.now (shape_view M.shape) (option_map (λ list. (list_of list.now).0) here.entry) op (from_top kinds.old.items))) }
+        (effect code.now (shape_view M.shape) (option_map (λ list. (list_of list.now).0) here.entry) op
+        (from_top kinds.old.items))) }
 {
     let given = apply(alloc, code, measured, here, op, kinds)?;
     push_given(kinds, given)
