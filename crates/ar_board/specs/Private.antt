@@ -2,3 +2,4 @@
 -- of. These follow the code.
 pub mod Seats
 pub mod Closing
+pub mod Shares

@@ -4,7 +4,8 @@ ghost use Rattle.std.specs.Prelude.{◌≡◌, ◌<◌, ◌≤◌, [], false, If
 ghost use Rattle.ar_bundle.specs.Bundle.{found, run_of};
 ghost use Rattle.std.specs.Vec.{vec_capacity};
 ghost use Rattle.ar_board.specs.Board.{AreSeated, IsClosed, IsLost, IsReceived, IsSeen, IsUnseen, receipts_of};
-ghost use Rattle.ar_board.specs.Seats.{AllAre, per_lock};
+ghost use Rattle.ar_board.specs.Seats.{AllAre};
+ghost use Rattle.ar_board.specs.Private.Shares.{amounts_of, parts_of};
 ghost use Rattle.ar_board.specs.Private.Seats.{IsOneMore};
 ghost use Rattle.ar_cell.specs.Cell.{lock_of};
 
@@ -143,16 +144,12 @@ impl<'b, M: BundleName, L: LockNames> Board<'b, M, L> {
         requires run { run_of M.bundle number ≡ Some run }
         requires worker { worker < M.workers }
         requires finding { found M.bundle number ≡ Some finding }
-        requires part { AllAre 1
-            (per_lock shares.old.first.parts shares.old.second.parts shares.old.third.parts shares.old.fourth.parts) }
-        ensures more { OnOk result (IsOneMore M.bundle (lock_of run)
-            (per_lock shares.old.first.amount shares.old.second.amount shares.old.third.amount shares.old.fourth.amount)
-            (per_lock shares.new.first.amount shares.new.second.amount shares.new.third.amount shares.new.fourth.amount)) }
+        requires part { AllAre 1 (parts_of shares.old) }
+        ensures more { OnOk result (IsOneMore M.bundle (lock_of run) (amounts_of shares.old)
+            (amounts_of shares.new)) }
         ensures refused { OnErr result (
-            per_lock shares.new.first.amount shares.new.second.amount shares.new.third.amount shares.new.fourth.amount
-            ≡ per_lock shares.old.first.amount shares.old.second.amount shares.old.third.amount shares.old.fourth.amount) }
-        ensures parts { AllAre 1
-            (per_lock shares.new.first.parts shares.new.second.parts shares.new.third.parts shares.new.fourth.parts) }
+            amounts_of shares.new ≡ amounts_of shares.old) }
+        ensures parts { AllAre 1 (parts_of shares.new) }
     {
         match lock_of_run(run) {
             0 => under::post(rt, &self.first, &mut shares.first, worker, number, finding),

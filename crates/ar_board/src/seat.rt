@@ -4,7 +4,8 @@ ghost use Rattle.std.specs.Prelude.{◌≡◌, ◌<◌, ◌≤◌, [], IfOk, len
 ghost use Rattle.std.specs.Vec.{vec_capacity};
 ghost use Rattle.ar_board.specs.Board.{AreSeated, seat_of};
 ghost use Rattle.ar_board.specs.Private.Closing.{AreGiven};
-ghost use Rattle.ar_board.specs.Seats.{AllAre, per_lock};
+ghost use Rattle.ar_board.specs.Seats.{AllAre};
+ghost use Rattle.ar_board.specs.Private.Shares.{amounts_of, parts_of};
 
 use crate::locks::LockNames;
 use crate::shares::Shares;
@@ -23,8 +24,8 @@ pub(crate) fn seats_of<M: BundleName, L: LockNames>(
 ) -> Result<Vec<Seat<M, L>>, AllocError>
     requires bundle { bundle.now ≡ M.bundle }
     requires workers { workers ≡ M.workers }
-    requires parts { AllAre workers (per_lock all.first.parts all.second.parts all.third.parts all.fourth.parts) }
-    requires without { AllAre 0 (per_lock all.first.amount all.second.amount all.third.amount all.fourth.amount) }
+    requires parts { AllAre workers (parts_of all) }
+    requires without { AllAre 0 (amounts_of all) }
     ensures { IfOk result (λ seats. AreSeated workers seats.items) }
 {
     let mut seats = Vec::with_capacity(alloc, workers)?;
@@ -44,13 +45,10 @@ pub(crate) fn gather<M: BundleName, L: LockNames>(
 )
     requires empty { receipts.old.items ≡ [] }
     requires room { length seats.items ≤ vec_capacity receipts.old }
-    requires no_part { AllAre 0
-        (per_lock all.old.first.parts all.old.second.parts all.old.third.parts all.old.fourth.parts) }
-    requires nothing { AllAre 0
-        (per_lock all.old.first.amount all.old.second.amount all.old.third.amount all.old.fourth.amount) }
+    requires no_part { AllAre 0 (parts_of all.old) }
+    requires nothing { AllAre 0 (amounts_of all.old) }
     ensures { AreGiven M.bundle seats.items (map (λ own. own.items) receipts.new.items)
-        (per_lock all.new.first.parts all.new.second.parts all.new.third.parts all.new.fourth.parts)
-        (per_lock all.new.first.amount all.new.second.amount all.new.third.amount all.new.fourth.amount) }
+        (parts_of all.new) (amounts_of all.new) }
 {
     for seat in seats {
         let Seat {
@@ -79,15 +77,15 @@ pub struct Seat<M: BundleName, L: LockNames> {
 impl<M: BundleName, L: LockNames> Model for Seat<M, L> {
     ghost use Rattle.std.specs.Vec.{vec_capacity};
     ghost use Rattle.ar_board.specs.Board.{Seat, seat_of};
-    ghost use Rattle.ar_board.specs.Seats.{IsSeat, per_lock};
+    ghost use Rattle.ar_board.specs.Seats.{IsSeat};
+    ghost use Rattle.ar_board.specs.Private.Shares.{amounts_of, parts_of};
 
     ghost Value = { Seat };
 
     ghost view = { λ s. seat_of s.worker s.receipts.items };
 
     ghost invariant = { λ s. IsSeat M.bundle M.workers s.worker s.receipts.items (vec_capacity s.receipts)
-        (per_lock s.shares.first.parts s.shares.second.parts s.shares.third.parts s.shares.fourth.parts)
-        (per_lock s.shares.first.amount s.shares.second.amount s.shares.third.amount s.shares.fourth.amount) };
+        (parts_of s.shares) (amounts_of s.shares) };
 }
 
 impl<M: BundleName, L: LockNames> Seat<M, L> {
@@ -100,10 +98,8 @@ impl<M: BundleName, L: LockNames> Seat<M, L> {
     ) -> Result<Seat<M, L>, AllocError>
         requires bundle { bundle.now ≡ M.bundle }
         requires worker { worker < M.workers }
-        requires parts { AllAre 1
-            (per_lock shares.first.parts shares.second.parts shares.third.parts shares.fourth.parts) }
-        requires nothing { AllAre 0
-            (per_lock shares.first.amount shares.second.amount shares.third.amount shares.fourth.amount) }
+        requires parts { AllAre 1 (parts_of shares) }
+        requires nothing { AllAre 0 (amounts_of shares) }
         ensures { IfOk result (λ seat. seat ≡ seat_of worker []) }
     {
         Ok(Seat {
@@ -117,10 +113,8 @@ impl<M: BundleName, L: LockNames> Seat<M, L> {
     /// Shares of the ledgers that have no part of them.
     pub(crate) fn empty_shares(&mut self) -> Shares<L>
         ensures same { self.new ≡ self.old }
-        ensures no_part { AllAre 0
-            (per_lock result.first.parts result.second.parts result.third.parts result.fourth.parts) }
-        ensures nothing { AllAre 0
-            (per_lock result.first.amount result.second.amount result.third.amount result.fourth.amount) }
+        ensures no_part { AllAre 0 (parts_of result) }
+        ensures nothing { AllAre 0 (amounts_of result) }
     {
         self.shares.empty()
     }

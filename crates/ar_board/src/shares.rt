@@ -15,7 +15,8 @@ pub(crate) struct Shares<L: LockNames> {
 }
 
 impl<L: LockNames> Shares<L> {
-    ghost use Rattle.ar_board.specs.Seats.{AllAre, at_lock, per_lock};
+    ghost use Rattle.ar_board.specs.Seats.{AllAre, at_lock};
+    ghost use Rattle.ar_board.specs.Private.Shares.{amounts_of, parts_of};
 
     /// One part of each ledger is split off; there is no amount.
     pub(crate) fn split_off(&mut self) -> Shares<L>
@@ -23,17 +24,13 @@ impl<L: LockNames> Shares<L> {
         requires second { 1 ≤ self.old.second.parts }
         requires third { 1 ≤ self.old.third.parts }
         requires fourth { 1 ≤ self.old.fourth.parts }
-        requires without { AllAre 0
-            (per_lock self.old.first.amount self.old.second.amount self.old.third.amount self.old.fourth.amount) }
-        ensures one { AllAre 1
-            (per_lock result.first.parts result.second.parts result.third.parts result.fourth.parts) }
-        ensures nothing { AllAre 0
-            (per_lock result.first.amount result.second.amount result.third.amount result.fourth.amount) }
+        requires without { AllAre 0 (amounts_of self.old) }
+        ensures one { AllAre 1 (parts_of result) }
+        ensures nothing { AllAre 0 (amounts_of result) }
         ensures left { (many : ℕ)
-            → AllAre (many + 1) (per_lock self.old.first.parts self.old.second.parts self.old.third.parts self.old.fourth.parts)
-            → AllAre many (per_lock self.new.first.parts self.new.second.parts self.new.third.parts self.new.fourth.parts) }
-        ensures still_without { AllAre 0
-            (per_lock self.new.first.amount self.new.second.amount self.new.third.amount self.new.fourth.amount) }
+            → AllAre (many + 1) (parts_of self.old)
+            → AllAre many (parts_of self.new) }
+        ensures still_without { AllAre 0 (amounts_of self.new) }
     {
         Shares {
             first: self.first.split_off(1, 0),
@@ -45,14 +42,10 @@ impl<L: LockNames> Shares<L> {
 
     /// Shares of the ledgers that have no part of them.
     pub(crate) fn empty(&mut self) -> Shares<L>
-        ensures no_part { AllAre 0
-            (per_lock result.first.parts result.second.parts result.third.parts result.fourth.parts) }
-        ensures nothing { AllAre 0
-            (per_lock result.first.amount result.second.amount result.third.amount result.fourth.amount) }
-        ensures parts { per_lock self.new.first.parts self.new.second.parts self.new.third.parts self.new.fourth.parts
-            ≡ per_lock self.old.first.parts self.old.second.parts self.old.third.parts self.old.fourth.parts }
-        ensures sum { per_lock self.new.first.amount self.new.second.amount self.new.third.amount self.new.fourth.amount
-            ≡ per_lock self.old.first.amount self.old.second.amount self.old.third.amount self.old.fourth.amount }
+        ensures no_part { AllAre 0 (parts_of result) }
+        ensures nothing { AllAre 0 (amounts_of result) }
+        ensures parts { parts_of self.new ≡ parts_of self.old }
+        ensures sum { amounts_of self.new ≡ amounts_of self.old }
     {
         Shares {
             first: self.first.empty(),
@@ -66,14 +59,12 @@ impl<L: LockNames> Shares<L> {
     #[tactic(auto, using(crate::proofs::UnderLocks::amounts_added))]
     pub(crate) fn merge(&mut self, other: Shares<L>)
         ensures parts { (many more : ℕ)
-            → AllAre many (per_lock self.old.first.parts self.old.second.parts self.old.third.parts self.old.fourth.parts)
-            → AllAre more (per_lock other.first.parts other.second.parts other.third.parts other.fourth.parts)
-            → AllAre (many + more)
-            (per_lock self.new.first.parts self.new.second.parts self.new.third.parts self.new.fourth.parts) }
-        ensures amounts { (lock : ℕ) → at_lock
-            (per_lock self.new.first.amount self.new.second.amount self.new.third.amount self.new.fourth.amount) lock
-            ≡ at_lock (per_lock self.old.first.amount self.old.second.amount self.old.third.amount self.old.fourth.amount) lock
-            + at_lock (per_lock other.first.amount other.second.amount other.third.amount other.fourth.amount) lock }
+            → AllAre many (parts_of self.old)
+            → AllAre more (parts_of other)
+            → AllAre (many + more) (parts_of self.new) }
+        ensures amounts { (lock : ℕ) → at_lock (amounts_of self.new) lock
+            ≡ at_lock (amounts_of self.old) lock
+            + at_lock (amounts_of other) lock }
     {
         let Shares {
             first,

@@ -5,7 +5,7 @@ use Rattle.std.specs.Vec.Iter.{into_iter_items}
 use Rattle.ar_cell.specs.declared.receipt.Receipt.{Receipt}
 use Rattle.ar_board.specs.Board.{Seat}
 use Rattle.ar_board.specs.Private.Closing.{AreGiven}
-use Rattle.ar_board.specs.Seats.{per_lock}
+use Rattle.ar_board.specs.Private.Shares.{amounts_of, parts_of}
 use Rattle.ar_board.proofs.Seats.{given_next}
 use Rattle.ar_board.proofs.seat.gather.Goals as goal
 
@@ -23,17 +23,13 @@ loop-seat-preserved g c =
     let own : List Receipt = c.seat.inside.receipts.items in
     let its : c.in-Some.seat.receipts ≡ own = sym (ap (λ (seat : Seat). seat.receipts) c.seat.view_is) in
     let given = given_next g.M.BundleName.bundle at.yielded (map (λ (own : Vec Receipt Global). own.items) at.receipts.items)
-    (per_lock at.all.first.parts at.all.second.parts at.all.third.parts at.all.fourth.parts) (per_lock at.all.first.amount at.all.second.amount at.all.third.amount at.all.fourth.amount)
-    (per_lock c.seat.inside.shares.first.parts c.seat.inside.shares.second.parts c.seat.inside.shares.third.parts c.seat.inside.shares.fourth.parts)
-    (per_lock c.seat.inside.shares.first.amount c.seat.inside.shares.second.amount c.seat.inside.shares.third.amount c.seat.inside.shares.fourth.amount)
-    (per_lock c.merge.new.self.first.parts c.merge.new.self.second.parts c.merge.new.self.third.parts c.merge.new.self.fourth.parts)
-    (per_lock c.merge.new.self.first.amount c.merge.new.self.second.amount c.merge.new.self.third.amount c.merge.new.self.fourth.amount)
+    (parts_of at.all) (amounts_of at.all) (parts_of c.seat.inside.shares)
+    (amounts_of c.seat.inside.shares) (parts_of c.merge.new.self) (amounts_of c.merge.new.self)
     c.in-Some.seat own at.invariant.1 its c.seat.invariant.own c.seat.invariant.part c.seat.invariant.counted c.merge.ensures.parts c.merge.ensures.amounts in
     let lists = ap (map (λ (own : Vec Receipt Global). own.items)) c.push_reserved.ensures.items ∙ map_push (λ (own : Vec Receipt Global). own.items) at.receipts.items c.seat.inside.receipts in (
       append_assoc at.yielded (c.in-Some.seat ∷ []) _ ∙ rw (← steps) at.invariant.0,
       subst (λ (receipts : List (List Receipt)). AreGiven g.M.BundleName.bundle (at.yielded ++ c.in-Some.seat ∷ []) receipts
-          (per_lock c.merge.new.self.first.parts c.merge.new.self.second.parts c.merge.new.self.third.parts c.merge.new.self.fourth.parts)
-          (per_lock c.merge.new.self.first.amount c.merge.new.self.second.amount c.merge.new.self.third.amount c.merge.new.self.fourth.amount)) (sym lists) given,
+          (parts_of c.merge.new.self) (amounts_of c.merge.new.self)) (sym lists) given,
       omega arith,
       omega arith,
       (let capacity = c.push_reserved.ensures.capacity in let room = at.invariant.4 in omega arith),
