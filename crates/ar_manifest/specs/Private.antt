@@ -1,4 +1,5 @@
 -- What only the proofs of the code use.
 pub mod Early
 pub mod Made
+pub mod Indices
 pub mod BoundParts

@@ -2,17 +2,21 @@
 
 ghost use Rattle.std.specs.Prelude.{◌≡◌, ◌==◌, ◌++◌, [], ◌∷◌, length, OnOk, OnErr, option_copied};
 ghost use Rattle.ar_manifest.specs.Arguments.{value_of, with_value};
+ghost use Rattle.ar_manifest.specs.Private.Indices.{index_of};
 
 use ar_value::Text;
-use indexmap::IndexMap;
 use std::alloc::{AllocError, Global};
+use std::collections::BTreeMap;
 use std::marker::Model;
 
 /// Values by name, in the order in which the names came. Contracts see the list of names with
-/// their values.
+/// their values. Names are compared as texts, so that no choice of names makes finding one slow.
 #[derive(Drop)]
 pub struct Arguments<V> {
-    values: IndexMap<String, V>,
+    /// The names with their values.
+    entries: Vec<(Text, V)>,
+    /// Where in the list each name is.
+    indices: BTreeMap<String, usize>,
 }
 
 /// A run's own arguments: texts by name.
@@ -23,9 +27,11 @@ impl<V> Model for Arguments<V> {
 
     ghost Value = { List (List ℕ × V) };
 
-    ghost use Rattle.ar_manifest.specs.Arguments.{by_name};
+    ghost use Rattle.ar_manifest.specs.Private.Indices.{AreIndices};
 
-    ghost view = { λ arguments. by_name arguments.values.entries };
+    ghost view = { λ arguments. arguments.entries.items };
+
+    ghost invariant = { λ arguments. AreIndices arguments.indices arguments.entries.items };
 }
 
 impl<V> Arguments<V> {
@@ -34,24 +40,32 @@ impl<V> Arguments<V> {
         ensures { result ≡ [] }
     {
         Arguments {
-            values: IndexMap::new(alloc),
+            entries: Vec::new(alloc),
+            indices: BTreeMap::new(alloc),
         }
     }
 
     /// The value of a name.
-    #[tactic(auto, using(crate::proofs::Entries::value_of_entry))]
+    #[tactic(auto, using(crate::proofs::Entries::no_value, crate::proofs::Entries::index_within, crate::proofs::Entries::value_there))]
     pub fn get(&self, name: &str) -> Option<&V>
         ensures { option_copied result ≡ value_of name.now self.now }
     {
-        self.values.get(name)
+        let index = self.index_of(name)?;
+        Some(&self.entries[index].1)
+    }
+
+    /// Where in the list a name is.
+    fn index_of(&self, name: &str) -> Option<usize>
+        ensures { result ≡ index_of name.now self.now }
+    {
+        self.indices.get(name).copied()
     }
 
     /// How many names have a value.
-    #[tactic(auto, using(crate::proofs::Entries::len_entries))]
     pub fn len(&self) -> usize
         ensures { result ≡ length self.now }
     {
-        self.values.len()
+        self.entries.len()
     }
 
     pub fn is_empty(&self) -> bool
@@ -60,7 +74,7 @@ impl<V> Arguments<V> {
         self.len() == 0
     }
 
-    /// Gives the name a value, in the place of the one that it has, or else behind all others.
+    /// Gives the name a value, in the place of the one that it has, or else after all others.
     pub fn insert(&mut self, alloc: Global, name: &str, value: V) -> Result<(), AllocError>
     where
         V: Drop,
@@ -70,19 +84,25 @@ impl<V> Arguments<V> {
         self.put(Text::of(alloc, name)?, value)
     }
 
-    #[tactic(auto, using(crate::proofs::Entries::with_value_entry))]
+    #[tactic(auto, using(crate::proofs::Entries::no_value, crate::proofs::Entries::index_within, crate::proofs::Entries::value_changed, crate::proofs::Entries::with_new_value, crate::proofs::Entries::same_indices))]
     fn put(&mut self, name: Text, value: V) -> Result<(), AllocError>
     where
         V: Drop,
         ensures ok { OnOk result (self.new ≡ with_value self.old name value) }
         ensures err { OnErr result (self.new ≡ self.old) }
     {
-        self.values.insert(name.into_string(), value)?;
-        Ok(())
+        match self.index_of(name.as_str()) {
+            Some(index) => {
+                self.entries[index].1 = value;
+                Ok(())
+            }
+            None => self.push(name, value),
+        }
     }
 
-    /// Gives a name that has none a value, behind all others.
-    #[tactic(auto, using(crate::proofs::Entries::with_new_value))]
+    /// Gives a name that has none a value, after all others. The list has room for it before the
+    /// map changes, so that the last step can't fail.
+    #[tactic(auto, using(crate::proofs::Entries::next_indices))]
     pub(crate) fn push(&mut self, name: Text, value: V) -> Result<(), AllocError>
     where
         V: Drop,
@@ -90,6 +110,12 @@ impl<V> Arguments<V> {
         ensures ok { OnOk result (self.new ≡ self.old ++ (name, value) ∷ []) }
         ensures err { OnErr result (self.new ≡ self.old) }
     {
-        self.put(name, value)
+        let index = self.entries.len();
+        let name = name.into_string();
+        let key = name.clone()?;
+        self.entries.reserve(1)?;
+        self.indices.insert(key, index)?;
+        self.entries.push_reserved((Text::from(name), value));
+        Ok(())
     }
 }
