@@ -8,3 +8,4 @@ mod Refusing
 mod Bundling
 mod Answering
 pub mod OneAnswer
+pub mod Earlier

@@ -3,3 +3,4 @@ pub mod Made
 pub mod Naming
 pub mod Opened
 pub mod Parts
+pub mod Earlier

@@ -1,6 +1,6 @@
 //! Parts of the bundle for the runs of a document.
 
-ghost use Rattle.std.specs.Prelude.{◌≡◌, IfErr, IfOk, length, map, take};
+ghost use Rattle.std.specs.Prelude.{◌≡◌, IfErr, IfOk, IfSome, Some, length, map, take};
 ghost use Rattle.std.specs.List.{AllByRecursion};
 ghost use Rattle.ar_limits.specs.Metric.{HasPositiveCounts};
 ghost use Rattle.ar_judge.specs.Verdict.{IsJudge};
@@ -13,6 +13,7 @@ ghost use Rattle.ar_document.specs.Document.{is_memory};
 ghost use Rattle.ar_document.specs.Opening.{metric_view};
 ghost use Rattle.ar_document.specs.Parts.{AreJudges, AreParts, IsPart, RefusesRun, RefusesRuns, limits_of};
 ghost use Rattle.ar_document.specs.Private.Opened.{IsOpened, opened_view};
+ghost use Rattle.ar_document.specs.Private.Earlier.{AllOfTheirTexts, AreOfTheirTexts, IsOfEarlier, IsOfRun};
 ghost use Rattle.ar_document.specs.Private.Parts.{IfRefused, RefusesJudge, RefusesJudges};
 ghost use Rattle.ar_document.specs.declared.error.BundleError.TheVariants.{Bind};
 
@@ -20,7 +21,7 @@ use crate::error::BundleError;
 use crate::opening::Opened;
 use crate::runs::Run;
 use ar_bundle::{Judges, MetricPart, RunLimits, RunPart};
-use ar_judge::{BuildError, Judge};
+use ar_judge::{BuildError, Judge, SharedCondition, Which};
 use ar_limits::Limits;
 use ar_manifest::{Bound, BoundMetric, ManifestError, Template};
 use ar_value::holding::{add, beside};
@@ -38,19 +39,61 @@ fn bound(alloc: Global, template: &Template, run: &Run, number: usize) -> Result
     }
 }
 
-/// The judge of a metric, whose number and whose run's number are told where there is none.
+/// One of the conditions that a run has for the metric with a number, if it is of a text.
+fn condition_in<'p>(
+    part: &'p RunPart,
+    which: Which,
+    number: usize,
+    text: &str,
+) -> Option<&'p SharedCondition>
+    ensures { IfSome result (λ condition. IsOfRun part.now which number condition.now
+        × (condition.now.text ≡ text.now)) }
+{
+    let condition = part.judges.as_slice().get(number)?.condition(which)?;
+    if condition.is_of(text) {
+        Some(condition)
+    } else {
+        None
+    }
+}
+
+/// The condition of a text that an earlier run has for the metric with a number.
+fn earlier_condition<'p>(
+    earlier: &'p [RunPart],
+    which: Which,
+    number: usize,
+    text: &Option<Text>,
+) -> Option<&'p SharedCondition>
+    ensures { IfSome result (λ condition. IsOfEarlier earlier.now which number condition.now
+        × (text.now ≡ Some condition.now.text)) }
+{
+    let text = text.as_ref()?;
+    for part in earlier {
+        if let Some(condition) = condition_in(part, which, number, text.as_str()) {
+            return Some(condition);
+        }
+    }
+    None
+}
+
+/// The judge of a metric, whose number and whose run's number are told where there is none. A text that an
+/// earlier run's metric has, too, isn't built again.
 fn judge_of(
     alloc: Global,
     run: usize,
     number: usize,
     metric: &MetricPart,
     bound: &BoundMetric,
+    earlier: &[RunPart],
 ) -> Result<Judge, BundleError>
+    requires { AreOfTheirTexts number metric.now earlier.now }
     ensures built { IfOk result
         (IsJudge (shape_view metric.now.shape) bound.now.success_condition bound.now.failure_condition) }
     ensures refused { IfRefused result (RefusesJudge run number metric.now bound.now) }
 {
-    match Judge::build(alloc, bound, &metric.shape) {
+    let success = earlier_condition(earlier, Which::Success, number, &bound.success_condition);
+    let failure = earlier_condition(earlier, Which::Failure, number, &bound.failure_condition);
+    match Judge::build_with(alloc, bound, &metric.shape, success, failure) {
         Ok(judge) => Ok(judge),
         Err(BuildError::OutOfMemory) => Err(BundleError::OutOfMemory),
         Err(error) => Err(BundleError::Build(run, number, error)),
@@ -63,14 +106,16 @@ fn judges_of(
     run: usize,
     metrics: &[MetricPart],
     bound: &[BoundMetric],
+    earlier: &[RunPart],
 ) -> Result<Judges, BundleError>
-    requires { length bound.now ≡ length metrics.now }
+    requires many { length bound.now ≡ length metrics.now }
+    requires earlier { AllOfTheirTexts metrics.now earlier.now }
     ensures built { IfOk result (AreJudges (map metric_view metrics.now) bound.now) }
     ensures refused { IfRefused result (RefusesJudges run metrics.now bound.now) }
 {
     let mut judges = Vec::with_capacity(alloc, metrics.len())?;
     for (number, metric) in metrics.iter().enumerate() {
-        let judge = judge_of(alloc, run, number, metric, &bound[number])?;
+        let judge = judge_of(alloc, run, number, metric, &bound[number], earlier)?;
         add(&mut judges, judge)?;
     }
     Ok(Judges::from(judges))
@@ -105,24 +150,33 @@ fn judges_and_limits(
     run: usize,
     metrics: &[MetricPart],
     bound: &[BoundMetric],
+    earlier: &[RunPart],
 ) -> Result<(Judges, RunLimits), BundleError>
-    requires { length bound.now ≡ length metrics.now }
+    requires many { length bound.now ≡ length metrics.now }
+    requires earlier { AllOfTheirTexts metrics.now earlier.now }
     ensures built { IfOk result (λ made. AreJudges (map metric_view metrics.now) bound.now made.0) }
     ensures limits { IfOk result (λ made. made.1 ≡ map limits_of bound.now) }
     ensures refused { IfRefused result (RefusesJudges run metrics.now bound.now) }
 {
-    let judges = judges_of(alloc, run, metrics, bound)?;
+    let judges = judges_of(alloc, run, metrics, bound, earlier)?;
     Ok(beside(judges, all_limits(alloc, bound))?)
 }
 
-/// The part of the run with a number.
-fn part_of(alloc: Global, opened: &Opened, run: &Run, number: usize) -> Result<RunPart, BundleError>
-    requires { IsOpened opened.now }
+/// The part of the run with a number, after those of earlier runs.
+fn part_of(
+    alloc: Global,
+    opened: &Opened,
+    run: &Run,
+    number: usize,
+    earlier: &[RunPart],
+) -> Result<RunPart, BundleError>
+    requires opened { IsOpened opened.now }
+    requires earlier { AllOfTheirTexts opened.now.metrics.items earlier.now }
     ensures part { IfOk result (IsPart (opened_view opened.now) run.now) }
     ensures refused { IfRefused result (RefusesRun (opened_view opened.now) number run.now) }
 {
     let bound = bound(alloc, &opened.template, run, number)?;
-    let judged = judges_and_limits(alloc, number, &opened.metrics, bound.metrics())?;
+    let judged = judges_and_limits(alloc, number, &opened.metrics, bound.metrics(), earlier)?;
     let (judged, name) = beside(judged, Text::of(alloc, run.name.as_str()))?;
     Ok(RunPart {
         name,
@@ -139,7 +193,7 @@ pub(crate) fn parts_of(alloc: Global, opened: &Opened) -> Result<Vec<RunPart>, B
 {
     let mut parts = Vec::with_capacity(alloc, opened.runs.len())?;
     for (number, run) in opened.runs.iter().enumerate() {
-        let part = part_of(alloc, opened, run, number)?;
+        let part = part_of(alloc, opened, run, number, &parts)?;
         add(&mut parts, part)?;
     }
     Ok(parts)

@@ -1,5 +1,5 @@
 -- Which conditions have a `filter`: a call that gathers items.
-use Rattle.std.specs.Prelude.{◌≡◌, Bool, true, false, ◌||◌, List, ℕ, Ok}
+use Rattle.std.specs.Prelude.{◌≡◌, Bool, false, ◌||◌, List, ℕ, Ok}
 use Rattle.ar_value.specs.Shape.{Shape}
 use Rattle.ar_value.specs.Value.{Value}
 use Rattle.ar_value.specs.Predicates.{gathers}

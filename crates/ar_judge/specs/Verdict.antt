@@ -13,6 +13,8 @@ use Rattle.ar_judge.specs.declared.error.BuildCause.{BuildCause}
 use Rattle.ar_judge.specs.declared.error.BuildCause.TheVariants as causes
 use Rattle.ar_judge.specs.declared.error.BuildError.{BuildError}
 use Rattle.ar_judge.specs.declared.error.BuildError.TheVariants as errors
+use Rattle.ar_judge.specs.declared.judge.Which.{Which}
+use Rattle.ar_judge.specs.declared.judge.Which.TheVariants.{Success, Failure}
 use Rattle.ar_judge.specs.declared.sample.Sample as code
 use Rattle.ar_judge.specs.declared.sample.Sample.TheVariants as samples
 use Rattle.ar_judge.specs.declared.verdict.Cause.TheVariants as error
@@ -51,6 +53,11 @@ pub record Judge : Type 0 where
 
 abbrev pub judge_of : (success failure : Option Condition) → Judge
 judge_of success failure = record { success = success; failure = failure }
+
+-- one of the two
+abbrev pub condition_of : Which → Judge → Option Condition
+condition_of Success judge = judge.success
+condition_of Failure judge = judge.failure
 
 abbrev pub said_of : Value → Condition → Option (Result Bool Fault)
 said_of value condition = said (shape_view condition.verified.shape) condition.text value

@@ -1,14 +1,15 @@
 //! The conditions of a metric.
 
-ghost use Rattle.std.specs.Prelude.{◌≡◌, IfErr, IfOk, IsOk, None, option_and_then, option_map};
+ghost use Rattle.std.specs.Prelude.{◌≡◌, IfErr, IfOk, IfSome, IsOk, None, Some, option_and_then, option_map};
 ghost use Rattle.ar_value.specs.View.{shape_view, value_view};
 ghost use Rattle.ar_judge.specs.Headline.{JudgeHeadlineHolds};
-ghost use Rattle.ar_judge.specs.Verdict.{FitsEach, BeginsNoFilterIfThere, HasNoText, IsJudge, RefusesTexts, Suits, TakesNoMemory, said_of, sample_view, verdict, verdict_by};
+ghost use Rattle.ar_judge.specs.Verdict.{AreBuilt, FitsEach, BeginsNoFilterIfThere, HasNoText, IsJudge, RefusesTexts, Suits, TakesNoMemory, condition_of, said_of, sample_view, verdict, verdict_by};
 ghost use Rattle.ar_judge.specs.Private.Building.{BuildsEach, failure_refused, success_refused};
 
 use crate::condition::Condition;
 use crate::error::{BuildCause, BuildError};
 use crate::sample::Sample;
+use crate::shared_condition::SharedCondition;
 use crate::verdict::{Cause, Verdict};
 use ar_machine::Answer;
 use ar_manifest::BoundMetric;
@@ -23,8 +24,15 @@ use std::marker::Model;
 /// the `Judge` of `specs/Verdict`.
 #[derive(Drop)]
 pub struct Judge {
-    success: Option<Condition>,
-    failure: Option<Condition>,
+    success: Option<SharedCondition>,
+    failure: Option<SharedCondition>,
+}
+
+/// One of a metric's two conditions.
+#[derive(Clone, Copy)]
+pub enum Which {
+    Success,
+    Failure,
 }
 
 impl Model for Judge {
@@ -62,9 +70,49 @@ impl Judge {
         // Where there is no text, out of memory is never answered.
         ensures without_memory { HasNoText metric.now.success_condition metric.now.failure_condition → IsOk result }
     {
-        let success = built(alloc, &metric.success_condition, shape).map_err(success_refused)?;
-        let failure = built(alloc, &metric.failure_condition, shape).map_err(failure_refused)?;
+        Judge::build_with(alloc, metric, shape, None, None)
+    }
+
+    /// The judge that `build` gives, with the conditions of the metric's texts that are there already, as those
+    /// of another run.
+    ///
+    /// # Errors
+    ///
+    /// As those of `build`.
+    pub fn build_with(
+        alloc: Global,
+        metric: &BoundMetric,
+        shape: &SharedShape,
+        known_success: Option<&SharedCondition>,
+        known_failure: Option<&SharedCondition>,
+    ) -> Result<Judge, BuildError>
+        requires success { IfSome known_success
+            (λ condition. AreBuilt (shape_view shape.now) metric.now.success_condition (Some condition.now)) }
+        requires failure { IfSome known_failure
+            (λ condition. AreBuilt (shape_view shape.now) metric.now.failure_condition (Some condition.now)) }
+        ensures built { IfOk result
+            (IsJudge (shape_view shape.now) metric.now.success_condition metric.now.failure_condition) }
+        ensures headline { IfOk result
+            (JudgeHeadlineHolds (shape_view shape.now) metric.now.success_condition metric.now.failure_condition) }
+        ensures refused { IfErr result
+            (RefusesTexts (shape_view shape.now) metric.now.success_condition metric.now.failure_condition) }
+        ensures without_memory { HasNoText metric.now.success_condition metric.now.failure_condition → IsOk result }
+    {
+        let success = built(alloc, &metric.success_condition, shape, known_success);
+        let success = success.map_err(success_refused)?;
+        let failure = built(alloc, &metric.failure_condition, shape, known_failure);
+        let failure = failure.map_err(failure_refused)?;
         Ok(Judge { success, failure })
+    }
+
+    /// One of its conditions, where it is there.
+    pub fn condition(&self, which: Which) -> Option<&SharedCondition>
+        ensures { option_map (λ condition. condition.now) result ≡ condition_of which self.now }
+    {
+        match which {
+            Which::Success => self.success.as_ref(),
+            Which::Failure => self.failure.as_ref(),
+        }
     }
 
     /// The verified code of the success condition.
@@ -72,7 +120,7 @@ impl Judge {
         ensures { option_map (λ verified. verified.now) result
             ≡ option_map (λ condition. condition.verified) self.now.success }
     {
-        self.success.as_ref().map(Condition::verified)
+        verified_of(&self.success)
     }
 
     /// The verified code of the failure condition.
@@ -80,7 +128,7 @@ impl Judge {
         ensures { option_map (λ verified. verified.now) result
             ≡ option_map (λ condition. condition.verified) self.now.failure }
     {
-        self.failure.as_ref().map(Condition::verified)
+        verified_of(&self.failure)
     }
 
     /// The verdict of a sample. Its value, if it has one, must fit the shape that the conditions are
@@ -110,17 +158,47 @@ impl Judge {
     }
 }
 
-/// The condition of a text, where there is one.
+/// The verified code of a condition, where it is there.
+fn verified_of(condition: &Option<SharedCondition>) -> Option<&Verified>
+    ensures { option_map (λ verified. verified.now) result
+        ≡ option_map (λ condition. condition.verified) condition.now }
+{
+    match condition {
+        Some(condition) => Some(condition.get().verified()),
+        None => None,
+    }
+}
+
+/// The condition of a text, where there is one, and where it isn't there already.
 fn built(
     alloc: Global,
     text: &Option<Text>,
     shape: &SharedShape,
-) -> Result<Option<Condition>, BuildCause>
+    there: Option<&SharedCondition>,
+) -> Result<Option<SharedCondition>, BuildCause>
+    requires { IfSome there (λ condition. AreBuilt (shape_view shape.now) text.now (Some condition.now)) }
+    ensures built { BuildsEach (shape_view shape.now) text.now result }
+    ensures without_memory { text.now ≡ None → IsOk result }
+{
+    match there {
+        Some(condition) => Ok(Some(condition.share()?)),
+        None => newly_built(alloc, text, shape),
+    }
+}
+
+fn newly_built(
+    alloc: Global,
+    text: &Option<Text>,
+    shape: &SharedShape,
+) -> Result<Option<SharedCondition>, BuildCause>
     ensures built { BuildsEach (shape_view shape.now) text.now result }
     ensures without_memory { text.now ≡ None → IsOk result }
 {
     match text {
-        Some(text) => Ok(Some(Condition::build(alloc, text.as_str(), shape.share()?)?)),
+        Some(text) => {
+            let condition = Condition::build(alloc, text.as_str(), shape.share()?)?;
+            Ok(Some(SharedCondition::new(alloc, condition)?))
+        }
         None => Ok(None),
     }
 }
@@ -146,7 +224,7 @@ fn failure_refused(cause: BuildCause) -> BuildError
 /// What a condition says of a value, where there is one.
 fn said(
     alloc: Global,
-    condition: &Option<Condition>,
+    condition: &Option<SharedCondition>,
     value: &Value,
 ) -> Result<Option<Answer>, AllocError>
     requires { FitsEach (value_view value.now) condition.now }
@@ -154,7 +232,7 @@ fn said(
     ensures without_memory { BeginsNoFilterIfThere (value_view value.now) condition.now → IsOk result }
 {
     match condition {
-        Some(condition) => Ok(Some(condition.answer(alloc, value)?)),
+        Some(condition) => Ok(Some(condition.get().answer(alloc, value)?)),
         None => Ok(None),
     }
 }

@@ -1,7 +1,7 @@
 -- Bundles can be shared between threads.
-use denote.Param.Send.{IsSync, sendable}
-use denote.Param.SendFields.{declared_sync, variants_sync}
-use Rattle.std.proofs.Crossing.{crosses}
+use denote.Param.Send.{IsSend, IsSync, sendable}
+use denote.Param.SendFields.{declared_send, declared_sync, variants_sync}
+use Rattle.std.proofs.Crossing.{crosses, Arc-sync}
 use Rattle.ar_op.specs.contracts.code.Code as Code
 use Rattle.ar_op.specs.contracts.op.Op as Op
 use Rattle.ar_verified.specs.contracts.verified.Verified as Verified
@@ -10,6 +10,8 @@ use Rattle.ar_judge.specs.contracts.condition.Condition as Condition
 use Rattle.ar_judge.specs.contracts.condition.Condition.TheInside as ConditionInside
 use Rattle.ar_judge.specs.contracts.judge.Judge as Judge
 use Rattle.ar_judge.specs.contracts.sample.Sample as Sample
+use Rattle.ar_judge.specs.contracts.shared_condition.SharedCondition as SharedCondition
+use Rattle.ar_judge.specs.contracts.shared_condition.SharedCondition.TheInside as SharedConditionInside
 use Rattle.ar_bundle.specs.contracts.bundle.Bundle as Bundle
 use Rattle.ar_bundle.specs.contracts.bundle.EventPart as EventPart
 use Rattle.ar_bundle.specs.contracts.bundle.Judges as Judges
@@ -18,7 +20,7 @@ use Rattle.ar_bundle.specs.contracts.bundle.RunLimits as RunLimits
 use Rattle.ar_bundle.specs.contracts.bundle.RunPart as RunPart
 use Rattle.ar_bundle.specs.contracts.bundle.What as What
 use Rattle.ar_limits.specs.contracts.limits.Limits as Limits
-use Rattle.ar_queue.proofs.Sharing.Shapes.{shared_shape_sync, text_sync}
+use Rattle.ar_queue.proofs.Sharing.Shapes.{shared_shape_send, shared_shape_sync, text_send, text_sync}
 use Rattle.ar_queue.proofs.Sharing.Values.{value_sync}
 
 op_sync : IsSync Op.the_row
@@ -33,8 +35,23 @@ verified_sync = let inside : IsSync VerifiedInside.the_row = declared_sync Verif
 condition_sync : IsSync Condition.the_row
 condition_sync = let inside : IsSync ConditionInside.the_row = declared_sync ConditionInside.the_type (text_sync, (verified_sync, tt)) in search sendable
 
+op_send : IsSend Op.the_row
+op_send = search (crosses, sendable) depth 200 fits 20000
+
+code_send : IsSend Code.the_row
+code_send = let op = op_send in search (crosses, sendable) depth 20
+
+verified_send : IsSend Verified.the_row
+verified_send = let inside : IsSend VerifiedInside.the_row = declared_send VerifiedInside.the_type (code_send, (shared_shape_send, (search (crosses, sendable), (search (crosses, sendable), tt)))) in search sendable
+
+condition_send : IsSend Condition.the_row
+condition_send = let inside : IsSend ConditionInside.the_row = declared_send ConditionInside.the_type (text_send, (verified_send, tt)) in search sendable
+
+shared_condition_sync : IsSync SharedCondition.the_row
+shared_condition_sync = let inside : IsSync SharedConditionInside.the_row = declared_sync SharedConditionInside.the_type (Arc-sync Condition.the_row condition_send condition_sync, tt) in search sendable
+
 judge_sync : IsSync Judge.the_row
-judge_sync = let condition = condition_sync in search (crosses, sendable) depth 20
+judge_sync = let condition = shared_condition_sync in search (crosses, sendable) depth 20
 
 judges_sync : IsSync Judges.the_row
 judges_sync = let judge = judge_sync in search (crosses, sendable) depth 20

@@ -9,7 +9,7 @@ use denote.RattleType.{RattleType}
 use denote.Hole.FixSend.{Sends, Syncs, fix_send, fix_sync}
 use denote.Param.Send.{Common, IsSend, Quiet, IsSync, sendable}
 use denote.Param.SendFields.{as_row_send, as_row_sync, declared_send, declared_sync, variants_send, variants_sync}
-use Rattle.std.proofs.Crossing.{crosses, Arc-sync, Box-send, Box-sync}
+use Rattle.std.proofs.Crossing.{crosses, Arc-send, Arc-sync, Box-send, Box-sync}
 use Rattle.ar_value.specs.contracts.shape.Shape as Shape
 use Rattle.ar_value.specs.contracts.shape.Shape.TheKnot as knot
 use Rattle.ar_value.specs.contracts.shared_shape.SharedShape as SharedShape
@@ -17,7 +17,7 @@ use Rattle.ar_value.specs.contracts.shared_shape.SharedShape.TheInside as Shared
 use Rattle.ar_value.specs.contracts.text.Text as Text
 use Rattle.ar_value.specs.contracts.shape.FieldShapes as FieldShapes
 
-text_send : IsSend Text.the_row
+pub text_send : IsSend Text.the_row
 text_send = search (crosses, sendable) depth 20
 
 pub text_sync : IsSync Text.the_row
@@ -82,3 +82,6 @@ shape_sync = record { shared = λ d b o κ. subst (λ shr. (b o : ℕ) → Commo
 
 pub shared_shape_sync : IsSync SharedShape.the_row
 shared_shape_sync = let inside : IsSync SharedInside.the_row = declared_sync SharedInside.the_type (Arc-sync Shape.the_row shape_send shape_sync, tt) in search sendable
+
+pub shared_shape_send : IsSend SharedShape.the_row
+shared_shape_send = let inside : IsSend SharedInside.the_row = declared_send SharedInside.the_type (Arc-send Shape.the_row shape_send shape_sync, tt) in search sendable

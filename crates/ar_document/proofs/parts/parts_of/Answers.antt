@@ -3,10 +3,14 @@ use Rattle.std.proofs.lemmas.Grind.{common_steps}
 use Rattle.std.proofs.lemmas.Result.{err_from_is_err_and}
 use Rattle.ar_document.specs.Document.{is_memory}
 use Rattle.ar_document.specs.Private.Opened.{opened_view}
+use Rattle.ar_document.proofs.Earlier.{of_their_texts}
 use Rattle.ar_document.proofs.Growing.{next_part}
 use Rattle.ar_document.proofs.Refusing.{runs_refused}
 use Rattle.ar_value.proofs.Steps.{leads}
 use Rattle.ar_document.proofs.parts.parts_of.Goals as goal
+
+pub part_of-requires-clause-earlier : goal.part_of-requires-clause-earlier
+part_of-requires-clause-earlier c = rw c.deref.ensures.value (of_their_texts c.args.opened.now _ c.loop-number.parts.items c.loop-number.invariant)
 
 pub returns-in_err-part-clause-refused : goal.returns-in_err-part-clause-refused
 returns-in_err-part-clause-refused c =

@@ -1,7 +1,7 @@
 use Rattle.std.proofs.Common.{rules}
 use Rattle.ar_judge.proofs.Headline.{judge_holds}
 use Rattle.ar_judge.proofs.Refusing.{failure_told, success_told}
-use Rattle.ar_judge.proofs.judge.Judge.build.Goals as goal
+use Rattle.ar_judge.proofs.judge.Judge.build_with.Goals as goal
 
 pub returns-in_err-success-clause-refused : goal.returns-in_err-success-clause-refused
 returns-in_err-success-clause-refused c = search (rules, success_told)
