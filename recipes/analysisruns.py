@@ -1,6 +1,7 @@
 """AnalysisRuns of Argo Rollouts as documents of argo_judge."""
 from documents import Refused, measured, member, objects, shown
-from templates import API_VERSION, document, is_job, shapes_of
+from histories import check_history
+from templates import API_VERSION, add_shapes_flag, document, is_job, shapes_of
 
 DONE = ("Successful", "Failed", "Inconclusive", "Error")
 
@@ -62,10 +63,18 @@ def checked_run(run):
     return run
 
 
-def document_of(run, shapes_path, template=None):
+def add_flags(parser):
+    """What each recipe takes that reads an AnalysisRun."""
+    add_shapes_flag(parser)
+    parser.add_argument("--partial", action="store_true", help="take a run that lacks measurements by the controller's "
+                        "counts, which is refused otherwise")
+
+
+def document_of(run, words, template=None):
     """The document of an AnalysisRun, by its own template or another, and its measurements in the order of the
     document's entries."""
     run = checked_run(run)
+    check_history(run, words.partial)
     name = run["metadata"]["name"]
     template = template or template_of(run)
     args = {arg["name"]: arg["value"] for arg in objects(member(run, "spec", "args"))
@@ -74,4 +83,4 @@ def document_of(run, shapes_path, template=None):
     entries = [{"run": name, "metric": metric, **answer} for metric, _, answer in found]
     if member(run, "spec", "terminate") is True:
         entries.append({"run": name, "stop": True})
-    return document(template, shapes_of(template, shapes_path, run), name, args, entries), found
+    return document(template, shapes_of(template, words.shapes, run), name, args, entries), found

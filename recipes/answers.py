@@ -3,7 +3,7 @@ import heapq
 import re
 
 from documents import Refused, member, read_json, shown
-from templates import arguments_of, chosen_metric, document, shapes_in, shapes_of
+from templates import add_shapes_flag, arguments_of, chosen_metric, document, shapes_in, shapes_of
 
 TIME = re.compile(r"-?\d{1,18}(\.\d{1,18})?([eE][+-]?\d{1,2})?", re.ASCII)
 
@@ -13,7 +13,7 @@ def add_flags(parser):
     flag = parser.add_argument
     flag("--template", metavar="FILE", help="the AnalysisTemplate, as kubectl prints it as JSON")
     flag("--add-to", metavar="DOCUMENT", help="add to this document, by its own template; - is standard input")
-    flag("--shapes", metavar="FILE", help="a JSON object: for each metric, by its name, a shape")
+    add_shapes_flag(parser)
     flag("--run", metavar="NAME", help="the name of the run; without it `run`, or the one that DOCUMENT has")
     flag("--metric", metavar="NAME", help="the metric that the answers are of")
     flag("--arg", action="append", default=[], metavar="NAME=VALUE",

@@ -61,6 +61,10 @@ def chosen_metric(template, name):
 
 # ---- shapes
 
+def add_shapes_flag(parser):
+    parser.add_argument("--shapes", metavar="FILE", help="a JSON object: for each metric, by its name, a shape")
+
+
 def shapes_in(value, where):
     if not isinstance(value, dict):
         raise Refused(f"{where}: expected an object that has a shape for each metric, by its name")

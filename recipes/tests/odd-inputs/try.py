@@ -14,7 +14,8 @@ STATUSES = {0, 1, 2, 3, 4}
 # How many changes of a good file are tried in each place where it is read; more of them by the environment.
 CHANGES, SHOWN = int(os.environ.get("CHANGES", "10")), 3
 # What a recipe tells besides what it refuses.
-NOTE = re.compile("from-prometheus: answer [0-9]+: |shapes: .*: no answer says of what kind|argo_judge: warning: ")
+NOTE = re.compile("from-prometheus: answer [0-9]+: |shapes: .*: no answer says of what kind|argo_judge: warning: |"
+                  r"[\w-]+: metric .* measurements.*, by the controller's counts$")
 
 sys.path.insert(0, HERE)
 
@@ -22,9 +23,10 @@ TEMPLATE = {"apiVersion": "argoproj.io/v1alpha1", "kind": "AnalysisTemplate", "m
             "spec": {"args": [{"name": "a"}], "metrics": [{"name": "m", "successCondition": "result > 0"}]}}
 RUN = {"apiVersion": "argoproj.io/v1alpha1", "kind": "AnalysisRun", "metadata": {"name": "r"},
        "spec": {"metrics": TEMPLATE["spec"]["metrics"], "args": [{"name": "a", "value": "1"}]},
-       "status": {"phase": "Successful", "metricResults": [{"name": "m", "phase": "Successful", "measurements": [
-           {"phase": "Successful", "value": "1", "finishedAt": "2026-01-01T00:00:00Z"},
-           {"phase": "Error", "message": "timeout", "finishedAt": "2026-01-01T00:01:00Z"}]}]}}
+       "status": {"phase": "Successful", "metricResults": [
+           {"name": "m", "phase": "Successful", "count": 1, "successful": 1, "error": 1, "measurements": [
+               {"phase": "Successful", "value": "1", "finishedAt": "2026-01-01T00:00:00Z"},
+               {"phase": "Error", "message": "timeout", "finishedAt": "2026-01-01T00:01:00Z"}]}]}}
 DOCUMENT = {"manifest": TEMPLATE, "shapes": {"m": "decimal"}, "runs": [{"name": "r", "args": {"a": "1"}}],
             "measurements": [{"run": "r", "metric": "m", "value": 1, "time": "60"}, {"run": "r", "stop": True}]}
 ANSWER = {"status": "success", "warnings": ["w"], "data": {"resultType": "matrix", "result": [
@@ -48,7 +50,7 @@ RECIPES = {
     "split": [["--runs", "1", "DOCUMENT", "PARTS"]],
     "join": [["PART"]],
     "shapes": [["RUN"], ["DOCUMENT"], ["--metric", "m", "SHAPES"]],
-    "from-analysisrun": [["--shapes", "SHAPES", "RUN"], ["--template", "TEMPLATE", "--shapes", "SHAPES", "RUN"]],
+    "from-analysisrun": [["--shapes", "SHAPES", "RUN"], ["--template", "TEMPLATE", "--partial", "--shapes", "SHAPES", "RUN"]],
     "compare-analysisrun": [["--engine", ENGINE, "--shapes", "SHAPES", "RUN"]],
     "kubectl-argo_judge": [["run", "RUN", "--shapes", "SHAPES", "--engine", ENGINE],
                            ["check", "TEMPLATE", "--arg", "a=1", "--shapes", "SHAPES", "--engine", ENGINE]],

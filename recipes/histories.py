@@ -1,0 +1,52 @@
+"""Whether the measurements of an AnalysisRun are all of those that its controller counted.
+
+A controller keeps the last measurements of a metric alone (10, or as `measurementRetention` says), and counts next to
+them in `status.metricResults`. A count that it leaves out is 0.
+"""
+from documents import Refused, member, objects, shown, tell
+
+# The counts of a result, by the phase that a measurement has.
+COUNTS = {"successful": "Successful", "failed": "Failed", "inconclusive": "Inconclusive", "error": "Error"}
+MOST = 2**31 - 1
+
+
+def count_of(result, name):
+    count = member(result, name, default=0)
+    if isinstance(count, bool) or not isinstance(count, int) or not 0 <= count <= MOST:
+        metric = shown(member(result, "name"))
+        raise Refused(f"input, metric {metric}: expected a whole number as `{name}`, found {shown(count)}")
+    return count
+
+
+def lacking(result):
+    """How many measurements were counted and aren't there, by the name of the count. Below 0 are those that are there
+    and weren't counted."""
+    phases = [member(one, "phase") for one in objects(member(result, "measurements"))]
+    there = {name: phases.count(phase) for name, phase in COUNTS.items()}
+    lacks = {name: count_of(result, name) - there[name] for name in COUNTS}
+    if not any(lacks.values()):  # `count` says how many there are besides errors
+        lacks = {"": count_of(result, "count") - sum(there.values()) + there["error"]}
+    return {name: number for name, number in lacks.items() if number}
+
+
+def listed(lacks):
+    return ", ".join(f"{number} {name}".strip() for name, number in lacks.items())
+
+
+def difference(result):
+    """What a metric's measurements and its counts say differently, if they do."""
+    lacks = lacking(result)
+    gone = {name: number for name, number in lacks.items() if number > 0}
+    more = {name: -number for name, number in lacks.items() if number < 0}
+    told = [f"lacks measurements ({listed(gone)})" if gone else "", f"has measurements too many ({listed(more)})" if more else ""]
+    return " and ".join(filter(None, told))
+
+
+def check_history(run, is_partial):
+    """Refuses a run whose measurements aren't all there; one that may be partial has it told."""
+    for result in objects(member(run, "status", "metricResults")):
+        if found := difference(result):
+            line = f"metric {shown(member(result, 'name'))} {found}, by the controller's counts"
+            if not is_partial:
+                raise Refused(f"input: {line}; --partial takes the run as it is")
+            tell(line)
