@@ -1,5 +1,6 @@
 """AnalysisRuns of Argo Rollouts as documents of argo_judge."""
 from documents import Refused, measured, member, objects, shown
+from dryruns import with_marked, with_other_dry_names
 from histories import check_history
 from templates import API_VERSION, add_shapes_flag, document, is_job, shapes_of
 
@@ -76,7 +77,7 @@ def document_of(run, words, template=None):
     run = checked_run(run)
     check_history(run, words.partial)
     name = run["metadata"]["name"]
-    template = template or template_of(run)
+    template = with_marked(template_of(run), run) if template is None else with_other_dry_names(template, run)
     args = {arg["name"]: arg["value"] for arg in objects(member(run, "spec", "args"))
             if isinstance(member(arg, "name"), str) and isinstance(member(arg, "value"), str)}
     found = measurements_of(run)

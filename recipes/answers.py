@@ -2,8 +2,9 @@
 import heapq
 import re
 
-from documents import Refused, member, read_json, shown
-from templates import add_shapes_flag, arguments_of, chosen_metric, document, shapes_in, shapes_of
+from documents import Refused, listed, member, read_json, shown
+from dryruns import with_dry_names
+from templates import add_shapes_flag, arguments_of, chosen_metric, document, read_template, shapes_in, shapes_of
 
 TIME = re.compile(r"-?\d{1,18}(\.\d{1,18})?([eE][+-]?\d{1,2})?", re.ASCII)
 
@@ -29,8 +30,7 @@ def chosen_run(runs, name):
     named = [run for run in runs if isinstance(member(run, "name"), str)]
     chosen = [run for run in named if name is None or run["name"] == name]
     if len(chosen) != 1:
-        listed = ", ".join(shown(run["name"]) for run in named[:8]) or "none"
-        raise Refused(f"--run: expected one of the document's runs: {listed}")
+        raise Refused(f"--run: expected one of the document's runs: {listed([run['name'] for run in named])}")
     return chosen[0]
 
 
@@ -59,7 +59,7 @@ def begun(words):
         raise Refused("command line: standard input has just one file; expected the names of the others")
     if words.add_to is not None:
         return begun_on(words)
-    template = read_json(words.template, "--template")
+    template = with_dry_names(read_template(words.template))
     name = "run" if words.run is None else words.run
     return document(template, shapes_of(template, words.shapes), name, arguments_of(words.arg), []), name
 

@@ -145,6 +145,12 @@ def shown(value):
     return text if len(text) <= 64 else f"{text[:64]}.."
 
 
+def listed(names):
+    """Names as a line lists them, of which the first eight are enough."""
+    more = f" and {len(names) - 8} more" if len(names) > 8 else ""
+    return ", ".join(map(shown, names[:8])) + more or "none"
+
+
 # ---- the engine
 
 def started(engine, words, **more):

@@ -1,5 +1,5 @@
 """Templates and the shapes of their metrics, and documents of argo_judge made of them."""
-from documents import Refused, member, objects, parsed, read_json, shown
+from documents import Refused, listed, member, objects, parsed, read_json
 
 API_VERSION = "argoproj.io/v1alpha1"
 ANNOTATION = "argo-judge/shapes"
@@ -54,8 +54,7 @@ def chosen_metric(template, name):
     if name is None and len(names) == 1:
         return names[0]
     if name not in names:
-        listed = ", ".join(shown(one) for one in names) or "none"
-        raise Refused(f"--metric: expected one of the template's metrics: {listed}")
+        raise Refused(f"--metric: expected one of the template's metrics: {listed(names)}")
     return name
 
 
@@ -93,6 +92,14 @@ def shapes_of(template, path, run=None):
 
 
 # ---- documents
+
+def read_template(path):
+    """The template of a file."""
+    template = read_json(path, "--template")
+    if not isinstance(template, dict):
+        raise Refused("--template: expected an AnalysisTemplate, as kubectl prints it as JSON")
+    return template
+
 
 def arguments_of(words):
     """A run's arguments, given as texts NAME=VALUE."""

@@ -15,12 +15,14 @@ STATUSES = {0, 1, 2, 3, 4}
 CHANGES, SHOWN = int(os.environ.get("CHANGES", "10")), 3
 # What a recipe tells besides what it refuses.
 NOTE = re.compile("from-prometheus: answer [0-9]+: |shapes: .*: no answer says of what kind|argo_judge: warning: |"
-                  r"[\w-]+: metric .* measurements.*, by the controller's counts$")
+                  r"[\w-]+: metric .* measurements.*, by the controller's counts$|[\w-]+: spec.dryRun: .* is a regular expression|"
+                  r"[\w-]+: metric .* in the run, and is ")
 
 sys.path.insert(0, HERE)
 
 TEMPLATE = {"apiVersion": "argoproj.io/v1alpha1", "kind": "AnalysisTemplate", "metadata": {"name": "t"},
-            "spec": {"args": [{"name": "a"}], "metrics": [{"name": "m", "successCondition": "result > 0"}]}}
+            "spec": {"dryRun": [{"metricName": "m"}], "args": [{"name": "a"}],
+                     "metrics": [{"name": "m", "successCondition": "result > 0"}]}}
 RUN = {"apiVersion": "argoproj.io/v1alpha1", "kind": "AnalysisRun", "metadata": {"name": "r"},
        "spec": {"metrics": TEMPLATE["spec"]["metrics"], "args": [{"name": "a", "value": "1"}]},
        "status": {"phase": "Successful", "metricResults": [
