@@ -1,8 +1,8 @@
 """AnalysisRuns of Argo Rollouts as documents of argo_judge."""
-from documents import Refused, measured, member, objects, shown
+from documents import Refused, measured, member, objects, shown, tell
 from dryruns import with_marked, with_other_dry_names
 from histories import check_history
-from templates import API_VERSION, add_shapes_flag, document, is_job, shapes_of
+from templates import API_VERSION, add_shapes_flag, arguments_of, document, is_job, shapes_of, values_of
 
 DONE = ("Successful", "Failed", "Inconclusive", "Error")
 
@@ -71,15 +71,24 @@ def add_flags(parser):
                         "counts, which is refused otherwise")
 
 
-def document_of(run, words, template=None):
-    """The document of an AnalysisRun, by its own template or another, and its measurements in the order of the
-    document's entries."""
+def arguments_of_run(run, template, given):
+    """A run's arguments: its own values, over which those of a template in the place of its own win, and over these the
+    given ones. Values of such a template that are other than the run's are told."""
+    own, other = values_of(member(run, "spec", "args")), values_of(member(template, "spec", "args"))
+    for name, value in other.items():
+        if name not in given and own.get(name, value) != value:
+            tell(f"argument {shown(name)} is {shown(value)} by --template, and was {shown(own[name])} in the run")
+    return {**own, **other, **given}
+
+
+def document_of(run, words, template=None, given=()):
+    """The document of an AnalysisRun, by its own template or another, with its own arguments and given ones, and its
+    measurements in the order of the document's entries."""
     run = checked_run(run)
     check_history(run, words.partial)
     name = run["metadata"]["name"]
     template = with_marked(template_of(run), run) if template is None else with_other_dry_names(template, run)
-    args = {arg["name"]: arg["value"] for arg in objects(member(run, "spec", "args"))
-            if isinstance(member(arg, "name"), str) and isinstance(member(arg, "value"), str)}
+    args = arguments_of_run(run, template, arguments_of(template, given))
     found = measurements_of(run)
     entries = [{"run": name, "metric": metric, **answer} for metric, _, answer in found]
     if member(run, "spec", "terminate") is True:

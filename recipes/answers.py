@@ -4,7 +4,7 @@ import re
 
 from documents import Refused, listed, member, read_json, shown
 from dryruns import with_dry_names
-from templates import add_shapes_flag, arguments_of, chosen_metric, document, read_template, shapes_in, shapes_of
+from templates import add_arg_flag, add_shapes_flag, arguments_of, chosen_metric, document, read_template, shapes_in, shapes_of
 
 TIME = re.compile(r"-?\d{1,18}(\.\d{1,18})?([eE][+-]?\d{1,2})?", re.ASCII)
 
@@ -17,8 +17,7 @@ def add_flags(parser):
     add_shapes_flag(parser)
     flag("--run", metavar="NAME", help="the name of the run; without it `run`, or the one that DOCUMENT has")
     flag("--metric", metavar="NAME", help="the metric that the answers are of")
-    flag("--arg", action="append", default=[], metavar="NAME=VALUE",
-         help="an argument of the run, in the place of one that DOCUMENT has; may be given several times")
+    add_arg_flag(parser)
     flag("--allow-empty", action="store_true", help="take an input without answers, which is refused otherwise")
     flag("answers", nargs="?", default="-", metavar="FILE", help="the answers; standard input without it")
 
@@ -45,7 +44,7 @@ def begun_on(words):
     if not isinstance(own, dict) or not isinstance(shapes, dict):
         raise Refused(f"--add-to: expected objects as `shapes` and as `args` of run {shown(run['name'])}")
     if words.arg:
-        run["args"] = {**own, **arguments_of(words.arg)}
+        run["args"] = {**own, **arguments_of(found["manifest"], words.arg)}
     if words.shapes:
         shapes = {**shapes, **shapes_in(read_json(words.shapes, "shapes"), "shapes")}
     return {**found, "shapes": shapes, "runs": runs, "measurements": entries}, run["name"]
@@ -61,7 +60,7 @@ def begun(words):
         return begun_on(words)
     template = with_dry_names(read_template(words.template))
     name = "run" if words.run is None else words.run
-    return document(template, shapes_of(template, words.shapes), name, arguments_of(words.arg), []), name
+    return document(template, shapes_of(template, words.shapes), name, arguments_of(template, words.arg), []), name
 
 
 # ---- the order

@@ -1,5 +1,5 @@
 """Templates and the shapes of their metrics, and documents of argo_judge made of them."""
-from documents import Refused, listed, member, objects, parsed, read_json
+from documents import Refused, listed, member, objects, parsed, read_json, shown
 
 API_VERSION = "argoproj.io/v1alpha1"
 ANNOTATION = "argo-judge/shapes"
@@ -101,12 +101,27 @@ def read_template(path):
     return template
 
 
-def arguments_of(words):
-    """A run's arguments, given as texts NAME=VALUE."""
+def add_arg_flag(parser):
+    parser.add_argument("--arg", action="append", default=[], metavar="NAME=VALUE", help="an argument of the run, which "
+                        "wins over each other value that it has; may be given several times")
+
+
+def arguments_of(template, words):
+    """Arguments given as texts NAME=VALUE, each of which the template has."""
+    names = [arg["name"] for arg in objects(member(template, "spec", "args")) if isinstance(member(arg, "name"), str)]
     for word in words:
-        if "=" not in word:
-            raise Refused(f"--arg {word}: expected NAME=VALUE")
+        name, equals, _ = word.partition("=")
+        if not equals:
+            raise Refused(f"--arg {shown(word)}: expected NAME=VALUE")
+        if name not in names:
+            raise Refused(f"--arg {shown(name)}: expected an argument of the template: {listed(names)}")
     return dict(word.split("=", 1) for word in words)
+
+
+def values_of(args):
+    """The values of arguments, as templates and runs list them; one from a secret has none."""
+    return {arg["name"]: arg["value"] for arg in objects(args)
+            if isinstance(member(arg, "name"), str) and isinstance(member(arg, "value"), str)}
 
 
 def document(template, shapes, run, args, measurements):

@@ -16,7 +16,7 @@ CHANGES, SHOWN = int(os.environ.get("CHANGES", "10")), 3
 # What a recipe tells besides what it refuses.
 NOTE = re.compile("from-prometheus: answer [0-9]+: |shapes: .*: no answer says of what kind|argo_judge: warning: |"
                   r"[\w-]+: metric .* measurements.*, by the controller's counts$|[\w-]+: spec.dryRun: .* is a regular expression|"
-                  r"[\w-]+: metric .* in the run, and is ")
+                  r"[\w-]+: metric .* in the run, and is |[\w-]+: argument .* in the run$")
 
 sys.path.insert(0, HERE)
 
@@ -52,7 +52,7 @@ RECIPES = {
     "split": [["--runs", "1", "DOCUMENT", "PARTS"]],
     "join": [["PART"]],
     "shapes": [["RUN"], ["DOCUMENT"], ["--metric", "m", "SHAPES"]],
-    "from-analysisrun": [["--shapes", "SHAPES", "RUN"], ["--template", "TEMPLATE", "--partial", "--shapes", "SHAPES", "RUN"]],
+    "from-analysisrun": [["--shapes", "SHAPES", "RUN"], ["--template", "TEMPLATE", "--arg", "a=2", "--partial", "--shapes", "SHAPES", "RUN"]],
     "compare-analysisrun": [["--engine", ENGINE, "--shapes", "SHAPES", "RUN"]],
     "kubectl-argo_judge": [["run", "RUN", "--shapes", "SHAPES", "--engine", ENGINE],
                            ["check", "TEMPLATE", "--arg", "a=1", "--shapes", "SHAPES", "--engine", ENGINE]],
