@@ -2,9 +2,8 @@
 from documents import Refused, measured, member, objects, shown, tell
 from dryruns import with_marked, with_other_dry_names
 from histories import check_history
+from reconciliations import ordered
 from templates import API_VERSION, add_shapes_flag, arguments_of, document, is_job, shapes_of, values_of
-
-DONE = ("Successful", "Failed", "Inconclusive", "Error")
 
 
 def template_of(run):
@@ -35,25 +34,9 @@ def answer_of(measurement, metric):
 
 
 def measurements_of(run):
-    """The measurements that ended, each with its metric's name and its own object, in the order in which they
-    did."""
+    """The measurements that ended, each with its metric's name and its own object, in the order of a document."""
     metrics = {shown(member(metric, "name")): metric for metric in objects(member(run, "spec", "metrics"))}
-    found = []
-    for result in objects(member(run, "status", "metricResults")):
-        name = member(result, "name")
-        for measurement in objects(member(result, "measurements")):
-            if measurement.get("phase") in DONE:
-                found.append((name, measurement, answer_of(measurement, metrics.get(shown(name)))))
-    found.sort(key=lambda one: ended_at(one[1]))
-    return found
-
-
-def ended_at(measurement):
-    """The time that orders a measurement."""
-    time = member(measurement, "finishedAt", default="") or member(measurement, "startedAt", default="")
-    if not isinstance(time, str):
-        raise Refused(f"input: expected a measurement's `finishedAt` as a time, found {shown(time)}")
-    return time
+    return [(name, one, answer_of(one, metrics.get(shown(name)))) for name, one in ordered(run)]
 
 
 def checked_run(run):
