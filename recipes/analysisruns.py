@@ -1,7 +1,8 @@
 """AnalysisRuns of Argo Rollouts as documents of argo_judge."""
-from documents import Refused, measured, member, objects, shown, tell
+from documents import Refused, member, objects, shown, tell
 from dryruns import with_marked, with_other_dry_names
 from histories import check_history
+from providers import answered
 from reconciliations import ordered
 from templates import API_VERSION, add_shapes_flag, arguments_of, document, is_job, shapes_of, values_of
 
@@ -27,7 +28,7 @@ def answer_of(measurement, metric):
     if measurement.get("phase") == "Error":
         return {"error": member(measurement, "message", default="")}
     if isinstance(measurement.get("value"), str):
-        return {"value": measured(measurement["value"])}
+        return {"value": answered(metric, measurement["value"])}
     if is_job(metric):
         return {"value": measurement.get("phase") == "Successful"}
     return {"value": None}

@@ -16,7 +16,8 @@ CHANGES, SHOWN = int(os.environ.get("CHANGES", "10")), 3
 # What a recipe tells besides what it refuses.
 NOTE = re.compile("from-prometheus: answer [0-9]+: |shapes: .*: no answer says of what kind|argo_judge: warning: |"
                   r"[\w-]+: metric .* measurements.*, by the controller's counts$|[\w-]+: spec.dryRun: .* is a regular expression|"
-                  r"[\w-]+: metric .* in the run, and is |[\w-]+: argument .* in the run$")
+                  r"[\w-]+: metric .* in the run, and is |[\w-]+: argument .* in the run$|"
+                  r"[\w-]+: metric .* is not known to answer ")
 
 sys.path.insert(0, HERE)
 
@@ -24,7 +25,7 @@ TEMPLATE = {"apiVersion": "argoproj.io/v1alpha1", "kind": "AnalysisTemplate", "m
             "spec": {"dryRun": [{"metricName": "m"}], "args": [{"name": "a"}],
                      "metrics": [{"name": "m", "successCondition": "result > 0"}]}}
 RUN = {"apiVersion": "argoproj.io/v1alpha1", "kind": "AnalysisRun", "metadata": {"name": "r"},
-       "spec": {"metrics": TEMPLATE["spec"]["metrics"], "args": [{"name": "a", "value": "1"}]},
+       "spec": {"metrics": [{"name": "m", "successCondition": "result > 0", "provider": {"datadog": {}}}], "args": [{"name": "a", "value": "1"}]},
        "status": {"phase": "Successful", "metricResults": [
            {"name": "m", "phase": "Successful", "count": 1, "successful": 1, "error": 1, "measurements": [
                {"phase": "Successful", "value": "1", "finishedAt": "2026-01-01T00:00:00Z"},
