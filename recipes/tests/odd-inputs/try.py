@@ -14,7 +14,7 @@ STATUSES = {0, 1, 2, 3, 4}
 # How many changes of a good file are tried in each place where it is read; more of them by the environment.
 CHANGES, SHOWN = int(os.environ.get("CHANGES", "10")), 3
 # What a recipe tells besides what it refuses.
-NOTE = re.compile("from-prometheus: answer [0-9]+: |shapes: .*: no answer says of what kind|argo_judge: warning: |"
+NOTE = re.compile("from-prometheus: answer [0-9]+: |shapes: .*: no answer says of what kind|shapes: .* is too large for |argo_judge: warning: |"
                   r"[\w-]+: metric .* measurements.*, by the controller's counts$|[\w-]+: spec.dryRun: .* is a regular expression|"
                   r"[\w-]+: metric .* in the run, and is |[\w-]+: argument .* in the run$|"
                   r"[\w-]+: metric .* is not known to answer ")
