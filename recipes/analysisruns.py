@@ -1,4 +1,5 @@
 """AnalysisRuns of Argo Rollouts as documents of argo_judge."""
+from cuts import tell_cuts
 from documents import Refused, member, objects, shown, tell
 from dryruns import with_marked, with_other_dry_names
 from histories import check_history
@@ -77,4 +78,6 @@ def document_of(run, words, template=None, given=()):
     entries = [{"run": name, "metric": metric, **answer} for metric, _, answer in found]
     if member(run, "spec", "terminate") is True:
         entries.append({"run": name, "stop": True})
-    return document(template, shapes_of(template, words.shapes, run), name, args, entries), found
+    made = document(template, shapes_of(template, words.shapes, run), name, args, entries)
+    tell_cuts(made)
+    return made, found

@@ -2,6 +2,7 @@
 import heapq
 import re
 
+from cuts import tell_cuts
 from documents import Refused, listed, member, read_json, shown
 from dryruns import with_dry_names
 from templates import add_arg_flag, add_shapes_flag, arguments_of, chosen_metric, document, read_template, shapes_in, shapes_of
@@ -97,4 +98,6 @@ def with_answers(words, answers_of):
     entries = [{"run": run, "metric": metric, **answer} for answer in answers_of()]
     if not entries and not words.allow_empty:
         raise Refused(f"answers: found none of metric {shown(metric)}; expected one or more, or --allow-empty")
-    return {**begun_document, "measurements": merged(begun_document["measurements"], entries)}
+    made = {**begun_document, "measurements": merged(begun_document["measurements"], entries)}
+    tell_cuts(made)
+    return made

@@ -17,7 +17,8 @@ CHANGES, SHOWN = int(os.environ.get("CHANGES", "10")), 3
 NOTE = re.compile("from-prometheus: answer [0-9]+: |shapes: .*: no answer says of what kind|shapes: .* is too large for |argo_judge: warning: |"
                   r"[\w-]+: metric .* measurements.*, by the controller's counts$|[\w-]+: spec.dryRun: .* is a regular expression|"
                   r"[\w-]+: metric .* in the run, and is |[\w-]+: argument .* in the run$|"
-                  r"[\w-]+: metric .* is not known to answer ")
+                  r"[\w-]+: metric .* is not known to answer |"
+                  r"[\w-]+: measurement [0-9]+ of metric .* is cut to |[\w-]+: [0-9]+ more measurements compare ")
 
 sys.path.insert(0, HERE)
 
@@ -28,7 +29,7 @@ RUN = {"apiVersion": "argoproj.io/v1alpha1", "kind": "AnalysisRun", "metadata": 
        "spec": {"metrics": [{"name": "m", "successCondition": "result > 0", "provider": {"datadog": {}}}], "args": [{"name": "a", "value": "1"}]},
        "status": {"phase": "Successful", "metricResults": [
            {"name": "m", "phase": "Successful", "count": 1, "successful": 1, "error": 1, "measurements": [
-               {"phase": "Successful", "value": "1", "finishedAt": "2026-01-01T00:00:00Z"},
+               {"phase": "Successful", "value": "4.2e-07", "finishedAt": "2026-01-01T00:00:00Z"},
                {"phase": "Error", "message": "timeout", "finishedAt": "2026-01-01T00:01:00Z"}]}]}}
 DOCUMENT = {"manifest": TEMPLATE, "shapes": {"m": "decimal"}, "runs": [{"name": "r", "args": {"a": "1"}}],
             "measurements": [{"run": "r", "metric": "m", "value": 1, "time": "60"}, {"run": "r", "stop": True}]}

@@ -1,0 +1,80 @@
+"""The numbers that stand in a condition, with which measured numbers are compared."""
+import re
+from collections import namedtuple
+from fractions import Fraction
+from operator import eq, ge, gt, le, lt, ne
+
+ARGUMENT = re.compile(r"\{\{ *args\.(.*?) *\}\}", re.DOTALL)
+TOKEN = re.compile(r"""
+    (?P<blank> \s+ | //[^\n]* | /\*.*?\*/ )
+  | (?P<text> "(?:[^"\\]|\\.)*" | '(?:[^'\\]|\\.)*' )
+  | (?P<number> 0x[0-9a-fA-F]+ | 0o[0-7]+ | 0b[01]+ | \d+\.\d+ | \d+ | \.\d+ )
+  | (?P<word> [A-Za-z_]\w* )
+  | (?P<sign> [=!<>]= | && | \|\| | . )
+""", re.VERBOSE | re.DOTALL | re.ASCII)
+OPERATORS = ("in", "not", "and", "or", "contains", "startsWith", "endsWith")
+COMPARISONS = {"<": lt, "<=": le, ">": gt, ">=": ge, "==": eq, "!=": ne}
+MIRRORED = {"<": ">", "<=": ">=", ">": "<", ">=": "<=", "==": "==", "!=": "!="}
+ARITHMETIC = ("+", "-", "*", "/", "%")
+# What a sign may stand right of, besides a comparison.
+NOTHING_LEFT = ("", "(", "[", "{", ",", "?", ":", "!", "&&", "||", *ARITHMETIC, *OPERATORS)
+SIZES = ("len", "count")
+
+# A number, the comparison that it stands right of (any where there is none), and the text that writes it.
+Literal = namedtuple("Literal", "number comparison written")
+
+
+def compares_otherwise(literal, measured, cut):
+    """Whether one number compares with a literal otherwise than another does."""
+    tests = [COMPARISONS[literal.comparison]] if literal.comparison else [lt, gt]
+    return any(test(measured, literal.number) != test(cut, literal.number) for test in tests)
+
+
+def bound(condition, args):
+    """A condition with its arguments' values."""
+    return ARGUMENT.sub(lambda found: args.get(found[1], ""), condition)
+
+
+def number_of_literal(text):
+    return Fraction(int(text, 0) if text[:2] in ("0x", "0o", "0b") else text)
+
+
+def openers(tokens):
+    """For each token what the innermost bracket around it belongs to: the word before it, `index`, or nothing; of one
+    that closes, that of its own bracket."""
+    opened, is_operand, before = [], False, ""
+    for kind, text in tokens:
+        if text in ("(", "[", "{"):
+            opened.append("index" if text == "[" and is_operand else before)
+        yield opened[-1] if opened else ""
+        if text in (")", "]", "}") and opened:
+            opened.pop()
+        is_operand = kind in ("text", "number") or kind == "word" and text not in OPERATORS or text in (")", "]", "#")
+        before = text
+
+
+def sides(texts, place):
+    """What stands left and right of a number, and its sign; a minus between two operands is no sign."""
+    left, right = texts[place - 1], texts[place + 1]
+    if left == "-" and (texts[place - 2] in COMPARISONS or texts[place - 2] in NOTHING_LEFT):
+        return place - 2, "-", right
+    return place - 1, "", right
+
+
+def literals_of(condition):
+    """The numbers of a bound condition that a measured number may be compared with: no index, no default, and none that
+    is compared with a list's length."""
+    tokens = [(found.lastgroup, found[0]) for found in TOKEN.finditer(condition) if found.lastgroup != "blank"]
+    tokens = [("", ""), ("", ""), *tokens, ("", "")]  # what stands left and right of a number may be nothing
+    texts, inside = [text for _, text in tokens], list(openers(tokens))
+    for place, (kind, text) in enumerate(tokens):
+        if kind != "number" or inside[place] == "index":
+            continue
+        at, minus, right = sides(texts, place)
+        left = texts[at]
+        is_size = left in COMPARISONS and texts[at - 1] == ")" and inside[at - 1] in SIZES
+        if is_size or (left, inside[place]) == (",", "default"):
+            continue
+        comparison = left if left in COMPARISONS else "" if left in ARITHMETIC else MIRRORED.get(right, "")
+        number = number_of_literal(text)
+        yield Literal(-number if minus else number, comparison, minus + text)
