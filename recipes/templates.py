@@ -1,8 +1,11 @@
 """Templates and the shapes of their metrics, and documents of argo_judge made of them."""
-from documents import Refused, listed, member, objects, parsed, read_json, shown
+from documents import Refused, listed, member, objects, parsed, read_json, shown, tell
 
 API_VERSION = "argoproj.io/v1alpha1"
 ANNOTATION = "argo-judge/shapes"
+CONDITIONS = ("successCondition", "failureCondition")
+# The condition of a Job's end.
+JOB = {"successCondition": "result"}
 
 
 # ---- metrics that a provider judges without conditions
@@ -24,12 +27,15 @@ def own_shape(metric):
 
 
 def by_condition(metric):
-    """A metric as the engine judges it. A Job without conditions is judged by its own end: its measurement is
+    """A metric as the engine judges it. A Job is judged by its own end, whatever conditions it has: its measurement is
     true where it succeeded, and false where it failed. Kayenta's score is judged by its thresholds."""
-    if any((member(metric, "successCondition"), member(metric, "failureCondition"))):
-        return metric
+    given = {name: member(metric, name) for name in CONDITIONS if member(metric, name)}
     if is_job(metric):
-        return {**metric, "successCondition": "result"}
+        if given not in ({}, JOB):
+            tell(f"metric {shown(member(metric, 'name'))}: a Job's own end decides, so its conditions are left out")
+        return {**{name: value for name, value in metric.items() if name not in CONDITIONS}, **JOB}
+    if given:
+        return metric
     if thresholds := thresholds_of(metric):
         success, failure = f"result >= {thresholds[0]}", f"result < {thresholds[1]}"
         return {**metric, "successCondition": success, "failureCondition": failure}

@@ -18,7 +18,8 @@ NOTE = re.compile("from-prometheus: answer [0-9]+: |shapes: .*: no answer says o
                   r"[\w-]+: metric .* measurements.*, by the controller's counts$|[\w-]+: spec.dryRun: .* is a regular expression|"
                   r"[\w-]+: metric .* in the run, and is |[\w-]+: argument .* in the run$|"
                   r"[\w-]+: metric .* is not known to answer |"
-                  r"[\w-]+: measurement [0-9]+ of metric .* is cut to |[\w-]+: [0-9]+ more measurements compare ")
+                  r"[\w-]+: measurement [0-9]+ of metric .* is cut to |[\w-]+: [0-9]+ more measurements compare |"
+                  r"[\w-]+: metric .*: a Job's own end decides")
 
 sys.path.insert(0, HERE)
 
