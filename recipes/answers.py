@@ -5,7 +5,8 @@ import re
 from cuts import tell_cuts
 from documents import Refused, listed, member, read_json, shown
 from dryruns import with_dry_names
-from templates import add_arg_flag, add_shapes_flag, arguments_of, chosen_metric, document, read_template, shapes_in, shapes_of
+from templates import (add_arg_flag, add_shapes_flag, arguments_of, chosen_metric, document, read_template, shapes_in,
+                       shapes_of)
 
 TIME = re.compile(r"-?\d{1,18}(\.\d{1,18})?([eE][+-]?\d{1,2})?", re.ASCII)
 

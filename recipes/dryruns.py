@@ -1,7 +1,7 @@
 """Which metrics are dry.
 
-The controller takes each name of `spec.dryRun` as a regular expression that matches anywhere in a metric's name, and marks
-the metrics that are dry in `status.metricResults`. argo_judge takes a metric's whole name, or `.*` for all.
+The controller takes each name of `spec.dryRun` as a regular expression that matches anywhere in a metric's name, and
+marks the metrics that are dry in `status.metricResults`. argo_judge takes a metric's whole name, or `.*` for all.
 """
 import re
 import warnings
@@ -78,7 +78,8 @@ def with_dry_names(template):
 def marks_of(run):
     """Whether a metric is dry, of each that has a result."""
     results = objects(member(run, "status", "metricResults"))
-    return {result["name"]: member(result, "dryRun") is True for result in results if isinstance(member(result, "name"), str)}
+    named = [result for result in results if isinstance(member(result, "name"), str)]
+    return {result["name"]: member(result, "dryRun") is True for result in named}
 
 
 def with_marked(template, run):
@@ -100,5 +101,6 @@ def with_other_dry_names(template, run):
     for name in names_of(template):
         is_dry = name in dry or ALL in dry
         if marks.get(name, is_dry) != is_dry:
-            tell(f"metric {shown(name)} was {'not dry' if is_dry else 'dry'} in the run, and is {'dry' if is_dry else 'not'} by --template")
+            was, now = ("not dry", "dry") if is_dry else ("dry", "not")
+            tell(f"metric {shown(name)} was {was} in the run, and is {now} by --template")
     return template

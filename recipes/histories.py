@@ -29,8 +29,10 @@ def lacking(result):
     return {name: number for name, number in lacks.items() if number}
 
 
-def listed(lacks):
-    return ", ".join(f"{number} {name}".strip() for name, number in lacks.items())
+def told(what, numbers):
+    """What is said of counts that differ; nothing where there are none."""
+    counts = ", ".join(f"{number} {name}".strip() for name, number in numbers.items())
+    return [f"{what} ({counts})"] if counts else []
 
 
 def difference(result):
@@ -38,8 +40,7 @@ def difference(result):
     lacks = lacking(result)
     gone = {name: number for name, number in lacks.items() if number > 0}
     more = {name: -number for name, number in lacks.items() if number < 0}
-    told = [f"lacks measurements ({listed(gone)})" if gone else "", f"has measurements too many ({listed(more)})" if more else ""]
-    return " and ".join(filter(None, told))
+    return " and ".join(told("lacks measurements", gone) + told("has measurements too many", more))
 
 
 def check_history(run, is_partial):

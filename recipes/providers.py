@@ -7,7 +7,8 @@ import re
 from documents import measured, member, shown, tell
 
 # Providers that answer numbers, or JSON; of others a text may be meant.
-NO_TEXTS = ("cloudWatch", "datadog", "graphite", "influxdb", "kayenta", "newRelic", "prometheus", "skywalking", "wavefront")
+NO_TEXTS = ("cloudWatch", "datadog", "graphite", "influxdb", "kayenta", "newRelic", "prometheus", "skywalking",
+            "wavefront")
 NUMBER = re.compile(r"[+-]?\d+(\.\d+)?([eE][+-]?\d+)?|NaN|[+-]Inf", re.ASCII)
 # Items of a list as Go prints them, by the value that they are.
 WORDS = {"<nil>": None, "true": True, "false": False}

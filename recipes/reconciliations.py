@@ -1,9 +1,9 @@
 """The order of an AnalysisRun's measurements.
 
-They stand in the order in which they ended, but for those that ended metrics badly. A controller measures all metrics that
-are due together, counts each of these measurements, and gives the run the worst phase of its metrics; it begins no
+They stand in the order in which they ended, but for those that ended metrics badly. A controller measures all metrics
+that are due together, counts each of these measurements, and gives the run the worst phase of its metrics; it begins no
 measurement after that. argo_judge closes a run at the first metric that ends badly. So what ended a metric badly comes
-after all that was begun together with it, and what ended the worst comes first.
+after all that was begun together with it, and of several the worst comes first.
 """
 from documents import Refused, member, objects, shown
 from dryruns import marks_of
@@ -36,10 +36,9 @@ def closing_of(run):
 
 
 def ordered(run):
-    """The results' names and measurements that ended, in the order in which argo_judge gets them."""
-    found = [(member(result, "name"), one) for result in objects(member(run, "status", "metricResults"))
-             for one in ended(result)]
-    closing = closing_of(run)
+    """The measurements that ended, each with its metric's name, in the order in which argo_judge gets them."""
+    results, closing = objects(member(run, "status", "metricResults")), closing_of(run)
+    found = [(member(result, "name"), one) for result in results for one in ended(result)]
     begun = [one["startedAt"] for _, one in found if id(one) in closing and member(one, "startedAt") is not None]
     last = max((time_of(one) for _, one in found if id(one) in closing or one.get("startedAt") in begun), default="")
 

@@ -1,4 +1,4 @@
-"""Prints an AnalysisRun of one metric `m` and one measurement, as a controller leaves it, with the shape in an annotation.
+"""Prints an AnalysisRun of one metric `m`, as a controller leaves it, with the shape in an annotation.
 
     make.py METRIC SHAPE PHASE [VALUE]    a measurement of that phase, which the metric and the run have, too
     make.py METRIC SHAPE invalid          a metric that the controller refuses: the run is Error, and nothing is measured

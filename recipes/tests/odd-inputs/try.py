@@ -14,12 +14,12 @@ STATUSES = {0, 1, 2, 3, 4}
 # How many changes of a good file are tried in each place where it is read; more of them by the environment.
 CHANGES, SHOWN = int(os.environ.get("CHANGES", "10")), 3
 # What a recipe tells besides what it refuses.
-NOTE = re.compile("from-prometheus: answer [0-9]+: |shapes: .*: no answer says of what kind|shapes: .* is too large for |argo_judge: warning: |"
-                  r"[\w-]+: metric .* measurements.*, by the controller's counts$|[\w-]+: spec.dryRun: .* is a regular expression|"
-                  r"[\w-]+: metric .* in the run, and is |[\w-]+: argument .* in the run$|"
-                  r"[\w-]+: metric .* is not known to answer |"
-                  r"[\w-]+: measurement [0-9]+ of metric .* is cut to |[\w-]+: [0-9]+ more measurements compare |"
-                  r"[\w-]+: metric .*: a Job's own end decides")
+NOTE = re.compile("from-prometheus: answer [0-9]+: |shapes: .*: no answer says of what kind|shapes: .* is too large for |"
+                  "argo_judge: warning: |" + r"[\w-]+: (" + "|".join((
+                      "metric .* measurements.*, by the controller's counts$", "spec.dryRun: .* is a regular expression",
+                      "metric .* in the run, and is ", "argument .* in the run$", "metric .* is not known to answer ",
+                      "measurement [0-9]+ of metric .* is cut to ", "[0-9]+ more measurements compare ",
+                      "metric .*: a Job's own end decides")) + ")")
 
 sys.path.insert(0, HERE)
 
@@ -27,7 +27,8 @@ TEMPLATE = {"apiVersion": "argoproj.io/v1alpha1", "kind": "AnalysisTemplate", "m
             "spec": {"dryRun": [{"metricName": "m"}], "args": [{"name": "a"}],
                      "metrics": [{"name": "m", "successCondition": "result > 0"}]}}
 RUN = {"apiVersion": "argoproj.io/v1alpha1", "kind": "AnalysisRun", "metadata": {"name": "r"},
-       "spec": {"metrics": [{"name": "m", "successCondition": "result > 0", "provider": {"datadog": {}}}], "args": [{"name": "a", "value": "1"}]},
+       "spec": {"metrics": [{"name": "m", "successCondition": "result > 0", "provider": {"datadog": {}}}],
+                "args": [{"name": "a", "value": "1"}], "dryRun": [{"metricName": "."}]},
        "status": {"phase": "Successful", "metricResults": [
            {"name": "m", "phase": "Successful", "count": 1, "successful": 1, "error": 1, "measurements": [
                {"phase": "Successful", "value": "4.2e-07", "finishedAt": "2026-01-01T00:00:00Z"},
@@ -55,7 +56,8 @@ RECIPES = {
     "split": [["--runs", "1", "DOCUMENT", "PARTS"]],
     "join": [["PART"]],
     "shapes": [["RUN"], ["DOCUMENT"], ["--metric", "m", "SHAPES"]],
-    "from-analysisrun": [["--shapes", "SHAPES", "RUN"], ["--template", "TEMPLATE", "--arg", "a=2", "--partial", "--shapes", "SHAPES", "RUN"]],
+    "from-analysisrun": [["--shapes", "SHAPES", "RUN"],
+                         ["--template", "TEMPLATE", "--arg", "a=2", "--partial", "--shapes", "SHAPES", "RUN"]],
     "compare-analysisrun": [["--engine", ENGINE, "--shapes", "SHAPES", "RUN"]],
     "kubectl-argo_judge": [["run", "RUN", "--shapes", "SHAPES", "--engine", ENGINE],
                            ["check", "TEMPLATE", "--arg", "a=1", "--shapes", "SHAPES", "--engine", ENGINE]],
