@@ -181,4 +181,6 @@ CONDITIONS = {
     'a fault': (condition('result[0] in [1, 2.5] or 1 / 0 > 0', LISTED, [3]), Answer(0, 'fault DivisionByZero\n'), 30),
     'records': (condition('any(result, all(.codes, # >= 500) and .limit < 400)', RECORDS, VALUES),
                 Answer(0, 'true\n'), 30),
+    'texts': (condition('one(["a b", "c"], # contains result) and none([result], # endsWith "c")', 'text', 'b'),
+              Answer(0, 'true\n'), 30),
 }
