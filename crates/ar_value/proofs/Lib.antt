@@ -3,6 +3,7 @@ pub mod FitLemmas
 pub mod DigitsLemmas
 pub mod Signs
 mod Facts
+pub mod Orders
 pub mod Answers
 pub mod Marks
 pub mod WidestLemmas

@@ -4,6 +4,7 @@ pub mod Digits
 pub mod Decimal
 pub mod Arithmetic
 pub mod DecimalText
+pub mod Names
 pub mod Value
 pub mod TextTests
 pub mod Predicates

@@ -1,0 +1,52 @@
+//! Places of fields.
+
+ghost use Rattle.std.specs.Prelude.{◌≡◌, ◌<◌, ◌++◌, ◌∷◌, [], All, OnOk};
+ghost use Rattle.ar_value.specs.Names.{index_of};
+
+use std::alloc::{AllocError, Global};
+use std::marker::Model;
+
+/// The places of those fields of a record that are there, each after the one before. Contracts see the list of the
+/// numbers.
+#[derive(Drop)]
+pub struct Places {
+    items: Vec<usize>,
+}
+
+impl Model for Places {
+    ghost use Rattle.std.specs.Prelude.{ℕ, List};
+    ghost use Rattle.std.specs.List.Sorted.{IsStrictlySortedBy};
+    ghost use Rattle.std.specs.Ordering.{nat_cmp};
+
+    ghost Value = { List ℕ };
+
+    ghost view = { λ places. places.items.items };
+
+    ghost invariant = { λ places. IsStrictlySortedBy nat_cmp places.items.items };
+}
+
+impl Places {
+    pub fn new(alloc: Global) -> Places
+        ensures { result ≡ [] }
+    {
+        Places {
+            items: Vec::new(alloc),
+        }
+    }
+
+    /// Adds a place after the others.
+    pub fn push(&mut self, place: usize) -> Result<(), AllocError>
+        requires { All (λ earlier. earlier < place) self.old }
+        ensures { OnOk result (self.new ≡ self.old ++ place ∷ []) }
+    {
+        self.items.push(place)?;
+        Ok(())
+    }
+
+    /// The index of a place, found by binary search.
+    pub fn index_of(&self, place: usize) -> Option<usize>
+        ensures { result ≡ index_of place self.now }
+    {
+        self.items.binary_search(&place).ok()
+    }
+}
