@@ -1,56 +1,73 @@
 -- Fits, item by item and field by field.
-use Rattle.std.proofs.Common.{◌≡◌, ℕ, suc, ◌+◌, ◌<◌, ◌≤◌, Bool, true, false, nat_le, List, [], ◌∷◌, length, map, drop, Box, Global, refl, sym, ◌∙◌, ap, arith, drop-cons, add-one}
+use Rattle.std.proofs.Common.{◌≡◌, ℕ, suc, ◌+◌, ◌<◌, ◌≤◌, min, Bool, true, false, nat_le, List, [], ◌∷◌, length, map, drop, Box, Global, refl, arith}
 use Rattle.std.specs.Prelude.{◌&&◌, slice_index_or}
 use Rattle.std.specs.Str.{bytes_eq}
 use Rattle.std.proofs.lemmas.Bool.Decides.{nat_tests}
 use Rattle.std.proofs.Math.ListN.{drop_of_length-le}
 use Rattle.ar_value.specs.Fits.{all_items, fields_fit, fits}
-use Rattle.ar_value.specs.Shape.{field_shapes_of}
-use Rattle.ar_value.specs.Value.{items_of, fields_of}
-use Rattle.ar_value.specs.View.{value_view, field_view, shape_view, field_shape_view}
-use Rattle.ar_value.specs.declared.value.Value.{Value, List as ListValue}
+use Rattle.ar_value.specs.Kind.{is_optional}
+use Rattle.ar_value.specs.Shape as specs
+use Rattle.ar_value.specs.Value.{items_of, fields_from, value_at, nil}
+use Rattle.ar_value.specs.View.{value_view, shape_view}
+use Rattle.ar_value.specs.declared.value.Value.{Value, List as ListValue, Object as ObjectValue}
 use Rattle.ar_value.specs.declared.value.Values.{Values}
-use Rattle.ar_value.specs.declared.value.Field.{Field}
-use Rattle.ar_value.specs.declared.shape.Shape.{Shape, List as ListShape}
-use Rattle.ar_value.specs.declared.shape.FieldShape.{FieldShape}
-use Rattle.ar_value.proofs.Views.{value_view-list, shape_view-list, count-items_of}
+use Rattle.ar_value.specs.declared.value.Fields.{Fields, out-Fields}
+use Rattle.ar_value.specs.declared.shape.Shape.{Shape, List as ListShape, Object as ObjectShape}
+use Rattle.ar_value.specs.declared.shape.FieldShapes.{FieldShapes, out-FieldShapes}
+use Rattle.ar_value.proofs.FieldLists.{Of, field_at, no_field_at, value_field_at}
+use Rattle.ar_value.proofs.Views.{value_view-list, value_view-object, fields_view-from, shape_view-list, shape_view-object, field_shapes_view-of, count-items_of}
 
--- whether fields fit the shapes of fields, as the code's types have them
-abbrev pub Fit : List Field → List FieldShape → Bool
-Fit fields shapes = fields_fit (fields_of (map field_view fields)) (field_shapes_of (map field_shape_view shapes))
+-- whether names with values fit names with shapes, from a place on, as the code's types have them
+abbrev pub Fit : ℕ → List (List ℕ) → List ℕ → List Value → List (List ℕ) → List Shape → Bool
+Fit place names places vs of shapes = fields_fit (fields_from place names places (map value_view vs)) (Of of shapes)
 
-abbrev pub FieldFits : Field → FieldShape → Bool
-FieldFits field of = bytes_eq (field_view field).0 (field_shape_view of).0 && fits (field_view field).1 (field_shape_view of).1
+abbrev pub FieldFits : ℕ → List ℕ → List ℕ → List Value → List ℕ → Shape → Bool
+FieldFits place name places vs of shape = bytes_eq name of && fits (value_at place places (map value_view vs)) (shape_view shape)
 
 neither : (a b : Bool) → false ≡ b → false ≡ (a && b)
 neither true b h = h
 neither false b h = refl
 
-pub lengths_differ : (fields : List Field) (shapes : List FieldShape) → (length fields ≡ length shapes → ⊥) → false ≡ Fit fields shapes
-lengths_differ [] [] h = absurd (h refl)
-lengths_differ [] (s ∷ shapes) h = refl
-lengths_differ (f ∷ fields) [] h = refl
-lengths_differ (f ∷ fields) (s ∷ shapes) h = neither (FieldFits f s) (Fit fields shapes) (lengths_differ fields shapes (λ e. h (ap suc e)))
+pub lengths_differ : (place : ℕ) (names : List (List ℕ)) (places : List ℕ) (vs : List Value) (of : List (List ℕ)) (shapes : List Shape)
+    → (length names ≡ min (length of) (length shapes) → ⊥) → false ≡ Fit place names places vs of shapes
+lengths_differ place [] places vs [] shapes h = absurd (h (omega arith))
+lengths_differ place [] places vs (o ∷ of) [] h = absurd (h (omega arith))
+lengths_differ place [] places vs (o ∷ of) (s ∷ shapes) h = refl
+lengths_differ place (n ∷ names) places vs [] shapes h = refl
+lengths_differ place (n ∷ names) places vs (o ∷ of) [] h = refl
+lengths_differ place (n ∷ names) places vs (o ∷ of) (s ∷ shapes) h =
+    neither (FieldFits place n places vs o s) (Fit (suc place) names places vs of shapes) (lengths_differ (suc place) names places vs of shapes (λ e. h (omega (arith, e))))
 
-front : (fields rest : List Field) (shapes others : List FieldShape) (f : Field) (s : FieldShape) → fields ≡ f ∷ rest → shapes ≡ s ∷ others
-    → Fit fields shapes ≡ (FieldFits f s && Fit rest others)
-front fields rest shapes others f s is_f is_s = rw (is_f, is_s) refl
+pub next : (i : ℕ) (names : List (List ℕ)) (places : List ℕ) (vs : List Value) (of : List (List ℕ)) (shapes : List Shape) (name other : List ℕ) (shape : Shape)
+    → i < length names → i < length of → i < length shapes
+    → name ≡ slice_index_or names i name → other ≡ slice_index_or of i other → shape ≡ slice_index_or shapes i shape
+    → Fit i (drop i names) places vs (drop i of) (drop i shapes) ≡ (FieldFits i name places vs other shape && Fit (i + 1) (drop (i + 1) names) places vs (drop (i + 1) of) (drop (i + 1) shapes))
+next i names places vs of shapes name other shape in_names in_of in_shapes is_name is_other is_shape =
+    rw (value_field_at names places (map value_view vs) i name in_names is_name, field_at of shapes i other shape in_of in_shapes is_other is_shape) refl
 
-pub next : (fields : List Field) (shapes : List FieldShape) (i : ℕ) (f : Field) (s : FieldShape) → i < length fields → i < length shapes
-    → f ≡ slice_index_or fields i f → s ≡ slice_index_or shapes i s
-    → Fit (drop i fields) (drop i shapes) ≡ (FieldFits f s && Fit (drop (i + 1) fields) (drop (i + 1) shapes))
-next fields shapes i f s in_fields in_shapes is_f is_s =
-    rw add-one
-    (front (drop i fields) (drop (suc i) fields) (drop i shapes) (drop (suc i) shapes) f s
-    (drop-cons fields i f in_fields ∙ ap (λ x. x ∷ drop (suc i) fields) (sym is_f))
-    (drop-cons shapes i s in_shapes ∙ ap (λ x. x ∷ drop (suc i) shapes) (sym is_s)))
+pub both_hold : {a b : Bool} → a ≡ true → b ≡ true → (a && b) ≡ true
+both_hold a b = rw (a, b) refl
 
 -- nothing is left
-pub none_left : (fields : List Field) (shapes : List FieldShape) (i : ℕ) → length fields ≡ length shapes → length shapes ≤ i → true ≡ Fit (drop i fields) (drop i shapes)
-none_left fields shapes i same past =
-    let no_field : drop i fields ≡ [] = drop_of_length-le fields (omega (arith, same)) in
-    let no_shape : drop i shapes ≡ [] = drop_of_length-le shapes past in
-    rw (no_field, no_shape) refl
+pub none_left : (i : ℕ) (names : List (List ℕ)) (places : List ℕ) (vs : List Value) (of : List (List ℕ)) (shapes : List Shape)
+    → length names ≡ min (length of) (length shapes) → length names ≤ i → true ≡ Fit i (drop i names) places vs (drop i of) (drop i shapes)
+none_left i names places vs of shapes same past =
+    rw (drop_of_length-le names {i = i} past, no_field_at of shapes i (omega (arith, same, past))) refl
+
+-- nil fits what is optional
+pub nil_fits : (shape : specs.Shape) → is_optional shape ≡ fits nil shape
+nil_fits specs.bool = refl
+nil_fits specs.whole = refl
+nil_fits specs.decimal = refl
+nil_fits specs.text = refl
+nil_fits (specs.list shape max) = refl
+nil_fits (specs.object of) = refl
+nil_fits (specs.optional shape) = refl
+
+-- a record fits where its fields do
+pub record_fits : (fields : Box Fields Global) (of : FieldShapes) → fits (value_view (ObjectValue fields)) (shape_view (ObjectShape of))
+    ≡ fields_fit (fields_from 0 (out-Fields fields.value).names (out-Fields fields.value).places (map value_view (out-Fields fields.value).values.items)) (Of (out-FieldShapes of).names (out-FieldShapes of).shapes.items)
+record_fits fields of = rw (value_view-object fields, fields_view-from fields.value, shape_view-object of, field_shapes_view-of of) refl
 
 pub list_fits : (list : Values) (item : Box Shape Global) (max : ℕ)
     → fits (value_view (ListValue list)) (shape_view (ListShape item max)) ≡ (nat_le (length list.items.items) max && all_items (λ value. fits value (shape_view item.value)) (items_of (map value_view list.items.items)))

@@ -4,6 +4,7 @@ pub mod DigitsLemmas
 pub mod Signs
 mod Facts
 pub mod Orders
+pub mod FieldLists
 pub mod Answers
 pub mod Marks
 pub mod WidestLemmas

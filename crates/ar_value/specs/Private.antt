@@ -1,4 +1,3 @@
 -- Definitions of private contracts and of proofs alone, which follow the code: a reader need not believe them.
 pub mod Scaled
-pub mod OneField
 pub mod Same

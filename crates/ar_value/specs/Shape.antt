@@ -1,5 +1,5 @@
 -- Shapes, which say what values a measurement may have.
-use Rattle.std.specs.Prelude.{ℕ, if◌then◌else◌, List, [], ◌∷◌, Option, Some, None}
+use Rattle.std.specs.Prelude.{ℕ, if◌then◌else◌, List, ◌∷◌, Option, Some, None}
 use Rattle.std.specs.Str.{bytes_eq}
 
 mutual
@@ -8,7 +8,7 @@ mutual
     whole : Shape
     decimal : Shape
     text : Shape
-    -- items of one shape, at most so many
+    -- items of one shape, and how many at most
     list : Shape → ℕ → Shape
     object : FieldShapes → Shape
     -- nil, or a value of the shape
@@ -16,12 +16,13 @@ mutual
 
   pub data FieldShapes : Type 0 where
     no_fields : FieldShapes
-    -- a name, its shape, and the fields behind it
+    -- a name, its shape, and the fields after it
     field : List ℕ → Shape → FieldShapes → FieldShapes
 
-abbrev pub field_shapes_of : List (List ℕ × Shape) → FieldShapes
-field_shapes_of [] = no_fields
-field_shapes_of (named ∷ others) = field named.0 named.1 (field_shapes_of others)
+-- fields of these names and shapes, one for one
+abbrev pub field_shapes_of : List (List ℕ) → List Shape → FieldShapes
+field_shapes_of (name ∷ names) (shape ∷ shapes) = field name shape (field_shapes_of names shapes)
+field_shapes_of names shapes = no_fields
 
 -- the shape of the first field of a name
 abbrev pub shape_named : List ℕ → FieldShapes → Option Shape

@@ -1,5 +1,5 @@
 -- Values of measurements.
-use Rattle.std.specs.Prelude.{ℕ, suc, ℤ, Bool, if◌then◌else◌, List, [], ◌∷◌, Option, Some, None}
+use Rattle.std.specs.Prelude.{ℕ, suc, ℤ, Bool, ◌==◌, if◌then◌else◌, List, [], ◌∷◌, Option, Some, None}
 use Rattle.std.specs.Str.{bytes_eq}
 
 mutual
@@ -7,7 +7,7 @@ mutual
     nil : Value
     bool : Bool → Value
     whole : ℤ → Value
-    -- so many millionths
+    -- a number of millionths
     decimal : ℤ → Value
     -- its bytes in UTF-8
     text : List ℕ → Value
@@ -20,7 +20,7 @@ mutual
 
   pub data Fields : Type 0 where
     no_fields : Fields
-    -- a name, its value, and the fields behind it
+    -- a name, its value, and the fields after it
     field : List ℕ → Value → Fields → Fields
 
 abbrev pub count : Items → ℕ
@@ -31,9 +31,15 @@ abbrev pub items_of : List Value → Items
 items_of [] = no_items
 items_of (value ∷ values) = item value (items_of values)
 
-abbrev pub fields_of : List (List ℕ × Value) → Fields
-fields_of [] = no_fields
-fields_of (named ∷ others) = field named.0 named.1 (fields_of others)
+-- the value with a place, of values with a place each; nil where there is none
+abbrev pub value_at : ℕ → List ℕ → List Value → Value
+value_at place (first ∷ places) (value ∷ values) = if first == place then value else value_at place places values
+value_at place places values = nil
+
+-- fields of these names, the first of them at a place, each with the value at its own
+abbrev pub fields_from : ℕ → List (List ℕ) → List ℕ → List Value → Fields
+fields_from place [] places values = no_fields
+fields_from place (name ∷ names) places values = field name (value_at place places values) (fields_from (suc place) names places values)
 
 -- the value of the first field of a name
 abbrev pub value_named : List ℕ → Fields → Option Value

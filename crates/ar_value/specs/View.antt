@@ -1,58 +1,49 @@
 -- The values, shapes and kinds that the code's types stand for.
-use Rattle.std.specs.Prelude.{ℕ, List}
 use Rattle.ar_value.specs.Kind.{Kind}
 use Rattle.ar_value.specs.Kind as kinds
 use Rattle.ar_value.specs.Shape.{Shape, FieldShapes, field_shapes_of}
 use Rattle.ar_value.specs.Shape as shapes
-use Rattle.ar_value.specs.Value.{Value, Items, Fields, items_of, fields_of}
+use Rattle.ar_value.specs.Value.{Value, Items, Fields, items_of, fields_from}
 use Rattle.ar_value.specs.Value as values
 use Rattle.ar_value.specs.declared.kind.Kind.{Kind as KindCode}
 use Rattle.ar_value.specs.declared.kind.Kind.TheVariants as kind_code
 use Rattle.ar_value.specs.declared.shape.Shape.{Shape as ShapeCode, fold-Shape}
-use Rattle.ar_value.specs.declared.shape.Shape.TheOpen.{Shape-F, FieldShape-F, FieldShapes-F}
-use Rattle.ar_value.specs.declared.shape.FieldShape.{FieldShape as FieldShapeCode, fold-FieldShape}
+use Rattle.ar_value.specs.declared.shape.Shape.TheOpen.{Shape-F, FieldShapes-F}
 use Rattle.ar_value.specs.declared.shape.FieldShapes.{FieldShapes as FieldShapesCode, fold-FieldShapes}
 use Rattle.ar_value.specs.declared.value.Value.{Value as ValueCode, fold-Value}
-use Rattle.ar_value.specs.declared.value.Value.TheOpen.{Value-F, Field-F, Fields-F, Values-F}
-use Rattle.ar_value.specs.declared.value.Field.{Field as FieldCode, fold-Field}
+use Rattle.ar_value.specs.declared.value.Value.TheOpen.{Value-F, Fields-F, Values-F}
 use Rattle.ar_value.specs.declared.value.Fields.{Fields as FieldsCode, fold-Fields}
 use Rattle.ar_value.specs.declared.value.Values.{Values as ValuesCode, fold-Values}
 
--- One level of a value, with what stands inside already seen.
+-- One level of a value, with what is inside already seen. A record has a field for each name, nil where it has no value.
 
-abbrev pub value_step : Value-F Value (List ℕ × Value) Fields Items → Value
+abbrev pub value_step : Value-F Value Fields Items → Value
 value_step Value-F.Nil = values.nil
 value_step (Value-F.Bool b) = values.bool b
 value_step (Value-F.Whole w) = values.whole w
 value_step (Value-F.Decimal d) = values.decimal d
 value_step (Value-F.Text t) = values.text t
 value_step (Value-F.List items) = values.list items
-value_step (Value-F.Object fields) = values.object fields
+value_step (Value-F.Object fields) = values.object fields.value
 
-abbrev pub field_step : Field-F Value (List ℕ × Value) Fields Items → List ℕ × Value
-field_step f = (f.name, f.value)
+abbrev pub fields_step : Fields-F Value Fields Items → Fields
+fields_step f = fields_from 0 f.names f.places f.values.items
 
-abbrev pub fields_step : Fields-F Value (List ℕ × Value) Fields Items → Fields
-fields_step f = fields_of f.items.items
-
-abbrev pub values_step : Values-F Value (List ℕ × Value) Fields Items → Items
+abbrev pub values_step : Values-F Value Fields Items → Items
 values_step v = items_of v.items.items
 
 abbrev pub value_view : ValueCode → Value
-value_view = fold-Value Value (List ℕ × Value) Fields Items value_step field_step fields_step values_step
-
-abbrev pub field_view : FieldCode → List ℕ × Value
-field_view = fold-Field Value (List ℕ × Value) Fields Items value_step field_step fields_step values_step
+value_view = fold-Value Value Fields Items value_step fields_step values_step
 
 abbrev pub fields_view : FieldsCode → Fields
-fields_view = fold-Fields Value (List ℕ × Value) Fields Items value_step field_step fields_step values_step
+fields_view = fold-Fields Value Fields Items value_step fields_step values_step
 
 abbrev pub values_view : ValuesCode → Items
-values_view = fold-Values Value (List ℕ × Value) Fields Items value_step field_step fields_step values_step
+values_view = fold-Values Value Fields Items value_step fields_step values_step
 
 -- One level of a shape, likewise.
 
-abbrev pub shape_step : Shape-F Shape (List ℕ × Shape) FieldShapes → Shape
+abbrev pub shape_step : Shape-F Shape FieldShapes → Shape
 shape_step Shape-F.Bool = shapes.bool
 shape_step Shape-F.Whole = shapes.whole
 shape_step Shape-F.Decimal = shapes.decimal
@@ -61,20 +52,14 @@ shape_step (Shape-F.List shape max) = shapes.list shape.value max
 shape_step (Shape-F.Object fields) = shapes.object fields
 shape_step (Shape-F.Optional shape) = shapes.optional shape.value
 
-abbrev pub field_shape_step : FieldShape-F Shape (List ℕ × Shape) FieldShapes → List ℕ × Shape
-field_shape_step f = (f.name, f.shape)
-
-abbrev pub field_shapes_step : FieldShapes-F Shape (List ℕ × Shape) FieldShapes → FieldShapes
-field_shapes_step f = field_shapes_of f.items.items
+abbrev pub field_shapes_step : FieldShapes-F Shape FieldShapes → FieldShapes
+field_shapes_step f = field_shapes_of f.names f.shapes.items
 
 abbrev pub shape_view : ShapeCode → Shape
-shape_view = fold-Shape Shape (List ℕ × Shape) FieldShapes shape_step field_shape_step field_shapes_step
-
-abbrev pub field_shape_view : FieldShapeCode → List ℕ × Shape
-field_shape_view = fold-FieldShape Shape (List ℕ × Shape) FieldShapes shape_step field_shape_step field_shapes_step
+shape_view = fold-Shape Shape FieldShapes shape_step field_shapes_step
 
 abbrev pub field_shapes_view : FieldShapesCode → FieldShapes
-field_shapes_view = fold-FieldShapes Shape (List ℕ × Shape) FieldShapes shape_step field_shape_step field_shapes_step
+field_shapes_view = fold-FieldShapes Shape FieldShapes shape_step field_shapes_step
 
 abbrev pub kind_view : KindCode → Kind
 kind_view kind_code.Nil = kinds.nil

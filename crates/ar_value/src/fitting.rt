@@ -1,14 +1,16 @@
 //! Whether a value fits a shape.
 
-ghost use Rattle.std.specs.Prelude.{◌≡◌, ◌&&◌, map};
-ghost use Rattle.std.specs.Str.{bytes_eq};
+ghost use Rattle.std.specs.Prelude.{◌≡◌, map, option_map, unwrap_or};
 ghost use Rattle.ar_value.specs.Fits.{all_items, fields_fit, fits};
 ghost use Rattle.ar_value.specs.Shape.{field_shapes_of};
-ghost use Rattle.ar_value.specs.Value.{fields_of, items_of};
-ghost use Rattle.ar_value.specs.View.{field_shape_view, field_view, shape_view, value_view};
+ghost use Rattle.ar_value.specs.Value.{fields_from, items_of, nil};
+ghost use Rattle.ar_value.specs.View.{shape_view, value_view};
 
-use crate::shape::{FieldShape, Shape};
-use crate::value::{Field, Value};
+use crate::kind::is_optional;
+use crate::places::Places;
+use crate::shape::Shape;
+use crate::text::Text;
+use crate::value::{Value, value_at};
 
 /// Whether a value fits a shape: a scalar its own shape, nil and what fits a shape the optional
 /// one, a list where it isn't too long and each item fits, and a record where its names are the
@@ -21,7 +23,7 @@ pub fn fits(value: &Value, shape: &Shape) -> bool
 
 /// The recursion goes down the shape.
 #[cycle(is_fit)]
-#[tactic(auto, using(crate::proofs::FitLemmas::list_fits))]
+#[tactic(auto, using(crate::proofs::FitLemmas::list_fits, crate::proofs::FitLemmas::record_fits))]
 fn is_fit(shape: &Shape, value: &Value) -> bool
     ensures { result ≡ fits (value_view value.now) (shape_view shape.now) }
 {
@@ -34,8 +36,14 @@ fn is_fit(shape: &Shape, value: &Value) -> bool
             Value::List(list) => list.items.len() <= *max && are_all_fit(item, &list.items),
             _ => false,
         },
-        Shape::Object(shapes) => match value {
-            Value::Object(fields) => are_fields_fit(&shapes.items, &fields.items),
+        Shape::Object(of) => match value {
+            Value::Object(fields) => are_fields_fit(
+                &of.shapes,
+                of.names.as_slice(),
+                fields.names.as_slice(),
+                &fields.places,
+                &fields.values,
+            ),
             _ => false,
         },
         Shape::Optional(plain) => matches!(value, Value::Nil) || is_fit(plain, value),
@@ -54,28 +62,42 @@ fn are_all_fit(shape: &Shape, items: &[Value]) -> bool
     true
 }
 
+/// Whether the names are those of the shapes, and the value at the place of each fits its shape.
 #[cycle(is_fit)]
 #[tactic(auto, using(crate::proofs::FitLemmas::lengths_differ, crate::proofs::FitLemmas::next, crate::proofs::FitLemmas::none_left))]
-fn are_fields_fit(shapes: &[FieldShape], fields: &[Field]) -> bool
-    ensures { result ≡ fields_fit (fields_of (map field_view fields.now))
-        (field_shapes_of (map field_shape_view shapes.now)) }
+fn are_fields_fit(
+    shapes: &[Shape],
+    of: &[Text],
+    names: &[Text],
+    places: &Places,
+    values: &[Value],
+) -> bool
+    ensures { result ≡ fields_fit (fields_from 0 names.now places.now (map value_view values.now))
+        (field_shapes_of of.now (map shape_view shapes.now)) }
 {
-    if fields.len() != shapes.len() {
+    if names.len() != of.len().min(shapes.len()) {
         return false;
     }
-    for (index, of) in shapes.iter().enumerate() {
-        if !is_field_fit(of, &fields[index]) {
+    for place in 0..names.len() {
+        if names[place] != of[place] {
+            return false;
+        }
+        if !is_field_fit(&shapes[place], value_at(places, values, place)) {
             return false;
         }
     }
     true
 }
 
+/// Whether a value fits, or nil where there is none.
 #[cycle(is_fit)]
-fn is_field_fit(of: &FieldShape, field: &Field) -> bool
+#[tactic(auto, using(crate::proofs::FitLemmas::nil_fits))]
+fn is_field_fit(shape: &Shape, found: Option<&Value>) -> bool
     ensures { result
-        ≡ bytes_eq (field_view field.now).0 (field_shape_view of.now).0
-        && fits (field_view field.now).1 (field_shape_view of.now).1 }
+        ≡ fits (unwrap_or (option_map (λ value. value_view value.now) found.entry) nil) (shape_view shape.now) }
 {
-    field.name == of.name && is_fit(&of.shape, &field.value)
+    match found {
+        Some(value) => is_fit(shape, value),
+        None => is_optional(shape),
+    }
 }

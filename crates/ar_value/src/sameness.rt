@@ -3,10 +3,11 @@
 ghost use Rattle.std.specs.Bool.{Decides};
 ghost use Rattle.std.specs.Prelude.{◌≡◌, map};
 ghost use Rattle.ar_value.specs.Shape.{field_shapes_of};
-ghost use Rattle.ar_value.specs.View.{field_shape_view, shape_view};
-ghost use Rattle.ar_value.specs.Private.Same.{same_field, same_fields, same_shape};
+ghost use Rattle.ar_value.specs.View.{shape_view};
+ghost use Rattle.ar_value.specs.Private.Same.{same_fields, same_shape};
 
-use crate::shape::{FieldShape, Shape};
+use crate::shape::Shape;
+use crate::text::Text;
 
 pub fn are_same_shapes(left: &Shape, right: &Shape) -> bool
     ensures { Decides result (shape_view left.now ≡ shape_view right.now) }
@@ -37,7 +38,12 @@ fn is_same(left: &Shape, right: &Shape) -> bool
             | Shape::Optional(_) => false,
         },
         Shape::Object(fields) => match right {
-            Shape::Object(others) => are_fields_same(&fields.items, &others.items),
+            Shape::Object(others) => are_fields_same(
+                &fields.shapes,
+                fields.names.as_slice(),
+                &others.shapes,
+                others.names.as_slice(),
+            ),
             Shape::Bool
             | Shape::Whole
             | Shape::Decimal
@@ -57,26 +63,24 @@ fn is_same(left: &Shape, right: &Shape) -> bool
     }
 }
 
+/// Whether fields of the same names have the same shapes.
 #[cycle(is_same)]
 #[tactic(auto, using(crate::proofs::Same::lengths_differ, crate::proofs::Same::next, crate::proofs::Same::none_left))]
-fn are_fields_same(fields: &[FieldShape], others: &[FieldShape]) -> bool
-    ensures { result ≡ same_fields (field_shapes_of (map field_shape_view fields.now))
-        (field_shapes_of (map field_shape_view others.now)) }
+fn are_fields_same(shapes: &[Shape], names: &[Text], others: &[Shape], of: &[Text]) -> bool
+    ensures { result ≡ same_fields (field_shapes_of names.now (map shape_view shapes.now))
+        (field_shapes_of of.now (map shape_view others.now)) }
 {
-    if fields.len() != others.len() {
+    let count = names.len().min(shapes.len());
+    if count != of.len().min(others.len()) {
         return false;
     }
-    for (index, field) in fields.iter().enumerate() {
-        if !is_field_same(field, &others[index]) {
+    for place in 0..count {
+        if names[place] != of[place] {
+            return false;
+        }
+        if !is_same(&shapes[place], &others[place]) {
             return false;
         }
     }
     true
-}
-
-#[cycle(is_same)]
-fn is_field_same(field: &FieldShape, other: &FieldShape) -> bool
-    ensures { result ≡ same_field (field_shape_view field.now) (field_shape_view other.now) }
-{
-    field.name == other.name && is_same(&field.shape, &other.shape)
 }

@@ -1,10 +1,10 @@
 //! Shapes: what values a metric's measurements may have.
 
 ghost use Rattle.std.specs.Prelude.{◌≡◌, IfOk, map, option_map};
-ghost use Rattle.ar_value.specs.Shape.{field_shapes_of, shape_named};
-ghost use Rattle.ar_value.specs.View.{field_shape_view, field_shapes_view, shape_view};
+ghost use Rattle.ar_value.specs.Shape.{shape_named};
+ghost use Rattle.ar_value.specs.View.{field_shapes_view, shape_view};
 
-use crate::text::Text;
+use crate::names::Names;
 use std::alloc::{AllocError, Global};
 
 /// The declared shape of a metric's measurements. Contracts see it by `shape_view` of
@@ -24,19 +24,12 @@ pub enum Shape {
     Optional(Box<Shape>),
 }
 
-/// The shape of a record's field, by its name.
-#[cycle(shape)]
-#[derive(Drop)]
-pub struct FieldShape {
-    pub name: Text,
-    pub shape: Shape,
-}
-
-/// The shapes of a record's fields.
+/// The shapes of a record's fields, in the order of their names.
 #[cycle(shape)]
 #[derive(Drop)]
 pub struct FieldShapes {
-    pub items: Vec<FieldShape>,
+    pub names: Names,
+    pub shapes: Vec<Shape>,
 }
 
 impl Shape {
@@ -54,20 +47,8 @@ impl FieldShapes {
         ensures { option_map (λ shape. shape_view shape.now) result
             ≡ shape_named name.now (field_shapes_view self.now) }
     {
-        shape_named(&self.items, name)
+        self.shapes.get(self.names.index_of(name)?)
     }
-}
-
-fn shape_named<'fields>(fields: &'fields [FieldShape], name: &str) -> Option<&'fields Shape>
-    ensures { option_map (λ shape. shape_view shape.now) result
-        ≡ shape_named name.now (field_shapes_of (map field_shape_view fields.now)) }
-{
-    for field in fields {
-        if field.name.as_str() == name {
-            return Some(&field.shape);
-        }
-    }
-    None
 }
 
 #[cycle(copy_of)]
@@ -84,7 +65,8 @@ fn copy_of(alloc: Global, shape: &Shape) -> Result<Shape, AllocError>
             max: *max,
         }),
         Shape::Object(fields) => Ok(Shape::Object(FieldShapes {
-            items: copies_of(alloc, &fields.items)?,
+            names: fields.names.share()?,
+            shapes: copies_of(alloc, &fields.shapes)?,
         })),
         Shape::Optional(plain) => Ok(Shape::Optional(boxed_copy_of(alloc, plain)?)),
     }
@@ -98,22 +80,12 @@ fn boxed_copy_of(alloc: Global, shape: &Shape) -> Result<Box<Shape>, AllocError>
 }
 
 #[cycle(copy_of)]
-fn copies_of(alloc: Global, fields: &[FieldShape]) -> Result<Vec<FieldShape>, AllocError>
-    ensures { IfOk result (λ copies.
-        map field_shape_view copies.items ≡ map field_shape_view fields.now) }
+fn copies_of(alloc: Global, shapes: &[Shape]) -> Result<Vec<Shape>, AllocError>
+    ensures { IfOk result (λ copies. map shape_view copies.items ≡ map shape_view shapes.now) }
 {
-    let mut copies = Vec::with_capacity(alloc, fields.len())?;
-    for field in fields {
-        copies.push(field_copy_of(alloc, field)?)?;
+    let mut copies = Vec::with_capacity(alloc, shapes.len())?;
+    for shape in shapes {
+        copies.push(copy_of(alloc, shape)?)?;
     }
     Ok(copies)
-}
-
-#[cycle(copy_of)]
-fn field_copy_of(alloc: Global, field: &FieldShape) -> Result<FieldShape, AllocError>
-    ensures { IfOk result (λ copy. field_shape_view copy ≡ field_shape_view field.now) }
-{
-    let name = Text::of(alloc, field.name.as_str())?;
-    let shape = copy_of(alloc, &field.shape)?;
-    Ok(FieldShape { name, shape })
 }

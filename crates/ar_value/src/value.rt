@@ -1,10 +1,12 @@
 //! Values of measurements.
 
-ghost use Rattle.std.specs.Prelude.{◌≡◌, map, option_map};
-ghost use Rattle.ar_value.specs.Value.{fields_of, value_named};
-ghost use Rattle.ar_value.specs.View.{field_view, fields_view, value_view};
+ghost use Rattle.std.specs.Prelude.{◌≡◌, map, option_map, unwrap_or};
+ghost use Rattle.ar_value.specs.Value.{nil, value_at, value_named};
+ghost use Rattle.ar_value.specs.View.{fields_view, value_view};
 
 use crate::decimal::Decimal;
+use crate::names::Names;
+use crate::places::Places;
 use crate::text::Text;
 
 /// A value of a measurement. Contracts see it by `value_view` of `specs/View`.
@@ -17,7 +19,7 @@ pub enum Value {
     Decimal(Decimal),
     Text(Text),
     List(Values),
-    Object(Fields),
+    Object(Box<Fields>),
 }
 
 /// The items of a list.
@@ -27,38 +29,36 @@ pub struct Values {
     pub items: Vec<Value>,
 }
 
-/// A value of a record, by its name.
-#[cycle(value)]
-#[derive(Drop)]
-pub struct Field {
-    pub name: Text,
-    pub value: Value,
-}
-
-/// The fields of a record.
+/// The fields of a record, in the order of their names. Those that are nil need no value.
 #[cycle(value)]
 #[derive(Drop)]
 pub struct Fields {
-    pub items: Vec<Field>,
+    pub names: Names,
+    /// The places, among the names, of the fields that have a value.
+    pub places: Places,
+    /// Their values.
+    pub values: Vec<Value>,
 }
 
 impl Fields {
-    /// The value of the field of a name.
-    pub fn get(&self, name: &str) -> Option<&Value>
-        ensures { option_map (λ value. value_view value.now) result ≡ value_named name.now (fields_view self.now) }
+    /// The value of the field of a name: `Some(None)` is nil.
+    pub fn get(&self, name: &str) -> Option<Option<&Value>>
+        ensures { option_map (λ found. unwrap_or (option_map (λ value. value_view value.now) found) nil) result
+            ≡ value_named name.now (fields_view self.now) }
     {
-        value_named(&self.items, name)
+        let place = self.names.index_of(name)?;
+        Some(value_at(&self.places, &self.values, place))
     }
 }
 
-fn value_named<'fields>(fields: &'fields [Field], name: &str) -> Option<&'fields Value>
-    ensures { option_map (λ value. value_view value.now) result
-        ≡ value_named name.now (fields_of (map field_view fields.now)) }
+/// The value with a place, of values with a place each. `None` is nil.
+pub fn value_at<'values>(
+    places: &Places,
+    values: &'values [Value],
+    place: usize,
+) -> Option<&'values Value>
+    ensures { unwrap_or (option_map (λ value. value_view value.now) result) nil
+        ≡ value_at place places.now (map value_view values.now) }
 {
-    for field in fields {
-        if field.name.as_str() == name {
-            return Some(&field.value);
-        }
-    }
-    None
+    values.get(places.index_of(place)?)
 }

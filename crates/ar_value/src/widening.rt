@@ -2,11 +2,10 @@
 
 ghost use Rattle.std.specs.Prelude.{◌≡◌, IfOk, map, option_map};
 ghost use Rattle.ar_value.specs.Kind.{widest, widest_fields};
-ghost use Rattle.ar_value.specs.Private.OneField.{named_widest};
 ghost use Rattle.ar_value.specs.Shape.{field_shapes_of, list, object, optional};
-ghost use Rattle.ar_value.specs.View.{field_shape_view, shape_view};
+ghost use Rattle.ar_value.specs.View.{field_shapes_view, shape_view};
 
-use crate::shape::{FieldShape, FieldShapes, Shape};
+use crate::shape::{FieldShapes, Shape};
 use crate::text::Text;
 use std::alloc::{AllocError, Global};
 
@@ -38,7 +37,7 @@ pub(crate) fn widest(
             | Shape::Optional(_) => Ok(None),
         },
         Shape::Object(left) => match right {
-            Shape::Object(right) => widest_object(alloc, &left.items, &right.items),
+            Shape::Object(right) => widest_object(alloc, left, right),
             Shape::Bool
             | Shape::Whole
             | Shape::Decimal
@@ -91,58 +90,54 @@ fn widest_optional(alloc: Global, left: &Shape, right: &Shape) -> Result<Option<
 #[cycle(widest)]
 fn widest_object(
     alloc: Global,
-    left: &[FieldShape],
-    right: &[FieldShape],
+    left: &FieldShapes,
+    right: &FieldShapes,
 ) -> Result<Option<Shape>, AllocError>
     ensures { IfOk result (λ shape. option_map shape_view shape
-        ≡ option_map object (widest_fields (field_shapes_of (map field_shape_view left.now))
-        (field_shapes_of (map field_shape_view right.now)))) }
+        ≡ option_map object (widest_fields (field_shapes_view left.now) (field_shapes_view right.now))) }
 {
-    match widest_fields(alloc, left, right)? {
-        Some(items) => Ok(Some(Shape::Object(FieldShapes { items }))),
+    match widest_fields(
+        alloc,
+        &left.shapes,
+        left.names.as_slice(),
+        &right.shapes,
+        right.names.as_slice(),
+    )? {
+        Some(shapes) => Ok(Some(Shape::Object(FieldShapes {
+            names: left.names.share()?,
+            shapes,
+        }))),
         None => Ok(None),
     }
 }
 
+/// The wider shapes of fields of the same names.
 #[cycle(widest)]
-#[tactic(auto, using(crate::proofs::WidestLemmas::lengths_differ, crate::proofs::WidestLemmas::next_field))]
+#[tactic(auto, using(crate::proofs::WidestLemmas::lengths_differ))]
 fn widest_fields(
     alloc: Global,
-    left: &[FieldShape],
-    right: &[FieldShape],
-) -> Result<Option<Vec<FieldShape>>, AllocError>
-    ensures { IfOk result (λ fields. option_map (λ vec. field_shapes_of (map field_shape_view vec.items)) fields
-        ≡ widest_fields (field_shapes_of (map field_shape_view left.now))
-        (field_shapes_of (map field_shape_view right.now))) }
+    left: &[Shape],
+    names: &[Text],
+    right: &[Shape],
+    of: &[Text],
+) -> Result<Option<Vec<Shape>>, AllocError>
+    ensures { IfOk result (λ shapes. option_map (λ vec. field_shapes_of names.now (map shape_view vec.items)) shapes
+        ≡ widest_fields (field_shapes_of names.now (map shape_view left.now))
+        (field_shapes_of of.now (map shape_view right.now))) }
 {
-    if left.len() != right.len() {
+    let count = names.len().min(left.len());
+    if count != of.len().min(right.len()) {
         return Ok(None);
     }
-    let mut fields = Vec::with_capacity(alloc, left.len())?;
-    for (index, field) in left.iter().enumerate() {
-        match widest_field(alloc, field, &right[index])? {
-            Some(widest) => fields.push(widest)?,
+    let mut shapes = Vec::with_capacity(alloc, count)?;
+    for place in 0..count {
+        if names[place] != of[place] {
+            return Ok(None);
+        }
+        match widest(alloc, &left[place], &right[place])? {
+            Some(widest) => shapes.push(widest)?,
             None => return Ok(None),
         }
     }
-    Ok(Some(fields))
-}
-
-#[cycle(widest)]
-fn widest_field(
-    alloc: Global,
-    left: &FieldShape,
-    right: &FieldShape,
-) -> Result<Option<FieldShape>, AllocError>
-    ensures { IfOk result (λ field. option_map field_shape_view field
-        ≡ named_widest (field_shape_view left.now) (field_shape_view right.now)) }
-{
-    if left.name != right.name {
-        return Ok(None);
-    }
-    let Some(shape) = widest(alloc, &left.shape, &right.shape)? else {
-        return Ok(None);
-    };
-    let name = Text::of(alloc, left.name.as_str())?;
-    Ok(Some(FieldShape { name, shape }))
+    Ok(Some(shapes))
 }

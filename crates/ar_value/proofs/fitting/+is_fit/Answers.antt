@@ -1,6 +1,10 @@
-use Rattle.std.proofs.Common.{rules, arith}
+use Rattle.std.proofs.Common.{rules, arith, drop, ap, sym, ◌∙◌, ◌+◌}
+use Rattle.std.specs.Prelude.{◌&&◌}
+use Rattle.ar_value.specs.Fits.{fits}
+use Rattle.ar_value.specs.View.{shape_view}
 use Rattle.std.proofs.lemmas.Grind.{common_steps}
-use Rattle.ar_value.proofs.FitLemmas.{lengths_differ, list_fits, next, none_left, list_within}
+use Rattle.ar_value.proofs.FieldLists.{alike}
+use Rattle.ar_value.proofs.FitLemmas.{Fit, both_hold, list_within, next}
 use Rattle.ar_value.proofs.fitting.+is_fit.Goals as goal
 
 pub is_fit-returns-then-len-max : goal.is_fit-returns-then-len-max
@@ -17,18 +21,11 @@ are_all_fit-loop-item-preserved t c = grind (arith, common_steps)
 pub are_all_fit-returns : goal.are_all_fit-returns
 are_all_fit-returns t c = grind (arith, common_steps)
 
-pub are_fields_fit-returns-then-fields-shapes : goal.are_fields_fit-returns-then-fields-shapes
-are_fields_fit-returns-then-fields-shapes t c = search (rules, lengths_differ, next, none_left)
-
-pub are_fields_fit-returns-then-not-is_field_fit :
-    goal.are_fields_fit-returns-then-not-is_field_fit
-are_fields_fit-returns-then-not-is_field_fit t c = grind (arith, common_steps)
-
-pub are_fields_fit-loop-index-preserved : goal.are_fields_fit-loop-index-preserved
-are_fields_fit-loop-index-preserved t c = search (rules, lengths_differ, next, none_left)
-
-pub are_fields_fit-returns : goal.are_fields_fit-returns
-are_fields_fit-returns t c = search (rules, lengths_differ, next, none_left)
-
-pub is_fit-returns-else-len-max : goal.is_fit-returns-else-len-max
-is_fit-returns-else-len-max t c = search (rules, list_fits)
+pub are_fields_fit-loop-place-preserved : goal.are_fields_fit-loop-place-preserved
+are_fields_fit-loop-place-preserved t c =
+    c.loop-place.invariant
+    ∙ next c.loop-place.place c.args.names.now c.args.places.now c.args.values.now c.args.of.now c.args.shapes.now c.index-names-place.result c.index-of-place.result c.index-shapes-place.result
+    (omega (arith, c.loop-place-test.true)) (omega (arith, c.loop-place-test.true, c.if-names-min.false, c.min.ensures)) (omega (arith, c.loop-place-test.true, c.if-names-min.false, c.min.ensures))
+    c.index-names-place.is c.index-of-place.is c.index-shapes-place.is
+    ∙ ap (λ here. here && Fit (c.loop-place.place + 1) (drop (c.loop-place.place + 1) c.args.names.now) c.args.places.now c.args.values.now (drop (c.loop-place.place + 1) c.args.of.now) (drop (c.loop-place.place + 1) c.args.shapes.now))
+    (both_hold (alike c.ne.result _ c.ne.ensures c.if-ne.false) (sym (c.is_field_fit.ensures ∙ ap (λ value. fits value (shape_view c.index-shapes-place.result)) c.value_at.ensures) ∙ search rules))
