@@ -1,18 +1,22 @@
 -- Shapes declared level by level, and a record's field by field.
-use Rattle.std.proofs.Common.{◌≡◌, ℕ, zero, suc, ◌-◌, true, List, [], ◌∷◌, ◌++◌, map, String, Global, string_bytes, Result, Ok, Err, refl, ◌∙◌, ap, rules}
+use Rattle.std.proofs.Common.{◌≡◌, ℕ, zero, suc, ◌-◌, true, List, [], ◌∷◌, ◌++◌, length, map, sym, String, Global, string_bytes, Result, Ok, Err, refl, ◌∙◌, ap, rules}
 use native.Mathlib.Numerals.{unary_clauses}
 use Rattle.serde_json.specs.Data.{Data, Members, null, boolean, number, string, array, object}
 use Rattle.serde_json.specs.View.{view, members_view}
 use Rattle.serde_json.specs.declared.value.Value.{Value as Json, String as JsonString, the_lemmas}
 use Rattle.ar_value.specs.Answer.{◌>>=◌, Gives, Unless}
 use Rattle.ar_json.specs.Declaration.{fields_declared, is_memory, is_memory_for, object_declared, scalar_named, shape_within}
-use Rattle.ar_json.specs.Private.OneField.{named_declared}
-use Rattle.ar_value.specs.Shape.{Shape, FieldShapes, field_shapes_of, no_fields, field}
-use Rattle.ar_value.specs.View.{field_shape_view, shape_view}
-use Rattle.ar_value.specs.declared.shape.Shape.{Shape as ShapeCode}
-use Rattle.ar_value.specs.declared.shape.FieldShape.{FieldShape as FieldShapeCode}
+use Rattle.ar_json.specs.Names.{member_names}
+use Rattle.ar_value.specs.Shape.{Shape, FieldShapes, field_shapes_of, field}
+use Rattle.ar_value.specs.Shape as shapes
+use Rattle.ar_value.specs.View.{shape_view}
+use Rattle.ar_value.specs.declared.shape.Shape.{Shape as ShapeCode, Object as ObjectShape}
+use Rattle.ar_value.specs.declared.shape.FieldShapes.{FieldShapes as FieldShapesCode, out-FieldShapes}
 use Rattle.ar_json.specs.declared.shape_reading.ShapeError.{ShapeError}
+use Rattle.std.proofs.lemmas.List.{append-nil, append_assoc, length-map, length_push, map-append}
 use Rattle.ar_value.proofs.Answers.{gives_more}
+use Rattle.ar_value.proofs.FieldLists.{onto, onto_more, onto_none}
+use Rattle.ar_value.proofs.Views.{shape_view-object, field_shapes_view-of}
 use Rattle.ar_json.proofs.ReadLemmas.{leads}
 
 pub view-string : (name : String Global) → view (JsonString name) ≡ string (string_bytes name)
@@ -41,48 +45,58 @@ gives_any d r answer h = gives_more (is_memory_for d) is_memory shape_view r ans
 abbrev pub Entry : Type 0
 Entry = String Global × Json
 
--- fields that were read, before what is read of the rest
-abbrev pub Shapes_before : List (List ℕ × Shape) → Result FieldShapes ShapeError → Result FieldShapes ShapeError
-Shapes_before [] rest = rest
-Shapes_before (named ∷ others) rest = Shapes_before others rest >>= λ fields. Ok (field named.0 named.1 fields)
+-- a refusal of the first step is one of both
+pub failed : {A B E : Type 0} (first : Result A E) (second : A → Result B E) (e : E) → first ≡ Err e → (first >>= second) ≡ Err e
+failed first second e is = rw is refl
 
-before_err : (done : List (List ℕ × Shape)) (e : ShapeError) → Shapes_before done (Err e) ≡ Err e
-before_err [] e = refl
-before_err (value ∷ values) e = rw (before_err values e) refl
+-- shapes that were read, before what is read of the rest
+abbrev pub Shapes_before : List (List ℕ) → List ShapeCode → Result FieldShapes ShapeError → Result FieldShapes ShapeError
+Shapes_before names done rest = rest >>= λ fields. Ok (onto names (map shape_view done) fields)
 
-before_none : (done : List (List ℕ × Shape)) → Shapes_before done (Ok no_fields) ≡ Ok (field_shapes_of done)
-before_none [] = refl
-before_none (value ∷ values) = rw (before_none values) refl
+-- the shapes of the first members were read, and now come these
+abbrev pub Declared : (Data → Result Shape ShapeError) → (all now : List Entry) → List ShapeCode → Type 0
+Declared R all now done =
+    (names : List (List ℕ)) × (names ++ member_names (members_view now) ≡ member_names (members_view all)) × (length names ≡ length done)
+    × (fields_declared R (members_view all) ≡ Shapes_before names done (fields_declared R (members_view now)))
 
-before_one : (done : List FieldShapeCode) (f : FieldShapeCode) (rest : Result FieldShapes ShapeError)
-    → Shapes_before (map field_shape_view done) (rest >>= λ fields. Ok (field (field_shape_view f).0 (field_shape_view f).1 fields)) ≡ Shapes_before (map field_shape_view (done ++ f ∷ [])) rest
-before_one [] f rest = refl
-before_one (d ∷ done) f rest = rw (before_one done f rest) refl
+pub none_declared : (R : Data → Result Shape ShapeError) (all now : List Entry) (done : List ShapeCode) → now ≡ all → done ≡ [] → Declared R all now done
+none_declared R all now done is no_shape = rw (is, no_shape) ([], refl, refl, unchanged (fields_declared R (members_view all)))
+  where
+    unchanged : (rest : Result FieldShapes ShapeError) → rest ≡ Shapes_before [] [] rest
+    unchanged (Ok all) = refl
+    unchanged (Err e) = refl
 
-regrouped : (name : List ℕ) (shape : Result Shape ShapeError) (rest : Result FieldShapes ShapeError)
-    → (shape >>= λ s. rest >>= λ fields. Ok (field name s fields)) ≡ (named_declared name shape >>= λ named. rest >>= λ fields. Ok (field named.0 named.1 fields))
-regrouped name (Ok s) rest = refl
-regrouped name (Err e) rest = refl
+module _ (R : Data → Result Shape ShapeError) (all now left : List Entry) (done : List ShapeCode) (name : String Global) (json : Json) (is : now ≡ (name, json) ∷ left) where
+  front : fields_declared R (members_view now) ≡ (R (view json) >>= λ shape. fields_declared R (members_view left) >>= λ fields. Ok (field (string_bytes name) shape fields))
+  front = rw is refl
 
-front : (R : Data → Result Shape ShapeError) (now left : List Entry) (name : String Global) (json : Json) → now ≡ (name, json) ∷ left
-    → fields_declared R (members_view now) ≡ (named_declared (string_bytes name) (R (view json)) >>= λ named. fields_declared R (members_view left) >>= λ fields. Ok (field named.0 named.1 fields))
-front R now left name json is = rw is (regrouped (string_bytes name) (R (view json)) (fields_declared R (members_view left)))
+  moved : (names : List (List ℕ)) (s : ShapeCode) (rest : Result FieldShapes ShapeError) → length names ≡ length done
+      → Shapes_before names done (rest >>= λ fields. Ok (field (string_bytes name) (shape_view s) fields)) ≡ Shapes_before (names ++ string_bytes name ∷ []) (done ++ s ∷ []) rest
+  moved names s (Err e) long = refl
+  moved names s (Ok fields) long =
+      ap (λ (fs : FieldShapes). Ok fs)
+      (onto_more names (map shape_view done) (string_bytes name) (shape_view s) fields (long ∙ sym (length-map done shape_view))
+      ∙ sym (rw (map-append shape_view done (s ∷ [])) refl))
 
-pub next_shape : (R : Data → Result Shape ShapeError) (all : Result FieldShapes ShapeError) (done : List FieldShapeCode) (now left : List Entry) (name : String Global) (json : Json) (f : FieldShapeCode)
-    → now ≡ (name, json) ∷ left → all ≡ Shapes_before (map field_shape_view done) (fields_declared R (members_view now))
-    → named_declared (string_bytes name) (R (view json)) ≡ Ok (field_shape_view f)
-    → all ≡ Shapes_before (map field_shape_view (done ++ f ∷ [])) (fields_declared R (members_view left))
-next_shape R all done now left name json f is before shape =
-    before ∙ ap (Shapes_before (map field_shape_view done)) (front R now left name json is ∙ rw shape refl) ∙ before_one done f (fields_declared R (members_view left))
+  pub next_shape : (s : ShapeCode) → Declared R all now done → R (view json) ≡ Ok (shape_view s) → Declared R all left (done ++ s ∷ [])
+  next_shape s before shape =
+      let names = before.0 in (
+        names ++ string_bytes name ∷ [],
+        append_assoc names (string_bytes name ∷ []) (member_names (members_view left)) ∙ (rw is at before.1),
+        rw (length_push, length_push, before.2) refl,
+        before.3 ∙ ap (Shapes_before names done) (front ∙ rw shape refl) ∙ moved names s (fields_declared R (members_view left)) before.2,
+      )
 
-pub shape_fails : (R : Data → Result Shape ShapeError) (all : Result FieldShapes ShapeError) (done : List FieldShapeCode) (now left : List Entry) (name : String Global) (json : Json) (text : List ℕ) (error : ShapeError)
-    → now ≡ (name, json) ∷ left → all ≡ Shapes_before (map field_shape_view done) (fields_declared R (members_view now))
-    → text ≡ string_bytes name → Unless (is_memory error) (named_declared text (R (view json)) ≡ Err error)
-    → Unless (is_memory error) (all ≡ Err error)
-shape_fails R all done now left name json text error is before same fails =
-    leads (is_memory error) (λ (h : named_declared text (R (view json)) ≡ Err error). before ∙ ap (Shapes_before (map field_shape_view done)) (front R now left name json is ∙ rw (← same, h) refl) ∙ before_err (map field_shape_view done) error) fails
+  pub shape_fails : (error : ShapeError) → Declared R all now done → Unless (is_memory error) (R (view json) ≡ Err error) → Unless (is_memory error) (fields_declared R (members_view all) ≡ Err error)
+  shape_fails error before fails =
+      leads (is_memory error) (λ (h : R (view json) ≡ Err error). before.3 ∙ ap (Shapes_before before.0 done) (front ∙ failed (R (view json)) _ error h)) fails
 
-pub no_shape_left : (R : Data → Result Shape ShapeError) (all : Result FieldShapes ShapeError) (done : List FieldShapeCode) (now : List Entry)
-    → now ≡ [] → all ≡ Shapes_before (map field_shape_view done) (fields_declared R (members_view now))
-    → all ≡ Ok (field_shapes_of (map field_shape_view done))
-no_shape_left R all done now none before = before ∙ rw none (before_none (map field_shape_view done))
+pub no_shape_left : (R : Data → Result Shape ShapeError) (all now : List Entry) (done : List ShapeCode) → now ≡ [] → Declared R all now done
+    → fields_declared R (members_view all) ≡ Ok (field_shapes_of (member_names (members_view all)) (map shape_view done))
+no_shape_left R all now done is before =
+    let names : before.0 ≡ member_names (members_view all) = sym (append-nil before.0) ∙ (rw is at before.1) in
+    before.3 ∙ rw is (ap (λ (fs : FieldShapes). Ok fs) (onto_none before.0 (map shape_view done) ∙ ap (λ ns. field_shapes_of ns (map shape_view done)) names))
+
+-- a record of names and shapes
+pub record_view : (fields : FieldShapesCode) (names : List (List ℕ)) → (out-FieldShapes fields).names ≡ names → shape_view (ObjectShape fields) ≡ shapes.object (field_shapes_of names (map shape_view (out-FieldShapes fields).shapes.items))
+record_view fields names is = rw (shape_view-object fields, field_shapes_view-of fields, is) refl

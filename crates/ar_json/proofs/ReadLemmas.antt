@@ -1,7 +1,7 @@
 -- Reading, item by item and field by field.
-use Rattle.std.proofs.Common.{◌≡◌, ℕ, suc, ◌+◌, ◌<◌, ◌≤◌, Bool, true, false, List, [], ◌∷◌, ◌++◌, length, map, drop, Option, Some, Result, Ok, Err, refl, sym, ◌∙◌, ap, arith, drop-cons, add-one}
-use Rattle.std.specs.Prelude.{slice_index_or}
-use Rattle.std.proofs.lemmas.Bool.Decides.{nat_tests}
+use Rattle.std.proofs.Common.{◌≡◌, All, Box, Global, ℕ, suc, ◌+◌, ◌<◌, ◌≤◌, Bool, true, false, List, [], ◌∷◌, ◌++◌, length, length-take-le, map, drop, take, Option, None, Some, option_map, Result, Ok, Err, refl, sym, ◌∙◌, ap, arith, drop-cons, add-one}
+use Rattle.std.specs.Prelude.{◌==◌, if◌then◌else◌, slice_index_or, unwrap_or}
+use Rattle.std.proofs.lemmas.Bool.Decides.{Decides-eqb, nat_tests}
 use Rattle.std.proofs.Math.ListN.{drop_of_length-le}
 use Rattle.serde_json.specs.Data as json
 use Rattle.serde_json.specs.Data.{Data}
@@ -10,17 +10,26 @@ use Rattle.serde_json.specs.View.{view, items_view}
 use Rattle.serde_json.specs.declared.value.Value.{Value as Json}
 use Rattle.ar_value.specs.Answer.{◌>>=◌, Gives, Unless}
 use Rattle.ar_json.specs.Reading.{read, items_read, list_read, fields_read, field_read, item_count, is_memory, is_memory_under}
-use Rattle.ar_json.specs.Private.OneField.{named_read}
-use Rattle.ar_value.specs.Shape.{Shape, field_shapes_of}
+use Rattle.ar_json.specs.Private.Added.{IsAdded}
+use Rattle.ar_value.specs.Shape.{Shape}
 use Rattle.ar_value.specs.Shape as shapes
-use Rattle.ar_value.specs.Value.{Value, Items, Fields, items_of, fields_of, no_items, item, no_fields, field, list}
-use Rattle.ar_value.specs.View.{value_view, field_view, field_shape_view}
-use Rattle.ar_value.specs.declared.value.Value.{Value as ValueCode}
-use Rattle.ar_value.specs.declared.value.Field.{Field as FieldCode}
-use Rattle.ar_value.specs.declared.shape.FieldShape.{FieldShape as FieldShapeCode}
+use Rattle.ar_value.specs.Value.{Value, Items, Fields, items_of, fields_from, value_at, nil, no_items, item, no_fields, field, list, object}
+use Rattle.ar_value.specs.View.{shape_view, value_view}
+use Rattle.ar_value.specs.declared.shape.Shape.{Shape as ShapeCode}
+use Rattle.ar_value.specs.declared.value.Value.{Value as ValueCode, Object as ObjectValue}
+use Rattle.ar_value.specs.declared.value.Fields.{Fields as FieldsCode, out-Fields}
+use Rattle.ar_json.specs.declared.value_reading.Present.{Present}
 use Rattle.ar_json.specs.declared.value_reading.ShapeFault.{ShapeFault}
 use Rattle.ar_json.specs.declared.value_reading.ShapeFault.TheVariants.{ListTooLong}
+use Rattle.std.proofs.lemmas.List.Elements.{All-push}
+use Rattle.std.proofs.lemmas.List.{length-map, length_push, map-append, take_all, take_more}
 use Rattle.ar_value.proofs.Answers.{gives_more, unless_more}
+use Rattle.ar_value.proofs.FieldLists.{Of, field_at, no_field_at}
+use Rattle.ar_value.proofs.Views.{fields_view-from, value_view-object}
+
+-- a refusal of the first step is one of both
+failed : {A B E : Type 0} (first : Result A E) (second : A → Result B E) (e : E) → first ≡ Err e → (first >>= second) ≡ Err e
+failed first second e is = rw is refl
 
 -- a refusal, where what was defined is refused with it
 pub leads : {P Q : Type 0} (m : Bool) → (P → Q) → Unless m P → Unless m Q
@@ -93,63 +102,154 @@ no_item_left R json i done all past before =
 
 -- Fields that were read, before what is read of the rest.
 
-abbrev pub Fields_before : List (List ℕ × Value) → Result Fields ShapeFault → Result Fields ShapeFault
-Fields_before [] rest = rest
-Fields_before (named ∷ others) rest = Fields_before others rest >>= λ fields. Ok (field named.0 named.1 fields)
+abbrev pub fields_onto : ℕ → List (List ℕ) → List ℕ → List Value → Fields → Fields
+fields_onto place [] places vs rest = rest
+fields_onto place (name ∷ names) places vs rest = field name (value_at place places vs) (fields_onto (suc place) names places vs rest)
 
-fields_before_err : (done : List (List ℕ × Value)) (e : ShapeFault) → Fields_before done (Err e) ≡ Err e
-fields_before_err [] e = refl
-fields_before_err (value ∷ values) e = rw (fields_before_err values e) refl
+onto_none : (place : ℕ) (names : List (List ℕ)) (places : List ℕ) (vs : List Value) → fields_onto place names places vs no_fields ≡ fields_from place names places vs
+onto_none place [] places vs = refl
+onto_none place (name ∷ names) places vs = ap (field name (value_at place places vs)) (onto_none (suc place) names places vs)
 
-fields_before_none : (done : List (List ℕ × Value)) → Fields_before done (Ok no_fields) ≡ Ok (fields_of done)
-fields_before_none [] = refl
-fields_before_none (value ∷ values) = rw (fields_before_none values) refl
+onto_name : (place : ℕ) (names : List (List ℕ)) (name : List ℕ) (places : List ℕ) (vs : List Value) (rest : Fields) (at : ℕ) → at ≡ place + length names
+    → fields_onto place (names ++ name ∷ []) places vs rest ≡ fields_onto place names places vs (field name (value_at at places vs) rest)
+onto_name place [] name places vs rest at is = ap (λ p. field name (value_at p places vs) rest) (omega (arith, is))
+onto_name place (n ∷ names) name places vs rest at is = ap (field n (value_at place places vs)) (onto_name (suc place) names name places vs rest at (omega (arith, is)))
 
-fields_before_one : (done : List FieldCode) (v : FieldCode) (rest : Result Fields ShapeFault)
-    → Fields_before (map field_view done) (rest >>= λ fields. Ok (field (field_view v).0 (field_view v).1 fields)) ≡ Fields_before (map field_view (done ++ v ∷ [])) rest
-fields_before_one [] v rest = refl
-fields_before_one (d ∷ done) v rest = rw (fields_before_one done v rest) refl
+is_other : (p place : ℕ) → (p ≡ place → ⊥) → (p == place) ≡ false
+is_other p place differs = not_true (p == place) (λ is. differs ((Decides-eqb p place).0 is))
+  where
+    not_true : (test : Bool) → (test ≡ true → ⊥) → test ≡ false
+    not_true true wrong = absurd (wrong refl)
+    not_true false wrong = refl
 
-abbrev named : List ℕ → Value → List ℕ × Value
-named name value = (name, value)
+-- a value that is added changes none that was there
+at_other : (place : ℕ) (places : List ℕ) (vs : List Value) (at : ℕ) (v : Value) → length places ≡ length vs → (at ≡ place → ⊥) → value_at place (places ++ at ∷ []) (vs ++ v ∷ []) ≡ value_at place places vs
+at_other place [] [] at v same differs = rw (is_other at place differs) refl
+at_other place [] (w ∷ vs) at v same differs = absurd (omega (arith, same))
+at_other place (p ∷ places) [] at v same differs = absurd (omega (arith, same))
+at_other place (p ∷ places) (w ∷ vs) at v same differs = ap (λ later. if p == place then w else later) (at_other place places vs at v (omega (arith, same)) differs)
 
-regrouped : (name : List ℕ) (value : Result Value ShapeFault) (rest : Result Fields ShapeFault)
-    → (value >>= λ v. rest >>= λ fields. Ok (field name v fields)) ≡ ((value >>= λ v. Ok (named name v)) >>= λ n. rest >>= λ fields. Ok (field n.0 n.1 fields))
-regrouped name (Ok v) rest = refl
-regrouped name (Err e) rest = refl
+-- it has its place, if that is after the others
+at_new : (place : ℕ) (places : List ℕ) (vs : List Value) (v : Value) → length places ≡ length vs → All (λ p. p < place) places → value_at place (places ++ place ∷ []) (vs ++ v ∷ []) ≡ v
+at_new place [] [] v same below = rw ((Decides-eqb place place).1 refl) refl
+at_new place [] (w ∷ vs) v same below = absurd (omega (arith, same))
+at_new place (p ∷ places) [] v same below = absurd (omega (arith, same))
+at_new place (p ∷ places) (w ∷ vs) v same below =
+    rw (is_other p place (λ is. absurd (omega (arith, is, below 0 0 (omega arith))))) (at_new place places vs v (omega (arith, same)) (λ k d within. below (suc k) d (omega arith)))
 
-fields_front : (given : json.Members) (shapes rest : List FieldShapeCode) (x : FieldShapeCode) → shapes ≡ x ∷ rest
-    → fields_read (field_shapes_of (map field_shape_view shapes)) given
-    ≡ (named_read (field_shape_view x) given >>= λ named. fields_read (field_shapes_of (map field_shape_view rest)) given >>= λ fields. Ok (field named.0 named.1 fields))
-fields_front given shapes rest x e =
-    rw e (regrouped (field_shape_view x).0 (field_read (λ d. read (field_shape_view x).1 d) (field_shape_view x).1 (get_member (field_shape_view x).0 given)) (fields_read (field_shapes_of (map field_shape_view rest)) given))
+-- no value is at a place after the others
+at_none : (place : ℕ) (places : List ℕ) (vs : List Value) → All (λ p. p < place) places → value_at place places vs ≡ nil
+at_none place [] vs below = refl
+at_none place (p ∷ places) [] below = refl
+at_none place (p ∷ places) (w ∷ vs) below =
+    rw (is_other p place (λ is. absurd (omega (arith, is, below 0 0 (omega arith))))) (at_none place places vs (λ k d within. below (suc k) d (omega arith)))
 
-fields_at : (given : json.Members) (shapes : List FieldShapeCode) (i : ℕ) (x : FieldShapeCode) → i < length shapes → x ≡ slice_index_or shapes i x
-    → fields_read (field_shapes_of (map field_shape_view (drop i shapes))) given
-    ≡ (named_read (field_shape_view x) given >>= λ named. fields_read (field_shapes_of (map field_shape_view (drop (i + 1) shapes))) given >>= λ fields. Ok (field named.0 named.1 fields))
-fields_at given shapes i x inside is_x =
-    rw add-one (fields_front given (drop i shapes) (drop (suc i) shapes) x (drop-cons shapes i x inside ∙ ap (λ y. y ∷ drop (suc i) shapes) (sym is_x)))
+onto_kept : (place : ℕ) (names : List (List ℕ)) (places : List ℕ) (vs : List Value) (at : ℕ) (v : Value) (rest : Fields) → length places ≡ length vs → place + length names ≤ at
+    → fields_onto place names (places ++ at ∷ []) (vs ++ v ∷ []) rest ≡ fields_onto place names places vs rest
+onto_kept place [] places vs at v rest same past = refl
+onto_kept place (n ∷ names) places vs at v rest same past =
+    rw (at_other place places vs at v same (λ is. absurd (omega (arith, is, past))), onto_kept (suc place) names places vs at v rest same (omega (arith, past))) refl
 
-pub next_field : (given : json.Members) (shapes : List FieldShapeCode) (i : ℕ) (x : FieldShapeCode) (done : List FieldCode) (v : FieldCode) (all : Result Fields ShapeFault) → i < length shapes → x ≡ slice_index_or shapes i x
-    → all ≡ Fields_before (map field_view done) (fields_read (field_shapes_of (map field_shape_view (drop i shapes))) given)
-    → named_read (field_shape_view x) given ≡ Ok (field_view v)
-    → all ≡ Fields_before (map field_view (done ++ v ∷ [])) (fields_read (field_shapes_of (map field_shape_view (drop (i + 1) shapes))) given)
-next_field given shapes i x done v all inside is_x before is_v =
-    before ∙ ap (Fields_before (map field_view done)) (fields_at given shapes i x inside is_x ∙ rw is_v refl) ∙ fields_before_one done v (fields_read (field_shapes_of (map field_shape_view (drop (i + 1) shapes))) given)
+-- the fields before a place were read
+pub record Fields_before (names : List (List ℕ)) (of : List ShapeCode) (given : json.Members) (place : ℕ) (places : List ℕ) (vs : List ValueCode) : Type 0 where
+  pub same : length places ≡ length vs
+  pub below : All (λ p. p < place) places
+  pub read : fields_read (Of names of) given
+      ≡ (fields_read (Of (drop place names) (drop place of)) given >>= λ rest. Ok (fields_onto 0 (take place names) places (map value_view vs) rest))
 
-pub field_fails : (given : json.Members) (shapes : List FieldShapeCode) (i : ℕ) (x : FieldShapeCode) (done : List FieldCode) (e : ShapeFault) (all : Result Fields ShapeFault) → i < length shapes → x ≡ slice_index_or shapes i x
-    → all ≡ Fields_before (map field_view done) (fields_read (field_shapes_of (map field_shape_view (drop i shapes))) given)
-    → Unless (is_memory e) (named_read (field_shape_view x) given ≡ Err e)
-    → Unless (is_memory e) (all ≡ Err e)
-field_fails given shapes i x done e all inside is_x before is_e =
-    leads (is_memory e) (λ fails. before ∙ ap (Fields_before (map field_view done)) (fields_at given shapes i x inside is_x ∙ rw fails refl) ∙ fields_before_err (map field_view done) e) is_e
+pub no_field_yet : (names : List (List ℕ)) (of : List ShapeCode) (given : json.Members) → Fields_before names of given 0 [] []
+no_field_yet names of given = record { same = refl; below = λ k d within. absurd (omega (arith, within)); read = unchanged (fields_read (Of names of) given) }
+  where
+    unchanged : (rest : Result Fields ShapeFault) → rest ≡ (rest >>= λ fields. Ok (fields_onto 0 [] [] [] fields))
+    unchanged (Ok all) = refl
+    unchanged (Err e) = refl
 
-pub no_field_left : (given : json.Members) (shapes : List FieldShapeCode) (i : ℕ) (done : List FieldCode) (all : Result Fields ShapeFault) → length shapes ≤ i
-    → all ≡ Fields_before (map field_view done) (fields_read (field_shapes_of (map field_shape_view (drop i shapes))) given)
-    → all ≡ Ok (fields_of (map field_view done))
-no_field_left given shapes i done all past before =
-    let none : drop i shapes ≡ [] = drop_of_length-le shapes past in
-    before ∙ rw none (fields_before_none (map field_view done))
+module _ (names : List (List ℕ)) (of : List ShapeCode) (given : json.Members) (place : ℕ) (name : List ℕ) (shape : ShapeCode) (in_names : place < length names) (in_shapes : place < length of)
+    (is_name : name ≡ slice_index_or names place name) (is_shape : shape ≡ slice_index_or of place shape) where
+  abbrev later : Result Fields ShapeFault
+  later = fields_read (Of (drop (place + 1) names) (drop (place + 1) of)) given
+
+  abbrev here : Result Value ShapeFault
+  here = field_read (λ d. read (shape_view shape) d) (shape_view shape) (get_member name given)
+
+  fields_here : fields_read (Of (drop place names) (drop place of)) given ≡ (here >>= λ value. later >>= λ fields. Ok (field name value fields))
+  fields_here = rw (field_at names of place name shape in_names in_shapes is_name is_shape) refl
+
+  named_before : (places : List ℕ) (vs : List Value) (rest : Fields)
+      → fields_onto 0 (take (place + 1) names) places vs rest ≡ fields_onto 0 (take place names) places vs (field name (value_at place places vs) rest)
+  named_before places vs rest =
+      ap (λ ns. fields_onto 0 ns places vs rest) (take_more names place name in_names ∙ ap (λ n. take place names ++ n ∷ []) (sym is_name))
+      ∙ onto_name 0 (take place names) name places vs rest place (omega (arith, length-take-le place names (omega (arith, in_names))))
+
+  moved : (places added : List ℕ) (vs more : List Value) (value : Value) (rest : Result Fields ShapeFault) → value_at place added more ≡ value
+      → ((rest : Fields) → fields_onto 0 (take place names) added more rest ≡ fields_onto 0 (take place names) places vs rest)
+      → ((rest >>= λ fields. Ok (field name value fields)) >>= λ fields. Ok (fields_onto 0 (take place names) places vs fields)) ≡ (rest >>= λ fields. Ok (fields_onto 0 (take (place + 1) names) added more fields))
+  moved places added vs more value (Err e) is kept = refl
+  moved places added vs more value (Ok rest) is kept =
+      ap (λ (fields : Fields). Ok fields) (sym (named_before added more rest ∙ rw is (kept (field name value rest))))
+
+  below_next : (places : List ℕ) → All (λ p. p < place) places → All (λ p. p < place + 1) places
+  below_next places below = λ k d within. omega (arith, below k d within)
+
+  next_read : (places added : List ℕ) (vs more : List ValueCode) (value : Value) → here ≡ Ok value → value_at place added (map value_view more) ≡ value
+      → ((rest : Fields) → fields_onto 0 (take place names) added (map value_view more) rest ≡ fields_onto 0 (take place names) places (map value_view vs) rest)
+      → Fields_before names of given place places vs
+      → fields_read (Of names of) given ≡ (later >>= λ rest. Ok (fields_onto 0 (take (place + 1) names) added (map value_view more) rest))
+  next_read places added vs more value is at kept before =
+      before.read ∙ ap (λ all. all >>= λ rest. Ok (fields_onto 0 (take place names) places (map value_view vs) rest)) (fields_here ∙ rw is refl)
+      ∙ moved places added (map value_view vs) (map value_view more) value later at kept
+
+  -- a field was read
+  pub next_field : (old new : Present) (found : Option ValueCode) → Fields_before names of given place old.places old.values.items
+      → here ≡ Ok (unwrap_or (option_map value_view found) nil) → IsAdded old new place found → Fields_before names of given (place + 1) new.places new.values.items
+  next_field old new None before is added = record {
+    same = rw (added.0, added.1) before.same;
+    below = rw added.0 (below_next old.places before.below);
+    read = rw (added.0, added.1)
+        (next_read old.places old.places old.values.items old.values.items nil is (at_none place old.places (map value_view old.values.items) before.below) (λ rest. refl) before);
+  }
+  next_field old new (Some v) before is added = record {
+    same = rw (added.0, added.1, length_push, length_push, before.same) refl;
+    below = rw added.0 (All-push (λ p. p < place + 1) old.places place (below_next old.places before.below) (omega arith));
+    read = rw (added.0, added.1)
+        (next_read old.places (old.places ++ place ∷ []) old.values.items (old.values.items ++ v ∷ []) (value_view v) is
+        (rw (map-append value_view old.values.items (v ∷ [])) (at_new place old.places (map value_view old.values.items) (value_view v) (before.same ∙ sym (length-map old.values.items value_view)) before.below))
+        (λ rest. rw (map-append value_view old.values.items (v ∷ []))
+        (onto_kept 0 (take place names) old.places (map value_view old.values.items) place (value_view v) rest (before.same ∙ sym (length-map old.values.items value_view)) (omega (arith, length-take-le place names (omega (arith, in_names))))))
+        before);
+  }
+
+  pub field_fails : (places : List ℕ) (vs : List ValueCode) (e : ShapeFault) → Fields_before names of given place places vs → Unless (is_memory e) (here ≡ Err e) → Unless (is_memory e) (fields_read (Of names of) given ≡ Err e)
+  field_fails places vs e before is =
+      leads (is_memory e) (λ fails. before.read ∙ ap (λ all. all >>= λ rest. Ok (fields_onto 0 (take place names) places (map value_view vs) rest)) (fields_here ∙ failed here _ e fails)) is
+
+pub no_field_left : (names : List (List ℕ)) (of : List ShapeCode) (given : json.Members) (place : ℕ) (places : List ℕ) (vs : List ValueCode) → length names ≤ length of → length names ≤ place
+    → Fields_before names of given place places vs → fields_read (Of names of) given ≡ Ok (fields_from 0 names places (map value_view vs))
+no_field_left names of given place places vs long past before =
+    before.read
+    ∙ rw (no_field_at names of place (omega (arith, long, past)), take_all place names past) (ap (λ (fields : Fields). Ok fields) (onto_none 0 names places (map value_view vs)))
+
+-- names past the shapes name no field
+pub first_names : (names : List (List ℕ)) (of : List ShapeCode) → Of (take (length of) names) of ≡ Of names of
+first_names [] [] = refl
+first_names [] (s ∷ of) = refl
+first_names (n ∷ names) [] = refl
+first_names (n ∷ names) (s ∷ of) = ap (shapes.field n (shape_view s)) (first_names names of)
+
+-- a record of names and values
+pub record_view : (fields : Box FieldsCode Global) → value_view (ObjectValue fields) ≡ object (fields_from 0 (out-Fields fields.value).names (out-Fields fields.value).places (map value_view (out-Fields fields.value).values.items))
+record_view fields = rw (value_view-object fields, fields_view-from fields.value) refl
+
+pub record_read : (of names : List (List ℕ)) (of_shapes : List ShapeCode) (given : json.Members) (fields : FieldsCode) (boxed : Box FieldsCode Global) → boxed.value ≡ fields
+    → (out-Fields fields).names ≡ take (length of_shapes) of → names ≡ (out-Fields fields).names
+    → fields_read (Of names of_shapes) given ≡ Ok (fields_from 0 names (out-Fields fields).places (map value_view (out-Fields fields).values.items))
+    → read (shapes.object (Of of of_shapes)) (json.object given) ≡ Ok (value_view (ObjectValue boxed))
+record_read of names of_shapes given fields boxed is first same is_read =
+    ap (λ fs. fields_read fs given >>= λ f. Ok (object f)) (sym (first_names of of_shapes) ∙ ap (λ ns. Of ns of_shapes) (sym first ∙ sym same))
+    ∙ ap (λ all. all >>= λ f. Ok (object f)) is_read
+    ∙ ap (λ (v : Value). Ok v)
+    (sym (record_view boxed ∙ ap (λ f. object (fields_from 0 (out-Fields f).names (out-Fields f).places (map value_view (out-Fields f).values.items))) is
+    ∙ ap (λ ns. object (fields_from 0 ns (out-Fields fields).places (map value_view (out-Fields fields).values.items))) (sym same)))
 
 -- Lists.
 

@@ -7,7 +7,8 @@ use Rattle.serde_json.specs.Find.{as_integer, get_member}
 use Rattle.ar_value.specs.Answer.{◌>>=◌, Gives}
 use Rattle.ar_value.specs.Decimal.{is_i64}
 use Rattle.ar_value.specs.DecimalText.{decimal_of}
-use Rattle.ar_json.specs.Names.{Rise, shape_names, field_names, ShapeNamesRise, FieldShapeNamesRise, ValueNamesRise, ItemNamesRise, FieldNamesRise}
+use Rattle.ar_value.specs.Names.{Rise}
+use Rattle.ar_json.specs.Names.{shape_names, field_names, ShapeNamesRise, FieldShapeNamesRise, ValueNamesRise, ItemNamesRise, FieldNamesRise}
 use Rattle.ar_json.specs.Reading.{read, whole_of, decimal_of_whole, decimal_of_text, item_count, items_read, absent_read, field_read, fields_read, is_memory_under}
 use Rattle.ar_value.specs.Shape.{Shape, FieldShapes}
 use Rattle.ar_value.specs.Shape as shapes

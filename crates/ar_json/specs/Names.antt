@@ -1,16 +1,16 @@
 -- The order of a record's fields: what is read has them by name, and the names strictly rise, byte by byte.
 use Rattle.std.specs.Prelude.{ℕ, List, [], ◌∷◌}
-use Rattle.std.specs.Cmp.Lexicographic.{slice_cmp}
-use Rattle.std.specs.List.Sorted.{IsStrictlySortedBy}
-use Rattle.std.specs.Ordering.{nat_cmp}
+use Rattle.serde_json.specs.Data.{Members, no_members, member}
+use Rattle.ar_value.specs.Names.{Rise}
 use Rattle.ar_value.specs.Shape.{Shape, FieldShapes}
 use Rattle.ar_value.specs.Shape as shapes
 use Rattle.ar_value.specs.Value.{Value, Items, Fields}
 use Rattle.ar_value.specs.Value as values
 
--- each name is below all that stand behind it
-abbrev pub Rise : List (List ℕ) → Type 0
-Rise names = IsStrictlySortedBy (slice_cmp nat_cmp) names
+-- the names of an object's members, in their order
+abbrev pub member_names : Members → List (List ℕ)
+member_names no_members = []
+member_names (member name json others) = name ∷ member_names others
 
 abbrev pub shape_names : FieldShapes → List (List ℕ)
 shape_names shapes.no_fields = []

@@ -6,13 +6,14 @@ ghost use Rattle.serde_json.specs.Find.{as_number, as_u64};
 ghost use Rattle.serde_json.specs.View.{members_view, view};
 ghost use Rattle.ar_value.specs.Answer.{Gives};
 ghost use Rattle.ar_json.specs.Declaration.{declares_optional, fields_declared, is_memory, is_memory_for, list_declared, max_of, object_declared, optional_declared, record_declared, scalar_named, shape_of, shape_within};
-ghost use Rattle.ar_json.specs.Private.OneField.{named_declared};
-ghost use Rattle.ar_json.specs.Names.{FieldShapeNamesRise, Rise, ShapeNamesRise, shape_names};
+ghost use Rattle.ar_json.specs.Names.{FieldShapeNamesRise, ShapeNamesRise, member_names, shape_names};
+ghost use Rattle.ar_value.specs.Names.{Rise};
 ghost use Rattle.ar_value.specs.Shape.{field_shapes_of};
-ghost use Rattle.ar_value.specs.View.{field_shape_view, shape_view};
+ghost use Rattle.ar_value.specs.View.{shape_view};
 ghost use Rattle.ar_json.specs.declared.shape_reading.ShapeError.TheVariants.{OutOfMemory};
 
-use ar_value::shape::{FieldShape, FieldShapes, Shape};
+use ar_value::names::Names;
+use ar_value::shape::{FieldShapes, Shape};
 use ar_value::text::Text;
 use serde_json::{Map, Value as Json};
 use std::alloc::{AllocError, AllocFailed, Global};
@@ -231,43 +232,49 @@ fn record_shape(alloc: Global, json: &Json, levels: usize) -> Result<Shape, Shap
     let Json::Object(members) = json else {
         return Err(ShapeError::UnknownShape);
     };
-    let items = field_shapes(alloc, members, levels)?;
-    Ok(Shape::Object(FieldShapes { items }))
+    let shapes = field_shapes(alloc, members, levels)?;
+    let names = names_of(alloc, members)?;
+    Ok(Shape::Object(FieldShapes { names, shapes }))
 }
 
+/// The names of an object's members.
+fn names_of(alloc: Global, members: &Map<String, Json>) -> Result<Names, AllocError>
+    ensures { IfOk result (λ names. names ≡ member_names (members_view members.now.entries)) }
+{
+    Names::new(alloc, texts_of(alloc, members)?)
+}
+
+#[tactic(auto, using(crate::proofs::ShapeNames::next_name, crate::proofs::ShapeNames::no_name_left, crate::proofs::ShapeNames::member_names_rise))]
+fn texts_of(alloc: Global, members: &Map<String, Json>) -> Result<Vec<Text>, AllocError>
+    ensures names { IfOk result (λ names. names.items ≡ member_names (members_view members.now.entries)) }
+    ensures rise { Rise (member_names (members_view members.now.entries)) }
+{
+    let mut names = Vec::with_capacity(alloc, members.len())?;
+    for (name, _) in members.iter() {
+        names.push(Text::of(alloc, name.as_str())?)?;
+    }
+    Ok(names)
+}
+
+/// The shapes that an object's members declare.
 #[cycle(shape_within)]
 #[tactic(auto, using(crate::proofs::Declarations::no_shape_left, crate::proofs::ShapeNames::names_rise, crate::proofs::ShapeNames::one_more))]
 fn field_shapes(
     alloc: Global,
     members: &Map<String, Json>,
     levels: usize,
-) -> Result<Vec<FieldShape>, ShapeError>
-    ensures exact { Gives is_memory (λ vec. field_shapes_of (map field_shape_view vec.items)) result
+) -> Result<Vec<Shape>, ShapeError>
+    ensures exact { Gives is_memory
+        (λ vec. field_shapes_of (member_names (members_view members.now.entries)) (map shape_view vec.items)) result
         (fields_declared (shape_within levels) (members_view members.now.entries)) }
-    ensures names_rise { IfOk result (λ vec. Rise (shape_names (field_shapes_of (map field_shape_view vec.items)))) }
-    ensures inner_names_rise { IfOk result
-        (λ vec. FieldShapeNamesRise (field_shapes_of (map field_shape_view vec.items))) }
+    ensures names_rise { IfOk result (λ vec. Rise (shape_names
+        (field_shapes_of (member_names (members_view members.now.entries)) (map shape_view vec.items)))) }
+    ensures inner_names_rise { IfOk result (λ vec. FieldShapeNamesRise
+        (field_shapes_of (member_names (members_view members.now.entries)) (map shape_view vec.items))) }
 {
-    let mut fields = Vec::with_capacity(alloc, members.len())?;
-    for (name, json) in members.iter() {
-        fields.push(field_shape(alloc, name.as_str(), json, levels)?)?;
+    let mut shapes = Vec::with_capacity(alloc, members.len())?;
+    for (_, json) in members.iter() {
+        shapes.push(shape_within(alloc, json, levels)?)?;
     }
-    Ok(fields)
-}
-
-#[cycle(shape_within)]
-#[tactic(auto, using(crate::proofs::Declarations::gives_any))]
-fn field_shape(
-    alloc: Global,
-    name: &str,
-    json: &Json,
-    levels: usize,
-) -> Result<FieldShape, ShapeError>
-    ensures exact { Gives is_memory field_shape_view result
-        (named_declared name.now (shape_within levels (view json.now))) }
-    ensures names_rise { IfOk result (λ field. ShapeNamesRise (field_shape_view field).1) }
-{
-    let shape = shape_within(alloc, json, levels)?;
-    let name = Text::of(alloc, name)?;
-    Ok(FieldShape { name, shape })
+    Ok(shapes)
 }

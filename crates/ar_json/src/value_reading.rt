@@ -1,6 +1,8 @@
 //! Values of measurements, read from JSON under a shape.
 
-ghost use Rattle.std.specs.Prelude.{◌≡◌, IfOk, false, map, option_map, true};
+ghost use Rattle.std.specs.Prelude.{◌≡◌, ◌<◌, ◌≤◌, [], All, IfOk, OnOk, false, length, map, option_map, true, unwrap_or};
+ghost use Rattle.ar_json.specs.Private.Added.{IsAdded};
+ghost use Rattle.serde_json.specs.Data.{object as json_object};
 ghost use Rattle.serde_json.specs.View.{items_view, members_view, number_view, view};
 ghost use Rattle.serde_json.specs.Find.{as_integer, get_member};
 ghost use Rattle.ar_value.specs.Answer.{Gives};
@@ -8,16 +10,17 @@ ghost use Rattle.ar_value.specs.DecimalText.{decimal_of};
 ghost use Rattle.ar_value.specs.Fits.{fits};
 ghost use Rattle.ar_json.specs.Names.{ShapeNamesRise, ValueNamesRise};
 ghost use Rattle.ar_json.specs.Reading.{absent_read, decimal_of_text, decimal_of_whole, field_read, fields_read, is_memory, is_memory_under, items_read, list_read, read, whole_of};
-ghost use Rattle.ar_json.specs.Private.OneField.{named_read};
-ghost use Rattle.ar_value.specs.Shape.{field_shapes_of};
-ghost use Rattle.ar_value.specs.Value.{fields_of, items_of};
-ghost use Rattle.ar_value.specs.View.{field_shape_view, field_view, shape_view, value_view};
+ghost use Rattle.ar_value.specs.Shape.{field_shapes_of, object};
+ghost use Rattle.ar_value.specs.Value.{fields_from, items_of, nil};
+ghost use Rattle.ar_value.specs.View.{shape_view, value_view};
 ghost use Rattle.ar_json.specs.declared.value_reading.ShapeFault.TheVariants.{OutOfMemory};
 
 use ar_value::decimal::{Decimal, NumberFault};
-use ar_value::shape::{FieldShape, Shape};
+use ar_value::names::Names;
+use ar_value::places::Places;
+use ar_value::shape::Shape;
 use ar_value::text::Text;
-use ar_value::value::{Field, Fields, Value, Values};
+use ar_value::value::{Fields, Value, Values};
 use serde_json::{Map, Number, Value as Json};
 use std::alloc::{AllocError, AllocFailed, Global};
 use std::fmt;
@@ -119,9 +122,8 @@ fn value_under(alloc: Global, shape: &Shape, json: &Json) -> Result<Value, Shape
         (Shape::Decimal, Json::String(text)) => decimal_of_text(text.as_str()),
         (Shape::Text, Json::String(text)) => Ok(Value::Text(Text::of(alloc, text.as_str())?)),
         (Shape::List { item, max }, Json::Array(items)) => list_under(alloc, item, *max, items),
-        (Shape::Object(shapes), Json::Object(members)) => {
-            let items = fields_under(alloc, &shapes.items, members)?;
-            Ok(Value::Object(Fields { items }))
+        (Shape::Object(of), Json::Object(members)) => {
+            record_under(alloc, &of.shapes, &of.names, members)
         }
         (Shape::Optional(_), Json::Null) => Ok(Value::Nil),
         (Shape::Optional(plain), json) => value_under(alloc, plain, json),
@@ -155,52 +157,96 @@ fn items_under(alloc: Global, item: &Shape, json: &[Json]) -> Result<Vec<Value>,
     Ok(items)
 }
 
+/// The record of an object's members. A field that is absent and optional takes no memory.
+#[cycle(value_under)]
+#[tactic(auto, using(crate::proofs::ReadLemmas::first_names))]
+fn record_under(
+    alloc: Global,
+    shapes: &[Shape],
+    of: &Names,
+    members: &Map<String, Json>,
+) -> Result<Value, ShapeFault>
+    ensures { Gives is_memory value_view result
+        (read (object (field_shapes_of of.now (map shape_view shapes.now))) (json_object (members_view members.now.entries))) }
+{
+    let names = of.first(shapes.len())?;
+    let present = fields_under(alloc, shapes, names.as_slice(), members)?;
+    let fields = Fields {
+        names,
+        places: present.places,
+        values: present.values,
+    };
+    Ok(Value::Object(Box::new(alloc, fields)?))
+}
+
+/// Fields that have a value.
+#[derive(Drop)]
+struct Present {
+    /// Their places among the names.
+    places: Places,
+    values: Vec<Value>,
+}
+
+impl Present {
+    /// No fields, with memory for a number of them.
+    fn with_capacity(alloc: Global, capacity: usize) -> Result<Present, AllocError>
+        ensures { IfOk result (λ present. (present.places ≡ []) × (present.values.items ≡ [])) }
+    {
+        let values = Vec::with_capacity(alloc, capacity)?;
+        let places = Places::with_capacity(alloc, capacity)?;
+        Ok(Present { places, values })
+    }
+
+    /// Adds the value of a field, if it has one.
+    fn add(&mut self, place: usize, value: Option<Value>) -> Result<(), AllocError>
+        requires { All (λ earlier. earlier < place) self.old.places }
+        ensures { OnOk result (IsAdded self.old self.new place value) }
+    {
+        let Some(value) = value else {
+            return Ok(());
+        };
+        self.places.push(place)?;
+        self.values.push(value)?;
+        Ok(())
+    }
+}
+
+/// The fields of an object's members, of as many names as there are shapes.
 #[cycle(value_under)]
 #[tactic(auto, using(crate::proofs::ReadLemmas::next_field, crate::proofs::ReadLemmas::field_fails, crate::proofs::ReadLemmas::no_field_left))]
 fn fields_under(
     alloc: Global,
-    shapes: &[FieldShape],
+    shapes: &[Shape],
+    names: &[Text],
     members: &Map<String, Json>,
-) -> Result<Vec<Field>, ShapeFault>
-    ensures { Gives is_memory (λ vec. fields_of (map field_view vec.items)) result
-        (fields_read (field_shapes_of (map field_shape_view shapes.now)) (members_view members.now.entries)) }
+) -> Result<Present, ShapeFault>
+    requires { length names.now ≤ length shapes.now }
+    ensures { Gives is_memory (λ present. fields_from 0 names.now present.places (map value_view present.values.items)) result
+        (fields_read (field_shapes_of names.now (map shape_view shapes.now)) (members_view members.now.entries)) }
 {
-    let mut fields = Vec::with_capacity(alloc, shapes.len())?;
-    for of in shapes {
-        fields.push(field_under(alloc, of, members)?)?;
+    let mut present = Present::with_capacity(alloc, names.len().min(members.len()))?;
+    for place in 0..names.len() {
+        let value = field_value(alloc, &shapes[place], names[place].as_str(), members)?;
+        present.add(place, value)?;
     }
-    Ok(fields)
+    Ok(present)
 }
 
-#[cycle(value_under)]
-fn field_under(
-    alloc: Global,
-    of: &FieldShape,
-    members: &Map<String, Json>,
-) -> Result<Field, ShapeFault>
-    ensures { Gives is_memory field_view result
-        (named_read (field_shape_view of.now) (members_view members.now.entries)) }
-{
-    let value = field_value(alloc, of, members)?;
-    Ok(Field {
-        name: Text::of(alloc, of.name.as_str())?,
-        value,
-    })
-}
-
+/// The value of a field: none where it is absent and optional.
 #[cycle(value_under)]
 fn field_value(
     alloc: Global,
-    of: &FieldShape,
+    shape: &Shape,
+    name: &str,
     members: &Map<String, Json>,
-) -> Result<Value, ShapeFault>
-    ensures { Gives is_memory value_view result
-        (field_read (λ d. read (field_shape_view of.now).1 d) (field_shape_view of.now).1
-        (get_member (field_shape_view of.now).0 (members_view members.now.entries))) }
+) -> Result<Option<Value>, ShapeFault>
+    ensures { Gives is_memory (λ found. unwrap_or (option_map value_view found) nil) result
+        (field_read (λ d. read (shape_view shape.now) d) (shape_view shape.now)
+        (get_member name.now (members_view members.now.entries))) }
 {
-    match member(members, of.name.as_str()) {
-        Some(json) => value_under(alloc, &of.shape, json),
-        None => absent(&of.shape),
+    match member(members, name) {
+        Some(json) => Ok(Some(value_under(alloc, shape, json)?)),
+        None => absent(shape),
     }
 }
 
@@ -210,12 +256,13 @@ fn member<'json>(members: &'json Map<String, Json>, name: &str) -> Option<&'json
     members.get(name)
 }
 
-/// What an absent field is: nil where it is optional.
-fn absent(shape: &Shape) -> Result<Value, ShapeFault>
-    ensures { Gives (λ _. false) value_view result (absent_read (shape_view shape.now)) }
+/// An absent field has no value where it is optional.
+fn absent(shape: &Shape) -> Result<Option<Value>, ShapeFault>
+    ensures { Gives (λ _. false) (λ found. unwrap_or (option_map value_view found) nil) result
+        (absent_read (shape_view shape.now)) }
 {
     match shape {
-        Shape::Optional(_) => Ok(Value::Nil),
+        Shape::Optional(_) => Ok(None),
         Shape::Bool
         | Shape::Whole
         | Shape::Decimal

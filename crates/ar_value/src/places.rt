@@ -1,6 +1,6 @@
 //! Places of fields.
 
-ghost use Rattle.std.specs.Prelude.{◌≡◌, ◌<◌, ◌++◌, ◌∷◌, [], All, OnOk};
+ghost use Rattle.std.specs.Prelude.{◌≡◌, ◌<◌, ◌++◌, ◌∷◌, [], All, IfOk, OnOk};
 ghost use Rattle.ar_value.specs.Names.{index_of};
 
 use std::alloc::{AllocError, Global};
@@ -26,12 +26,13 @@ impl Model for Places {
 }
 
 impl Places {
-    pub fn new(alloc: Global) -> Places
-        ensures { result ≡ [] }
+    /// No places, with memory for a number of them.
+    pub fn with_capacity(alloc: Global, capacity: usize) -> Result<Places, AllocError>
+        ensures { IfOk result (λ places. places ≡ []) }
     {
-        Places {
-            items: Vec::new(alloc),
-        }
+        Ok(Places {
+            items: Vec::with_capacity(alloc, capacity)?,
+        })
     }
 
     /// Adds a place after the others.

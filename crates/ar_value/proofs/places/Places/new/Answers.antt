@@ -1,6 +1,0 @@
-use Rattle.std.proofs.Common.{nat_cmp}
-use Rattle.ar_value.proofs.Orders.{sorted_none}
-use Rattle.ar_value.proofs.places.Places.new.Goals as goal
-
-pub invariant_of-result : goal.invariant_of-result
-invariant_of-result c = rw c.new.ensures.items (sorted_none nat_cmp)
