@@ -1,13 +1,15 @@
 -- Parts of shapes, by the way to them.
-use Rattle.std.proofs.Common.{◌≡◌, ℕ, zero, suc, ◌+◌, ◌<◌, ◌≤◌, Bool, true, false, List, [], ◌∷◌, ◌++◌, length, map, drop, Option, Some, None, option_map, refl, sym, ◌∙◌, ap, arith, drop-cons, add-one}
+use Rattle.std.proofs.Common.{◌≡◌, ℕ, zero, suc, ◌+◌, ◌<◌, ◌≤◌, min, nat_lt, Bool, true, false, List, [], ◌∷◌, ◌++◌, length, drop, Option, Some, None, option_map, refl, sym, ◌∙◌, ap, arith, drop-cons, add-one}
 use Rattle.std.specs.Prelude.{slice_index_or, if◌then◌else◌, unwrap_or}
 use Rattle.std.specs.Str.{bytes_eq}
 use Rattle.std.proofs.Math.ListN.{drop_of_length-le}
 use Rattle.ar_value.specs.Kind.{shaped}
-use Rattle.ar_value.specs.Shape.{Shape, FieldShapes, object, no_fields, field, field_shapes_of, shape_named}
-use Rattle.ar_value.specs.View.{field_shape_view, shape_view}
-use Rattle.ar_value.specs.declared.shape.FieldShape.{FieldShape, out-FieldShape}
-use Rattle.ar_value.proofs.Views.{field_shape_view-name, field_shape_view-shape}
+use Rattle.ar_value.specs.Shape.{Shape, FieldShapes, object, no_fields, field, shape_named}
+use Rattle.ar_value.specs.Names.{index_named}
+use Rattle.ar_value.specs.View.{shape_view}
+use Rattle.ar_value.specs.declared.shape.Shape.{Shape as ShapeCode}
+use Rattle.ar_value.proofs.FieldLists.{Of}
+use Rattle.std.proofs.lemmas.Bool.Decides.{nat_tests}
 use Rattle.ar_verified.specs.Effects.{field_kind}
 use Rattle.ar_verify.specs.Private.Roots.{child, field_or, nth_field, number_named, number_of, part_at}
 
@@ -26,53 +28,59 @@ one_further (m ∷ path) n shape = one_further path n (child m shape)
 
 -- ---- fields
 
--- the fields of a record, as the code's types have them
-abbrev pub fields_of : List FieldShape → FieldShapes
-fields_of fields = field_shapes_of (map field_shape_view fields)
+nth_is : (names : List (List ℕ)) (shapes : List ShapeCode) (i : ℕ) (shape : ShapeCode) → i < length names → i < length shapes → shape ≡ slice_index_or shapes i shape
+    → nth_field i (Of names shapes) ≡ Some (shape_view shape)
+nth_is [] shapes i shape in_names in_shapes is = absurd (omega (arith, in_names))
+nth_is (n ∷ names) [] i shape in_names in_shapes is = absurd (omega (arith, in_shapes))
+nth_is (n ∷ names) (s ∷ shapes) zero shape in_names in_shapes is = ap (λ one. Some (shape_view one)) (sym is)
+nth_is (n ∷ names) (s ∷ shapes) (suc i) shape in_names in_shapes is = nth_is names shapes i shape (omega (arith, in_names)) (omega (arith, in_shapes)) is
 
-nth_is : (fields : List FieldShape) (i : ℕ) (f : FieldShape) → i < length fields → f ≡ slice_index_or fields i f → nth_field i (fields_of fields) ≡ Some (field_shape_view f).1
-nth_is [] i f within is = absurd (omega arith)
-nth_is (g ∷ fields) zero f within is = ap (λ h. Some (field_shape_view h).1) (sym is)
-nth_is (g ∷ fields) (suc i) f within is = nth_is fields i f (omega arith) is
+nth_past : (names : List (List ℕ)) (shapes : List ShapeCode) (i : ℕ) → min (length names) (length shapes) ≤ i → nth_field i (Of names shapes) ≡ None
+nth_past [] shapes i past = refl
+nth_past (n ∷ names) [] i past = refl
+nth_past (n ∷ names) (s ∷ shapes) zero past = absurd (omega (arith, past))
+nth_past (n ∷ names) (s ∷ shapes) (suc i) past = nth_past names shapes i (omega (arith, past))
 
-nth_past : (fields : List FieldShape) (i : ℕ) → length fields ≤ i → nth_field i (fields_of fields) ≡ None
-nth_past [] i past = refl
-nth_past (g ∷ fields) zero past = absurd (omega arith)
-nth_past (g ∷ fields) (suc i) past = nth_past fields i (omega arith)
+pub this_field : (names : List (List ℕ)) (shapes : List ShapeCode) (i : ℕ) (shape : ShapeCode) (other : Shape) → i < min (length names) (length shapes) → shape ≡ slice_index_or shapes i shape
+    → field_or i (Of names shapes) other ≡ shape_view shape
+this_field names shapes i shape other within is = ap (λ one. unwrap_or one other) (nth_is names shapes i shape (omega (arith, within)) (omega (arith, within)) is)
 
-pub this_field : (fields : List FieldShape) (i : ℕ) (f : FieldShape) (other : Shape) → i < length fields → f ≡ slice_index_or fields i f
-    → field_or i (fields_of fields) other ≡ shape_view (out-FieldShape f).shape
-this_field fields i f other within is = ap (λ shape. unwrap_or shape other) (nth_is fields i f within is) ∙ field_shape_view-shape f
+pub past_fields : (names : List (List ℕ)) (shapes : List ShapeCode) (i : ℕ) (other : Shape) → min (length names) (length shapes) ≤ i → field_or i (Of names shapes) other ≡ other
+past_fields names shapes i other past = ap (λ shape. unwrap_or shape other) (nth_past names shapes i past)
 
-pub past_fields : (fields : List FieldShape) (i : ℕ) (other : Shape) → length fields ≤ i → field_or i (fields_of fields) other ≡ other
-past_fields fields i other past = ap (λ shape. unwrap_or shape other) (nth_past fields i past)
+-- a number among names, as far as there are shapes
+abbrev below_or_none : ℕ → Option ℕ → Option ℕ
+below_or_none count None = None
+below_or_none count (Some n) = if nat_lt n count then Some n else None
 
-one_later : (i : ℕ) (number : Option ℕ) → option_map (λ n. n + i) (option_map suc number) ≡ option_map (λ n. n + (i + 1)) number
-one_later i (Some n) = let same : suc n + i ≡ n + (i + 1) = omega arith in ap Some same
-one_later i None = refl
+none_below : (is : Bool) (found : Option ℕ) → None ≡ below_or_none 0 (if is then Some 0 else option_map suc found)
+none_below true found = refl
+none_below false None = refl
+none_below false (Some n) = let past : nat_lt (suc n) 0 ≡ false = grind (arith, nat_tests) in rw past refl
 
-module _ (fields : List FieldShape) (i : ℕ) (f : FieldShape) (within : i < length fields) (is : f ≡ slice_index_or fields i f) where
-  first_left : fields_of (drop i fields) ≡ fields_of (f ∷ drop (i + 1) fields)
-  first_left = rw add-one (ap fields_of (drop-cons fields i f within ∙ ap (λ g. g ∷ drop (suc i) fields) (sym is)))
+one_more : (is : Bool) (count : ℕ) (found : Option ℕ) → (if is then Some 0 else option_map suc (below_or_none count found)) ≡ below_or_none (suc count) (if is then Some 0 else option_map suc found)
+one_more true count found = let inside : nat_lt 0 (suc count) ≡ true = grind (arith, nat_tests) in rw inside refl
+one_more false count None = refl
+one_more false count (Some n) = by (nat_lt n count) refl
+  where
+    by : (test : Bool) → nat_lt n count ≡ test → option_map suc (if nat_lt n count then Some n else None) ≡ (if nat_lt (suc n) (suc count) then Some (suc n) else None)
+    by true is = let later : nat_lt (suc n) (suc count) ≡ true = grind (arith, nat_tests) in rw (is, later) refl
+    by false is = let later : nat_lt (suc n) (suc count) ≡ false = grind (arith, nat_tests) in rw (is, later) refl
 
-  abbrev later : List ℕ → Option ℕ
-  later name = option_map suc (number_named name (fields_of (drop (i + 1) fields)))
+number_is : (name : List ℕ) (names : List (List ℕ)) (shapes : List ShapeCode) → number_named name (Of names shapes) ≡ below_or_none (length shapes) (index_named name names)
+number_is name [] shapes = refl
+number_is name (of ∷ names) [] = none_below (bytes_eq of name) (index_named name names)
+number_is name (of ∷ names) (s ∷ shapes) =
+    ap (λ later. if bytes_eq of name then Some 0 else option_map suc later) (number_is name names shapes) ∙ one_more (bytes_eq of name) (length shapes) (index_named name names)
 
-  tested : (name : List ℕ) → number_named name (fields_of (drop i fields)) ≡ (if bytes_eq (out-FieldShape f).name name then Some 0 else later name)
-  tested name = ap (number_named name) first_left ∙ ap (λ of. if bytes_eq of name then Some 0 else later name) (field_shape_view-name f)
+pub named_there : (name : List ℕ) (names : List (List ℕ)) (shapes : List ShapeCode) (n : ℕ) → Some n ≡ index_named name names → n < length shapes → Some n ≡ number_named name (Of names shapes)
+named_there name names shapes n is within = sym (number_is name names shapes ∙ ap (below_or_none (length shapes)) (sym is) ∙ grind (arith, nat_tests))
 
-  pub named_here : (name : List ℕ) (all : Option ℕ) → bytes_eq (out-FieldShape f).name name ≡ true → all ≡ option_map (λ n. n + i) (number_named name (fields_of (drop i fields))) → Some i ≡ all
-  named_here name all same so_far =
-      let none_before : 0 + i ≡ i = omega arith in
-      sym (so_far ∙ ap (option_map (λ n. n + i)) (tested name ∙ ap (λ test. if test then Some 0 else later name) same) ∙ ap Some none_before)
+pub named_past : (name : List ℕ) (names : List (List ℕ)) (shapes : List ShapeCode) (n : ℕ) → Some n ≡ index_named name names → length shapes ≤ n → None ≡ number_named name (Of names shapes)
+named_past name names shapes n is past = sym (number_is name names shapes ∙ ap (below_or_none (length shapes)) (sym is) ∙ grind (arith, nat_tests))
 
-  pub named_further : (name : List ℕ) (all : Option ℕ) → bytes_eq (out-FieldShape f).name name ≡ false → all ≡ option_map (λ n. n + i) (number_named name (fields_of (drop i fields)))
-      → all ≡ option_map (λ n. n + (i + 1)) (number_named name (fields_of (drop (i + 1) fields)))
-  named_further name all other so_far =
-      so_far ∙ ap (option_map (λ n. n + i)) (tested name ∙ ap (λ test. if test then Some 0 else later name) other) ∙ one_later i (number_named name (fields_of (drop (i + 1) fields)))
-
-pub none_named : (fields : List FieldShape) (i : ℕ) (name : List ℕ) (all : Option ℕ) → length fields ≤ i → all ≡ option_map (λ n. n + i) (number_named name (fields_of (drop i fields))) → None ≡ all
-none_named fields i name all past so_far = sym (so_far ∙ ap (λ left. option_map (λ n. n + i) (number_named name (fields_of left))) (drop_of_length-le fields past))
+pub none_named : (name : List ℕ) (names : List (List ℕ)) (shapes : List ShapeCode) → None ≡ index_named name names → None ≡ number_named name (Of names shapes)
+none_named name names shapes is = sym (number_is name names shapes ∙ ap (below_or_none (length shapes)) (sym is))
 
 -- a field by the number of its name
 module _ (other : Shape) where

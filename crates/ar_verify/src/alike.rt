@@ -3,12 +3,13 @@
 
 ghost use Rattle.std.specs.Bool.{Decides};
 ghost use Rattle.std.specs.Prelude.{◌≡◌, map};
-ghost use Rattle.ar_value.specs.Private.Same.{same_field, same_fields, same_shape};
+ghost use Rattle.ar_value.specs.Private.Same.{same_fields, same_shape};
 ghost use Rattle.ar_value.specs.Shape.{field_shapes_of};
-ghost use Rattle.ar_value.specs.View.{field_shape_view, shape_view};
-ghost use Rattle.ar_verify.specs.Private.Forms.{field_form, field_forms, form};
+ghost use Rattle.ar_value.specs.View.{shape_view};
+ghost use Rattle.ar_verify.specs.Private.Forms.{field_forms, form};
 
-use ar_value::shape::{FieldShape, Shape};
+use ar_value::shape::Shape;
+use ar_value::text::Text;
 
 pub(crate) fn are_of_one_form(left: &Shape, right: &Shape) -> bool
     ensures { Decides result (form (shape_view left.now) ≡ form (shape_view right.now)) }
@@ -35,7 +36,12 @@ fn is_alike(left: &Shape, right: &Shape) -> bool
             | Shape::Optional(_) => false,
         },
         Shape::Object(fields) => match right {
-            Shape::Object(others) => are_fields_alike(&fields.items, &others.items),
+            Shape::Object(others) => are_fields_alike(
+                &fields.shapes,
+                fields.names.as_slice(),
+                &others.shapes,
+                others.names.as_slice(),
+            ),
             Shape::Bool
             | Shape::Whole
             | Shape::Decimal
@@ -55,25 +61,24 @@ fn is_alike(left: &Shape, right: &Shape) -> bool
     }
 }
 
+/// Whether fields of the same names have shapes of one form.
 #[cycle(is_alike)]
-fn are_fields_alike(fields: &[FieldShape], others: &[FieldShape]) -> bool
-    ensures { result ≡ same_fields (field_forms (field_shapes_of (map field_shape_view fields.now)))
-        (field_forms (field_shapes_of (map field_shape_view others.now))) }
+#[tactic(auto, using(crate::proofs::OneForm::lengths_differ, crate::proofs::OneForm::next, crate::proofs::OneForm::none_left))]
+fn are_fields_alike(shapes: &[Shape], names: &[Text], others: &[Shape], of: &[Text]) -> bool
+    ensures { result ≡ same_fields (field_forms (field_shapes_of names.now (map shape_view shapes.now)))
+        (field_forms (field_shapes_of of.now (map shape_view others.now))) }
 {
-    if fields.len() != others.len() {
+    let count = names.len().min(shapes.len());
+    if count != of.len().min(others.len()) {
         return false;
     }
-    for (index, field) in fields.iter().enumerate() {
-        if !is_field_alike(field, &others[index]) {
+    for place in 0..count {
+        if names[place] != of[place] {
+            return false;
+        }
+        if !is_alike(&shapes[place], &others[place]) {
             return false;
         }
     }
     true
-}
-
-#[cycle(is_alike)]
-fn is_field_alike(field: &FieldShape, other: &FieldShape) -> bool
-    ensures { result ≡ same_field (field_form (field_shape_view field.now)) (field_form (field_shape_view other.now)) }
-{
-    field.name == other.name && is_alike(&field.shape, &other.shape)
 }

@@ -3,14 +3,15 @@
 
 ghost use Rattle.std.specs.Prelude.{◌≡◌, ◌++◌, ◌∷◌, [], true, IfOk, Some, map, option_map};
 ghost use Rattle.ar_value.specs.Shape.{field_shapes_of};
-ghost use Rattle.ar_value.specs.View.{field_shape_view, shape_view};
+ghost use Rattle.ar_value.specs.View.{shape_view};
 ghost use Rattle.ar_verify.specs.Private.Parts.{part_view};
 ghost use Rattle.ar_verify.specs.Private.Roots.{child, field_or, number_named, number_of, part_at, root_view};
 
 use crate::root::{Part, Root};
 use crate::whole::{ShapeName, Whole};
 use ar_value::sameness::are_same_shapes;
-use ar_value::shape::{FieldShape, Shape};
+use ar_value::shape::Shape;
+use ar_value::{Names, Text};
 use std::alloc::{AllocError, Global};
 use std::rc::Rc;
 
@@ -18,12 +19,12 @@ use std::rc::Rc;
 pub(crate) const INNER: usize = 0;
 
 #[tactic(auto, using(crate::proofs::Ways::this_field, crate::proofs::Ways::past_fields))]
-fn field_or<'a>(number: usize, fields: &'a [FieldShape], other: &'a Shape) -> &'a Shape
+fn field_or<'a>(number: usize, names: &[Text], shapes: &'a [Shape], other: &'a Shape) -> &'a Shape
     ensures { shape_view result.now
-        ≡ field_or number (field_shapes_of (map field_shape_view fields.now)) (shape_view other.now) }
+        ≡ field_or number (field_shapes_of names.now (map shape_view shapes.now)) (shape_view other.now) }
 {
-    if number < fields.len() {
-        &fields[number].shape
+    if number < names.len().min(shapes.len()) {
+        &shapes[number]
     } else {
         other
     }
@@ -35,7 +36,9 @@ pub(crate) fn child(shape: &Shape, number: usize) -> &Shape
 {
     match shape {
         Shape::List { item, .. } => item,
-        Shape::Object(fields) => field_or(number, &fields.items, shape),
+        Shape::Object(fields) => {
+            field_or(number, fields.names.as_slice(), &fields.shapes, shape)
+        }
         Shape::Optional(plain) => plain,
         Shape::Bool | Shape::Whole | Shape::Decimal | Shape::Text => shape,
     }
@@ -130,15 +133,16 @@ pub(crate) fn are_one<M: ShapeName>(left: &Part<M>, right: &Part<M>) -> bool
     lie_at_one_way(left, right) || are_made_alike(left, right)
 }
 
-fn number_among(name: &str, fields: &[FieldShape]) -> Option<usize>
-    ensures { result ≡ number_named name.now (field_shapes_of (map field_shape_view fields.now)) }
+#[tactic(auto, using(crate::proofs::Ways::named_there, crate::proofs::Ways::named_past, crate::proofs::Ways::none_named))]
+fn number_among(name: &str, names: &Names, shapes: &[Shape]) -> Option<usize>
+    ensures { result ≡ number_named name.now (field_shapes_of names.now (map shape_view shapes.now)) }
 {
-    for (index, field) in fields.iter().enumerate() {
-        if field.name.as_str() == name {
-            return Some(index);
-        }
+    let number = names.index_of(name)?;
+    if number < shapes.len() {
+        Some(number)
+    } else {
+        None
     }
-    None
 }
 
 /// The number of a record's field, where the shape is that of a record that has one of the name.
@@ -146,7 +150,7 @@ pub(crate) fn field_number(name: &str, shape: &Shape) -> Option<usize>
     ensures { result ≡ number_of name.now (shape_view shape.now) }
 {
     match shape {
-        Shape::Object(fields) => number_among(name, &fields.items),
+        Shape::Object(fields) => number_among(name, &fields.names, &fields.shapes),
         Shape::Bool
         | Shape::Whole
         | Shape::Decimal

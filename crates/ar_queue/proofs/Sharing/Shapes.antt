@@ -15,6 +15,9 @@ use Rattle.ar_value.specs.contracts.shape.Shape.TheKnot as knot
 use Rattle.ar_value.specs.contracts.shared_shape.SharedShape as SharedShape
 use Rattle.ar_value.specs.contracts.shared_shape.SharedShape.TheInside as SharedInside
 use Rattle.ar_value.specs.contracts.text.Text as Text
+use Rattle.ar_value.specs.contracts.names.Names as Names
+use Rattle.ar_value.specs.contracts.names.Names.TheInside as NamesInside
+use Rattle.std.specs.contracts.vec.Vec as Vec
 use Rattle.ar_value.specs.contracts.shape.FieldShapes as FieldShapes
 
 pub text_send : IsSend Text.the_row
@@ -29,23 +32,28 @@ shape_layer R S own fields = let box = Box-sync R own in variants_sync (knot.typ
 shape_layer_send : (R S : RattleType) → IsSend R → IsSend S → IsSend (knot.layer-Shape R S R)
 shape_layer_send R S own fields = let box = Box-send R own in variants_send (knot.type-Shape R S R) (search (crosses, sendable, as_row_send) depth 20)
 
-field_layer : (R : RattleType) → IsSync R → IsSync (knot.layer-FieldShape R)
-field_layer R own = let text = text_sync in declared_sync (knot.type-FieldShape R) (search (crosses, sendable) depth 20)
+texts_send : IsSend (Vec.the_row Text.the_row)
+texts_send = let text = text_send in search (crosses, sendable) depth 20
 
-field_layer_send : (R : RattleType) → IsSend R → IsSend (knot.layer-FieldShape R)
-field_layer_send R own = let text = text_send in declared_send (knot.type-FieldShape R) (search (crosses, sendable) depth 20)
+texts_sync : IsSync (Vec.the_row Text.the_row)
+texts_sync = let text = text_sync in search (crosses, sendable) depth 20
+
+pub names_sync : IsSync Names.the_row
+names_sync = let inside : IsSync NamesInside.the_row = declared_sync NamesInside.the_type (Arc-sync (Vec.the_row Text.the_row) texts_send texts_sync, search (crosses, sendable) depth 20) in search sendable
+
+names_send : IsSend Names.the_row
+names_send = let inside : IsSend NamesInside.the_row = declared_send NamesInside.the_type (Arc-send (Vec.the_row Text.the_row) texts_send texts_sync, search (crosses, sendable) depth 20) in search sendable
 
 fields_layer : (R : RattleType) → IsSync R → IsSync (knot.layer-FieldShapes R)
-fields_layer R own = declared_sync (knot.type-FieldShapes R) (search (crosses, sendable) depth 20)
+fields_layer R own = let names = names_sync in declared_sync (knot.type-FieldShapes R) (search (crosses, sendable) depth 20)
 
 fields_layer_send : (R : RattleType) → IsSend R → IsSend (knot.layer-FieldShapes R)
-fields_layer_send R own = declared_send (knot.type-FieldShapes R) (search (crosses, sendable) depth 20)
+fields_layer_send R own = let names = names_send in declared_send (knot.type-FieldShapes R) (search (crosses, sendable) depth 20)
 
 shape_layers : (i : knot.the_members) → Sends Shape.the_ring i
 shape_layers = Shape.by_members (Sends Shape.the_ring)
     record { send = λ h all. shape_layer_send (h knot.member-Shape) (h knot.member-FieldShapes) (all knot.member-Shape) (all knot.member-FieldShapes) }
-    record { send = λ h all. field_layer_send (h knot.member-Shape) (all knot.member-Shape) }
-    record { send = λ h all. fields_layer_send (h knot.member-FieldShape) (all knot.member-FieldShape) }
+    record { send = λ h all. fields_layer_send (h knot.member-Shape) (all knot.member-Shape) }
 
 shape_hole : IsSend knot.hole-Shape
 shape_hole = fix_send Shape.the_ring shape_layers knot.member-Shape
@@ -53,11 +61,8 @@ shape_hole = fix_send Shape.the_ring shape_layers knot.member-Shape
 fields_hole : IsSend knot.hole-FieldShapes
 fields_hole = fix_send Shape.the_ring shape_layers knot.member-FieldShapes
 
-field_hole : IsSend knot.hole-FieldShape
-field_hole = fix_send Shape.the_ring shape_layers knot.member-FieldShape
-
 fields_leaving : (k : Kept) → Quiet ((FieldShapes.the_row).exit k)
-fields_leaving = let field = field_hole in (declared_send FieldShapes.the_type (search (crosses, sendable) depth 20)).leaving
+fields_leaving = let shape = shape_hole in let names = names_send in (declared_send FieldShapes.the_type (search (crosses, sendable) depth 20)).leaving
 
 fields_send : IsSend FieldShapes.the_row
 fields_send = record { owned = λ d vs. subst (λ own. (vs : List Val) → Keyless (own vs)) (FieldShapes.own_is d) (fields_hole.owned d) vs; leaving = fields_leaving }
@@ -71,8 +76,7 @@ shape_send = record { owned = λ d vs. subst (λ own. (vs : List Val) → Keyles
 shape_sync_layers : (i : knot.the_members) → Syncs Shape.the_ring i
 shape_sync_layers = Shape.by_members (Syncs Shape.the_ring)
     record { sync = λ h all. record { shared = (shape_layer (h knot.member-Shape) (h knot.member-FieldShapes) (all knot.member-Shape) (all knot.member-FieldShapes)).shared } }
-    record { sync = λ h all. record { shared = (field_layer (h knot.member-Shape) (all knot.member-Shape)).shared } }
-    record { sync = λ h all. record { shared = (fields_layer (h knot.member-FieldShape) (all knot.member-FieldShape)).shared } }
+    record { sync = λ h all. record { shared = (fields_layer (h knot.member-Shape) (all knot.member-Shape)).shared } }
 
 shape_sync_hole : IsSync knot.hole-Shape
 shape_sync_hole = record { shared = (fix_sync Shape.the_ring shape_sync_layers knot.member-Shape).shared }

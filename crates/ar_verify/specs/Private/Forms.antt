@@ -16,10 +16,6 @@ abbrev mutual
   field_forms no_fields = no_fields
   field_forms (field name shape others) = field name (form shape) (field_forms others)
 
--- a name and a shape
-abbrev pub field_form : List ℕ × Shape → List ℕ × Shape
-field_form named = (named.0, form named.1)
-
 abbrev mutual
   -- of two shapes of one form, that with the greater lengths
   pub wider : Shape → Shape → Shape
