@@ -1,23 +1,21 @@
 //! Texts, numbers, shapes, values and refusals as they are printed.
 
-ghost use Rattle.std.specs.Prelude.{◌≡◌, ◌<◌, ◌++◌, ◌==◌, [], None, IfSome, codes, false, flat_map, if◌then◌else◌, map, nat_lt, not, true};
+ghost use Rattle.std.specs.Prelude.{◌≡◌, ◌<◌, ◌++◌, ◌==◌, [], None, IfSome, codes, false, flat_map, if◌then◌else◌, map, nat_lt, not, option_and_then, option_map, slice_get, true, unwrap_or};
 ghost use Rattle.std.specs.Char.{encode_utf8};
 ghost use Rattle.std.specs.Fmt.{signed_decimal};
 ghost use Rattle.std.specs.Str.{chars};
 ghost use Rattle.serde_json.specs.View.{view};
 ghost use Rattle.ar_value.specs.Shape.{field_shapes_of, list, object, optional};
 ghost use Rattle.ar_value.specs.Value as values;
-ghost use Rattle.ar_value.specs.Value.{fields_of, items_of};
-ghost use Rattle.ar_value.specs.View.{field_shape_view, field_view, shape_view, value_view};
+ghost use Rattle.ar_value.specs.Value.{fields_from, items_of};
+ghost use Rattle.ar_value.specs.View.{shape_view, value_view};
 ghost use Rattle.ar_cases.specs.Members.{is_true};
 ghost use Rattle.ar_cases.specs.Output.{Extends, Writes};
 ghost use Rattle.ar_cases.specs.Printing.{answer_text, between, code_escape, decimal_text, escaped, field_shapes_text, fields_text, fraction_text, items_text, lines_text, number_text, quoted, shape_text, truth_text, value_text};
 
 use crate::members;
 use crate::output::Output;
-use ar_value::shape::FieldShape;
-use ar_value::value::Field;
-use ar_value::{Decimal, Fault, Number, Shape, Value};
+use ar_value::{Decimal, Fault, Number, Places, Shape, Text, Value};
 use serde_json::Value as Json;
 use std::alloc::Global;
 use std::fmt::{Debug, Display};
@@ -228,7 +226,9 @@ pub(crate) fn put_value(out: &mut Output, value: &Value)
         Value::Decimal(decimal) => put_decimal(out, *decimal),
         Value::Text(text) => put_quoted(out, text.as_str()),
         Value::List(values) => put_list_value(out, &values.items),
-        Value::Object(fields) => put_object(out, &fields.items),
+        Value::Object(fields) => {
+            put_object(out, fields.names.as_slice(), &fields.places, &fields.values)
+        }
     }
 }
 
@@ -275,38 +275,68 @@ fn put_item(out: &mut Output, first: bool, item: &Value)
 }
 
 #[cycle(put_value)]
-fn put_object(out: &mut Output, fields: &[Field])
+fn put_object(out: &mut Output, names: &[Text], places: &Places, given: &[Value])
     ensures { Writes out.old out.new
-        (value_text (values.object (fields_of (map field_view fields.now)))) }
+        (value_text (values.object (fields_from 0 names.now places.now (map value_view given.now)))) }
 {
     out.put("{");
-    put_fields(out, fields);
+    put_fields(out, names, places, given);
     out.put("}")
 }
 
 #[cycle(put_value)]
-#[tactic(auto, using(crate::proofs::Joined::next_field, crate::proofs::Joined::no_field))]
-fn put_fields(out: &mut Output, fields: &[Field])
+fn put_fields(out: &mut Output, names: &[Text], places: &Places, given: &[Value])
     ensures { Writes out.old out.new
-        (fields_text true (fields_of (map field_view fields.now))) }
+        (fields_text true (fields_from 0 names.now places.now (map value_view given.now))) }
 {
     let mut first = true;
-    for field in fields {
-        put_field(out, first, field);
+    for place in 0..names.len() {
+        put_field(
+            out,
+            first,
+            names[place].as_str(),
+            given,
+            places.index_of(place),
+        );
         first = false;
     }
 }
 
+/// A name with its value, given at an index, or with nil.
 #[cycle(put_value)]
-fn put_field(out: &mut Output, first: bool, field: &Field)
+fn put_field(out: &mut Output, first: bool, name: &str, given: &[Value], index: Option<usize>)
     ensures { Writes out.old out.new
-        (between first (codes ",") ++ (quoted (field_view field.now).0
-        ++ (codes ":" ++ value_text (field_view field.now).1))) }
+        (between first (codes ",") ++ (quoted name.now ++ (codes ":"
+        ++ value_text (unwrap_or (option_map value_view (option_and_then (slice_get given.now) index)) values.nil)))) }
 {
     put_between(out, first, ",");
-    put_quoted(out, field.name.as_str());
+    put_quoted(out, name);
     out.put(":");
-    put_value(out, &field.value)
+    put_given(out, given, index)
+}
+
+/// A value, given at an index, or nil.
+#[cycle(put_value)]
+#[tactic(auto, using(crate::proofs::Joined::given_there, crate::proofs::Joined::given_past, crate::proofs::Joined::none_given))]
+fn put_given(out: &mut Output, given: &[Value], index: Option<usize>)
+    ensures { Writes out.old out.new
+        (value_text (unwrap_or (option_map value_view (option_and_then (slice_get given.now) index)) values.nil)) }
+{
+    match index {
+        Some(index) if index < given.len() => put_value(out, &given[index]),
+        _ => out.put("null"),
+    }
+}
+
+/// A value, or nil where there is none.
+pub(crate) fn put_found(out: &mut Output, found: Option<&Value>)
+    ensures { Writes out.old out.new
+        (value_text (unwrap_or (option_map (λ value. value_view value.now) found.entry) values.nil)) }
+{
+    match found {
+        Some(value) => put_value(out, value),
+        None => out.put("null"),
+    }
 }
 
 /// A shape as the JSON that declares it.
@@ -320,7 +350,7 @@ pub fn put_shape(out: &mut Output, shape: &Shape)
         Shape::Decimal => out.put("\"decimal\""),
         Shape::Text => out.put("\"text\""),
         Shape::List { item, max } => put_list(out, item, *max),
-        Shape::Object(fields) => put_record(out, &fields.items),
+        Shape::Object(fields) => put_record(out, fields.names.as_slice(), &fields.shapes),
         Shape::Optional(plain) => put_optional(out, plain),
     }
 }
@@ -346,36 +376,35 @@ fn put_optional(out: &mut Output, plain: &Shape)
 }
 
 #[cycle(put_shape)]
-fn put_record(out: &mut Output, fields: &[FieldShape])
+fn put_record(out: &mut Output, names: &[Text], shapes: &[Shape])
     ensures { Writes out.old out.new
-        (shape_text (object (field_shapes_of (map field_shape_view fields.now)))) }
+        (shape_text (object (field_shapes_of names.now (map shape_view shapes.now)))) }
 {
     out.put("{\"record\":{");
-    put_field_shapes(out, fields);
+    put_field_shapes(out, names, shapes);
     out.put("}}")
 }
 
 #[cycle(put_shape)]
 #[tactic(auto, using(crate::proofs::Joined::next_field_shape, crate::proofs::Joined::no_field_shape))]
-fn put_field_shapes(out: &mut Output, fields: &[FieldShape])
+fn put_field_shapes(out: &mut Output, names: &[Text], shapes: &[Shape])
     ensures { Writes out.old out.new
-        (field_shapes_text true (field_shapes_of (map field_shape_view fields.now))) }
+        (field_shapes_text true (field_shapes_of names.now (map shape_view shapes.now))) }
 {
     let mut first = true;
-    for field in fields {
-        put_field_shape(out, first, field);
+    for place in 0..names.len().min(shapes.len()) {
+        put_field_shape(out, first, names[place].as_str(), &shapes[place]);
         first = false;
     }
 }
 
 #[cycle(put_shape)]
-fn put_field_shape(out: &mut Output, first: bool, field: &FieldShape)
+fn put_field_shape(out: &mut Output, first: bool, name: &str, shape: &Shape)
     ensures { Writes out.old out.new
-        (between first (codes ",") ++ (quoted (field_shape_view field.now).0
-        ++ (codes ":" ++ shape_text (field_shape_view field.now).1))) }
+        (between first (codes ",") ++ (quoted name.now ++ (codes ":" ++ shape_text (shape_view shape.now)))) }
 {
     put_between(out, first, ",");
-    put_quoted(out, field.name.as_str());
+    put_quoted(out, name);
     out.put(":");
-    put_shape(out, &field.shape)
+    put_shape(out, shape)
 }

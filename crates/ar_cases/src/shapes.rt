@@ -6,7 +6,7 @@ ghost use Rattle.ar_cases.specs.Calls.{is_one_of, shape_calls};
 use crate::fault::{CaseFault, Written};
 use crate::members;
 use crate::output::Output;
-use crate::printing::{put_refusal, put_shape, put_truth, put_value};
+use crate::printing::{put_found, put_refusal, put_shape, put_truth, put_value};
 use ar_json::{read_shape, read_value};
 use ar_value::kind::{Kind, common, is_optional, merge, plain};
 use ar_value::{Shape, Value, fits};
@@ -147,7 +147,7 @@ fn put_field_of(out: &mut Output, value: &Value, name: &str) -> Written {
         return Err(CaseFault::Member);
     };
     match fields.get(name) {
-        Some(value) => put_value(out, value),
+        Some(found) => put_found(out, found),
         None => out.put("none"),
     }
     Ok(())

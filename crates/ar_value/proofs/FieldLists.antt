@@ -139,12 +139,12 @@ value_of_name name names places vs = from_index name 0 names places vs ∙ from_
 
 -- ---- what is borrowed from a list
 
-got_past : {X : Type 0} (xs : List X) (i : ℕ) → length xs ≤ i → slice_get xs i ≡ None
+pub got_past : {X : Type 0} (xs : List X) (i : ℕ) → length xs ≤ i → slice_get xs i ≡ None
 got_past [] i past = refl
 got_past (x ∷ xs) zero past = absurd (omega (arith, past))
 got_past (x ∷ xs) (suc i) past = got_past xs i (omega (arith, past))
 
-got_at : {X : Type 0} (xs : List X) (i : ℕ) (x : X) → i < length xs → x ≡ get_or xs i x → Some x ≡ slice_get xs i
+pub got_at : {X : Type 0} (xs : List X) (i : ℕ) (x : X) → i < length xs → x ≡ get_or xs i x → Some x ≡ slice_get xs i
 got_at [] i x within is = absurd (omega (arith, within))
 got_at {X} (y ∷ xs) zero x within is = ap (λ (first : X). Some first) is
 got_at (y ∷ xs) (suc i) x within is = got_at xs i x (omega (arith, within)) is
