@@ -9,7 +9,7 @@ use denote.RattleType.{RattleType}
 use denote.Hole.FixSend.{Sends, Syncs, fix_send, fix_sync}
 use denote.Param.Send.{Common, IsSend, Quiet, IsSync, sendable}
 use denote.Param.SendFields.{as_row_send, as_row_sync, declared_send, declared_sync, variants_send, variants_sync}
-use Rattle.std.proofs.Crossing.{crosses, Arc-send, Arc-sync, Box-send, Box-sync}
+use Rattle.std.proofs.Crossing.{crosses, Arc-send, Arc-sync, Box-send, Box-sync, Vec-send, Vec-sync}
 use Rattle.ar_value.specs.contracts.shape.Shape as Shape
 use Rattle.ar_value.specs.contracts.shape.Shape.TheKnot as knot
 use Rattle.ar_value.specs.contracts.shared_shape.SharedShape as SharedShape
@@ -17,7 +17,6 @@ use Rattle.ar_value.specs.contracts.shared_shape.SharedShape.TheInside as Shared
 use Rattle.ar_value.specs.contracts.text.Text as Text
 use Rattle.ar_value.specs.contracts.names.Names as Names
 use Rattle.ar_value.specs.contracts.names.Names.TheInside as NamesInside
-use Rattle.std.specs.contracts.vec.Vec as Vec
 use Rattle.ar_value.specs.contracts.shape.FieldShapes as FieldShapes
 
 pub text_send : IsSend Text.the_row
@@ -32,17 +31,15 @@ shape_layer R S own fields = let box = Box-sync R own in variants_sync (knot.typ
 shape_layer_send : (R S : RattleType) → IsSend R → IsSend S → IsSend (knot.layer-Shape R S R)
 shape_layer_send R S own fields = let box = Box-send R own in variants_send (knot.type-Shape R S R) (search (crosses, sendable, as_row_send) depth 20)
 
-texts_send : IsSend (Vec.the_row Text.the_row)
-texts_send = let text = text_send in search (crosses, sendable) depth 20
-
-texts_sync : IsSync (Vec.the_row Text.the_row)
-texts_sync = let text = text_sync in search (crosses, sendable) depth 20
-
 pub names_sync : IsSync Names.the_row
-names_sync = let inside : IsSync NamesInside.the_row = declared_sync NamesInside.the_type (Arc-sync (Vec.the_row Text.the_row) texts_send texts_sync, search (crosses, sendable) depth 20) in search sendable
+names_sync =
+    let texts = Arc-sync _ (Vec-send Text.the_row text_send) (Vec-sync Text.the_row text_sync) in
+    let inside : IsSync NamesInside.the_row = declared_sync NamesInside.the_type (texts, (search (crosses, sendable), tt)) in search sendable
 
-names_send : IsSend Names.the_row
-names_send = let inside : IsSend NamesInside.the_row = declared_send NamesInside.the_type (Arc-send (Vec.the_row Text.the_row) texts_send texts_sync, search (crosses, sendable) depth 20) in search sendable
+pub names_send : IsSend Names.the_row
+names_send =
+    let texts = Arc-send _ (Vec-send Text.the_row text_send) (Vec-sync Text.the_row text_sync) in
+    let inside : IsSend NamesInside.the_row = declared_send NamesInside.the_type (texts, (search (crosses, sendable), tt)) in search sendable
 
 fields_layer : (R : RattleType) → IsSync R → IsSync (knot.layer-FieldShapes R)
 fields_layer R own = let names = names_sync in declared_sync (knot.type-FieldShapes R) (search (crosses, sendable) depth 20)
