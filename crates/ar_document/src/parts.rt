@@ -30,7 +30,8 @@ use std::alloc::{AllocError, Global};
 
 /// The template, bound to the arguments of the run with a number. Conditions that are too long are shortened.
 fn bound(alloc: Global, template: &Template, run: &Run, number: usize) -> Result<Bound, BundleError>
-    ensures { Gives is_memory (λ bound. bound) result (refused_as (Bind number) (shortened_of template.now run.now.own)) }
+    ensures { Gives is_memory (λ bound. bound) result
+        (refused_as (Bind number) (shortened_of template.now run.now.own)) }
 {
     match template.bind_shortened(alloc, &run.own) {
         Ok(bound) => Ok(bound),

@@ -107,7 +107,7 @@ impl Scope<'_> {
     }
 
     /// A text of the metric, bound, or nothing where it has more than `most` bytes then. It is read
-    /// to its end in either case, and takes no memory for more bytes than these.
+    /// to its end in either case, and what is kept of it never has more bytes than these.
     pub(crate) fn text(
         &self,
         alloc: Global,
