@@ -5,6 +5,7 @@ mod Templates
 mod Sampling
 mod Growing
 mod Refusing
+mod Shortened
 mod Bundling
 mod Answering
 pub mod OneAnswer

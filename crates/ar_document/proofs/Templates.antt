@@ -10,7 +10,7 @@ use Rattle.serde_json.specs.Data.{null}
 use Rattle.serde_json.specs.Find.{get}
 use Rattle.ar_judge.specs.Condition.{refused_as}
 use Rattle.ar_document.specs.Opening.{template_in}
-use Rattle.ar_document.specs.declared.error.BundleError.TheVariants.{Bind, Manifest}
+use Rattle.ar_document.specs.declared.error.BundleError.TheVariants.{Manifest}
 use Rattle.ar_manifest.specs.Binding.{RunArguments}
 use Rattle.ar_manifest.specs.Bound.{bound_condition, bound_limit, bound_metric, bound_of, count_without, effective_count, next_bound}
 use Rattle.ar_manifest.specs.DryRun.{dry_names, with_dry, with_dry_run}
@@ -79,14 +79,7 @@ answered (Err refusal) template is = absurd cc
 pub few_metrics_in : (document : Data) (template : Template) → template_in document ≡ Ok template → length template.metrics ≤ 64
 few_metrics_in document template is = few_metrics (unwrap_or (get (codes "manifest") document) null) template (answered (template_of (unwrap_or (get (codes "manifest") document) null)) template is)
 
-bound_answer : (answer : Result (List BoundMetric) ManifestError) (bound : List BoundMetric) (number : ℕ) → refused_as (Bind number) answer ≡ Ok bound → answer ≡ Ok bound
-bound_answer (Ok made) bound number is = let same : made ≡ bound = cc in ap (λ (bound : List BoundMetric). Ok bound) same
-bound_answer (Err refusal) bound number is = absurd cc
-
 -- as many metrics are bound as the template has
-pub bound_is : (template : Template) (own : RunArguments) (bound : List BoundMetric) (number : ℕ) → refused_as (Bind number) (bound_of template own) ≡ Ok bound → bound_of template own ≡ Ok bound
-bound_is template own bound number is = bound_answer (bound_of template own) bound number is
-
 pub bound_many : (template : Template) (own : RunArguments) (bound : List BoundMetric) → bound_of template own ≡ Ok bound → length bound ≡ length template.metrics
 unfolding bound_of
 bound_many template own bound is = as_many (next_bound template.arguments own) [] template.metrics bound is ∙ omega arith

@@ -4,7 +4,7 @@ ghost use Rattle.std.specs.Prelude.{◌≡◌, IfErr, IfOk, IfSome, Some, length
 ghost use Rattle.std.specs.List.{AllByRecursion};
 ghost use Rattle.ar_limits.specs.Metric.{HasPositiveCounts};
 ghost use Rattle.ar_judge.specs.Verdict.{IsJudge};
-ghost use Rattle.ar_manifest.specs.Bound.{bound_of};
+ghost use Rattle.ar_manifest.specs.Shortened.{shortened_of};
 ghost use Rattle.ar_bundle.specs.Bundle.{IsRun, JudgesEach};
 ghost use Rattle.ar_value.specs.Answer.{Gives};
 ghost use Rattle.ar_value.specs.View.{shape_view};
@@ -28,11 +28,12 @@ use ar_value::holding::{add, beside};
 use ar_value::text::Text;
 use std::alloc::{AllocError, Global};
 
-/// The template, bound to the arguments of the run with a number.
+/// The template, bound to the arguments of the run with a number. Conditions that are too long are shortened.
 fn bound(alloc: Global, template: &Template, run: &Run, number: usize) -> Result<Bound, BundleError>
-    ensures { Gives is_memory (λ bound. bound) result (refused_as (Bind number) (bound_of template.now run.now.own)) }
+    ensures { Gives is_memory (λ bound. bound) result
+        (refused_as (Bind number) (shortened_of template.now run.now.own)) }
 {
-    match template.bind(alloc, &run.own) {
+    match template.bind_shortened(alloc, &run.own) {
         Ok(bound) => Ok(bound),
         Err(ManifestError::OutOfMemory) => Err(BundleError::OutOfMemory),
         Err(error) => Err(BundleError::Bind(number, error)),

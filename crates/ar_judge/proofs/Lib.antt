@@ -1,5 +1,6 @@
 pub mod Running
 pub mod Refusing
 pub mod OneCause
+pub mod Shortened
 pub mod Headline
 pub mod Filters

@@ -1,11 +1,13 @@
 -- The first metric, where it is refused.
-use Rattle.std.proofs.Common.{◌≡◌, ℕ, ◌≤◌, List, ◌∷◌, length, get_or, sym, ◌∙◌, ap, arith, Ok, Err}
+use Rattle.std.proofs.Common.{◌≡◌, ℕ, ◌≤◌, Bool, List, ◌∷◌, length, get_or, sym, ◌∙◌, ap, arith, Ok, Err}
 use Rattle.ar_manifest.specs.Binding.{RunArguments}
 use Rattle.ar_manifest.specs.Bound.{bound_metric}
+use Rattle.ar_manifest.specs.Private.Within.{kept_bound}
 use Rattle.ar_manifest.specs.Template.{TemplateArguments}
 use Rattle.ar_manifest.specs.declared.bound.BoundMetric.{BoundMetric}
 use Rattle.ar_manifest.specs.declared.error.ManifestError.{ManifestError}
 use Rattle.ar_manifest.specs.declared.template.Metric.{Metric}
+use Rattle.ar_manifest.proofs.Parts.{kept_refused}
 
 module _ (arguments : TemplateArguments) (own : RunArguments) (list : List Metric) where
   -- none is bound before a first metric that is refused
@@ -22,10 +24,10 @@ module _ (arguments : TemplateArguments) (own : RunArguments) (list : List Metri
       refused_item = ap (λ place. bound_metric arguments own place item) (is_number ∙ stays first rest is_list refusal refused) ∙ ap (bound_metric arguments own 0) at_first ∙ refused
 
     -- a metric that is bound was no refused first one
-    pub bound_first : (item : Metric) (number : ℕ) (made : BoundMetric) → number ≡ i → item ≡ get_or list i item → bound_metric arguments own number item ≡ Ok made
+    pub bound_first : (shortens : Bool) (item : Metric) (number : ℕ) (made : BoundMetric) → number ≡ i → item ≡ get_or list i item → kept_bound arguments own number shortens item ≡ Ok made
         → (first : Metric) (rest : List Metric) → list ≡ first ∷ rest → (refusal : ManifestError) → bound_metric arguments own 0 first ≡ Err refusal → ⊥
-    bound_first item number made is_number is_item is_made first rest is_list refusal refused =
-        let is_refused = refused_item item number is_number is_item first rest is_list refusal refused in
+    bound_first shortens item number made is_number is_item is_made first rest is_list refusal refused =
+        let is_refused = kept_refused arguments own number item shortens refusal (refused_item item number is_number is_item first rest is_list refusal refused) in
         let impossible : Ok made ≡ Err refusal = sym is_made ∙ is_refused in cc
 
     -- past the last metric none was refused

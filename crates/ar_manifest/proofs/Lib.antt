@@ -5,6 +5,7 @@ pub mod Entries
 mod Facts
 pub mod Filling
 pub mod First
+pub mod Keeping
 pub mod LimitTexts
 pub mod Lists
 pub mod Memory

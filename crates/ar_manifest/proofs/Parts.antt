@@ -1,5 +1,5 @@
 -- What is made of parts.
-use Rattle.std.proofs.Common.{◌≡◌, ℕ, List, [], Option, Result, Ok, Err, refl, sym, ◌∙◌, ap}
+use Rattle.std.proofs.Common.{◌≡◌, ℕ, Bool, true, false, List, [], Option, Result, Ok, Err, refl, sym, ◌∙◌, ap}
 use Rattle.std.specs.Prelude.{codes, unwrap_or}
 use Rattle.serde_json.specs.Data.{Data}
 use Rattle.ar_value.specs.Answer.{◌>>=◌, Unless, each_behind}
@@ -10,6 +10,7 @@ use Rattle.ar_manifest.specs.Bound.{bound_condition, bound_limit, bound_metric, 
 use Rattle.ar_manifest.specs.DryRun.{with_dry_run}
 use Rattle.ar_manifest.specs.Private.BoundParts.{bound_conditions, bound_limits}
 use Rattle.ar_manifest.specs.Private.Early.{counted_of, first_counted}
+use Rattle.ar_manifest.specs.Private.Within.{kept, kept_bound, kept_conditions, kept_metric}
 use Rattle.ar_manifest.specs.Private.Made.{marked_metrics, two_limits}
 use Rattle.ar_manifest.specs.Refusals.{is_memory}
 use Rattle.ar_manifest.specs.Template.{TemplateArguments, arguments_of, head_of, limit_or, metric_limits, metric_of, template_of}
@@ -199,23 +200,51 @@ module _ (arguments : TemplateArguments) (own : RunArguments) (i : ℕ) (metric 
   unfolding bound_metric
   bound_metric-parts = by_conditions (bound_condition arguments own i metric.success_condition) (bound_condition arguments own i metric.failure_condition)
 
-  pub conditions_refused : (refusal : ManifestError) → Unless (is_memory refusal) (bound_conditions arguments own i metric ≡ Err refusal) → Unless (is_memory refusal) (bound_metric arguments own i metric ≡ Err refusal)
-  conditions_refused refusal refused = refuses_first (is_memory refusal) refusal (bound_conditions arguments own i metric) with_limits (bound_metric arguments own i metric) refused (sym bound_metric-parts)
-
-  module _ (conditions : Option (List ℕ) × Option (List ℕ)) (are_bound : bound_conditions arguments own i metric ≡ Ok conditions) where
-    behind_bound : with_limits conditions ≡ bound_metric arguments own i metric
-    behind_bound = sym (bound_metric-parts ∙ ap (λ answer. answer >>= with_limits) are_bound)
-
-    pub limits_refused : (refusal : ManifestError) → Unless (is_memory refusal) (bound_limits arguments own i metric ≡ Err refusal) → Unless (is_memory refusal) (bound_metric arguments own i metric ≡ Err refusal)
-    limits_refused refusal refused = refuses_first (is_memory refusal) refusal (bound_limits arguments own i metric) (λ limits. Ok (bound_with conditions limits)) (bound_metric arguments own i metric) refused behind_bound
-
-    pub metric_made : (limits : BoundLimits) → bound_limits arguments own i metric ≡ Ok limits → bound_metric arguments own i metric ≡ Ok (bound_with conditions limits)
-    metric_made limits made = sym behind_bound ∙ ap (λ (answer : Result BoundLimits ManifestError). answer >>= λ (found : BoundLimits). Ok (bound_with conditions found)) made
-
-    -- a refusal behind the conditions is one of the limits
-    pub refused_by_limits : (refusal : ManifestError) → bound_metric arguments own i metric ≡ Err refusal → bound_limits arguments own i metric ≡ Err refusal
-    refused_by_limits refusal refused = by_answer (bound_limits arguments own i metric) (behind_bound ∙ refused)
+  module _ (shortens : Bool) where
+    -- and so is one whose conditions are shortened or whole
+    kept_bound-parts : kept_bound arguments own i shortens metric ≡ (kept_conditions arguments own i shortens metric >>= with_limits)
+    kept_bound-parts =
+        ap (λ answer. answer >>= λ bound. Ok (kept_metric shortens bound)) bound_metric-parts
+        ∙ by_answers (bound_condition arguments own i metric.success_condition) (bound_condition arguments own i metric.failure_condition) (bound_limits arguments own i metric)
       where
-        by_answer : (answer : Result BoundLimits ManifestError) → (answer >>= λ limits. Ok (bound_with conditions limits)) ≡ Err refusal → answer ≡ Err refusal
-        by_answer (Ok limits) e = cc
-        by_answer (Err fault) e = let same : fault ≡ refusal = cc in ap (λ refused. Err refused) same
+        same_kept : (whole : Bool) (success failure : Option (List ℕ)) (limits : BoundLimits)
+            → kept_metric whole (bound_with (pair_of success failure) limits) ≡ bound_with (pair_of (kept whole success) (kept whole failure)) limits
+        same_kept false success failure limits = refl
+        same_kept true success failure limits = refl
+
+        by_answers : (success failure : Result (Option (List ℕ)) ManifestError) (limits : Result BoundLimits ManifestError)
+            → (((success >>= λ x. failure >>= λ y. Ok (pair_of x y)) >>= λ both. limits >>= λ made. Ok (bound_with both made)) >>= λ bound. Ok (kept_metric shortens bound))
+            ≡ (((success >>= λ x. Ok (kept shortens x)) >>= λ x. (failure >>= λ y. Ok (kept shortens y)) >>= λ y. Ok (pair_of x y)) >>= λ both. limits >>= λ made. Ok (bound_with both made))
+        by_answers (Ok success) (Ok failure) (Ok limits) = ap (λ (bound : BoundMetric). Ok bound) (same_kept shortens success failure limits)
+        by_answers (Ok success) (Ok failure) (Err refusal) = refl
+        by_answers (Ok success) (Err refusal) limits = refl
+        by_answers (Err refusal) failure limits = refl
+
+    pub conditions_refused : (refusal : ManifestError) → Unless (is_memory refusal) (kept_conditions arguments own i shortens metric ≡ Err refusal)
+        → Unless (is_memory refusal) (kept_bound arguments own i shortens metric ≡ Err refusal)
+    conditions_refused refusal refused =
+        refuses_first (is_memory refusal) refusal (kept_conditions arguments own i shortens metric) with_limits (kept_bound arguments own i shortens metric) refused (sym kept_bound-parts)
+
+    -- a metric that is refused is refused whether its conditions are shortened or not
+    pub kept_refused : (refusal : ManifestError) → bound_metric arguments own i metric ≡ Err refusal → kept_bound arguments own i shortens metric ≡ Err refusal
+    kept_refused refusal refused = ap (λ answer. answer >>= λ bound. Ok (kept_metric shortens bound)) refused
+
+    module _ (conditions : Option (List ℕ) × Option (List ℕ)) (are_bound : kept_conditions arguments own i shortens metric ≡ Ok conditions) where
+      behind_bound : with_limits conditions ≡ kept_bound arguments own i shortens metric
+      behind_bound = sym (kept_bound-parts ∙ ap (λ answer. answer >>= with_limits) are_bound)
+
+      pub limits_refused : (refusal : ManifestError) → Unless (is_memory refusal) (bound_limits arguments own i metric ≡ Err refusal)
+          → Unless (is_memory refusal) (kept_bound arguments own i shortens metric ≡ Err refusal)
+      limits_refused refusal refused =
+          refuses_first (is_memory refusal) refusal (bound_limits arguments own i metric) (λ limits. Ok (bound_with conditions limits)) (kept_bound arguments own i shortens metric) refused behind_bound
+
+      pub metric_made : (limits : BoundLimits) → bound_limits arguments own i metric ≡ Ok limits → kept_bound arguments own i shortens metric ≡ Ok (bound_with conditions limits)
+      metric_made limits made = sym behind_bound ∙ ap (λ (answer : Result BoundLimits ManifestError). answer >>= λ (found : BoundLimits). Ok (bound_with conditions found)) made
+
+      -- a refusal behind the conditions is one of the limits
+      pub refused_by_limits : (refusal : ManifestError) → bound_metric arguments own i metric ≡ Err refusal → bound_limits arguments own i metric ≡ Err refusal
+      refused_by_limits refusal refused = by_answer (bound_limits arguments own i metric) (behind_bound ∙ kept_refused refusal refused)
+        where
+          by_answer : (answer : Result BoundLimits ManifestError) → (answer >>= λ limits. Ok (bound_with conditions limits)) ≡ Err refusal → answer ≡ Err refusal
+          by_answer (Ok limits) e = cc
+          by_answer (Err fault) e = let same : fault ≡ refusal = cc in ap (λ refused. Err refused) same

@@ -5,4 +5,5 @@ pub mod Template
 pub mod Cut
 pub mod Binding
 pub mod Bound
+pub mod Shortened
 pub mod Private

@@ -3,3 +3,4 @@ pub mod Early
 pub mod Made
 pub mod Indices
 pub mod BoundParts
+pub mod Within

@@ -1,20 +1,22 @@
 //! Binding the metrics of a template.
 
-ghost use Rattle.std.specs.Prelude.{◌≡◌, [], None, Ok};
+ghost use Rattle.std.specs.Prelude.{◌≡◌, [], IfOk, None, Ok};
 ghost use Rattle.ar_value.specs.Answer.{Gives, Refuses, each_behind};
 ghost use Rattle.ar_manifest.specs.Refusals.{is_memory};
-ghost use Rattle.ar_manifest.specs.Private.BoundParts.{bound_conditions, bound_limits, limit_in};
-ghost use Rattle.ar_manifest.specs.Bound.{IsNumber, IsPlain, RefusesFirst, bound_condition, bound_limit, bound_metric, bound_of, next_bound};
+ghost use Rattle.ar_manifest.specs.Private.BoundParts.{bound_limits, limit_in};
+ghost use Rattle.ar_manifest.specs.Private.Within.{condition_within, kept_bound, kept_condition, kept_conditions, most_kept, next_kept};
+ghost use Rattle.ar_manifest.specs.Shortened.{shortened_of, spaces};
+ghost use Rattle.ar_manifest.specs.Bound.{IsNumber, IsPlain, RefusesFirst, bound_limit, bound_metric, bound_of};
 
 use crate::arguments::{Args, Arguments};
 use crate::binding::Scope;
 use crate::bound::{Bound, BoundMetric};
 use crate::error::ManifestError;
-use crate::limit::{effective_count, limit_of_number, limit_of_text};
+use crate::limit::{MOST_LIMIT_DIGITS, effective_count, limit_of_number, limit_within};
 use crate::template::{Limit, Metric, Template};
 use ar_value::Text;
 use ar_value::holding::{add, beside};
-use std::alloc::Global;
+use std::alloc::{AllocError, Global};
 
 /// `failureLimit`, where a metric has none.
 const FAILURES: u32 = 0;
@@ -25,6 +27,9 @@ const INCONCLUSIVE: u32 = 0;
 /// `consecutiveErrorLimit`, where a metric has none.
 const CONSECUTIVE_ERRORS: u32 = 4;
 
+/// How many bytes a condition may have.
+const MOST_CONDITION_BYTES: usize = 4096;
+
 /// The limits of a metric, bound.
 #[derive(Clone, Copy)]
 struct BoundLimits {
@@ -34,21 +39,34 @@ struct BoundLimits {
     count: Option<u32>,
 }
 
-/// A condition, bound. An empty one counts as missing.
-#[tactic(auto, unfolding(crate::specs::Bound::bound_condition))]
-fn condition(
-    alloc: Global,
-    scope: &Scope,
-    condition: &Option<Text>,
-) -> Result<Option<Text>, ManifestError>
-    ensures exact { Gives is_memory (λ bound. bound) result
-        (bound_condition scope.now.arguments.now scope.now.own.now scope.now.metric condition.now) }
-    ensures none { condition.now ≡ None → result ≡ Ok None }
+/// A text of n spaces.
+#[tactic(auto, unfolding(crate::specs::Shortened::spaces))]
+fn spaces(alloc: Global, n: usize) -> Result<Text, AllocError>
+    ensures { IfOk result (λ text. text ≡ spaces n) }
 {
-    let Some(condition) = condition else {
-        return Ok(None);
+    Ok(Text::from(" ".repeat(alloc, n)?))
+}
+
+/// How many bytes of a condition are kept, where it is shortened.
+fn most_kept(shortens: bool) -> Option<usize>
+    ensures { result ≡ most_kept shortens }
+{
+    if shortens {
+        Some(MOST_CONDITION_BYTES)
+    } else {
+        None
+    }
+}
+
+/// A bound text as a condition. An empty one counts as missing, and spaces stand for one that had
+/// too many bytes.
+#[tactic(auto, unfolding(crate::specs::Private::Within::condition_within))]
+fn condition_within(alloc: Global, bound: Option<Text>) -> Result<Option<Text>, AllocError>
+    ensures { IfOk result (λ condition. condition ≡ condition_within bound) }
+{
+    let Some(bound) = bound else {
+        return Ok(Some(spaces(alloc, MOST_CONDITION_BYTES + 1)?));
     };
-    let bound = scope.text(alloc, condition.as_str())?;
     if bound.as_str().is_empty() {
         Ok(None)
     } else {
@@ -56,13 +74,30 @@ fn condition(
     }
 }
 
+/// A condition, bound. An empty one counts as missing.
+fn condition(
+    alloc: Global,
+    scope: &Scope,
+    condition: &Option<Text>,
+) -> Result<Option<Text>, ManifestError>
+    ensures exact { Gives is_memory (λ bound. bound) result
+        (kept_condition scope.now.arguments.now scope.now.own.now scope.now.metric scope.now.shortens condition.now) }
+    ensures none { condition.now ≡ None → result ≡ Ok None }
+{
+    let Some(condition) = condition else {
+        return Ok(None);
+    };
+    let bound = scope.text(alloc, condition.as_str(), most_kept(scope.shortens))?;
+    Ok(condition_within(alloc, bound)?)
+}
+
 /// A text as a limit, bound.
 fn limit_in(alloc: Global, scope: &Scope, text: &str) -> Result<u32, ManifestError>
     ensures { Gives is_memory (λ limit. limit) result
         (limit_in scope.now.arguments.now scope.now.own.now scope.now.metric text.now) }
 {
-    let bound = scope.text(alloc, text)?;
-    limit_of_text(bound.as_str(), scope.metric)
+    let bound = scope.text(alloc, text, Some(MOST_LIMIT_DIGITS))?;
+    limit_within(&bound, scope.metric)
 }
 
 /// A limit, bound.
@@ -88,7 +123,7 @@ fn conditions(
     metric: &Metric,
 ) -> Result<(Option<Text>, Option<Text>), ManifestError>
     ensures exact { Gives is_memory (λ bound. bound) result
-        (bound_conditions scope.now.arguments.now scope.now.own.now scope.now.metric metric.now) }
+        (kept_conditions scope.now.arguments.now scope.now.own.now scope.now.metric scope.now.shortens metric.now) }
     ensures plain { IsPlain scope.now.arguments.now scope.now.own.now scope.now.metric metric.now
         → result ≡ Ok (None, None) }
 {
@@ -119,7 +154,7 @@ fn limits(alloc: Global, scope: &Scope, metric: &Metric) -> Result<BoundLimits, 
 /// A metric, bound.
 fn metric(alloc: Global, scope: &Scope, metric: &Metric) -> Result<BoundMetric, ManifestError>
     ensures exact { Gives is_memory (λ bound. bound) result
-        (bound_metric scope.now.arguments.now scope.now.own.now scope.now.metric metric.now) }
+        (kept_bound scope.now.arguments.now scope.now.own.now scope.now.metric scope.now.shortens metric.now) }
     ensures plain { IsPlain scope.now.arguments.now scope.now.own.now scope.now.metric metric.now
         → Refuses result (bound_metric scope.now.arguments.now scope.now.own.now scope.now.metric metric.now) }
 {
@@ -144,9 +179,10 @@ fn metrics(
     list: &[Metric],
     arguments: &Arguments<Option<Text>>,
     own: &Args,
+    shortens: bool,
 ) -> Result<Bound, ManifestError>
     ensures exact { Gives is_memory (λ bound. bound) result
-        (each_behind (next_bound arguments.now own.now) [] list.now) }
+        (each_behind (next_kept arguments.now own.now shortens) [] list.now) }
     ensures first { RefusesFirst arguments.now own.now list.now result }
 {
     let mut metrics: Vec<BoundMetric> = Vec::new(alloc);
@@ -155,6 +191,7 @@ fn metrics(
             arguments,
             own,
             metric: metrics.len(),
+            shortens,
         };
         let bound = self::metric(alloc, &scope, metric)?;
         add(&mut metrics, bound)?;
@@ -163,10 +200,33 @@ fn metrics(
 }
 
 /// The template, bound.
-#[tactic(auto, unfolding(crate::specs::Bound::bound_of))]
 pub(crate) fn bound(alloc: Global, template: &Template, own: &Args) -> Result<Bound, ManifestError>
     ensures exact { Gives is_memory (λ bound. bound) result (bound_of template.now own.now) }
     ensures first { RefusesFirst template.now.arguments own.now template.now.metrics result }
 {
-    metrics(alloc, template.metrics.as_slice(), &template.arguments, own)
+    metrics(
+        alloc,
+        template.metrics.as_slice(),
+        &template.arguments,
+        own,
+        false,
+    )
+}
+
+/// The template, bound, and its conditions shortened.
+pub(crate) fn shortened(
+    alloc: Global,
+    template: &Template,
+    own: &Args,
+) -> Result<Bound, ManifestError>
+    ensures exact { Gives is_memory (λ bound. bound) result (shortened_of template.now own.now) }
+    ensures first { RefusesFirst template.now.arguments own.now template.now.metrics result }
+{
+    metrics(
+        alloc,
+        template.metrics.as_slice(),
+        &template.arguments,
+        own,
+        true,
+    )
 }

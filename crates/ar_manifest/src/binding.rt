@@ -1,15 +1,16 @@
 //! Binding the arguments of a text: each `{{args.name}}` gives way to the argument's value.
 
-ghost use Rattle.std.specs.Prelude.{◌≡◌, ◌<◌, false, length, option_map};
+ghost use Rattle.std.specs.Prelude.{◌≡◌, ◌<◌, ◌++◌, IfOk, false, length, option_map};
 ghost use Rattle.ar_value.specs.Answer.{Gives};
 ghost use Rattle.ar_manifest.specs.Refusals.{is_memory};
-ghost use Rattle.ar_manifest.specs.Binding.{argument_name, bound_text, referred_value, trimmed, without_leading_spaces, without_trailing_spaces};
+ghost use Rattle.ar_manifest.specs.Binding.{argument_name, referred_value, trimmed, without_leading_spaces, without_trailing_spaces};
 ghost use Rattle.ar_manifest.specs.Cut.{cut_at};
+ghost use Rattle.ar_manifest.specs.Private.Within.{is_within, joined, text_within};
 
 use crate::arguments::{Args, Arguments};
 use crate::error::ManifestError;
 use ar_value::Text;
-use std::alloc::Global;
+use std::alloc::{AllocError, Global};
 
 /// What a text of a metric is bound to.
 #[derive(Clone, Copy)]
@@ -20,6 +21,8 @@ pub(crate) struct Scope<'a> {
     pub(crate) own: &'a Args,
     /// The number of the metric.
     pub(crate) metric: usize,
+    /// Whether a condition that is too long is shortened.
+    pub(crate) shortens: bool,
 }
 
 /// What stands before the first place of a sign, and what behind it.
@@ -57,6 +60,33 @@ fn argument_name(text: &str) -> Option<&str>
     text.strip_prefix("args.")
 }
 
+/// Whether a text with a piece at its end has at most `most` bytes, where that is limited.
+fn has_room(text: &str, piece: &str, most: Option<usize>) -> bool
+    ensures { result ≡ is_within most (text.now ++ piece.now) }
+{
+    match most {
+        None => true,
+        Some(most) => text.len() <= most && piece.len() <= most - text.len(),
+    }
+}
+
+/// A text that is kept, with a piece at its end. It is kept no longer where it would have more than
+/// `most` bytes.
+#[tactic(auto, unfolding(crate::specs::Private::Within::joined, crate::specs::Private::Within::within))]
+fn joined(kept: Option<Text>, piece: &str, most: Option<usize>) -> Result<Option<Text>, AllocError>
+    ensures { IfOk result (λ next. next ≡ joined most kept piece.now) }
+{
+    let Some(text) = kept else {
+        return Ok(None);
+    };
+    if !has_room(text.as_str(), piece, most) {
+        return Ok(None);
+    }
+    let mut text = text.into_string();
+    text.push_str(piece)?;
+    Ok(Some(Text::from(text)))
+}
+
 impl Scope<'_> {
     /// The value of what stands in braces.
     #[tactic(auto, unfolding(crate::specs::Binding::referred_value))]
@@ -76,24 +106,28 @@ impl Scope<'_> {
         }
     }
 
-    /// A text of the metric, bound.
-    #[tactic(auto, using(crate::proofs::Filling::bind_begin, crate::proofs::Filling::bind_end, crate::proofs::Filling::bind_open, crate::proofs::Filling::bind_fault, crate::proofs::Filling::bind_more))]
-    pub(crate) fn text(&self, alloc: Global, text: &str) -> Result<Text, ManifestError>
+    /// A text of the metric, bound, or nothing where it has more than `most` bytes then. It is read
+    /// to its end in either case, and what is kept of it never has more bytes than these.
+    pub(crate) fn text(
+        &self,
+        alloc: Global,
+        text: &str,
+        most: Option<usize>,
+    ) -> Result<Option<Text>, ManifestError>
         ensures { Gives is_memory (λ bound. bound) result
-            (bound_text self.now.arguments.now self.now.own.now self.now.metric text.now) }
+            (text_within self.now.arguments.now self.now.own.now self.now.metric most text.now) }
     {
-        let mut bound = String::new(alloc);
+        let mut bound = Some(Text::from(String::new(alloc)));
         let mut rest = text;
         while let Some((before, behind)) = cut_at(rest, "{{") {
             let Some((between, after)) = cut_at(behind, "}}") else {
                 return Err(ManifestError::OpenBraces(self.metric));
             };
             let value = self.value(between)?;
-            bound.push_str(before)?;
-            bound.push_str(value)?;
+            bound = joined(bound, before, most)?;
+            bound = joined(bound, value, most)?;
             rest = after;
         }
-        bound.push_str(rest)?;
-        Ok(Text::from(bound))
+        Ok(joined(bound, rest, most)?)
     }
 }

@@ -4,6 +4,7 @@
 //! [`Template::read`] takes each template as it stands, with all fields that say nothing of how
 //! measurements are judged, and names the first fault of one that it refuses. [`Template::bind`]
 //! puts a run's arguments in, and gives each metric's conditions, limits, effective count, and whether it is dry.
+//! [`Template::bind_shortened`] does so without making a condition whole that is too long.
 //!
 //! What is proved: a document is read as the template that `specs/Template` defines, and bound as
 //! `specs/Bound` defines, or it is refused by the one name that stands first in the stated order.
@@ -23,8 +24,8 @@
 //! | `binding`, `limit`, `binder` | binding a text, a limit, and a template's metrics |
 //!
 //! In `specs`, `Template` and `DryRun` define reading, `Cut` where a text is cut at its braces,
-//! `Binding` what becomes of a text, `Bound` limits, counts and the order of refusals. `Private`
-//! has what only the proofs use.
+//! `Binding` what becomes of a text, `Bound` limits, counts and the order of refusals, `Shortened`
+//! what is given for conditions that are too long. `Private` has what only the proofs use.
 #![tactic(auto)]
 
 mod arguments;

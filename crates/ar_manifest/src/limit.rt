@@ -4,14 +4,16 @@ ghost use Rattle.std.specs.Prelude.{◌≡◌};
 ghost use Rattle.std.specs.Char.{is_ascii_digit};
 ghost use Rattle.std.specs.List.{list_all};
 ghost use Rattle.ar_manifest.specs.Bound.{effective_count, is_limit_text, limit_of_number, limit_of_text};
+ghost use Rattle.ar_manifest.specs.Private.Within.{limit_within};
 
 use crate::error::ManifestError;
+use ar_value::Text;
 
 /// The greatest limit.
 const MOST_LIMIT: u32 = 1_000_000_000;
 
 /// How many digits a limit may have.
-const MOST_LIMIT_DIGITS: usize = 10;
+pub(crate) const MOST_LIMIT_DIGITS: usize = 10;
 
 /// A number as a limit of metric `i`.
 pub(crate) fn limit_of_number(number: u64, i: usize) -> Result<u32, ManifestError>
@@ -37,7 +39,7 @@ fn is_limit_text(text: &str) -> bool
 
 /// A text as a limit of metric `i`.
 #[tactic(auto, unfolding(crate::specs::Bound::limit_of_text))]
-pub(crate) fn limit_of_text(text: &str, i: usize) -> Result<u32, ManifestError>
+fn limit_of_text(text: &str, i: usize) -> Result<u32, ManifestError>
     ensures { result ≡ limit_of_text i text.now }
 {
     if !is_limit_text(text) {
@@ -46,6 +48,17 @@ pub(crate) fn limit_of_text(text: &str, i: usize) -> Result<u32, ManifestError>
     match text.parse::<u64>() {
         Ok(number) => limit_of_number(number, i),
         Err(_) => unreachable!(),
+    }
+}
+
+/// A bound text as a limit of metric `i`, where it isn't too long.
+#[tactic(auto, unfolding(crate::specs::Private::Within::limit_within))]
+pub(crate) fn limit_within(bound: &Option<Text>, i: usize) -> Result<u32, ManifestError>
+    ensures { result ≡ limit_within i bound.now }
+{
+    match bound {
+        Some(text) => limit_of_text(text.as_str(), i),
+        None => Err(ManifestError::BadLimit(i)),
     }
 }
 

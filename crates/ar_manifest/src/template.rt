@@ -5,11 +5,12 @@ ghost use Rattle.serde_json.specs.View.{view};
 ghost use Rattle.ar_value.specs.Answer.{Gives};
 ghost use Rattle.ar_manifest.specs.Refusals.{is_memory};
 ghost use Rattle.ar_manifest.specs.Bound.{RefusesFirst, bound_of};
+ghost use Rattle.ar_manifest.specs.Shortened.{shortened_of};
 ghost use Rattle.ar_manifest.specs.Template.{HasNoArguments, template_of};
 ghost use Rattle.ar_manifest.specs.declared.error.ManifestError.TheVariants.{NameMissing, NoMetrics, TooManyMetrics, WrongKind, WrongVersion};
 
 use crate::arguments::{Args, Arguments};
-use crate::binder::bound;
+use crate::binder::{bound, shortened};
 use crate::bound::Bound;
 use crate::error::ManifestError;
 use crate::reader::template;
@@ -146,5 +147,19 @@ impl Template {
         ensures first { RefusesFirst self.now.arguments args.now self.now.metrics result }
     {
         bound(alloc, self, args)
+    }
+
+    /// The template bound as by `bind`, but a condition that has more than 4,096 bytes once it is
+    /// bound, which is too long for a condition, is a text of 4,097 spaces. So it is refused as too
+    /// long, as it would be if it were made whole, and takes no memory for the rest of its bytes.
+    ///
+    /// # Errors
+    ///
+    /// As those of `bind`.
+    pub fn bind_shortened(&self, alloc: Global, args: &Args) -> Result<Bound, ManifestError>
+        ensures exact { Gives is_memory (λ bound. bound) result (shortened_of self.now args.now) }
+        ensures first { RefusesFirst self.now.arguments args.now self.now.metrics result }
+    {
+        shortened(alloc, self, args)
     }
 }
