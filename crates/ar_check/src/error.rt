@@ -21,7 +21,7 @@ pub enum TypeError {
     NoCommonKind(usize),
     /// The item of a list here is no scalar.
     NotScalar(usize),
-    /// The whole condition is no truth value.
+    /// The whole condition is no boolean.
     NotTruth(usize),
     /// A predicate stands inside four others.
     PredicatesTooDeep(usize),
