@@ -112,7 +112,7 @@ entered predicate place step (shaped (list item most) ∷ kinds) loops =
     Ok (sent (suc place) [] (record { item = item; most = most; below = kinds } ∷ loops) ∷ sent (suc step) (answer_kind predicate item most ∷ kinds) loops ∷ [])
 entered predicate place step kinds loops = Err IllKinded
 
--- behind a loop, where nothing but its boolean was above its floor
+-- after a loop, where nothing but its boolean was above its floor
 abbrev pub ended : Predicate → (place : ℕ) → List Kind → List Around → Result (List Sent) Reason
 ended predicate place [] (loop ∷ outer) = Ok (sent (suc place) (answer_kind predicate loop.item loop.most ∷ loop.below) outer ∷ [])
 ended predicate place kinds loops = Err BadMerge

@@ -296,7 +296,7 @@ fn end_loop<M: ShapeName>(
     }))
 }
 
-/// Goes behind a loop, where nothing but the boolean of its body is above its floor.
+/// Goes on after a loop, where nothing but the boolean of its body is above its floor.
 fn step<M: ShapeName>(
     alloc: Global,
     predicate: Predicate,
