@@ -14,7 +14,7 @@ use Rattle.ar_check.specs.declared.error.TypeError.TheVariants.{NotTruth}
 use Rattle.ar_check.proofs.KindTable.{has_kind, is_typed}
 use Rattle.ar_check.proofs.Tables.{from_bind, truth_is, truth_within}
 
--- an operand that is a condition is a truth value
+-- an operand that is a condition is a boolean
 truth_of : (at : ℕ) (found : Operand) (holds : Bool) (condition : Typed) → is_truth found ≡ holds → (if holds then Ok (made_plain found) else Err (NotTruth at)) ≡ Ok condition → is_truth found ≡ true
 truth_of at found true condition is h = is
 truth_of at found false condition is h = absurd (cc)
@@ -25,7 +25,7 @@ is_condition shape tree condition h =
     let of = truth_within found.0.kind (truth_of (place_of tree) found.0 (is_truth found.0) condition refl found.2) in
     record { shape = of.0; typed = subst (λ kind. HasKind shape None 0 tree kind) of.1 (has_kind shape None 0 tree found.0 found.1); truth = of.2 }
 
--- a truth value is a condition
+-- a boolean is a condition
 no_refusal : (at : ℕ) (found : Operand) (holds : Bool) (e : TypeError) → holds ≡ true → (if holds then Ok (made_plain found) else Err (NotTruth at)) ≡ Err e → ⊥
 no_refusal at found true e is h = cc
 no_refusal at found false e is h = cc

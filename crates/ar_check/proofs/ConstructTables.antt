@@ -88,7 +88,7 @@ entered_found at around shape inside h =
 is_entered : (at around : ℕ) (shape : Shape) → around < most_predicates → entered at around shape ≡ Ok shape
 is_entered at around shape h = let test : nat_lt around most_predicates ≡ true = grind (arith, nat_tests) in rw test refl
 
--- whether a body is a truth value
+-- whether a body is a boolean
 body_found : (body : Operand) (holds : Bool × Typed) → body_of body ≡ Ok holds → is_truth body ≡ holds.0
 body_found body holds h = let same : (is_truth body, made_plain body) ≡ holds = cc in ap (λ holds. holds.0) same
 
@@ -219,7 +219,7 @@ module _ (result : Shape) (item : Option Shape) (around : ℕ) where
   default_has at tree otherwise first other found h k is =
       typing.of_default h k (default_row first.kind other.kind found.kind (in_common_found at _ (default_kind (plain_kind first.kind) other.kind) found is))
 
-  -- what holds of each item is a truth value
+  -- what holds of each item is a boolean
   pub predicate_has : (at : ℕ) (predicate : Predicate) (items body : Expression) (list inside found : Operand) (holds : Bool × Typed) (shape : Shape) → HasKind result item around items list.kind
       → item_shape at (plain_of list.kind) ≡ Ok shape → around < most_predicates → HasKind result (Some shape) (suc around) body inside.kind → is_truth inside ≡ holds.0
       → predicate_of at predicate list holds.0 holds.1 ≡ Ok found → HasKind result item around (trees.PredicateAt at predicate items body) found.kind

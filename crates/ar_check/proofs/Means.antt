@@ -33,7 +33,7 @@ IsThere (Some shape) (Some value) = fits value shape ≡ true
 IsThere (Some shape) None = ⊥
 IsThere None value = Unit {0}
 
--- an operand is a truth value
+-- an operand is a boolean
 abbrev pub IsTruth : Value → Option Value → Operand → Type 0
 IsTruth result here operand = (operand.kind ≡ truth_kind) × MeansKind truth_kind (mean result here operand.tree)
 
@@ -74,11 +74,11 @@ pub wanted : (result : Value) (here : Option Value) (at : ℕ) (is_wanted : Bool
 wanted result here at true tree kind h = h refl
 wanted result here at false tree kind h = tt
 
--- a truth value, where operands are what is wanted
+-- a boolean, where operands are what is wanted
 pub truth_wanted : (result : Value) (here : Option Value) (at : ℕ) (is_wanted : Bool) (tree : Typed) → (is_wanted ≡ true → MeansKind truth_kind (mean result here tree)) → IfOk (where_wanted at is_wanted tree truth_kind) (IsTruth result here)
 truth_wanted result here at true tree h = (refl, h refl)
 truth_wanted result here at false tree h = tt
 
--- a truth value means its kind
+-- a boolean means its kind
 pub is_sound : (result : Value) (here : Option Value) (operand : Operand) → IsTruth result here operand → Sound result here operand
 is_sound result here operand h = rw h.0 h.1

@@ -38,7 +38,7 @@ common_of_nil (shaped shape) = refl
 
 -- ---- values of a shape
 
--- what holds of truth values holds of what fits their shape; below, likewise of other shapes
+-- what holds of booleans holds of what fits their shape; below, likewise of other shapes
 pub on_bool : (P : Value → Type 0) → ((b : Bool) → P (values.bool b)) → (v : Value) → fits v shapes.bool ≡ true → P v
 on_bool P each (values.bool b) h = each b
 on_bool P each v h = absurd (cc)
@@ -94,7 +94,7 @@ numbers_of_scalar (Some scalars.Bool) m h = tt
 numbers_of_scalar (Some scalars.Text) m h = tt
 numbers_of_scalar None m h = tt
 
--- scalars that are truth values
+-- scalars that are booleans
 truth_of_scalar : (scalar : Option Scalar) (m : Meaning) → MeansScalar scalar m → is_bool scalar ≡ true → MeansKind truth_kind m
 truth_of_scalar (Some scalars.Bool) m h is = h
 truth_of_scalar scalar m h is = absurd (cc)
@@ -164,7 +164,7 @@ module _ (result : Value) (here : Option Value) where
   pub are_numbers : (operand : Operand) → Sound result here operand → MeansNumbers (numbers operand) (mean result here (made_plain operand))
   are_numbers operand h = numbers_of_scalar (scalar operand) (mean result here (made_plain operand)) (is_scalar operand h)
 
-  -- an operand of the kind of truth values, made plain, is one
+  -- an operand of the kind of booleans, made plain, is one
   pub is_true : (operand : Operand) → Sound result here operand → is_truth operand ≡ true → MeansKind truth_kind (mean result here (made_plain operand))
   is_true operand h is = truth_of_scalar (scalar operand) (mean result here (made_plain operand)) (is_scalar operand h) is
 

@@ -31,33 +31,33 @@ use Rattle.ar_check.proofs.Operands.{are_numbers, is_letters, is_true, on_bool, 
 use Rattle.ar_check.proofs.Parts.{in_sound, kind_in_family, kinded_means, one_family}
 use Rattle.ar_check.proofs.Sums.{negative_sound, order_sound, positive_sound, sum_sound}
 
--- what a truth value leads to
+-- what a boolean leads to
 pub truth_then : (kind : Kind) (m : Meaning) (f : Bool → Meaning) → MeansKind truth_kind m → ((b : Bool) → MeansKind kind (f b)) → MeansKind kind (m >>= λ v. operators.truth v >>= f)
 truth_then kind m f h step =
     means_then _ _ m (λ v. operators.truth v >>= f) h (λ v fit. on_bool (λ v. MeansKind kind (operators.truth v >>= f)) step v fit)
 
 module _ (result : Value) (here : Option Value) where
-  -- `not` gives a truth value of one
+  -- `not` gives a boolean of one
   pub opposite_means : (tree : Typed) → MeansKind truth_kind (mean result here tree) → MeansKind truth_kind (mean result here (typed.unary unary.Not tree))
   opposite_means tree h = truth_then truth_kind (mean result here tree) (λ b. Ok (values.bool (not b))) h (λ b. refl)
 
-  -- `and` gives a truth value of two
+  -- `and` gives a boolean of two
   pub both_means : (left right : Typed) → MeansKind truth_kind (mean result here left) → MeansKind truth_kind (mean result here right) → MeansKind truth_kind (mean result here (typed.both left right))
   both_means left right h k =
       truth_then truth_kind (mean result here left) (λ b. if b then mean result here right else Ok (values.bool false)) h
       (λ b. either_means truth_kind b (mean result here right) (Ok (values.bool false)) k refl)
 
-  -- `or` gives a truth value of two
+  -- `or` gives a boolean of two
   pub one_means : (left right : Typed) → MeansKind truth_kind (mean result here left) → MeansKind truth_kind (mean result here right) → MeansKind truth_kind (mean result here (typed.either left right))
   one_means left right h k =
       truth_then truth_kind (mean result here left) (λ b. if b then Ok (values.bool true) else mean result here right) h
       (λ b. either_means truth_kind b (Ok (values.bool true)) (mean result here right) refl k)
 
-  -- whether something is nil is a truth value
+  -- whether something is nil is a boolean
   pub is_nil_means : (kind : Kind) (tree : Typed) → MeansKind kind (mean result here tree) → MeansKind truth_kind (mean result here (typed.unary unary.IsNil tree))
   is_nil_means kind tree h = means_then _ _ (mean result here tree) (λ v. Ok (values.bool (operators.is_nil v))) h (λ v fit. refl)
 
-  -- whether two scalars of a family are equal is a truth value
+  -- whether two scalars of a family are equal is a boolean
   equal_means : (l r : Kind) (family : Family) (left right : Typed) → ((v : Value) → fits_kind v l ≡ true → operators.is_in_family family v ≡ true)
       → ((v : Value) → fits_kind v r ≡ true → operators.is_in_family family v ≡ true) → MeansKind l (mean result here left) → MeansKind r (mean result here right)
       → MeansKind truth_kind (mean result here (typed.binary (binary.Equal family) left right))
@@ -95,7 +95,7 @@ module _ (result : Value) (here : Option Value) where
   equality_sound at false true left right h k = (refl, is_nil_means left.kind left.tree h)
   equality_sound at false false left right h k = equal_sound at (scalar left) (scalar right) left right refl refl h k
 
-  -- an answer that is a truth value means its kind
+  -- an answer that is a boolean means its kind
   truth_sound : (answer : Answer) → IfOk answer (IsTruth result here) → IfOk answer (Sound result here)
   truth_sound (Ok operand) h = is_sound result here operand h
   truth_sound (Err e) h = tt
@@ -126,7 +126,7 @@ module _ (result : Value) (here : Option Value) where
   unary_sound at unaries.Not operand h =
       wanted result here at (is_truth operand) (typed.unary unary.Not (made_plain operand)) truth_kind (λ is. opposite_means (made_plain operand) (is_true result here operand h is))
 
-  -- two operands that are truth values, made plain
+  -- two operands that are booleans, made plain
   truths : (left right : Operand) → Sound result here left → Sound result here right → (is_truth left && is_truth right) ≡ true
       → MeansKind truth_kind (mean result here (made_plain left)) × MeansKind truth_kind (mean result here (made_plain right))
   truths left right h k is =

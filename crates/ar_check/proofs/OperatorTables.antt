@@ -275,7 +275,7 @@ negated_applies operator left right found answer applies h =
     let condition = from_bind answer negated found h in
     subst (λ kind. Applies operator left.kind right.kind kind) (given_kind (typed.unary unary.Not condition.0.tree) condition.0.kind found condition.2) (applies condition.0 condition.1)
 
--- `and` and `or` are of two truth values
+-- `and` and `or` are of two booleans
 truths_apply : (at : ℕ) (operator : Binary) (left right found : Operand) (tree : Typed) → Operates operator shapes.bool shapes.bool shapes.bool
     → where_wanted at (is_truth left && is_truth right) tree truth_kind ≡ Ok found → Applies operator left.kind right.kind found.kind
 truths_apply at operator left right found tree row h =
@@ -382,7 +382,7 @@ in_typed at {item = item} {max = max} same of beside left right h k =
 pub negated_typed : (answer : Answer) (kind : Kind) → IsTyped answer kind → IsTyped (answer >>= negated) kind
 negated_typed answer kind h = then_typed answer negated kind kind h (λ tree. (typed.unary unary.Not tree, refl))
 
--- two truth values
+-- two booleans
 truths_typed : (at : ℕ) (of beside : Shape) (tree left right : Typed) → plain of ≡ shapes.bool → plain beside ≡ shapes.bool
     → IsTyped (where_wanted at (is_truth (operand left (shaped of)) && is_truth (operand right (shaped beside))) tree truth_kind) truth_kind
 truths_typed at of beside tree left right h k =

@@ -157,7 +157,7 @@ module _ (result : Value) (here : Option Value) where
 
   -- ---- membership
 
-  -- membership in a list of scalars of a family is a truth value
+  -- membership in a list of scalars of a family is a boolean
   member_means : (family : Family) (kind : Kind) (shape : Shape) (max : ℕ) (operand list : Typed) → ((v : Value) → fits_kind v kind ≡ true → operators.is_in_family family v ≡ true)
       → ((v : Value) → fits v shape ≡ true → operators.is_in_family family v ≡ true) → MeansKind kind (mean result here operand) → MeansKind (shaped (shapes.list shape max)) (mean result here list)
       → MeansKind truth_kind (mean result here (typed.binary binary.IsIn operand list))
@@ -168,7 +168,7 @@ module _ (result : Value) (here : Option Value) where
       (λ items short all. kinded_means (operators.of_one_family value items) (operators.has_item value items)
       (of_family family value items (both (operators.is_in_family family value) (operators.are_in_family family items) (in_operand value fit) (all_in_family family shape items in_items all)))) v is))
 
-  -- membership of scalars of one family is a truth value
+  -- membership of scalars of one family is a boolean
   member_sound : (at : ℕ) (m n : Option Scalar) (left : Operand) (list : Typed) (shape : Shape) (max : ℕ) → scalar left ≡ m → scalar_of (plain shape) ≡ n → Sound result here left
       → MeansKind (shaped (shapes.list shape max)) (mean result here list) → IfOk (member_of at m n left.tree list) (IsTruth result here)
   member_sound at (Some m) (Some n) left list shape max of_m of_n h k =

@@ -49,7 +49,7 @@ short_enough : (k m n : ℕ) → k ≤ m → nat_le m n ≡ true → nat_le k n 
 short_enough k m n h is = grind (arith, nat_tests)
 
 module _ (holds : Value → Result Bool Failure) (shape : Shape) (says : Says holds shape) where
-  -- whether all hold is a truth value
+  -- whether all hold is a boolean
   all_means : (items : Items) → AllFit shape items → MeansKind truth_kind (all_hold holds items)
   all_means values.no_items h = refl
   all_means (values.item v items) h =
@@ -57,7 +57,7 @@ module _ (holds : Value → Result Bool Failure) (shape : Shape) (says : Says ho
       means_then (λ it. Unit {0}) _ (holds v) (λ it. if it then all_hold holds items else Ok (values.bool false)) (says v parts.0)
       (λ it any. either_means truth_kind it (all_hold holds items) (Ok (values.bool false)) (all_means items parts.1) refl)
 
-  -- whether any holds is a truth value
+  -- whether any holds is a boolean
   any_means : (items : Items) → AllFit shape items → MeansKind truth_kind (any_holds holds items)
   any_means values.no_items h = refl
   any_means (values.item v items) h =
@@ -101,17 +101,17 @@ module _ (holds : Value → Result Bool Failure) (shape : Shape) (says : Says ho
       means_then (Among shape (count items)) _ (those holds items) (λ found. Ok (values.list found)) (those_mean items all)
       (λ found h. both (nat_le (count found) max) (all_items (λ v. fits v shape) found) (short_enough (count found) (count items) max h.0 short) h.1)
 
--- the body of a predicate over the items of a list: where it is a truth value, it means one for each item
+-- the body of a predicate over the items of a list: where it is a boolean, it means one for each item
 abbrev pub Body : Value → Kind → (Bool × Typed) → Type 0
 Body result list body = (shape : Shape) × (of : ListOf list shape) × (body.0 ≡ true → (v : Value) → fits v shape ≡ true → MeansKind truth_kind (mean result (Some v) body.1))
 
 module _ (result : Value) (here : Option Value) where
-  -- a body that is a truth value of each item says of each whether it holds
+  -- a body that is a boolean of each item says of each whether it holds
   body_says : (shape : Shape) (body : Typed) → ((v : Value) → fits v shape ≡ true → MeansKind truth_kind (mean result (Some v) body)) → Says (λ v. mean result (Some v) body >>= operators.truth) shape
   body_says shape body each v fit =
       means_then _ _ (mean result (Some v) body) operators.truth (each v fit) (λ w is. on_bool (λ w. Means (λ it. Unit {0}) (operators.truth w)) (λ b. tt) w is)
 
-  -- a predicate over a list means its kind, where its body is a truth value
+  -- a predicate over a list means its kind, where its body is a boolean
   pub predicate_means : (predicate : Predicate) (shape : Shape) (max : ℕ) (list body : Typed) → MeansKind (shaped (shapes.list shape max)) (mean result here list)
       → ((v : Value) → fits v shape ≡ true → MeansKind truth_kind (mean result (Some v) body))
       → MeansKind (predicate_kind predicate (shaped (shapes.list shape max))) (mean result here (typed.predicate predicate list body))

@@ -109,7 +109,7 @@ module _ (wanted : Shape) (result : Value) (fit : fits result wanted ≡ true) w
 
 -- ---- conditions
 
--- what has the kind of truth values is one, or a fault
+-- what has the kind of booleans is one, or a fault
 truth_or_fault : (m : Meaning) → MeansKind truth_kind m → IsTruthOrFault m
 truth_or_fault (Ok (values.bool holds)) h = is_truth holds
 truth_or_fault (Ok v) h = absurd (cc)
@@ -122,7 +122,7 @@ condition_means : (value : Value) (at : ℕ) (operand : Operand) (is_truth : Boo
 condition_means value at operand true is h = is_true value None operand h is
 condition_means value at operand false is h = tt
 
--- what is checked is a truth value, or a fault
+-- what is checked is a boolean, or a fault
 checked_means : (shape : Shape) (tree : Expression) (value : Value) → fits value shape ≡ true → IfOk (checked shape tree) (λ condition. MeansKind truth_kind (mean value None condition))
 checked_means shape tree value fit =
     answers _ _ (typed_of shape None 0 tree) (condition_of (place_of tree)) (tree_sound shape value fit None None tt 0 tree)

@@ -85,7 +85,7 @@ calculates Multiply Decimals v w fit also = decimals_mean on_decimals.Multiply v
 calculates Divide Decimals v w fit also = decimals_mean on_decimals.Divide v w fit also
 calculates Remainder Decimals v w fit also = tt
 
--- the order of any two numbers is a truth value
+-- the order of any two numbers is a boolean
 orders : (way : Order) (m n : Numbers) (v w : Value) → fits_kind v (number_kind m) ≡ true → fits_kind w (number_kind n) ≡ true → MeansKind truth_kind (operators.compare (compared_of m n) way v w)
 orders way Wholes Wholes v w fit also = two_wholes (λ v w. MeansKind truth_kind (operators.compare (compared_of Wholes Wholes) way v w)) (λ x y. refl) v w fit also
 orders way Decimals Decimals v w fit also = two_decimals (λ v w. MeansKind truth_kind (operators.compare (compared_of Decimals Decimals) way v w)) (λ x y. refl) v w fit also

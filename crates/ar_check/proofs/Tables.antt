@@ -81,16 +81,16 @@ pub scalar_within : (kind : Kind) (scalar : Scalar) → option_and_then scalar_o
 scalar_within nil scalar h = absurd (cc)
 scalar_within (shaped of) scalar h = (of, refl, shape_of_scalar (plain of) scalar h)
 
--- truth values
+-- booleans
 bool_of_scalar : (scalar : Option Scalar) → is_bool scalar ≡ true → scalar ≡ Some scalars.Bool
 bool_of_scalar (Some scalars.Bool) h = refl
 bool_of_scalar scalar h = absurd (cc)
 
--- the kind of a truth value
+-- the kind of a boolean
 pub truth_within : (kind : Kind) → is_bool (option_and_then scalar_of (plain_of kind)) ≡ true → (of : Shape) × (kind ≡ shaped of) × (plain of ≡ shapes.bool)
 truth_within kind h = scalar_within kind scalars.Bool (bool_of_scalar (option_and_then scalar_of (plain_of kind)) h)
 
--- what is plainly a truth value is one
+-- what is plainly a boolean is one
 pub truth_is : (shape : Shape) → shape ≡ shapes.bool → is_bool (scalar_of shape) ≡ true
 truth_is shape h = rw h refl
 

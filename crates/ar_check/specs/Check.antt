@@ -323,7 +323,7 @@ list_of at items None = list_in_common at items (common_of items)
 abbrev pub entered : ℕ → ℕ → Shape → Result Shape TypeError
 entered at around shape = if nat_lt around most_predicates then Ok shape else Err (PredicatesTooDeep at)
 
--- what holds of an item: whether that is a truth value, and its tree
+-- what holds of an item: whether that is a boolean, and its tree
 abbrev pub body_of : Operand → Result (Bool × Typed) TypeError
 body_of body = Ok (is_truth body, made_plain body)
 
@@ -407,6 +407,6 @@ item_typed result item around tree = typed_of result item around tree >>= λ ope
 abbrev pub condition_of : ℕ → Operand → Result Typed TypeError
 condition_of at operand = if is_truth operand then Ok (made_plain operand) else Err (NotTruth at)
 
--- the typed tree of a condition: a truth value, made plain
+-- the typed tree of a condition: a boolean, made plain
 abbrev pub checked : Shape → Expression → Result Typed TypeError
 checked result tree = typed_of result None 0 tree >>= condition_of (place_of tree)

@@ -149,7 +149,7 @@ mutual
 
 -- ---- whole conditions
 
--- a tree is a condition where `result` has a shape: it is a truth value there, which may be nil
+-- a tree is a condition where `result` has a shape: it is a boolean there, which may be nil
 pub record IsCondition (result : Shape) (tree : Expression) : Type 0 where
   pub shape : Shape
   pub typed : HasKind result None 0 tree (shaped shape)

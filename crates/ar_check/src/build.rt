@@ -10,7 +10,7 @@ use ar_condition::typed::{Typed, TypedItems};
 use ar_value::operator::{BinaryOperator, Scalar, UnaryOperator};
 use std::alloc::{AllocError, Global};
 
-/// What connects two truth values.
+/// What connects two booleans.
 #[derive(Clone, Copy)]
 pub(crate) enum Connective {
     And,

@@ -21,7 +21,7 @@ pub enum TypeError {
     NoCommonKind(usize),
     /// The item of a list here is no scalar.
     NotScalar(usize),
-    /// The whole condition is no truth value.
+    /// The whole condition is no boolean.
     NotTruth(usize),
     /// A predicate stands inside four others.
     PredicatesTooDeep(usize),
@@ -48,12 +48,17 @@ impl TypeError {
     fn words(self) -> &'static str {
         match self {
             TypeError::WrongOperand(_) =>
-                "WrongOperand: expected a record before a field; \"whole\" for an index and %; \"whole\" or \"decimal\" for a sign, + - * / < <= > >=; \"bool\" for ! && || ? and predicates; \"text\" for contains, startsWith and endsWith; numbers, \"bool\" or \"text\" alone for == != in",
+                "WrongOperand: expected a record before a field; \"whole\" for an index and %; \
+                 \"whole\" or \"decimal\" for a sign, + - * / < <= > >=; \"bool\" for ! && || ? \
+                 and predicates; \"text\" for contains, startsWith and endsWith; numbers, \"bool\" \
+                 or \"text\" alone for == != in",
             TypeError::NoSuchField(_) => "NoSuchField: the record has no such field",
             TypeError::NotAList(_) =>
-                "NotAList: expected {\"list\":shape,\"max\":number} before an index, after `in`, and for len, all, any, none, one, count and filter",
+                "NotAList: expected {\"list\":shape,\"max\":number} before an index, after `in`, \
+                 and for len, all, any, none, one, count and filter",
             TypeError::NoCommonKind(_) =>
-                "NoCommonKind: expected one shape for both branches, for all items of a list, or for a value and its default; \"whole\" goes beside \"decimal\"",
+                "NoCommonKind: expected one shape for both branches, for all items of a list, or \
+                 for a value and its default; \"whole\" goes beside \"decimal\"",
             TypeError::NotScalar(_) =>
                 "NotScalar: expected \"bool\", \"whole\", \"decimal\" or \"text\" as an item of a list",
             TypeError::NotTruth(_) =>

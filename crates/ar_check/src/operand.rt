@@ -109,7 +109,7 @@ pub(crate) fn into_tree(operand: Box<Operand<'_>>) -> Box<Typed>
     Box::into_inner(operand).tree
 }
 
-/// Whether an operand is a truth value once it is plain, and its tree made plain.
+/// Whether an operand is a boolean once it is plain, and its tree made plain.
 pub(crate) fn as_truth(
     alloc: Global,
     operand: Box<Operand<'_>>,
@@ -151,7 +151,7 @@ pub(crate) fn numbers(operand: &Operand<'_>) -> Option<Numbers>
     }
 }
 
-/// Whether an operand is a truth value once it is plain.
+/// Whether an operand is a boolean once it is plain.
 pub(crate) fn is_truth(operand: &Operand<'_>) -> bool
     ensures { result ≡ is_truth (operand_view operand.now) }
 {

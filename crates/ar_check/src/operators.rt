@@ -44,7 +44,7 @@ pub(crate) fn where_wanted<'s>(
     }
 }
 
-/// The kind of truth values.
+/// The kind of booleans.
 pub(crate) fn truth<'s>() -> Kind<'s>
     ensures { kind_view result ≡ truth_kind }
 {

@@ -45,12 +45,12 @@ const MOST_PREDICATES: usize = 4;
 ///
 /// The first fault in that order, with the place of the tree that wants something else. At one tree
 /// `NotAList`, `NoSuchField`, `NotScalar` and `NoCommonKind` go before `WrongOperand`. `NotTruth`
-/// where the whole is no truth value.
+/// where the whole is no boolean.
 pub fn check(alloc: Global, tree: Tree, shape: &Shape) -> Result<Typed, TypeError>
     // This typed tree, or this fault.
     ensures exact { Gives is_memory typed_view result (checked (shape_view shape.now) (expression_of tree)) }
 
-    // The same by the table of kinds: a truth value, plain or optional, or none.
+    // The same by the table of kinds: a boolean, plain or optional, or none.
     ensures condition { IfOk result (λ _. IsCondition (shape_view shape.now) (expression_of tree)) }
     ensures refused { IfErr result
         (λ error. Unless (is_memory error) (¬ (IsCondition (shape_view shape.now) (expression_of tree)))) }
@@ -336,7 +336,7 @@ fn typed_item(alloc: Global, tree: Tree, scope: &Scope<'_>) -> Result<Item, Type
     Ok(Item { at, scalar, tree })
 }
 
-/// What a predicate says of the items of a list: whether it is a truth value, and its tree.
+/// What a predicate says of the items of a list: whether it is a boolean, and its tree.
 #[cycle(typed)]
 fn typed_body(
     alloc: Global,

@@ -34,7 +34,7 @@ use Rattle.ar_workers.specs.declared.error.WorkError.TheVariants as work
 
 -- ---- what is written
 
--- the line that is written: a truth value, or a fault by its name, and a line feed
+-- the line that is written: a boolean, or a fault by its name, and a line feed
 abbrev pub line_of : Result Bool Fault → List ℕ
 line_of (Ok true) = codes "true\n"
 line_of (Ok false) = codes "false\n"

@@ -4,8 +4,9 @@
 //! any reader and writer, and their contracts are the program's promise: what is written is what the
 //! command says of the bytes that were taken, or the input is refused by the first fault that stands
 //! in it and nothing is written. Only out of memory, a failed read or write, a thread that can't be
-//! started and a lost number can keep them from that; after a failed write a front of it is written. What is left to the program are the words of
-//! refusals and the exit status. What `eval` answers is `ar_eval`'s.
+//! started and a lost number can keep them from that; after a failed write a front of it is written.
+//! What is left to the program are the words of refusals and the exit status. What `eval` answers is
+//! `ar_eval`'s.
 //!
 //! - [`serving`]: a command, from the bytes read to the bytes written
 //! - `answer`: what each command says of an input

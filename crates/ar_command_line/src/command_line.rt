@@ -37,7 +37,8 @@ pub enum Command {
 /// Why a command line asks for nothing.
 #[derive(Clone, Copy, Debug, Error)]
 pub enum UsageError {
-    #[error("command line: Words: expected `eval`, `check`, `list` or `run`, with the document on standard input, or --help")]
+    #[error("command line: Words: expected `eval`, `check`, `list` or `run`, with the document on \
+             standard input, or --help")]
     Words,
     #[error("command line, --workers: Workers: expected a whole number from 1 to 16")]
     Workers,

@@ -44,7 +44,8 @@ DivisionByZero.
 
 Examples:
   echo '{\"condition\":\"result >= 0.95\",\"shape\":\"decimal\",\"value\":\"0.9523\"}' | argo_judge eval
-  echo '{\"condition\":\"all(result, # < 500)\",\"shape\":{\"list\":\"whole\",\"max\":10},\"value\":[437,512]}' | argo_judge eval";
+  echo '{\"condition\":\"all(result, # < 500)\",\"shape\":{\"list\":\"whole\",\"max\":10},\
+         \"value\":[437,512]}' | argo_judge eval";
 
 /// The help of `check`, `list` and `run`: the document that they read, and what they make of it.
 macro_rules! document_help {
@@ -54,7 +55,8 @@ macro_rules! document_help {
 
   {
     \"manifest\": {
-      \"apiVersion\": \"argoproj.io/v1alpha1\", \"kind\": \"AnalysisTemplate\", \"metadata\": {\"name\": \"success-rate\"},
+      \"apiVersion\": \"argoproj.io/v1alpha1\", \"kind\": \"AnalysisTemplate\", \
+      \"metadata\": {\"name\": \"success-rate\"},
       \"spec\": {
         \"args\": [{\"name\": \"threshold\", \"value\": \"0.95\"}],
         \"metrics\": [{\"name\": \"success-rate\", \"interval\": \"1m\", \"count\": 3,

@@ -5,7 +5,8 @@
 //! `application`, and the command that a subcommand with its matches names, `command_named`. Where
 //! `clap` finds no fault in the words, that command is answered, or `Workers` where its number of
 //! workers is none from 1 to 16, or else `Conflict` where `run` is to be both ordered and plain; where
-//! it finds one, `Words`. Only want of memory can keep it from that. [`shown`] is the text of `--help` or `--version`, where the words ask for one.
+//! it finds one, `Words`. Only out of memory can keep it from that. [`shown`] is the text of `--help`
+//! or `--version`, where the words ask for one.
 //!
 //! - `command_line`: the calls, and the command line as `clap` builds it
 //! - `help`: the texts of `--help`

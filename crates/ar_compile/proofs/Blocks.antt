@@ -21,7 +21,7 @@ IsPlain (Step predicate enter) = ⊥
 IsPlain Return = ⊥
 IsPlain op = Unit {0}
 
--- a jump where a truth value decides, or the next place
+-- a jump where a boolean decides, or the next place
 abbrev pub SkipsTo : ℕ → Op → Type 0
 SkipsTo target (Jump jumps.And place) = place ≡ target
 SkipsTo target (Jump jumps.Or place) = place ≡ target

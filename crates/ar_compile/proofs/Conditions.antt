@@ -30,11 +30,11 @@ from_zero : (n : ℕ) → n ≡ 0 + n
 from_zero n = omega arith
 
 module _ (code : Code) (result : Value) where
-  -- with a truth value on top, Return ends
+  -- with a boolean on top, Return ends
   returns : (answer : Result Bool Fault) (place : ℕ) (b : Bool) → answer ≡ Ok b → At code place Return → Reached code result answer place (values.bool b ∷ []) []
   returns answer place b is there = by_op code result answer Return place (values.bool b ∷ []) [] there (omega arith) (λ cost. sym is)
 
-  -- what a truth value or a fault leads to
+  -- what a boolean or a fault leads to
   to_end : (m : Meaning) (place : ℕ) → MeansKind truth_kind m → At code place Return → LeadsTo code result (answer_of m) m place [] []
   to_end (Ok v) place fit there = on_bool (λ v. Reached code result (answer_of (Ok v)) place (v ∷ []) []) (λ b. returns (Ok b) place b refl there) v fit
   to_end (Err (faulted fault)) place fit there = refl

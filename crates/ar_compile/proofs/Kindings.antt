@@ -224,7 +224,7 @@ module _ (wanted : Shape) (inner : Option Shape) (around : ℕ) where
   unary_kinded at unaries.Plus operand h = positive_kinded at (numbers operand) (made_plain operand) (are_numbers operand h)
   unary_kinded at unaries.Not operand h = wanted_kinded at (is_truth operand) (typed.unary unary.Not (made_plain operand)) truth_kind (λ is. of_unary (is_true operand h is) refl)
 
-  -- ---- truth values
+  -- ---- booleans
 
   abbrev IsTruth : Operand → Type 0
   IsTruth operand = (operand.kind ≡ truth_kind) × Has operand.tree truth_kind
@@ -434,7 +434,7 @@ module _ (wanted : Shape) where
   abbrev Typing : Option Shape → ℕ → Operand → Type 0
   Typing inner around operand = Kinded wanted inner around operand.tree operand.kind
 
-  -- what holds of the items of a list, where a body has the kind of truth values
+  -- what holds of the items of a list, where a body has the kind of booleans
   over_kinded : (inner : Option Shape) (around at : ℕ) (kind : Kind) (found : Shape → Answer) → ((shape : Shape) → IfOk (found shape) (Typing (Some shape) (suc around))) → IfOk (over_items at around kind found) (Body wanted inner around kind)
   unfolding over_items
   over_kinded inner around at kind found has =
@@ -485,7 +485,7 @@ module _ (wanted : Shape) where
   condition_kinded at operand true is h = is_true wanted None 0 operand h is
   condition_kinded at operand false is h = tt
 
-  -- what is checked is a truth value, by the kinds of typed trees
+  -- what is checked is a boolean, by the kinds of typed trees
   pub checked_kinded : (tree : Expression) → IfOk (checked wanted tree) (λ condition. Kinded wanted None 0 condition truth_kind)
   checked_kinded tree =
       answers _ _ (typed_of wanted None 0 tree) (condition_of (place_of tree)) (tree_kinded None 0 tree) (λ operand h. condition_kinded (place_of tree) operand (is_truth operand) refl h)

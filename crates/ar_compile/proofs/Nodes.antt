@@ -126,7 +126,7 @@ module _ (code : Code) (result : Value) (answer : Result Bool Fault) where
 
   -- ---- jumps
 
-  -- a truth value on top, and what is done with it
+  -- a boolean on top, and what is done with it
   by_truth : (m : Meaning) (next : Bool → Meaning) (place end : ℕ) (operands : List Value) (loops : List Loop) → MeansKind truth_kind m
       → ((b : Bool) → LeadsTo (next b) end operands loops → Reached place (values.bool b ∷ operands) loops)
       → LeadsTo (m >>= λ v. truth v >>= next) end operands loops → LeadsTo m place operands loops

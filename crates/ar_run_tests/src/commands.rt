@@ -10,7 +10,10 @@ use std::process::Abort;
 
 /// A metric that is to be above 1, and two runs, one of which isn't measured.
 const DOCUMENT: &str =
-    r#"{"manifest":{"apiVersion":"argoproj.io/v1alpha1","kind":"AnalysisTemplate","metadata":{"name":"t"},"spec":{"metrics":[{"name":"m","successCondition":"result > 1"}]}},"shapes":{"m":"whole"},"runs":[{"name":"a"},{"name":"b"}],"measurements":[{"run":"a","metric":"m","value":2}]}"#;
+    r#"{"manifest":{"apiVersion":"argoproj.io/v1alpha1","kind":"AnalysisTemplate","metadata":{"name":"t"},
+    "spec":{"metrics":[{"name":"m","successCondition":"result > 1"}]}},
+    "shapes":{"m":"whole"},"runs":[{"name":"a"},{"name":"b"}],
+    "measurements":[{"run":"a","metric":"m","value":2}]}"#;
 
 /// What the commands write for the document.
 const PLAIN: &str = "\

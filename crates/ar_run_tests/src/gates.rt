@@ -9,11 +9,19 @@ pub(crate) const TURNS: u32 = 10_000_000;
 
 /// Two runs, each with one measurement, which holds.
 pub(crate) const TWO_RUNS: &str =
-    r#"{"manifest":{"apiVersion":"argoproj.io/v1alpha1","kind":"AnalysisTemplate","metadata":{"name":"t"},"spec":{"metrics":[{"name":"m","successCondition":"result > 1"}]}},"shapes":{"m":"whole"},"runs":[{"name":"r0"},{"name":"r1"}],"measurements":[{"run":"r0","metric":"m","value":2},{"run":"r1","metric":"m","value":3}]}"#;
+    r#"{"manifest":{"apiVersion":"argoproj.io/v1alpha1","kind":"AnalysisTemplate","metadata":{"name":"t"},
+    "spec":{"metrics":[{"name":"m","successCondition":"result > 1"}]}},
+    "shapes":{"m":"whole"},"runs":[{"name":"r0"},{"name":"r1"}],
+    "measurements":[{"run":"r0","metric":"m","value":2},{"run":"r1","metric":"m","value":3}]}"#;
 
 /// A run that is measured three times and fails at the last.
 pub(crate) const FAILING: &str =
-    r#"{"manifest":{"apiVersion":"argoproj.io/v1alpha1","kind":"AnalysisTemplate","metadata":{"name":"t"},"spec":{"metrics":[{"name":"m","interval":"1m","count":3,"failureLimit":1,"successCondition":"result > 0"}]}},"shapes":{"m":"whole"},"runs":[{"name":"r0"}],"measurements":[{"run":"r0","metric":"m","value":1},{"run":"r0","metric":"m","value":0},{"run":"r0","metric":"m","value":0}]}"#;
+    r#"{"manifest":{"apiVersion":"argoproj.io/v1alpha1","kind":"AnalysisTemplate","metadata":{"name":"t"},
+    "spec":{"metrics":[{"name":"m","interval":"1m","count":3,"failureLimit":1,
+    "successCondition":"result > 0"}]}},
+    "shapes":{"m":"whole"},"runs":[{"name":"r0"}],
+    "measurements":[{"run":"r0","metric":"m","value":1},{"run":"r0","metric":"m","value":0},
+    {"run":"r0","metric":"m","value":0}]}"#;
 
 /// A gate at which numbers 0 and 1 wait for each other.
 #[derive(Drop)]

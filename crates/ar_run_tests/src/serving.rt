@@ -67,7 +67,8 @@ fn two_workers_meet_in_a_command(rt: HostRuntime) {
     assert!(rt; meeting.is_held());
 }
 
-/// Where two workers have judged while a third holds number 0, an ordered document is served, whose report is that of the plain run.
+/// Where two workers have judged while a third holds number 0, an ordered document is served, whose
+/// report is that of the plain run.
 #[test]
 fn in_order_in_a_command(rt: HostRuntime) {
     let alloc = rt.alloc();

@@ -16,7 +16,11 @@ use std::thread::Threads;
 
 /// A run that is measured three times, and stays open.
 const THREE_ENTRIES: &str =
-    r#"{"manifest":{"apiVersion":"argoproj.io/v1alpha1","kind":"AnalysisTemplate","metadata":{"name":"t"},"spec":{"metrics":[{"name":"m","interval":"1m","successCondition":"result > 1"}]}},"shapes":{"m":"whole"},"runs":[{"name":"r0"}],"measurements":[{"run":"r0","metric":"m","value":2},{"run":"r0","metric":"m","value":3},{"run":"r0","metric":"m","value":4}]}"#;
+    r#"{"manifest":{"apiVersion":"argoproj.io/v1alpha1","kind":"AnalysisTemplate","metadata":{"name":"t"},
+    "spec":{"metrics":[{"name":"m","interval":"1m","successCondition":"result > 1"}]}},
+    "shapes":{"m":"whole"},"runs":[{"name":"r0"}],
+    "measurements":[{"run":"r0","metric":"m","value":2},{"run":"r0","metric":"m","value":3},
+    {"run":"r0","metric":"m","value":4}]}"#;
 
 /// The histories of a document's run with so many workers.
 fn histories<G: Gate, R: Threads + Wait + Sync>(

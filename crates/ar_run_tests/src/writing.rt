@@ -12,7 +12,12 @@ use std::thread::Threads;
 
 /// Two metrics and two runs, one of which is stopped and the other fails.
 const DOCUMENT: &str =
-    r#"{"manifest":{"apiVersion":"argoproj.io/v1alpha1","kind":"AnalysisTemplate","metadata":{"name":"t"},"spec":{"metrics":[{"name":"a","count":3,"interval":"1m","successCondition":"result > 0"},{"name":"b","count":3,"interval":"1m","successCondition":"result > 0"}]}},"shapes":{"a":"whole","b":"whole"},"runs":[{"name":"r0"},{"name":"r1"}],"measurements":[{"run":"r0","stop":true},{"run":"r1","metric":"a","value":0}]}"#;
+    r#"{"manifest":{"apiVersion":"argoproj.io/v1alpha1","kind":"AnalysisTemplate","metadata":{"name":"t"},
+    "spec":{"metrics":[
+    {"name":"a","count":3,"interval":"1m","successCondition":"result > 0"},
+    {"name":"b","count":3,"interval":"1m","successCondition":"result > 0"}]}},
+    "shapes":{"a":"whole","b":"whole"},"runs":[{"name":"r0"},{"name":"r1"}],
+    "measurements":[{"run":"r0","stop":true},{"run":"r1","metric":"a","value":0}]}"#;
 
 /// What is reported of the document.
 const REPORT: &str = "\

@@ -78,7 +78,8 @@ impl SyntaxError {
             SyntaxError::NumberTooLarge(_) =>
                 "NumberTooLarge: expected a whole up to 9223372036854775807 or a decimal up to 9223372036854.775807",
             SyntaxError::Unexpected(_) =>
-                "Unexpected: no condition goes on so, as `result >= 0.95` does; a {{args.name}} gives way to its value before a condition is read",
+                "Unexpected: no condition goes on so, as `result >= 0.95` does; a {{args.name}} \
+                 gives way to its value before a condition is read",
             SyntaxError::UnknownName(_) =>
                 "UnknownName: no word of the language, as `result` is, and no name behind a point",
             SyntaxError::WrongCount(_) =>

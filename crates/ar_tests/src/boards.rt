@@ -37,7 +37,12 @@ fn put_line<T: Debug>(text: &mut String, answer: &T) -> Result<(), Fail> {
 /// Two runs that are measured three times each: the first succeeds at its second measurement, the second
 /// fails at its second.
 const THREE_EACH: &str =
-    r#"{"manifest":{"apiVersion":"argoproj.io/v1alpha1","kind":"AnalysisTemplate","metadata":{"name":"t"},"spec":{"metrics":[{"name":"m","interval":"1m","count":2,"successCondition":"result > 0"}]}},"shapes":{"m":"whole"},"runs":[{"name":"r0"},{"name":"r1"}],"measurements":[{"run":"r0","metric":"m","value":1},{"run":"r1","metric":"m","value":1},{"run":"r0","metric":"m","value":2},{"run":"r0","metric":"m","value":0},{"run":"r1","metric":"m","value":0},{"run":"r1","metric":"m","value":5}]}"#;
+    r#"{"manifest":{"apiVersion":"argoproj.io/v1alpha1","kind":"AnalysisTemplate","metadata":{"name":"t"},
+    "spec":{"metrics":[{"name":"m","interval":"1m","count":2,"successCondition":"result > 0"}]}},
+    "shapes":{"m":"whole"},"runs":[{"name":"r0"},{"name":"r1"}],
+    "measurements":[{"run":"r0","metric":"m","value":1},{"run":"r1","metric":"m","value":1},
+    {"run":"r0","metric":"m","value":2},{"run":"r0","metric":"m","value":0},
+    {"run":"r1","metric":"m","value":0},{"run":"r1","metric":"m","value":5}]}"#;
 
 /// A receipt that no seat has.
 const ELSEWHERE: &[Receipt] = &[Receipt {

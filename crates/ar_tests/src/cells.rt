@@ -175,8 +175,9 @@ fn assert_document(
 /// Two runs, each with one measurement, which holds.
 pub(crate) const TWO_RUNS: &str =
     r#"{"manifest":{"apiVersion":"argoproj.io/v1alpha1","kind":"AnalysisTemplate","metadata":{"name":"t"},
-    "spec":{"metrics":[{"name":"m","successCondition":"result[0] >= 0.95"}]}},"shapes":{"m":{"list":"decimal","max":10}},
-    "runs":[{"name":"r0"},{"name":"r1"}],"measurements":[{"run":"r0","metric":"m","value":["0.99"]},{"run":"r1","metric":"m","value":["0.96"]}]}"#;
+    "spec":{"metrics":[{"name":"m","successCondition":"result[0] >= 0.95"}]}},
+    "shapes":{"m":{"list":"decimal","max":10}},"runs":[{"name":"r0"},{"name":"r1"}],
+    "measurements":[{"run":"r0","metric":"m","value":["0.99"]},{"run":"r1","metric":"m","value":["0.96"]}]}"#;
 
 const CLOSING: &str = "Ok(Posted { place: 0, effect: Closed(Successful) })";
 
@@ -223,8 +224,10 @@ fn two_workers(rt: HostRuntime) -> Result<(), Fail> {
 /// A run with a measurement, a stop, and another measurement.
 const STOPPED: &str =
     r#"{"manifest":{"apiVersion":"argoproj.io/v1alpha1","kind":"AnalysisTemplate","metadata":{"name":"t"},
-    "spec":{"metrics":[{"name":"m","interval":"1m","successCondition":"result > 0"}]}},"shapes":{"m":"whole"},
-    "runs":[{"name":"r0"}],"measurements":[{"run":"r0","metric":"m","value":1},{"run":"r0","stop":true},{"run":"r0","metric":"m","value":0}]}"#;
+    "spec":{"metrics":[{"name":"m","interval":"1m","successCondition":"result > 0"}]}},
+    "shapes":{"m":"whole"},"runs":[{"name":"r0"}],
+    "measurements":[{"run":"r0","metric":"m","value":1},{"run":"r0","stop":true},
+    {"run":"r0","metric":"m","value":0}]}"#;
 
 /// What is added behind a stop is late, and is shown among the posts.
 #[test]

@@ -42,7 +42,7 @@ shallow false sents more e h = absurd cc
 
 -- ---- what an operation that is let through has on top, and sends on
 
--- a truth value on top
+-- a boolean on top
 pub record OnTruth (kinds : List Kind) (next : List Kind → Result (List Sent) Reason) (more : List Sent) : Type 0 where
   pub taken : List Kind
   pub are : kinds ≡ truth ∷ taken
@@ -73,7 +73,7 @@ pub enters : (predicate : Predicate) (place step : ℕ) (kinds : List Kind) (loo
 enters predicate place step (shaped (shapes.list item most) ∷ below) loops more h = record { item = item; most = most; below = below; are = refl; sent = cc }
 enters predicate place step kinds loops more h = absurd cc
 
--- a loop of which nothing but the truth value lies above the floor
+-- a loop of which nothing but the boolean lies above the floor
 pub record Ended (predicate : Predicate) (place : ℕ) (kinds : List Kind) (loops : List Around) (more : List Sent) : Type 0 where
   pub loop : Around
   pub outer : List Around

@@ -216,7 +216,7 @@ module _ (code : Code) (shape : Shape) (sents : List Sent) (is : Clean code shap
   either_place true one other place loops cost operands h k = h
   either_place false one other place loops cost operands h k = k
 
-  -- a truth value on top leads on
+  -- a boolean on top leads on
   truth_leads : (next : Bool → List Value → Next) (at_place place : ℕ) (loops : List Loop) (cost : ℕ) (top base : List Value) (taken : List Kind) → Fit top (truth ∷ taken)
       → ((holds : Bool) (others : List Value) → Fit others taken → Leads place loops cost (next holds (others ++ base))) → Leads place loops cost (machine.on_truth at_place (top ++ base) next)
   truth_leads next at_place place loops cost (v ∷ others) base taken fit each =

@@ -41,7 +41,7 @@ both false b h k = absurd (cc)
 
 -- ---- values of a shape
 
--- what holds of truth values holds of what fits their shape; below, likewise of other shapes
+-- what holds of booleans holds of what fits their shape; below, likewise of other shapes
 pub on_bool : (P : Value → Type 0) → ((b : Bool) → P (values.bool b)) → (v : Value) → fits v shapes.bool ≡ true → P v
 on_bool P each (values.bool b) h = each b
 on_bool P each v h = absurd (cc)

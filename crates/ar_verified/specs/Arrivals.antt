@@ -88,7 +88,7 @@ abbrev pub lacks : Op → Operands → Bool
 lacks (ops.Push sources.Item) had = is_none (item_of had.loops)
 lacks op had = nat_lt (length had.kinds) (takes op)
 
--- where a truth value is on top
+-- where a boolean is on top
 abbrev pub on_truth : List Kind → (List Kind → Result (List Sent) Reason) → Result (List Sent) Reason
 on_truth (shaped bool ∷ kinds) next = next kinds
 on_truth kinds next = Err IllKinded
@@ -112,12 +112,12 @@ entered predicate place step (shaped (list item most) ∷ kinds) loops =
     Ok (sent (suc place) [] (record { item = item; most = most; below = kinds } ∷ loops) ∷ sent (suc step) (answer_kind predicate item most ∷ kinds) loops ∷ [])
 entered predicate place step kinds loops = Err IllKinded
 
--- behind a loop, where nothing but its truth value was above its floor
+-- after a loop, where nothing but its boolean was above its floor
 abbrev pub ended : Predicate → (place : ℕ) → List Kind → List Around → Result (List Sent) Reason
 ended predicate place [] (loop ∷ outer) = Ok (sent (suc place) (answer_kind predicate loop.item loop.most ∷ loop.below) outer ∷ [])
 ended predicate place kinds loops = Err BadMerge
 
--- to the place of a jump or on, with the truth value on top where it stays
+-- to the place of a jump or on, with the boolean on top where it stays
 abbrev pub jumped : Jump → (place target : ℕ) → List Kind → List Around → Result (List Sent) Reason
 jumped jumps.And place target kinds loops = on_truth kinds (λ taken. Ok (sent target kinds loops ∷ sent (suc place) taken loops ∷ []))
 jumped jumps.Or place target kinds loops = on_truth kinds (λ taken. Ok (sent target kinds loops ∷ sent (suc place) taken loops ∷ []))

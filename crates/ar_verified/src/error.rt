@@ -44,14 +44,16 @@ impl Reason {
             Reason::NoReturn => "NoReturn: expected Return as the last operation",
             Reason::Unreachable => "Unreachable: expected an operation that a run can come to",
             Reason::BadMerge =>
-                "BadMerge: expected operands of the same number and of kinds with one in common, from wherever a run comes",
+                "BadMerge: expected operands of the same number and of kinds with one in common, \
+                 from wherever a run comes",
             Reason::MissingOperand =>
                 "MissingOperand: expected its operands above what the innermost loop began with",
             Reason::IllKinded =>
                 "IllKinded: expected operands of the kinds that the operation takes",
             Reason::StackTooDeep => "StackTooDeep: expected at most 64 operands",
             Reason::BudgetTooLarge =>
-                "BudgetTooLarge: a run of it may cost more than 1000000000; lower the greatest lengths of its lists or nest fewer predicates",
+                "BudgetTooLarge: a run of it may cost more than 1000000000; lower the greatest \
+                 lengths of its lists or nest fewer predicates",
         }
     }
 }

@@ -17,7 +17,7 @@ use Rattle.ar_verify.specs.Private.Stacks.{TakesScalar}
 use Rattle.ar_verified.specs.declared.error.Reason.{Reason}
 use Rattle.ar_verified.specs.declared.error.Reason.TheVariants.{IllKinded}
 
--- ---- a truth value on top
+-- ---- a boolean on top
 
 truth_on_top : (kind : Kind) (kinds : List Kind) → true ≡ is_scalar scalars.Bool kind → truth_taken (kind ∷ kinds) ≡ Ok kinds
 truth_on_top nil kinds is = absurd cc

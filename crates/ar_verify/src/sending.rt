@@ -44,7 +44,7 @@ pub(crate) enum Sends<M: ShapeName> {
     Two(Sent<M>, Sent<M>),
 }
 
-/// Takes a truth value.
+/// Takes a boolean.
 fn take_truth<M: ShapeName>(kinds: &mut Vec<Kind<M>>) -> Result<(), Failure>
     ensures { Meets (λ _. from_top kinds.new.items) result (truth_taken (from_top kinds.old.items)) }
 {
@@ -108,7 +108,7 @@ fn innermost<'a, M: ShapeName>(loops: &'a [Around<M>]) -> Option<&'a Parts<M>>
     Some(&loops.last()?.list.parts)
 }
 
-/// Goes to a place with the truth value on top, or on without it.
+/// Goes to a place with the boolean on top, or on without it.
 fn keep_or_take<M: ShapeName>(
     alloc: Global,
     next: usize,
@@ -132,7 +132,7 @@ fn keep_or_take<M: ShapeName>(
     ))
 }
 
-/// Goes to a place or on, without the truth value on top.
+/// Goes to a place or on, without the boolean on top.
 fn branch<M: ShapeName>(
     alloc: Global,
     next: usize,
@@ -266,7 +266,7 @@ fn enter<M: ShapeName>(
     Ok(begin_loop(alloc, predicate, next, step as usize + 1, list, had)?)
 }
 
-/// Takes the truth value of a loop's body, which has to be alone above the floor.
+/// Takes the boolean of a loop's body, which has to be alone above the floor.
 fn take_answer<M: ShapeName>(mut kinds: Vec<Kind<M>>) -> Result<(), Failure>
     ensures exact { Meets (λ _. []) result (only_truth (from_top kinds.items)) }
     ensures taken { OnOk result (truth_taken (from_top kinds.items) ≡ Ok []) }
@@ -296,7 +296,7 @@ fn end_loop<M: ShapeName>(
     }))
 }
 
-/// Goes behind a loop, where nothing but the truth value of its body is above its floor.
+/// Goes on after a loop, where nothing but the boolean of its body is above its floor.
 fn step<M: ShapeName>(
     alloc: Global,
     predicate: Predicate,
@@ -310,7 +310,7 @@ fn step<M: ShapeName>(
     end_loop(alloc, predicate, next, had.loops)
 }
 
-/// Ends with the truth value on top.
+/// Ends with the boolean on top.
 fn answer<M: ShapeName>(mut had: Operands<M>) -> Result<Sends<M>, Failure>
     ensures { Meets sends_view result (returning (operands_view had).kinds) }
 {

@@ -49,8 +49,8 @@ fn check(alloc: Global, code: &Code, shape: &SharedShape) -> Result<Bounds, Caus
     unless_too_large(budget, arrivals.depth)
 }
 
-/// Verifies code for a shape of the measured value, which verified code keeps. It is accepted if it has no fault, and refused
-/// for its first one otherwise.
+/// Verifies code for a shape of the measured value, which verified code keeps. It is accepted if it has
+/// no fault, and refused for its first one otherwise.
 ///
 /// # Errors
 ///

@@ -67,7 +67,7 @@ inside scope shape body = typed_of (shape_view scope.measured.now) (Some shape) 
 abbrev pub item_scalar : ℕ → Kind → Result (Option Scalar) TypeError
 item_scalar at list = item_shape at (plain_of list) >>= λ shape. Ok (scalar_of (plain shape))
 
--- two truth values, connected
+-- two booleans, connected
 abbrev pub connected : Connective → Typed → Typed → Typed
 connected And left right = typed.both left right
 connected Or left right = typed.either left right

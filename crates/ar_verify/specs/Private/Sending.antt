@@ -38,7 +38,7 @@ abbrev pub where_empty : List Kind → Result (List Kind) Reason
 where_empty [] = Ok []
 where_empty (kind ∷ kinds) = Err BadMerge
 
--- a truth value with nothing below it
+-- a boolean with nothing below it
 abbrev pub only_truth : List Kind → Result (List Kind) Reason
 only_truth kinds = truth_taken kinds >>= λ taken. where_empty taken
 
