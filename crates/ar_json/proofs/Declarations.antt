@@ -30,7 +30,7 @@ pub object_level : (levels : ℕ) (given : Members) → (levels ≡ 0 → ⊥) �
 object_level zero given h = absurd (h refl)
 object_level (suc levels) given h = simp unary_clauses refl
 
--- what may be want of memory for some JSON is want of memory
+-- what may be out of memory for some JSON is out of memory
 pub for_is_memory : (d : Data) (e : ShapeError) → is_memory_for d e ≡ true → is_memory e ≡ true
 for_is_memory null e h = absurd (cc)
 for_is_memory (boolean b) e h = absurd (cc)

@@ -1,4 +1,4 @@
--- No answer that is defined is want of memory.
+-- No answer that is defined is out of memory.
 use Rattle.std.proofs.Common.{◌≡◌, ◌≢◌, ℕ, zero, suc, ℤ, Bool, true, false, nat_le, List, Option, None, Some, Result, Ok, Err, refl}
 use Rattle.std.specs.Prelude.{◌&&◌, codes, if◌then◌else◌, option_and_then}
 use Rattle.std.specs.Str.{bytes_eq}
@@ -23,7 +23,7 @@ use Rattle.ar_json.specs.declared.shape_reading.ShapeError.TheVariants as error
 use Rattle.ar_json.specs.declared.value_reading.ShapeFault.{ShapeFault}
 use Rattle.ar_json.specs.declared.value_reading.ShapeFault.TheVariants as fault
 
--- a refusal of the answer, if it is one, isn't want of memory
+-- a refusal of the answer, if it is one, isn't out of memory
 abbrev Judges : {A E : Type 0} → (E → Bool) → Result A E → Type 0
 Judges is_memory (Ok x) = Unit {0}
 Judges is_memory (Err e) = is_memory e ≡ false

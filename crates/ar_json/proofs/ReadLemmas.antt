@@ -36,7 +36,7 @@ pub leads : {P Q : Type 0} (m : Bool) → (P → Q) → Unless m P → Unless m 
 leads true f h = tt
 leads false f h = f h
 
--- what may be want of memory under a shape is want of memory
+-- what may be out of memory under a shape is out of memory
 pub under_is_memory : (shape : Shape) (e : ShapeFault) → is_memory_under shape e ≡ true → is_memory e ≡ true
 under_is_memory shapes.bool e h = absurd (cc)
 under_is_memory shapes.whole e h = absurd (cc)

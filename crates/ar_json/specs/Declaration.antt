@@ -1,7 +1,7 @@
 -- The shape that a JSON value (RFC 8259) declares, or the first thing that is wrong with it, outer before inner:
 --
 --     "bool" | "whole" | "decimal" | "text"
---     {"list": shape, "max": number}    items, at most so many
+--     {"list": shape, "max": number}    items, n at most
 --     {"record": {name: shape, ..}}     fields by name
 --     {"optional": shape}               null, or a value of the shape
 use Rattle.std.specs.Prelude.{ℕ, zero, suc, Bool, true, false, ◌&&◌, nat_le, if◌then◌else◌, List, codes, Option, Some, None, option_and_then, Result, Ok, Err}
@@ -66,7 +66,7 @@ object_declared inner (member first json (member second max no_members)) =
     if bytes_eq first (codes "list") && bytes_eq second (codes "max") then list_declared inner json max else Err UnknownShape
 object_declared inner others = Err UnknownShape
 
--- a shape of at most so many levels, where each shape in it is a level
+-- a shape of at most n levels, where each shape in it is a level
 abbrev pub shape_within : ℕ → Data → Result Shape ShapeError
 shape_within zero json = Err TooDeep
 shape_within (suc levels) (string name) = scalar_named name
@@ -81,7 +81,7 @@ abbrev pub is_memory : ShapeError → Bool
 is_memory OutOfMemory = true
 is_memory error = false
 
--- want of memory may stand for the answer only where an object declares the shape: a name takes none
+-- out of memory may be returned only where an object declares the shape: a name takes none
 abbrev pub is_memory_for : Data → ShapeError → Bool
 is_memory_for (object given) error = is_memory error
 is_memory_for json error = false

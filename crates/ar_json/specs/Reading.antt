@@ -60,7 +60,7 @@ field_read read shape (Some d) = read d
 field_read read shape None = absent_read shape
 
 abbrev mutual
-  -- Null is nil under an optional shape. A truth value is read from a JSON truth value, a whole from a JSON number, a
+  -- Null is nil under an optional shape. A boolean is read from a JSON boolean, a whole from a JSON number, a
   -- decimal from a text or a JSON number, a text from a JSON string, a list from an array and a record from an object.
   pub read : Shape → Data → Result Value ShapeFault
   read shapes.bool (json.boolean b) = Ok (bool b)
@@ -86,7 +86,7 @@ abbrev pub is_memory : ShapeFault → Bool
 is_memory OutOfMemory = true
 is_memory fault = false
 
--- want of memory may stand for the answer only where values of the shape take memory: truth values and numbers take none
+-- out of memory may be returned only where values of the shape take memory: booleans and numbers take none
 abbrev pub is_memory_under : Shape → ShapeFault → Bool
 is_memory_under shapes.bool fault = false
 is_memory_under shapes.whole fault = false

@@ -16,7 +16,7 @@ pub fn what_is_read_fits()
     ensures { (shape : Shape) (json : Data) (value : Value) → read shape json ≡ Ok value → fits value shape ≡ true }
 {}
 
-/// No JSON value is refused for want of memory: that is never its own fault.
+/// No JSON value is refused as out of memory: that is never its own fault.
 #[tactic(auto, using(crate::proofs::Memory::shape_not_memory, crate::proofs::Memory::value_not_memory))]
 pub fn memory_is_no_fault()
     ensures shape { (json : Data) → shape_of json ≢ Err ShapeError.OutOfMemory }

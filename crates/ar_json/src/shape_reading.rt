@@ -43,7 +43,8 @@ impl ShapeError {
         match self {
             ShapeError::TooDeep => "TooDeep: a shape has at most 16 levels",
             ShapeError::UnknownShape =>
-                "UnknownShape: expected \"bool\", \"whole\", \"decimal\", \"text\", {\"list\":shape,\"max\":number}, {\"record\":{name:shape,..}} or {\"optional\":shape}",
+                "UnknownShape: expected \"bool\", \"whole\", \"decimal\", \"text\", {\"list\":shape,\"max\":number}, \
+                 {\"record\":{name:shape,..}} or {\"optional\":shape}",
             ShapeError::MaxMissing =>
                 "MaxMissing: expected a list's greatest length as \"max\", a whole number of 0 or more",
             ShapeError::MaxTooLarge =>
@@ -99,7 +100,7 @@ pub fn read_shape(alloc: Global, json: &Json) -> Result<Shape, ShapeError>
     shape_within(alloc, json, MOST_SHAPE_LEVELS)
 }
 
-/// The shape of at most so many levels.
+/// The shape of at most n levels.
 #[cycle(shape_within)]
 #[tactic(auto, using(crate::proofs::Declarations::scalar_level, crate::proofs::Declarations::object_level))]
 fn shape_within(alloc: Global, json: &Json, levels: usize) -> Result<Shape, ShapeError>

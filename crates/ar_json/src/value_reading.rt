@@ -83,7 +83,7 @@ impl<T: Drop> From<AllocFailed<T>> for ShapeFault {
 }
 
 /// The value that a JSON value is under a shape. Null is nil under an optional shape. A truth
-/// value is read from a JSON truth value, a whole from a whole JSON number, a decimal from such a
+/// value is read from a JSON boolean, a whole from a whole JSON number, a decimal from such a
 /// number or a text as `"0.95"`, a text from a JSON string, a list from an array and a record from
 /// an object. It takes memory for texts, lists and records alone.
 ///
@@ -167,7 +167,8 @@ fn record_under(
     members: &Map<String, Json>,
 ) -> Result<Value, ShapeFault>
     ensures { Gives is_memory value_view result
-        (read (object (field_shapes_of of.now (map shape_view shapes.now))) (json_object (members_view members.now.entries))) }
+        (read (object (field_shapes_of of.now (map shape_view shapes.now)))
+        (json_object (members_view members.now.entries))) }
 {
     let names = of.first(shapes.len())?;
     let present = fields_under(alloc, shapes, names.as_slice(), members)?;
@@ -221,7 +222,8 @@ fn fields_under(
     members: &Map<String, Json>,
 ) -> Result<Present, ShapeFault>
     requires { length names.now ≤ length shapes.now }
-    ensures { Gives is_memory (λ present. fields_from 0 names.now present.places (map value_view present.values.items)) result
+    ensures { Gives is_memory
+        (λ present. fields_from 0 names.now present.places (map value_view present.values.items)) result
         (fields_read (field_shapes_of names.now (map shape_view shapes.now)) (members_view members.now.entries)) }
 {
     let mut present = Present::with_capacity(alloc, names.len().min(members.len()))?;

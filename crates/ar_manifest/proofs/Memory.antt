@@ -1,4 +1,4 @@
--- Which refusals are defined where: none is want of memory, and those of a document as a whole are found before its parts are looked at.
+-- Which refusals are defined where: none is out of memory, and those of a document as a whole are found before its parts are looked at.
 use Rattle.std.proofs.Common.{◌≡◌, ◌≢◌, ℕ, zero, suc, Bool, true, false, List, [], ◌∷◌, ◌++◌, length, Option, Some, None, Result, Ok, Err, ap, cond}
 use Rattle.std.specs.Prelude.{◌↔◌, ◌&&◌, codes, option_and_then, is_none, nat_le, nat_lt, not}
 use Rattle.std.specs.List.{list_any}
@@ -154,7 +154,7 @@ module _ (refusal : ManifestError) (other : IsOfPart refusal → ⊥) where
   never answer judges e = other (rw e at judges)
 
   module _ (d : Data) where
-    -- behind the number of metrics only parts are refused
+    -- after the number of metrics only parts are refused
     behind_judges : (name : List ℕ) (arguments : TemplateArguments) (items : List Data) → Judges (behind_items d name arguments items)
     behind_judges name arguments items =
         judges_then (each_behind metric_of [] items) _ (judges_each metric_of metric_judges [] items) (λ metrics.

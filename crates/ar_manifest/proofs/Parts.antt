@@ -241,7 +241,7 @@ module _ (arguments : TemplateArguments) (own : RunArguments) (i : ℕ) (metric 
       pub metric_made : (limits : BoundLimits) → bound_limits arguments own i metric ≡ Ok limits → kept_bound arguments own i shortens metric ≡ Ok (bound_with conditions limits)
       metric_made limits made = sym behind_bound ∙ ap (λ (answer : Result BoundLimits ManifestError). answer >>= λ (found : BoundLimits). Ok (bound_with conditions found)) made
 
-      -- a refusal behind the conditions is one of the limits
+      -- a refusal after the conditions is one of the limits
       pub refused_by_limits : (refusal : ManifestError) → bound_metric arguments own i metric ≡ Err refusal → bound_limits arguments own i metric ≡ Err refusal
       refused_by_limits refusal refused = by_answer (bound_limits arguments own i metric) (behind_bound ∙ kept_refused refusal refused)
         where

@@ -20,6 +20,6 @@ module _ {J A B : Type 0} (view : J → A) (step : List B → A → Result B Man
       → each_behind step earlier (map view (drop i list)) ≡ all → Unless (is_memory refusal) (all ≡ Err refusal)
   step_fault item refusal = steps.step_fault view step list i earlier all (is_memory refusal) item refusal
 
-  -- behind the last item all are made
+  -- after the last item all are made
   pub step_end : (made : List B) → length list ≤ i → made ≡ earlier → each_behind step earlier (map view (drop i list)) ≡ all → all ≡ Ok made
   step_end = steps.step_end view step list i earlier all

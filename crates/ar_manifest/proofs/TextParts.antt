@@ -4,7 +4,7 @@ use Rattle.std.specs.Prelude.{codes}
 use Rattle.ar_manifest.specs.Cut.{whole, unclosed, reference, closed_parts, cut_at, opened_parts, parts_of, parts_within}
 use Rattle.ar_manifest.proofs.Cuts.{cut_at-shorter}
 
--- what stands behind both braces is shorter than the text
+-- what stands after both braces is shorter than the text
 pub shorter : (text : List ℕ) (opened closed : List ℕ × List ℕ) → cut_at (codes "{{") text ≡ Some opened → cut_at (codes "}}") opened.1 ≡ Some closed → length closed.1 + 4 ≤ length text
 shorter text opened closed opens closes =
     omega (arith, cut_at-shorter (codes "{{") text opened opens, cut_at-shorter (codes "}}") opened.1 closed closes)
@@ -57,7 +57,7 @@ module _ (text : List ℕ) where
         ∙ closed_enough text n (length text) opened (cut_at (codes "}}") opened.1) refl
         (λ closed closes. let less = shorter text opened closed opens closes in parts_within-enough n (length text) closed.1 (omega (arith, less)) (omega (arith, less)))
 
-    -- a text with `{{`, and no `}}` behind
+    -- a text with `{{`, and no `}}` after
     pub parts_of-unclosed : cut_at (codes "}}") opened.1 ≡ None → parts_of text ≡ unclosed opened.0
     parts_of-unclosed none = opened_by_length (length text) refl ∙ ap (closed_parts (parts_within (length text)) opened.0) none
 

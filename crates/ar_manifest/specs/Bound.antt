@@ -73,7 +73,7 @@ bound_metric arguments own i metric = do
     dry = metric.dry;
   })
 
--- a metric behind those that are bound already
+-- a metric after those that are bound already
 abbrev pub next_bound : TemplateArguments → RunArguments → List BoundMetric → Metric → Result BoundMetric ManifestError
 next_bound arguments own earlier metric = bound_metric arguments own (length earlier) metric
 
@@ -86,7 +86,7 @@ abbrev pub IsNumber : Option Limit → Type 0
 IsNumber (Some (limits.Text text)) = ⊥
 IsNumber limit = Unit {0}
 
--- metric i, if no text is bound before it is refused: it has no condition, and no limit is a text but behind one that is refused
+-- metric i, if no text is bound before it is refused: it has no condition, and no limit is a text but after one that is refused
 pub record IsPlain (arguments : TemplateArguments) (own : RunArguments) (i : ℕ) (metric : Metric) : Type 0 where
   pub success : metric.success_condition ≡ None
   pub failure : metric.failure_condition ≡ None
@@ -99,7 +99,7 @@ pub record IsPlain (arguments : TemplateArguments) (own : RunArguments) (i : ℕ
       IsOk (bound_limit arguments own i metric.limits.count) → IsOk (bound_limit arguments own i metric.limits.failure)
       → IsOk (bound_limit arguments own i metric.limits.inconclusive) → IsNumber metric.limits.consecutive_error
 
--- The refusal of a plain first metric, as `BadLimit` of a number, is returned: want of memory can't stand in its place.
+-- The refusal of a plain first metric, as `BadLimit` of a number, is returned: out of memory is never returned in its place.
 abbrev pub RefusesFirst : {X : Type 0} → TemplateArguments → RunArguments → List Metric → Result X ManifestError → Type 0
 RefusesFirst arguments own metrics result =
     (first : Metric) (rest : List Metric) → metrics ≡ first ∷ rest → IsPlain arguments own 0 first → Refuses result (bound_metric arguments own 0 first)

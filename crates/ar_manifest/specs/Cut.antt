@@ -1,4 +1,4 @@
--- Cutting a text at its braces: at the first `{{` and the next `}}` behind it, and so on with the rest.
+-- Cutting a text at its braces: at the first `{{` and the next `}}` after it, and so on with the rest.
 use Rattle.std.specs.Prelude.{◌≡◌, ◌≢◌, ◌≤◌, ℕ, zero, suc, nat_eq, if◌then◌else◌, List, [], ◌∷◌, ◌++◌, length, drop, codes, Option, Some, None, option_map}
 use Rattle.std.specs.List.{starts_with}
 
@@ -6,7 +6,7 @@ use Rattle.std.specs.List.{starts_with}
 pub data Parts : Type 0 where
   -- a text without `{{`
   whole : List ℕ → Parts
-  -- what stands before a `{{` that no `}}` stands behind
+  -- what comes before a `{{` that no `}}` follows
   unclosed : List ℕ → Parts
   -- what stands before `{{`, what between it and `}}`, and the parts of the rest
   reference : List ℕ → List ℕ → Parts → Parts
@@ -17,7 +17,7 @@ pub data Parts : Type 0 where
 abbrev pub Lacks : List ℕ → List ℕ → Type 0
 Lacks sign text = (before behind : List ℕ) → text ≢ before ++ (sign ++ behind)
 
--- what stands before the first place of a sign in a text, and what behind it
+-- what stands before the first place of a sign in a text, and what after it
 pub record CutsAtFirst (sign text before behind : List ℕ) : Type 0 where
   pub parts : text ≡ before ++ (sign ++ behind)
   pub first : (earlier later : List ℕ) → text ≡ earlier ++ (sign ++ later) → length before ≤ length earlier
@@ -31,7 +31,7 @@ AreParts text (reference before between parts) =
 
 -- ---- computed
 
--- what stands before the first place of a sign, and what behind it, if it stands anywhere
+-- what stands before the first place of a sign, and what after it, if it stands anywhere
 unfoldable pub cut_at : List ℕ → List ℕ → Option (List ℕ × List ℕ)
 cut_at sign [] = None
 cut_at sign (byte ∷ text) =
@@ -46,7 +46,7 @@ abbrev pub opened_parts : (List ℕ → Parts) → List ℕ → Option (List ℕ
 opened_parts parts text None = whole text
 opened_parts parts text (Some cut) = closed_parts parts cut.0 (cut_at (codes "}}") cut.1)
 
--- the parts of a text, cut so many times at most
+-- the parts of a text, cut n times at most
 unfoldable pub parts_within : ℕ → List ℕ → Parts
 parts_within zero text = whole text
 parts_within (suc cuts) text = opened_parts (parts_within cuts) text (cut_at (codes "{{") text)

@@ -1,4 +1,4 @@
--- Which refusals are want of memory.
+-- Which refusals are out of memory.
 use Rattle.std.specs.Prelude.{Bool, true, false}
 use Rattle.ar_manifest.specs.declared.error.ManifestError.{ManifestError}
 use Rattle.ar_manifest.specs.declared.error.ManifestError.TheVariants.{OutOfMemory}

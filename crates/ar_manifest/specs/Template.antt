@@ -117,7 +117,7 @@ is_kind kind = is_text (codes "AnalysisTemplate") kind || is_text (codes "Cluste
 abbrev pub template_name : Data → Option (List ℕ)
 template_name d = option_and_then unless_empty (option_and_then as_str (member_of_member (codes "metadata") (codes "name") d))
 
--- a template's name, behind its version and kind
+-- a template's name, after its version and kind
 abbrev pub head_of : Data → Result (List ℕ) ManifestError
 head_of d = do
   version ← holds_or WrongVersion (is_text (codes "argoproj.io/v1alpha1") (text_member (codes "apiVersion") d))

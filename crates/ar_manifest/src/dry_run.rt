@@ -31,7 +31,7 @@ fn names_any(name: &str, metrics: &[Metric]) -> bool
     metrics.iter().any(|metric| names_metric(name, metric))
 }
 
-/// The name of an item behind earlier ones.
+/// The name of an item after earlier ones.
 #[tactic(auto, unfolding(crate::specs::DryRun::dry_name))]
 fn name<'a>(
     json: &'a Json,

@@ -37,7 +37,7 @@ pub enum ManifestError {
     BadDryRun(usize),
     /// The item of `spec.dryRun` names no metric.
     UnknownDryRun(usize),
-    /// In a text of the metric, `{{` stands without a `}}` behind it.
+    /// In a text of the metric, `{{` stands without a `}}` after it.
     OpenBraces(usize),
     /// In a text of the metric, what stands in braces names no argument of the template.
     UnknownArg(usize),
@@ -86,7 +86,7 @@ impl ManifestError {
         }
     }
 
-    /// The words behind the number, or all where there is none.
+    /// The words after the number, or all where there is none.
     fn words(self) -> &'static str {
         match self {
             ManifestError::WrongVersion =>
@@ -107,7 +107,8 @@ impl ManifestError {
             ManifestError::Unsupported(_) => ": Unsupported: expected no `consecutiveSuccessLimit`",
             ManifestError::BadDryRun(_) => " a text `metricName` that isn't empty",
             ManifestError::UnknownDryRun(_) =>
-                "].metricName: UnknownDryRun: expected a metric's whole name, or `.*` for all, and no other regular expression; no metric has the name",
+                "].metricName: UnknownDryRun: expected a metric's whole name, or `.*` for all, \
+                 and no other regular expression; no metric has the name",
             ManifestError::OpenBraces(_) => ": OpenBraces: expected }} behind {{",
             ManifestError::UnknownArg(_) =>
                 ": UnknownArg: expected {{args.NAME}} with a name of `spec.args`",

@@ -10,7 +10,7 @@ ghost use Rattle.ar_manifest.specs.Template.{TemplateArguments, template_of};
 ghost use Rattle.ar_manifest.specs.declared.error.ManifestError.{ManifestError};
 ghost use Rattle.ar_manifest.specs.declared.template.Template.{Template};
 
-/// Each text has parts, and only these: cut at the first `{{` and the next `}}` behind it, and so
+/// Each text has parts, and only these: cut at the first `{{` and the next `}}` after it, and so
 /// on with the rest.
 pub fn one_cut()
     ensures { (text : List ℕ) (parts : Parts) → AreParts text parts ↔ (parts_of text ≡ parts) }
@@ -22,7 +22,7 @@ pub fn plain_text_stays()
         → Lacks (codes "{{") text → bound_text arguments own i text ≡ Ok text }
 {}
 
-/// A text with one reference is bound to what stands before it, its value, and what stands behind.
+/// A text with one reference is bound to what stands before it, its value, and what stands after.
 pub fn one_reference_gives_way()
     ensures { (arguments : TemplateArguments) (own : RunArguments) (i : ℕ)
         (text before behind between after value : List ℕ)
@@ -39,7 +39,7 @@ pub fn own_value_goes_first()
         → referred_value arguments own i between ≡ Ok value }
 {}
 
-/// No template is refused for want of memory, neither when it is read nor when it is bound.
+/// No template is refused as out of memory, neither when it is read nor when it is bound.
 pub fn memory_is_no_refusal()
     ensures read { (document : Data) → template_of document ≢ Err ManifestError.OutOfMemory }
     ensures bound { (template : Template) (own : RunArguments) → bound_of template own ≢ Err ManifestError.OutOfMemory }

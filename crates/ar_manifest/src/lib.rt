@@ -8,8 +8,8 @@
 //!
 //! What is proved: a document is read as the template that `specs/Template` defines, and bound as
 //! `specs/Bound` defines, or it is refused by the one name that stands first in the stated order.
-//! Only want of memory can keep a call from its answer, and no fault that is found before memory is
-//! taken is told as want of memory. The names and the meaning of fields are
+//! Only a refused allocation can keep a call from its answer, and no fault that is found before memory is
+//! taken is reported as out of memory. The names and the meaning of fields are
 //! those of Argo Rollouts' documentation, page "Analysis & Progressive Delivery", and of the
 //! AnalysisTemplate spec.
 //!

@@ -158,7 +158,7 @@ fn is_taken(name: &str, metrics: &[Metric]) -> bool
     metrics.iter().any(|metric| metric.name.as_str() == name)
 }
 
-/// The name of a metric behind earlier ones.
+/// The name of a metric after earlier ones.
 fn new_name<'a>(json: &'a Json, earlier: &[Metric]) -> Result<&'a str, ManifestError>
     ensures { Gives (λ _. false) (λ name. name.now) result (new_name earlier.now (view json.now)) }
 {
@@ -170,7 +170,7 @@ fn new_name<'a>(json: &'a Json, earlier: &[Metric]) -> Result<&'a str, ManifestE
     Ok(name)
 }
 
-/// A metric behind earlier ones.
+/// A metric after earlier ones.
 #[tactic(auto, unfolding(crate::specs::Template::metric_of))]
 fn metric(alloc: Global, json: &Json, earlier: &[Metric]) -> Result<Metric, ManifestError>
     ensures { Gives is_memory (λ metric. metric) result (metric_of earlier.now (view json.now)) }
@@ -182,7 +182,7 @@ fn metric(alloc: Global, json: &Json, earlier: &[Metric]) -> Result<Metric, Mani
     unless(metric, is_refused, ManifestError::Unsupported(i))
 }
 
-/// What is held, unless it is refused. It is of any type here, so that it is let go in one step.
+/// What is held, unless it is refused. It is of any type here, so that it is dropped in one step.
 fn unless<A: Drop, E: Drop>(held: A, is_refused: bool, refusal: E) -> Result<A, E>
     ensures { result ≡ (if is_refused then Err refusal else Ok held) }
 {
@@ -218,7 +218,7 @@ fn counted_metrics(found: Option<&Json>) -> Result<&[Json], ManifestError>
     Ok(list)
 }
 
-/// The name and the value of an argument behind earlier ones, before they are copied.
+/// The name and the value of an argument after earlier ones, before they are copied.
 #[tactic(auto, unfolding(crate::specs::Template::argument_of))]
 fn found_argument<'a>(
     json: &'a Json,
@@ -246,7 +246,7 @@ fn copied(alloc: Global, text: Option<&str>) -> Result<Option<Text>, AllocError>
     }
 }
 
-/// An argument behind earlier ones.
+/// An argument after earlier ones.
 fn argument(
     alloc: Global,
     json: &Json,
@@ -325,7 +325,7 @@ fn lists_nothing(found: Option<&Json>) -> bool
     }
 }
 
-/// The name of a template, looked at behind its version and kind.
+/// The name of a template, looked at after its version and kind.
 fn head(json: &Json) -> Result<&str, ManifestError>
     ensures { Gives (λ _. false) (λ name. name.now) result (head_of (view json.now)) }
 {

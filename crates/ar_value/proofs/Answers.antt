@@ -1,4 +1,4 @@
--- Answers of which fewer may be want of memory.
+-- Answers of which fewer may be out of memory.
 use Rattle.std.proofs.Common.{◌≡◌, Bool, true, false, Result, Ok, Err, refl}
 use Rattle.ar_value.specs.Answer.{Gives, Unless}
 

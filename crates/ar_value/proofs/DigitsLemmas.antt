@@ -65,7 +65,7 @@ AllDigits-from_list_all (c ∷ cs) h =
 weighed : (n d p q x first alone : ℕ) → first ≡ (n * 10 + d) * p + x → alone ≡ (0 * 10 + d) * p + x → q ≡ p * 10 → first ≡ n * q + alone
 weighed n d p q x first alone e f g = rw (e, f, g) (omega arith)
 
--- the digits before weigh by the number of those behind them
+-- the digits before weigh by the number of those after them
 pub digits_value_after-split : (n : ℕ) (ds : List ℕ) → digits_value_after 10 n ds ≡ n * 10 ^ length ds + digits_value 10 ds
 digits_value_after-split n [] = omega arith
 digits_value_after-split n (c ∷ cs) =
@@ -73,7 +73,7 @@ digits_value_after-split n (c ∷ cs) =
     let alone : digits_value_after 10 (0 * 10 + digit_value c) cs ≡ (0 * 10 + digit_value c) * 10 ^ length cs + digits_value 10 cs = digits_value_after-split (0 * 10 + digit_value c) cs in
     weighed n (digit_value c) (10 ^ length cs) (10 ^ suc (length cs)) (digits_value 10 cs) _ _ first alone (pow-suc 10 (length cs))
 
--- two runs of digits, one behind the other
+-- two runs of digits, one after the other
 pub digits_value_after-append : (n : ℕ) (xs ys : List ℕ) → digits_value_after 10 n (xs ++ ys) ≡ digits_value_after 10 (digits_value_after 10 n xs) ys
 digits_value_after-append n [] ys = refl
 digits_value_after-append n (c ∷ cs) ys = digits_value_after-append (n * 10 + digit_value c) cs ys
@@ -87,7 +87,7 @@ list_all-drop ds m h =
     let split : (list_all is_ascii_digit (take m ds) && list_all is_ascii_digit (drop m ds)) ≡ true = sym (list_all-append is_ascii_digit (take m ds) (drop m ds)) ∙ ap (list_all is_ascii_digit) (take-append-drop m ds) ∙ h in
     (both_pass (list_all is_ascii_digit (take m ds)) (list_all is_ascii_digit (drop m ds)) split).1
 
--- a scale that isn't below the digits behind the point lengthens the number
+-- a scale that isn't below the digits after the point lengthens the number
 pub lengthened : (n raised lowered : ℕ) → lowered ≤ raised → n * 10 ^ raised / 10 ^ lowered ≡ n * 10 ^ (raised - lowered)
 lengthened n raised lowered short =
     let parts : raised ≡ (raised - lowered) + lowered = omega arith in

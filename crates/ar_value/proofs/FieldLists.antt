@@ -59,7 +59,7 @@ named_none true found no_shape is = is
 named_none false None no_shape is = is
 named_none false (Some i) no_shape is = is
 
--- the shape of a name stands where the name does
+-- the shape of a name has the index of the name
 pub shape_by_index : (name : List ℕ) (names : List (List ℕ)) (shapes : List ShapeCode) → shape_named name (Of names shapes) ≡ option_map shape_view (option_and_then (slice_get shapes) (index_named name names))
 shape_by_index name [] shapes = refl
 shape_by_index name (of ∷ names) [] = named_none (bytes_eq of name) (index_named name names) None refl
@@ -112,7 +112,7 @@ at_none true found = refl
 at_none false None = refl
 at_none false (Some i) = refl
 
--- the value at a place stands where the place does
+-- the value at a place has the index of the place
 pub value_by_index : (place : ℕ) (places : List ℕ) (vs : List ValueCode) → value_at place places (map value_view vs) ≡ unwrap_or (option_map value_view (option_and_then (slice_get vs) (index_of place places))) nil
 value_by_index place [] vs = refl
 value_by_index place (first ∷ places) [] = at_none (first == place) (index_of place places)
@@ -129,7 +129,7 @@ from_index name from [] places vs = refl
 from_index name from (of ∷ names) places vs =
     later_index (bytes_eq of name) from places vs (index_named name names) (value_named name (fields_from (suc from) names places vs)) (from_index name (suc from) names places vs)
 
--- the value of a name has the place where the name stands
+-- the value of a name has the index of the name as its place
 pub value_of_name : (name : List ℕ) (names : List (List ℕ)) (places : List ℕ) (vs : List Value) → value_named name (fields_from 0 names places vs) ≡ option_map (λ i. value_at i places vs) (index_named name names)
 value_of_name name names places vs = from_index name 0 names places vs ∙ from_front (index_named name names)
   where
@@ -180,7 +180,7 @@ pub no_field_got : (fields : FieldsCode) (name : List ℕ) → None ≡ index_na
 no_field_got fields name at =
     sym (ap (value_named name) (fields_view-from fields) ∙ value_of_name name (out-Fields fields).names (out-Fields fields).places (map value_view (out-Fields fields).values.items) ∙ rw (← at) refl)
 
--- a test of two names that says no, and one that says yes
+-- what a test of two names that differ says of their being the same
 pub unlike : (differ same : Bool) → differ ≡ not same → differ ≡ true → same ≡ false
 unlike differ true is yes_ = absurd (let no_ : false ≡ true = sym is ∙ yes_ in cc)
 unlike differ false is yes_ = refl

@@ -21,7 +21,7 @@ is_inside a b h = grind (arith, nat_tests)
 is_outside : (a b : ℕ) → b ≤ a → nat_lt a b ≡ false
 is_outside a b h = grind (arith, nat_tests)
 
--- a text with a mark has the scale of the exponent behind it
+-- a text with a mark has the scale of the exponent after it
 pub marked : (text : List ℕ) (at : ℕ) (scale : Option Scale) → at ≡ position_or_len marks_exponent text → at < length text → scale ≡ exponent_of (drop (at + 1) text) → scale ≡ scale_of text
 marked text at scale is inside e =
     let any : list_any marks_exponent text ≡ true = rw (first_inside marks_exponent text) (is_inside _ _ (omega (arith, is))) in

@@ -3,7 +3,7 @@ use Rattle.std.proofs.Common.{◌≡◌, Bool, true, false, ℕ, ◌+◌, ◌≤
 use Rattle.std.proofs.lemmas.List.{drop_all, drop_more}
 use Rattle.ar_value.specs.Answer.{◌>>=◌, Unless, each_behind}
 
--- a refusal that isn't want of memory leads to another
+-- a refusal that isn't out of memory leads to another
 pub leads : {P Q : Type 0} (memory : Bool) → (P → Q) → Unless memory P → Unless memory Q
 leads true f h = tt
 leads false f h = f h
@@ -38,7 +38,7 @@ module _ {J A B E : Type 0} (view : J → A) (step : List B → A → Result B E
       → each_behind step earlier (map view (drop i list)) ≡ all → Unless memory (all ≡ Err refusal)
   step_fault memory item refusal below is refused so_far = refuses_first memory refusal (step earlier (view item)) _ all refused (sym (each_behind-item item below is) ∙ so_far)
 
-  -- behind the last item all are made
+  -- after the last item all are made
   pub step_end : (made : List B) → length list ≤ i → made ≡ earlier → each_behind step earlier (map view (drop i list)) ≡ all → all ≡ Ok made
   unfolding each_behind
   step_end made past is so_far = sym so_far ∙ ap (λ rest. each_behind step earlier (map view rest)) (drop_all i list past) ∙ ap (λ (items : List B). Ok items) (sym is)

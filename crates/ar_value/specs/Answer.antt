@@ -17,7 +17,7 @@ abbrev pub holds_or : {E : Type 0} → E → Bool → Result ⊤ E
 holds_or refusal true = Ok tt
 holds_or refusal false = Err refusal
 
--- what a step makes of each of some items, one after another, each behind those that it made before
+-- what a step makes of each of some items, one after another, each after those that it made before
 unfoldable pub each_behind : {A B E : Type 0} → (List B → A → Result B E) → List B → List A → Result (List B) E
 each_behind step earlier [] = Ok earlier
 each_behind step earlier (item ∷ items) = step earlier item >>= λ made. each_behind step (earlier ++ made ∷ []) items
@@ -26,11 +26,11 @@ abbrev pub Unless : Bool → Type 0 → Type 0
 Unless true P = Unit {0}
 Unless false P = P
 
--- What a function returned, seen by a view, is the answer that is defined. So is a refusal, unless it is want of memory.
+-- What a function returned, seen by a view, is the answer that is defined. So is a refusal, unless it is out of memory.
 abbrev pub Gives : {X Y E : Type 0} → (E → Bool) → (X → Y) → Result X E → Result Y E → Type 0
 Gives is_memory view (Ok x) answer = answer ≡ Ok (view x)
 Gives is_memory view (Err e) answer = Unless (is_memory e) (answer ≡ Err e)
 
--- Each refusal that is defined is returned: want of memory can't stand in its place.
+-- Each refusal that is defined is returned: out of memory is never returned in its place.
 abbrev pub Refuses : {X Y E : Type 0} → Result X E → Result Y E → Type 0
 Refuses {E = E} result answer = (refusal : E) → answer ≡ Err refusal → result ≡ Err refusal

@@ -13,7 +13,7 @@ use Rattle.ar_value.specs.declared.decimal_text.Scale.{Scale}
 abbrev pub is_not_finite : List ℕ → Bool
 is_not_finite text = list_any (bytes_eq text) (codes "NaN" ∷ codes "Inf" ∷ codes "+Inf" ∷ codes "-Inf" ∷ [])
 
--- the digits of a mantissa, those before its point and behind it together: 1 to 64, and nothing but digits
+-- the digits of a mantissa, those before its point and after it together: 1 to 64, and nothing but digits
 abbrev pub is_mantissa : List ℕ → Bool
 is_mantissa digits = nat_le 1 (length digits) && nat_le (length digits) 64 && list_all is_ascii_digit digits
 
@@ -25,7 +25,7 @@ is_exponent digits = nat_le 1 (length digits) && nat_le (length digits) 3 && lis
 abbrev pub with_sign : Bool → ℕ → ℤ
 with_sign is_negative magnitude = if is_negative then neg_ℤ (pos magnitude) else pos magnitude
 
--- Digits m, f of which stand behind the point, with an exponent e, spell m * 10^(e - f): in millionths, cut toward zero.
+-- Digits m, f of which stand after the point, with an exponent e, spell m * 10^(e - f): in millionths, cut toward zero.
 -- An exponent is a scale: times 10^up where it is positive, over 10^down where it is negative.
 abbrev pub millionths_of : Bool → List ℕ → List ℕ → Scale → ℤ
 millionths_of is_negative whole fraction scale =
@@ -35,7 +35,7 @@ millionths_of is_negative whole fraction scale =
 abbrev pub in_range : ℤ → Result ℤ NumberFault
 in_range millionths = if is_i64 millionths then Ok millionths else Err OutOfRange
 
--- the decimal that a mantissa behind its sign stands for, with its scale, or what is wrong with it
+-- the decimal that a mantissa after its sign stands for, with its scale, or what is wrong with it
 abbrev pub of_mantissa : Bool → List ℕ → List ℕ → Option Scale → Result ℤ NumberFault
 of_mantissa is_negative whole fraction None = Err BadDecimal
 of_mantissa is_negative whole fraction (Some scale) =
@@ -56,7 +56,7 @@ abbrev pub exponent_of : List ℕ → Option Scale
 exponent_of text =
     if is_exponent (without_leading_sign text) then Some (scale_by (starts_with_minus text) (digits_value 10 (without_leading_sign text))) else None
 
--- the scale of a text: that of what stands behind its exponent's mark, or none where there is no mark
+-- the scale of a text: that of what stands after its exponent's mark, or none where there is no mark
 abbrev pub scale_of : List ℕ → Option Scale
 scale_of text = if list_any marks_exponent text then exponent_of (after_first marks_exponent text) else Some (record { up = 0; down = 0 })
 
@@ -64,7 +64,7 @@ abbrev pub of_unsigned : Bool → List ℕ → Result ℤ NumberFault
 of_unsigned is_negative text =
     of_mantissa is_negative (before_first is_point (before_first marks_exponent text)) (after_first is_point (before_first marks_exponent text)) (scale_of text)
 
--- The decimal that a text stands for, or what is wrong with it: the mantissa is what stands behind the sign and before
--- the exponent's mark, and has digits before its first point and behind it.
+-- The decimal that a text stands for, or what is wrong with it: the mantissa is what stands after the sign and before
+-- the exponent's mark, and has digits before its first point and after it.
 unfoldable pub decimal_of : List ℕ → Result ℤ NumberFault
 decimal_of text = if is_not_finite text then Err NotFinite else of_unsigned (starts_with_minus text) (without_leading_sign text)

@@ -74,7 +74,7 @@ is_decimal decimal = true
 is_decimal (optional decimal) = true
 is_decimal shape = false
 
--- a kind beside another: a whole, also an optional one, is turned into decimal where the other is a decimal
+-- a kind next to another: a whole, also an optional one, is turned into decimal where the other is a decimal
 abbrev pub turned_beside : Kind → Kind → Kind
 turned_beside (shaped other) (shaped shape) = if is_decimal other then shaped (whole_as_decimal shape) else shaped shape
 turned_beside other kind = kind

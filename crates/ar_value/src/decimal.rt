@@ -44,7 +44,8 @@ impl NumberFault {
             }
             NumberFault::NotFinite => "NotFinite: expected a finite number",
             NumberFault::OutOfRange => {
-                "OutOfRange: expected a number from -9223372036854.775808 to 9223372036854.775807, once it is cut to six digits after the point"
+                "OutOfRange: expected a number from -9223372036854.775808 to 9223372036854.775807, \
+                 once it is cut to six digits after the point"
             }
         }
     }
@@ -57,7 +58,7 @@ impl fmt::Display for NumberFault {
 }
 
 impl Decimal {
-    /// The decimal of so many millionths.
+    /// The decimal of a number of millionths.
     pub fn from_millionths(millionths: i64) -> Decimal
         ensures { result ≡ millionths }
     {

@@ -27,8 +27,8 @@ struct Scale {
 
 impl Decimal {
     /// The decimal that a text stands for: an optional sign, then one to 64 digits with at most
-    /// one point among, before or behind them, then an exponent or none: `e` or `E`, an optional
-    /// sign, and one to three digits. What lies behind the sixth digit after the point is cut off.
+    /// one point among, before or after them, then an exponent or none: `e` or `E`, an optional
+    /// sign, and one to three digits. Digits past the sixth after the point are cut off.
     ///
     /// # Errors
     ///
@@ -46,7 +46,7 @@ impl Decimal {
     }
 }
 
-/// The decimal that a text behind its sign stands for.
+/// The decimal that a text after its sign stands for.
 fn of_unsigned(is_negative: bool, text: &[u8]) -> Result<Decimal, NumberFault>
     ensures { result ≡ of_unsigned is_negative text.now }
 {
@@ -83,7 +83,7 @@ fn in_range(
     Ok(Decimal::from_millionths(millionths))
 }
 
-/// The scale of a text: that of the exponent behind its mark, where there is a mark.
+/// The scale of a text: that of the exponent after its mark, where there is a mark.
 #[tactic(auto, using(crate::proofs::Marks::marked, crate::proofs::Marks::unmarked))]
 fn scale_of(text: &[u8]) -> Option<Scale>
     ensures value { result ≡ scale_of text.now }
@@ -97,7 +97,7 @@ fn scale_of(text: &[u8]) -> Option<Scale>
     }
 }
 
-/// What stands behind a byte.
+/// What stands after a byte.
 fn behind(text: &[u8], at: usize) -> &[u8]
     requires { at < length text.now }
     ensures { result.now ≡ drop (at + 1) text.now }
@@ -163,7 +163,7 @@ fn split_sign(text: &[u8]) -> (bool, &[u8])
     }
 }
 
-/// What stands before the first point, and what stands behind it.
+/// What stands before the first point, and what stands after it.
 fn split_point(mantissa: &[u8]) -> (&[u8], &[u8])
     ensures before { result.0.now ≡ before_first is_point mantissa.now }
     ensures behind { result.1.now ≡ after_first is_point mantissa.now }

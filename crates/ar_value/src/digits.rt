@@ -8,7 +8,7 @@ ghost use Rattle.std.specs.Str.Parse.{digits_value, digits_value_after};
 ghost use Rattle.ar_value.specs.Digits.{magnitude_of};
 ghost use Rattle.ar_value.specs.Private.Scaled.{scaled_magnitude};
 
-/// How many digits a decimal keeps behind its point.
+/// How many digits a decimal keeps after its point.
 const KEPT_DIGITS: usize = 6;
 
 /// The number that the digits spell, where it fits 64 bits.
@@ -19,7 +19,7 @@ pub fn number(digits: &[u8]) -> Option<u64>
     spelled(0, digits)
 }
 
-/// The millionths that the digits before a point and those behind it spell, cut toward zero,
+/// The millionths that the digits before a point and those after it spell, cut toward zero,
 /// where they fit 64 bits.
 #[tactic(auto, using(crate::proofs::DigitsLemmas::unscaled))]
 pub fn millionths(whole: &[u8], fraction: &[u8]) -> Option<u64>
@@ -55,7 +55,7 @@ pub(crate) fn scaled_millionths(
     }
 }
 
-/// The number that two runs of digits spell, one behind the other, where it fits 64 bits.
+/// The number that two runs of digits spell, one after the other, where it fits 64 bits.
 #[tactic(auto, using(crate::proofs::DigitsLemmas::all_digits))]
 fn all_digits(whole: &[u8], fraction: &[u8]) -> Option<u64>
     requires whole { list_all is_ascii_digit whole.now ≡ true }
@@ -78,7 +78,7 @@ fn times_power(number: u64, power: usize) -> Option<u64>
     number.checked_mul(10u64.checked_pow(power as u32)?)
 }
 
-/// The number that the first so many digits of two runs spell, where it fits 64 bits.
+/// The number that the first digits of two runs spell, where it fits 64 bits.
 #[tactic(auto, using(crate::proofs::DigitsLemmas::list_all_take, crate::proofs::DigitsLemmas::leading_digits))]
 fn leading(whole: &[u8], fraction: &[u8], count: usize) -> Option<u64>
     requires whole { list_all is_ascii_digit whole.now ≡ true }
@@ -93,7 +93,7 @@ fn leading(whole: &[u8], fraction: &[u8], count: usize) -> Option<u64>
     spelled(before, &fraction[..count - first])
 }
 
-/// The number that the digits spell behind those of the number before, where it fits 64 bits.
+/// The number that the digits spell after those of the number before, where it fits 64 bits.
 fn spelled(before: u64, digits: &[u8]) -> Option<u64>
     requires digits { list_all is_ascii_digit digits.now ≡ true }
     ensures { SomeIff result

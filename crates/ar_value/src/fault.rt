@@ -6,7 +6,7 @@ ghost use Rattle.ar_value.specs.Fault.{fault_name};
 use std::fmt;
 use thiserror::Error;
 
-/// Why a condition has no truth value on a measurement.
+/// Why a condition has no answer on a measurement.
 #[derive(Clone, Copy, Debug, PartialEq, Eq, Error)]
 pub enum Fault {
     /// A list has no item at an index.

@@ -1,11 +1,11 @@
-//! Holding values while others are made. What is held is of any type here, so that it is let go in
+//! Holding values while others are made. What is held is of any type here, so that it is dropped in
 //! one step where another can't be made, and not once for each of its variants.
 
 ghost use Rattle.std.specs.Prelude.{◌≡◌, ◌++◌, ◌∷◌, [], Err, IfErr, IfOk, Ok, OnOk};
 
 use std::alloc::AllocError;
 
-/// What is held, beside another value, if that could be made.
+/// What is held, with another value, if that could be made.
 pub fn beside<A: Drop, B: Drop, E: Drop>(held: A, made: Result<B, E>) -> Result<(A, B), E>
     ensures ok { IfOk result (λ both. (made ≡ Ok both.1) × (both.0 ≡ held)) }
     ensures err { IfErr result (λ refusal. made ≡ Err refusal) }
@@ -20,7 +20,7 @@ pub fn beside<A: Drop, B: Drop, E: Drop>(held: A, made: Result<B, E>) -> Result<
 ///
 /// # Errors
 ///
-/// Want of memory.
+/// A refused allocation.
 pub fn add<T: Drop>(list: &mut Vec<T>, item: T) -> Result<(), AllocError>
     ensures { OnOk result (list.new.items ≡ list.old.items ++ item ∷ []) }
 {

@@ -76,8 +76,8 @@ fn turned_or<'shape>(turned: &'shape Option<Shape>, shape: &'shape Shape) -> &'s
     }
 }
 
-/// What a shape is turned into beside another, where it is turned: a whole, also an optional one,
-/// into decimal beside a decimal.
+/// What a shape is turned into next to another, where it is turned: a whole, also an optional one,
+/// into decimal next to a decimal.
 fn turned_beside(alloc: Global, other: &Shape, shape: &Shape) -> Result<Option<Shape>, AllocError>
     ensures { IfOk result (λ turned. shaped (unwrap_or (option_map shape_view turned) (shape_view shape.now))
         ≡ turned_beside (shaped (shape_view other.now)) (shaped (shape_view shape.now))) }

@@ -1,12 +1,12 @@
 //! Values of measurements, the shapes that metrics declare for them, and exact decimal numbers.
 //!
-//! Nothing is ever rounded: a decimal is a count of millionths, and what lies behind the sixth digit
+//! Nothing is ever rounded: a decimal is a count of millionths, and what lies after the sixth digit
 //! after the point is cut off. Arithmetic is exact, or cut toward zero, or refused by name.
 //!
 //! What is proved, for all inputs: a text is the decimal that `specs/DecimalText` defines, or
 //! refused by the one name that it gives; a value fits a shape by `specs/Fits`; arithmetic is that of
 //! `specs/Arithmetic`, and numbers compare by their exact values; the kind that two kinds have in
-//! common is that of `specs/Kind`. Only want of memory can keep a call from its answer: copies of
+//! common is that of `specs/Kind`. Only a refused allocation can keep a call from its answer: copies of
 //! texts and shapes and common kinds take memory.
 //!
 //! `specs/Answer` has the words for answers, a value or a refusal, that the crates above use.
@@ -16,7 +16,10 @@
 //! - [`arithmetic`]: arithmetic of decimals; [`whole`]: of wholes
 //! - [`fault`]: faults of arithmetic and of operands; [`operator`]: operators of conditions, which
 //!   `specs/Operators` defines on values, `specs/TextTests` on texts and `specs/Predicates` for loops
-//! - [`text`], [`value`], [`shape`]: texts, values and shapes, which contracts see by `specs/View`
+//! - [`text`], [`value`], [`shape`]: texts, values and shapes, which contracts see by `specs/View`; a record
+//!   has no memory for fields that are nil
+//! - [`names`], [`places`]: names of a record's fields, which its shape and its values share, and which of
+//!   them have a value; both are found by binary search
 //! - [`fitting`]: which values fit
 //! - [`kind`]: kinds of expressions; `widening` joins shapes; [`sameness`]: which are the same;
 //!   [`shared_shape`]: shapes with several owners

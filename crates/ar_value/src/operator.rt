@@ -77,7 +77,7 @@ pub enum UnaryOperator {
     IsNil,
     /// A whole as a decimal; nil stays.
     ToDecimal,
-    /// The other truth value.
+    /// The other boolean.
     Not,
     Negate(Numbers),
 }

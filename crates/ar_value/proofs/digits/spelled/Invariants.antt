@@ -2,7 +2,7 @@ use Rattle.std.proofs.Common.{◌≡◌, ◌^◌, ◌<◌, drop}
 use Rattle.std.specs.Str.Parse.{digits_value_after}
 use Rattle.ar_value.proofs.digits.spelled.Given as goal
 
--- the value so far, with the digits that are left behind it, is the whole number
+-- the value so far, with the digits that are left after it, is the whole number
 abbrev pub invariant-loop-digit : goal.invariant-loop-digit
 invariant-loop-digit l = record {
   fits : l.value < 2 ^ 64;
