@@ -6,10 +6,12 @@ use Rattle.ar_cases.proofs.printing.+put_value.Goals as goal
 pub put_fields-loop-place-preserved : goal.put_fields-loop-place-preserved
 put_fields-loop-place-preserved t c = λ whole.
     let part = c.put_field.ensures whole in
-    let so_far = c.loop-place.invariant part.0 in
-    (so_far.0, rw part.1
-    (next_field c.args.names.now c.args.places.now c.args.given.now c.loop-place.place c.as_str.result.now c.index_of.result c.loop-place.first _ _ (omega (arith, c.loop-place-test.true))
-    (rw c.as_str.ensures c.index-names-place.is) c.index_of.ensures so_far.1))
+    let so_far = c.loop-place.invariant part.0 in (
+      so_far.0,
+      rw part.1
+          (next_field c.args.names.now c.args.places.now c.args.given.now c.loop-place.place c.as_str.result.now c.index_of.result c.loop-place.first _ _ (omega (arith, c.loop-place-test.true))
+          (rw c.as_str.ensures c.index-names-place.is) c.index_of.ensures so_far.1),
+    )
 
 pub put_fields-returns : goal.put_fields-returns
 put_fields-returns t c = λ whole.
