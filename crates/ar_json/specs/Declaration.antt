@@ -1,7 +1,7 @@
 -- The shape that a JSON value (RFC 8259) declares, or the first thing that is wrong with it, outer before inner:
 --
 --     "bool" | "whole" | "decimal" | "text"
---     {"list": shape, "max": number}    items, n at most
+--     {"list": shape, "max": number}    items, at most that number
 --     {"record": {name: shape, ..}}     fields by name
 --     {"optional": shape}               null, or a value of the shape
 use Rattle.std.specs.Prelude.{ℕ, zero, suc, Bool, true, false, ◌&&◌, nat_le, if◌then◌else◌, List, codes, Option, Some, None, option_and_then, Result, Ok, Err}

@@ -82,10 +82,10 @@ impl<T: Drop> From<AllocFailed<T>> for ShapeFault {
     }
 }
 
-/// The value that a JSON value is under a shape. Null is nil under an optional shape. A truth
-/// value is read from a JSON boolean, a whole from a whole JSON number, a decimal from such a
-/// number or a text as `"0.95"`, a text from a JSON string, a list from an array and a record from
-/// an object. It takes memory for texts, lists and records alone.
+/// The value that a JSON value is under a shape. Null is nil under an optional shape. A boolean is
+/// read from a JSON boolean, a whole from a whole JSON number, a decimal from such a number or a text
+/// as `"0.95"`, a text from a JSON string, a list from an array and a record from an object. It takes
+/// memory for texts, lists and records alone.
 ///
 /// # Errors
 ///

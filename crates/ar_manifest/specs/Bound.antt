@@ -86,7 +86,7 @@ abbrev pub IsNumber : Option Limit → Type 0
 IsNumber (Some (limits.Text text)) = ⊥
 IsNumber limit = Unit {0}
 
--- metric i, if no text is bound before it is refused: it has no condition, and no limit is a text but after one that is refused
+-- metric i, if no text is bound before it is refused: it has no condition, and a limit is a text only after one that is refused
 pub record IsPlain (arguments : TemplateArguments) (own : RunArguments) (i : ℕ) (metric : Metric) : Type 0 where
   pub success : metric.success_condition ≡ None
   pub failure : metric.failure_condition ≡ None

@@ -46,7 +46,7 @@ abbrev pub opened_parts : (List ℕ → Parts) → List ℕ → Option (List ℕ
 opened_parts parts text None = whole text
 opened_parts parts text (Some cut) = closed_parts parts cut.0 (cut_at (codes "}}") cut.1)
 
--- the parts of a text, cut n times at most
+-- the parts of a text that is cut at most n times
 unfoldable pub parts_within : ℕ → List ℕ → Parts
 parts_within zero text = whole text
 parts_within (suc cuts) text = opened_parts (parts_within cuts) text (cut_at (codes "{{") text)

@@ -74,7 +74,7 @@ fn condition_within(alloc: Global, bound: Option<Text>) -> Result<Option<Text>, 
     }
 }
 
-/// A condition, bound. An empty one counts as missing.
+/// A condition, bound, and shortened where the scope says so. An empty one counts as missing.
 fn condition(
     alloc: Global,
     scope: &Scope,

@@ -70,8 +70,7 @@ fn has_room(text: &str, piece: &str, most: Option<usize>) -> bool
     }
 }
 
-/// A text that is kept, with a piece at its end. It is kept no longer where it would have more than
-/// `most` bytes.
+/// The text that is kept, with a piece at its end, or `None` once it would have more than `most` bytes.
 #[tactic(auto, unfolding(crate::specs::Private::Within::joined, crate::specs::Private::Within::within))]
 fn joined(kept: Option<Text>, piece: &str, most: Option<usize>) -> Result<Option<Text>, AllocError>
     ensures { IfOk result (λ next. next ≡ joined most kept piece.now) }
@@ -106,8 +105,8 @@ impl Scope<'_> {
         }
     }
 
-    /// A text of the metric, bound, or nothing where it has more than `most` bytes then. It is read
-    /// to its end in either case, and what is kept of it never has more bytes than these.
+    /// A text of the metric, bound, or `None` if that has more than `most` bytes. It is read to its
+    /// end in either case, and what is kept of it never has more bytes than these.
     pub(crate) fn text(
         &self,
         alloc: Global,

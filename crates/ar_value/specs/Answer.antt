@@ -1,7 +1,7 @@
 -- An answer: a value, or a refusal.
 use Rattle.std.specs.Prelude.{◌≡◌, Bool, true, false, List, [], ◌∷◌, ◌++◌, Option, Some, None, Result, Ok, Err, ⊤}
 
--- a value leads on, a refusal stands
+-- a value leads on, a refusal is kept
 infixl 10 ◌>>=◌
 abbrev pub ◌>>=◌ : {A B E : Type 0} → Result A E → (A → Result B E) → Result B E
 (Ok x) >>= f = f x

@@ -9,12 +9,12 @@ use Rattle.std.specs.Str.{bytes_eq}
 abbrev pub Rise : List (List ℕ) → Type 0
 Rise names = IsStrictlySortedBy (slice_cmp nat_cmp) names
 
--- the index of the first that is a name
+-- the index of the first of these names that is the same as a name
 abbrev pub index_named : List ℕ → List (List ℕ) → Option ℕ
 index_named name [] = None
 index_named name (of ∷ names) = if bytes_eq of name then Some 0 else option_map suc (index_named name names)
 
--- the index of the first that is a number
+-- the index of the first of these numbers that is the same as a number
 abbrev pub index_of : ℕ → List ℕ → Option ℕ
 index_of number [] = None
 index_of number (of ∷ numbers) = if of == number then Some 0 else option_map suc (index_of number numbers)

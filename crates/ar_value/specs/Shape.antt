@@ -19,7 +19,7 @@ mutual
     -- a name, its shape, and the fields after it
     field : List ℕ → Shape → FieldShapes → FieldShapes
 
--- fields of these names and shapes, one for one
+-- fields of these names and shapes, pair by pair, as many as there are of both
 abbrev pub field_shapes_of : List (List ℕ) → List Shape → FieldShapes
 field_shapes_of (name ∷ names) (shape ∷ shapes) = field name shape (field_shapes_of names shapes)
 field_shapes_of names shapes = no_fields

@@ -31,12 +31,12 @@ abbrev pub items_of : List Value → Items
 items_of [] = no_items
 items_of (value ∷ values) = item value (items_of values)
 
--- the value with a place, of values with a place each; nil where there is none
+-- the value at a place, where `places` has the place of each value; nil where none is at it
 abbrev pub value_at : ℕ → List ℕ → List Value → Value
 value_at place (first ∷ places) (value ∷ values) = if first == place then value else value_at place places values
 value_at place places values = nil
 
--- fields of these names, the first of them at a place, each with the value at its own
+-- a field for each name, the first at `place` and each other one at the next, with the value that is there
 abbrev pub fields_from : ℕ → List (List ℕ) → List ℕ → List Value → Fields
 fields_from place [] places values = no_fields
 fields_from place (name ∷ names) places values = field name (value_at place places values) (fields_from (suc place) names places values)

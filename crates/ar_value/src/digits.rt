@@ -78,7 +78,7 @@ fn times_power(number: u64, power: usize) -> Option<u64>
     number.checked_mul(10u64.checked_pow(power as u32)?)
 }
 
-/// The number that the first digits of two runs spell, where it fits 64 bits.
+/// The number that the first `count` digits of two runs spell, where it fits 64 bits.
 #[tactic(auto, using(crate::proofs::DigitsLemmas::list_all_take, crate::proofs::DigitsLemmas::leading_digits))]
 fn leading(whole: &[u8], fraction: &[u8], count: usize) -> Option<u64>
     requires whole { list_all is_ascii_digit whole.now ≡ true }

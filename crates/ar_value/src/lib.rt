@@ -1,7 +1,7 @@
 //! Values of measurements, the shapes that metrics declare for them, and exact decimal numbers.
 //!
-//! Nothing is ever rounded: a decimal is a count of millionths, and what lies after the sixth digit
-//! after the point is cut off. Arithmetic is exact, or cut toward zero, or refused by name.
+//! Nothing is ever rounded: a decimal is a count of millionths, and digits past the sixth after
+//! the point are cut off. Arithmetic is exact, or cut toward zero, or refused by name.
 //!
 //! What is proved, for all inputs: a text is the decimal that `specs/DecimalText` defines, or
 //! refused by the one name that it gives; a value fits a shape by `specs/Fits`; arithmetic is that of
@@ -17,7 +17,7 @@
 //! - [`fault`]: faults of arithmetic and of operands; [`operator`]: operators of conditions, which
 //!   `specs/Operators` defines on values, `specs/TextTests` on texts and `specs/Predicates` for loops
 //! - [`text`], [`value`], [`shape`]: texts, values and shapes, which contracts see by `specs/View`; a record
-//!   has no memory for fields that are nil
+//!   takes no memory for optional fields that are absent
 //! - [`names`], [`places`]: names of a record's fields, which its shape and its values share, and which of
 //!   them have a value; both are found by binary search
 //! - [`fitting`]: which values fit

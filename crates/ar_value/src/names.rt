@@ -42,8 +42,8 @@ impl Names {
         })
     }
 
-    /// The first of the names for one owner more, which takes no memory: it is refused only where there are more
-    /// owners than can be counted.
+    /// The first `count` names, or all if there are fewer, for another owner. It takes no memory: it is refused only
+    /// where there are more owners than can be counted.
     pub fn first(&self, count: usize) -> Result<Names, AllocError>
         ensures { IfOk result (λ first. first ≡ take count self.now) }
     {
@@ -53,7 +53,7 @@ impl Names {
         })
     }
 
-    /// The same names for one owner more, as `first` gives them.
+    /// The same names for another owner. It is refused as `first` is.
     pub fn share(&self) -> Result<Names, AllocError>
         ensures { IfOk result (λ shared. shared ≡ self.now) }
     {

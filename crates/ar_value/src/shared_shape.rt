@@ -7,7 +7,7 @@ use std::alloc::{AllocError, Global};
 use std::marker::Model;
 use std::sync::Arc;
 
-/// A shape that is there once and has several owners, in any threads, as the conditions of a metric in
+/// A shape that is kept once and has several owners, in any threads, as the conditions of a metric in
 /// all runs. Contracts see the shape.
 #[derive(Drop)]
 pub struct SharedShape {

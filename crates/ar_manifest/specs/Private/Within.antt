@@ -13,21 +13,21 @@ use Rattle.ar_manifest.specs.declared.template.Metric.{Metric}
 
 -- ---- texts
 
--- whether a text has at most n bytes, where that is limited
+-- whether a text has at most `most` bytes, where that is limited
 abbrev pub is_within : Option ℕ → List ℕ → Bool
 is_within None text = true
 is_within (Some most) text = nat_le (length text) most
 
--- a text, if it has at most n bytes
+-- a text, if it has at most `most` bytes
 unfoldable pub within : Option ℕ → List ℕ → Option (List ℕ)
 within most text = if is_within most text then Some text else None
 
--- a text that is kept, with a piece at its end, if it has at most n bytes then
+-- a text that is kept, with a piece at its end, if it has at most `most` bytes then
 unfoldable pub joined : Option ℕ → Option (List ℕ) → List ℕ → Option (List ℕ)
 joined most None piece = None
 joined most (Some front) piece = within most (front ++ piece)
 
--- a text of metric i, bound, if it has at most n bytes
+-- a text of metric i, bound, if it has at most `most` bytes
 unfoldable pub text_within : TemplateArguments → RunArguments → ℕ → Option ℕ → List ℕ → Result (Option (List ℕ)) ManifestError
 text_within arguments own i most text = bound_text arguments own i text >>= λ bound. Ok (within most bound)
 
