@@ -1,6 +1,6 @@
 //! Places of fields.
 
-ghost use Rattle.std.specs.Prelude.{◌≡◌, ◌<◌, ◌++◌, ◌∷◌, [], All, IfOk, OnOk};
+ghost use Rattle.std.specs.Prelude.{◌≡◌, ◌<◌, ◌++◌, ◌∷◌, [], All, IfOk, OnErr, OnOk};
 ghost use Rattle.ar_value.specs.Names.{index_of};
 
 use std::alloc::{AllocError, Global};
@@ -35,10 +35,11 @@ impl Places {
         })
     }
 
-    /// Adds a place after the others.
+    /// Adds a place after the others, or leaves them as they are where there is no memory for it.
     pub fn push(&mut self, place: usize) -> Result<(), AllocError>
         requires { All (λ earlier. earlier < place) self.old }
-        ensures { OnOk result (self.new ≡ self.old ++ place ∷ []) }
+        ensures added { OnOk result (self.new ≡ self.old ++ place ∷ []) }
+        ensures unchanged { OnErr result (self.new ≡ self.old) }
     {
         self.items.push(place)?;
         Ok(())
