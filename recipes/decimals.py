@@ -1,4 +1,4 @@
-"""Decimals as argo_judge reads them: cut at the sixth digit behind the point, and with millionths of 64 bits."""
+"""Decimals as argo_judge reads them: cut at the sixth digit after the point, and with millionths of 64 bits."""
 import re
 from fractions import Fraction
 

@@ -1,4 +1,4 @@
-"""The numbers that stand in a condition, with which measured numbers are compared."""
+"""The numbers in a condition, with which measured numbers are compared."""
 import re
 from collections import namedtuple
 from fractions import Fraction

@@ -1,6 +1,6 @@
 """The order of an AnalysisRun's measurements.
 
-They stand in the order in which they ended, but for those that ended metrics badly. A controller measures all metrics
+They are in the order in which they ended, but for those that ended metrics badly. A controller measures all metrics
 that are due together, counts each of these measurements, and gives the run the worst phase of its metrics; it begins no
 measurement after that. argo_judge closes a run at the first metric that ends badly. So what ended a metric badly comes
 after all that was begun together with it, and of several the worst comes first.

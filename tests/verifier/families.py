@@ -410,7 +410,7 @@ def every(tests, count):
 
 
 def numbers():
-    """Arithmetic and orders on edges, each answer true where all is right; and with a fault behind that."""
+    """Arithmetic and orders on edges, each answer true where all is right; and with a fault after that."""
     codes = []
     for name in ARITHMETIC:
         cases = list(computed(name))
@@ -458,7 +458,7 @@ def loops_2():
 
 
 def decided_2():
-    """Where the new loops end: at items that satisfy, in order, before and behind one that is a fault."""
+    """Where the new loops end: at items that satisfy, in order, before and after one that is a fault."""
     some = ('list', ('optional', 'bool'), 4)
     small = ('list', 'whole', 5)
     quotient = [whole(10), ITEM, ('DivW',), ('PushDecimal', 4_000_000), ('GtD',)]

@@ -160,7 +160,7 @@ class Writer:
         return self.random.choice(ways * 2 + common)()
 
     def branches(self, branch, depth):
-        """Two to four branches that meet behind the last."""
+        """Two to four branches that meet after the last."""
         end = Label()
         for _ in range(self.random.choice((1, 1, 1, 2, 3))):
             other = Label()
