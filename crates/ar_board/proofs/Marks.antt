@@ -74,7 +74,7 @@ last_first own last are =
           subst (LastOf [] run) none tt;
     }
 
--- behind one receipt more: of another run, or of the run
+-- after one receipt more: of another run, or of the run
 other_last : (earlier : List Receipt) (receipt : Receipt) (run : ℕ) (place : Option ℕ) → run ≢ receipt.run → LastOf earlier run place → LastOf (earlier ++ receipt ∷ []) run place
 other_last earlier receipt run None away before = all_push (λ (receipt : Receipt). receipt.run ≡ run → ⊥) earlier receipt before (λ same. away (sym same))
 other_last earlier receipt run (Some last) away before =

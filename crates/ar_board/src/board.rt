@@ -53,7 +53,7 @@ impl<'b, M: BundleName, L: LockNames> Board<'b, M, L> {
     ///
     /// # Errors
     ///
-    /// Want of memory alone.
+    /// Out of memory alone.
     pub fn new(
         alloc: Global,
         blanks: Blanks,
@@ -102,7 +102,7 @@ impl<'b, M: BundleName, L: LockNames> Board<'b, M, L> {
     }
 
     /// A worker's finding of a number goes to the end of its run's history, and its seat has one receipt
-    /// more. Want of memory is never answered.
+    /// more. Out of memory is never answered.
     ///
     /// # Errors
     ///
@@ -178,7 +178,7 @@ impl<'b, M: BundleName, L: LockNames> Board<'b, M, L> {
     ///
     /// # Errors
     ///
-    /// `Stale` where they aren't, or want of memory.
+    /// `Stale` where they aren't, or out of memory.
     pub fn look<R: Wait>(
         &self,
         rt: &R,
@@ -199,7 +199,7 @@ impl<'b, M: BundleName, L: LockNames> Board<'b, M, L> {
         }
     }
 
-    /// The histories of the runs, by all seats of the board. Want of memory is never answered. It takes
+    /// The histories of the runs, by all seats of the board. Out of memory is never answered. It takes
     /// time in proportion to the bundle's entries and the receipts.
     ///
     /// # Errors

@@ -98,7 +98,7 @@ fn note_unmet<M: BundleName>(histories: &[History], own: &[Receipt], unmet: &mut
     }
 }
 
-/// Whether a receipt's number stands at its place, behind the last place so far.
+/// Whether a receipt's number stands at its place, after the last place so far.
 fn is_met(histories: &[History], receipt: &Receipt, last: Option<usize>) -> bool
     requires there { receipt.now.run < length histories.now }
     ensures { IsTrue result ↔ (IsAt histories.now receipt.now × IsBehind last receipt.now.place) }

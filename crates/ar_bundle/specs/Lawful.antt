@@ -49,7 +49,7 @@ pub record AreLawful (bundle : Bundle) (histories : List (List Entry)) : Type 0 
   pub of_runs : AreHistories bundle 0 bundle.runs histories
   pub once : (number : ℕ) → number < length bundle.entries → times number histories ≡ 1
 
--- each number is below those behind it
+-- each number is below those after it
 abbrev pub Rise : List ℕ → Type 0
 Rise [] = Unit {0}
 Rise (number ∷ numbers) = AllByRecursion (λ later. number < later) numbers × Rise numbers

@@ -154,7 +154,7 @@ impl Bundle {
     /// The bundle of these parts: 64 metrics, 64 runs and 100,000 entries at most; each run with a
     /// judge of each metric's shape, and limits for it whose `count`, if there is one, is 1 or more;
     /// each entry of a run and a metric that are there, with a value of the metric's shape or a misfit
-    /// that isn't want of memory. No memory is taken.
+    /// that isn't out of memory. No memory is taken.
     pub fn of_parts(metrics: Vec<MetricPart>, runs: Vec<RunPart>, entries: Vec<EventPart>) -> Bundle
         requires { IsBundle (bundle_of metrics.items runs.items entries.items) }
         ensures { result ≡ bundle_of metrics.items runs.items entries.items }
@@ -189,7 +189,7 @@ impl Bundle {
     ///
     /// # Errors
     ///
-    /// Want of memory alone.
+    /// Out of memory alone.
     #[tactic(auto, using(crate::proofs::Sizes::all_counted, crate::proofs::Sizes::none_counted))]
     pub fn sizes(&self, alloc: Global) -> Result<Vec<usize>, AllocError>
         ensures exact { IfOk result (λ sizes. sizes.items ≡ sizes_of self.now) }
@@ -214,12 +214,12 @@ impl Bundle {
     ///
     /// # Errors
     ///
-    /// Want of memory alone, which runs of conditions with a `filter` take.
+    /// Out of memory alone, which runs of conditions with a `filter` take.
     #[tactic(auto, using(crate::proofs::Bundles::entry_there, crate::proofs::Bundles::measure_suits, crate::proofs::Bundles::run_there))]
     pub fn finding(&self, alloc: Global, number: u64) -> Result<Finding, AllocError>
         requires { number < length self.now.entries }
         ensures exact { IfOk result (λ finding. found self.now number ≡ Some finding) }
-        // Where no condition with a `filter` is run, want of memory is never answered.
+        // Where no condition with a `filter` is run, out of memory is never answered.
         ensures without_memory { FoundWithoutMemory self.now number → IsOk result }
     {
         let entry = &self.entries[number as usize];

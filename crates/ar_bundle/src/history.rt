@@ -12,7 +12,7 @@ use std::marker::Model;
 pub struct Entry {
     pub number: u64,
     pub finding: Finding,
-    /// What it did to the run, behind the entries before it.
+    /// What it did to the run, after the entries before it.
     pub effect: Effect,
 }
 
@@ -41,7 +41,7 @@ impl History {
         }
     }
 
-    /// One entry more, behind the others. Where memory is refused the history stays as it was.
+    /// One entry more, after the others. Where memory is refused the history stays as it was.
     pub fn push(&mut self, entry: Entry) -> Result<(), AllocError>
         ensures pushed { OnOk result (self.new ≡ self.old ++ entry ∷ []) }
         ensures refused { OnErr result (self.new ≡ self.old) }

@@ -9,7 +9,7 @@ digit_first : (places millionths : ℕ) → (places ≡ 0 → ⊥) → fraction_
 digit_first zero millionths h = absurd (h refl)
 digit_first (suc places) millionths h = simp unary_clauses refl
 
--- nothing is left behind the digit
+-- nothing is left after the digit
 pub last_digit : (places millionths : ℕ) → (places ≡ 0 → ⊥) → millionths % 100000 ≡ 0 → fraction_text places millionths ≡ decimal (millionths / 100000)
 last_digit places millionths h none = digit_first places millionths h ∙ (ap (λ (left : ℕ). decimal (millionths / 100000) ++ (if left == 0 then [] else fraction_text (places - 1) (millionths % 100000 * 10))) none ∙ append-nil (decimal (millionths / 100000)))
 

@@ -27,7 +27,7 @@ given answer written earlier later holds said = by later.is_whole refl written s
   by true is (Ok written) said = alone answer (string_bytes later.text) (subst (λ bytes. (answer >>= λ text. Ok (bytes ++ text)) ≡ Ok (string_bytes later.text)) holds.1 (said is).1)
   by true is (Err fault) said = said
 
--- what is written behind nothing is the answer, and what is refused there is refused
+-- what is written after nothing is the answer, and what is refused there is refused
 pub gives : (defined : Option Answer) (written : Result ⊤ CaseFault) (earlier later : Output) → Holds earlier [] → IfSome defined (λ answer. Answers written earlier later answer) → IfSome defined (λ answer. Gives is_memory string_bytes (finished later.is_whole later.text written) answer)
 gives None written earlier later holds said = tt
 gives (Some answer) written earlier later holds said = given answer written earlier later holds said

@@ -1,4 +1,4 @@
--- Lines, printed one behind another, character by character.
+-- Lines, printed one after another, character by character.
 use Rattle.std.proofs.Common.{◌≡◌, ℕ, suc, ◌+◌, ◌<◌, ◌≤◌, Bool, true, false, not, List, [], ◌∷◌, ◌++◌, length, get_or, drop, refl, ◌∙◌, ap, sym, append_assoc, add-one, drop-cons}
 use Rattle.std.specs.Prelude.{codes, if◌then◌else◌, ◌==◌}
 use Rattle.std.specs.Char.{encode_utf8}
@@ -6,7 +6,7 @@ use Rattle.std.proofs.Math.ListN.{drop_of_length-le}
 use Rattle.std.proofs.lemmas.List.{append-nil}
 use Rattle.ar_cases.specs.Printing.{between, in_one_line, line_end}
 
--- what is left to write behind some characters, of which the last one is a line's end or not
+-- what is left to write after some characters, of which the last one is a line's end or not
 abbrev pub left : (ended : Bool) → (behind : List ℕ) → List ℕ
 left ended behind = (if ended then line_end behind else []) ++ in_one_line behind
 

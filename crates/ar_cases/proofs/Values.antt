@@ -10,7 +10,7 @@ use Rattle.ar_value.proofs.Answers.{gives_more}
 use Rattle.ar_json.specs.Reading.{is_memory, is_memory_under}
 use Rattle.ar_json.specs.declared.value_reading.ShapeFault.{ShapeFault}
 
--- what may be want of memory under some shape is want of memory
+-- what may be out of memory under some shape is out of memory
 under_is_memory : (shape : Shape) (fault : ShapeFault) → is_memory_under shape fault ≡ true → is_memory fault ≡ true
 under_is_memory shapes.bool fault h = absurd (cc)
 under_is_memory shapes.whole fault h = absurd (cc)

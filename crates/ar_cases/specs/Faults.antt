@@ -4,7 +4,7 @@ use Rattle.ar_cases.specs.declared.fault.CaseFault.TheVariants.{Member, OutOfMem
 use Rattle.ar_cases.specs.declared.fault.LineFault.{LineFault}
 use Rattle.ar_cases.specs.declared.fault.LineFault.TheVariants.{NoJson, UnknownCall, Device, Case}
 
--- 2 where the line is no case, 3 for want of memory, and 4 for a read or a write that failed
+-- 2 where the line is no case, 3 for out of memory, and 4 for a read or a write that failed
 abbrev pub status_of : LineFault → ℕ
 status_of NoJson = 2
 status_of UnknownCall = 2

@@ -21,7 +21,7 @@ use Rattle.ar_cases.specs.Members.{decimal_member, is_memory, json_member, or_me
 use Rattle.ar_value.specs.Fault.{fault_name}
 use Rattle.ar_cases.specs.Printing.{number_text, quoted, truth_text}
 
--- the answer stands behind what was there, unless memory ran out, or the case is refused
+-- the answer stands after what was there, unless memory ran out, or the case is refused
 abbrev pub Answers : Result ⊤ CaseFault → (earlier later : Output) → (answer : Result (List ℕ) CaseFault) → Type 0
 Answers (Ok written) earlier later answer = later.is_whole ≡ true → (earlier.is_whole ≡ true) × ((answer >>= λ text. Ok (string_bytes earlier.text ++ text)) ≡ Ok (string_bytes later.text))
 Answers (Err fault) earlier later answer = Unless (is_memory fault) (answer ≡ Err fault)

@@ -9,7 +9,7 @@ use Rattle.ar_cases.specs.declared.output.Output.{Output}
 abbrev pub Holds : Output → (text : List ℕ) → Type 0
 Holds output text = (output.is_whole ≡ true) × (string_bytes output.text ≡ text)
 
--- where all pieces are there afterwards, they were before, and one more stands behind them
+-- where all pieces are there afterwards, they were before, and one more stands after them
 abbrev pub Writes : (earlier later : Output) → (text : List ℕ) → Type 0
 Writes earlier later text = later.is_whole ≡ true → (earlier.is_whole ≡ true) × (string_bytes later.text ≡ string_bytes earlier.text ++ text)
 
@@ -21,7 +21,7 @@ Extends earlier later = later.is_whole ≡ true → (earlier.is_whole ≡ true) 
 abbrev pub IsLost : Output → Type 0
 IsLost output = output.is_whole ≡ false
 
--- what is given of a text of which all pieces are there, or not: want of memory goes before what is refused
+-- what is given of a text of which all pieces are there, or not: out of memory goes before what is refused
 abbrev pub finished : {A : Type 0} → (is_whole : Bool) → (text : A) → (written : Result ⊤ CaseFault) → Result A CaseFault
 finished false text written = Err OutOfMemory
 finished true text (Ok written) = Ok text

@@ -38,7 +38,7 @@ quoted text = codes "\"" ++ (flat_map escaped (chars text) ++ codes "\"")
 abbrev pub between : (first : Bool) → (text : List ℕ) → List ℕ
 between first text = if first then [] else text
 
--- Lines, one behind another: a line's end is a slash between blanks where something stands behind it.
+-- Lines, one after another: a line's end is a slash between blanks where something stands after it.
 
 abbrev pub line_end : (behind : List ℕ) → List ℕ
 line_end [] = []
@@ -53,7 +53,7 @@ lines_text text = in_one_line (chars text)
 
 -- ---- numbers
 
--- The digits of so many millionths below one, `places` at most, and none behind the last that isn't zero: a digit, and
+-- The digits of so many millionths below one, `places` at most, and none after the last that isn't zero: a digit, and
 -- the digits of ten times what is left.
 abbrev pub fraction_text : (places millionths : ℕ) → List ℕ
 fraction_text zero millionths = []
@@ -62,7 +62,7 @@ fraction_text (suc places) millionths = decimal (millionths / 100000) ++ (if mil
 abbrev pub sign_text : ℤ → List ℕ
 sign_text z = if is_negative z then codes "-" else []
 
--- a decimal by its millionths, with at least one digit behind its point
+-- a decimal by its millionths, with at least one digit after its point
 unfoldable pub decimal_text : (millionths : ℤ) → List ℕ
 decimal_text millionths = sign_text millionths ++ (decimal (unsigned_abs millionths / 1000000) ++ (codes "." ++ fraction_text 6 (unsigned_abs millionths % 1000000)))
 

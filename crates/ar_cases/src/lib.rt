@@ -13,7 +13,7 @@
 //! What is proved, of every case: which names are those of calls (`specs/Calls`); what a call on numbers
 //! or texts answers, `decimal` and `digits` aside (`specs/Numbers`); what the members of a case are, or
 //! that they are refused (`specs/Members`); how texts, numbers, values, shapes, lines and what a condition
-//! says are printed (`specs/Printing`); that pieces of an answer stand one behind another, and none is left
+//! says are printed (`specs/Printing`); that pieces of an answer stand one after another, and none is left
 //! out (`specs/Output`); and the exit statuses (`specs/Faults`). What the calls on shapes and values answer
 //! is only tested, by the suite.
 #![tactic(auto)]

@@ -50,7 +50,7 @@ fn put_decimal_of(alloc: Global, case: &Json, out: &mut Output) -> Written {
     Ok(())
 }
 
-/// The number that digits spell, or the millionths where there are digits behind a point, too.
+/// The number that digits spell, or the millionths where there are digits after a point, too.
 fn put_digits(case: &Json, out: &mut Output) -> Written {
     let whole = digits_of(members::text(case, "digits")?)?;
     let found = match case.get("fraction").and_then(Json::as_str) {

@@ -103,7 +103,7 @@ pub fn put_lines(out: &mut Output, lines: &str)
     }
 }
 
-/// A character of lines, behind the end of a line or not.
+/// A character of lines, after the end of a line or not.
 fn put_line_part(out: &mut Output, ended: bool, character: char)
     ensures { Writes out.old out.new
         (between (not ended) (codes " / ") ++ (if character == 10 then [] else encode_utf8 character)) }
@@ -114,7 +114,7 @@ fn put_line_part(out: &mut Output, ended: bool, character: char)
     }
 }
 
-/// A decimal with at least one digit behind its point, and no zero behind that one at its end.
+/// A decimal with at least one digit after its point, and no zero after that one at its end.
 #[tactic(auto, unfolding(crate::specs::Printing::decimal_text))]
 pub fn put_decimal(out: &mut Output, decimal: Decimal)
     ensures { Writes out.old out.new (decimal_text decimal) }

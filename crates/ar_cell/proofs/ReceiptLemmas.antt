@@ -29,7 +29,7 @@ at_place number (Some other) = by_test (other == number) refl where
   by_test true is = inl (ap Some (grind (arith, nat_tests)))
   by_test false is = inr (λ same. let equal : other ≡ number = cc in absurd (grind (arith, nat_tests)))
 
--- behind all earlier receipts, or not behind one of them
+-- after all earlier receipts, or not after one of them
 module _ (receipt : Receipt) where
   later : (before : Receipt) (rest : List Receipt) → IsOutOfOrder rest receipt → IsOutOfOrder (before ∷ rest) receipt
   later before rest out = record { at = suc out.at; before = out.before; there = out.there; same_run = out.same_run; greater = out.greater }

@@ -122,7 +122,7 @@ pub record IsSnapshot (bundle : Bundle) (workers run : ℕ) (cell : Cell) (shown
 abbrev pub IsFresh : Cell → (run worker : ℕ) → List Receipt → Type 0
 IsFresh cell run worker receipts = posted_by worker (history_at cell run) (authors_at cell run) ≡ received run receipts
 
--- want of memory, or that there are so many entries by the worker
+-- out of memory, or that there are so many entries by the worker
 abbrev pub CanBe : (worker : ℕ) → (authors : List ℕ) → LookFault → Type 0
 CanBe worker authors OutOfMemory = Unit {0}
 CanBe worker authors (Stale posts) = posts ≡ posts_of worker authors

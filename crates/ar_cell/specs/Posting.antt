@@ -9,11 +9,11 @@ use Rattle.ar_bundle.specs.Lawful.{numbers_of}
 use Rattle.ar_bundle.specs.declared.finding.Finding.{Finding}
 use Rattle.ar_bundle.specs.declared.history.Entry.{Entry}
 
--- a number with its finding, and with its effect behind events under its run's limits
+-- a number with its finding, and with its effect after events under its run's limits
 abbrev pub entry_with : (number : ℕ) → Finding → List Limits → List Event → Event → Entry
 entry_with number finding limits events event = record { number = number; finding = finding; effect = effect_of limits events event }
 
--- behind the whole of a history of its run
+-- after the whole of a history of its run
 abbrev pub entry_of : Bundle → (run : ℕ) → List Entry → (number : ℕ) → Finding → Event → Option Entry
 entry_of bundle run history number finding event =
     option_map (λ part. entry_with number finding part.limits (events_of bundle (numbers_of history)) event) (slice_get bundle.runs run)

@@ -83,7 +83,7 @@ impl<'b, M: BundleName, L: LockName> RunCell<'b, M, L> {
     ///
     /// # Errors
     ///
-    /// Want of memory alone.
+    /// Out of memory alone.
     pub fn new(
         alloc: Global,
         bundle: &'b Bundle,
@@ -143,7 +143,7 @@ impl<'b, M: BundleName, L: LockName> RunCell<'b, M, L> {
     ///
     /// # Errors
     ///
-    /// `Stale` where they aren't, or want of memory.
+    /// `Stale` where they aren't, or out of memory.
     pub fn show(
         &self,
         alloc: Global,
@@ -195,7 +195,7 @@ impl<'b, M: BundleName, L: LockName> RunCell<'b, M, L> {
     }
 
     /// A number with its finding comes to the end of its run's history, posted by a worker. The worker's
-    /// share, of which it has a part, and the book are one more. Want of memory is never answered.
+    /// share, of which it has a part, and the book are one more. Out of memory is never answered.
     ///
     /// # Errors
     ///

@@ -1,4 +1,4 @@
-//! A run's history, and where the run stands behind it.
+//! A run's history, and where the run stands after it.
 
 ghost use Rattle.std.specs.Prelude.{◌≡◌, ◌<◌, ◌≤◌, [], ◌∷◌, ◌++◌, IfOk, length};
 ghost use Rattle.std.specs.Vec.{vec_capacity};
@@ -10,7 +10,7 @@ use ar_bundle::{Entry, Finding};
 use ar_limits::{Effect, Event, Limits, RunState};
 use std::alloc::{AllocError, Global};
 
-/// The entries of a run, with room for all that the run can have, and where it stands behind them.
+/// The entries of a run, with room for all that the run can have, and where it stands after them.
 #[derive(Drop)]
 pub struct RunHistory {
     pub entries: Vec<Entry>,

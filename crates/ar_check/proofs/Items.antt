@@ -1,4 +1,4 @@
--- Items of a list literal, one behind another.
+-- Items of a list literal, one after another.
 use Rattle.std.proofs.Common.{◌≡◌, ℕ, ◌+◌, Bool, true, false, List, [], ◌∷◌, ◌++◌, length, map, Option, Result, Ok, Err, refl, ◌∙◌, ap, arith, append-nil}
 use Rattle.std.proofs.lemmas.List.{append_assoc, map-append}
 use Rattle.ar_value.specs.Answer.{◌>>=◌, Unless}
@@ -47,7 +47,7 @@ module _ (result : Shape) (item : Option Shape) (around : ℕ) where
       → behind done (more first others) ≡ behind (done ++ found ∷ []) others
   next done first others found given = by_operand done first others found (typed_of result item around first) refl given
 
-  -- an item that is typed goes behind those that are
+  -- an item that is typed goes after those that are
   pub next_left : (all : Result (List Item) TypeError) (done : List ItemCode) (left others : List Tree) (first : Tree) (found : ItemCode)
       → all ≡ behind (map item_view done) (expressions (map expression_of left)) → left ≡ first ∷ others
       → item_typed result item around (expression_of first) ≡ Ok (item_view found)

@@ -97,7 +97,7 @@ same_scalar scalars.Decimal scalars.Decimal h = refl
 same_scalar scalars.Text scalars.Text h = refl
 same_scalar m n h = absurd (cc)
 
--- ---- items one behind another
+-- ---- items one after another
 
 -- two that have something in common are scalars
 two_scalars : (a b : Option Scalar) (both : Scalar) → common_scalar a b ≡ Some both → (m n : Scalar) × (a ≡ Some m) × (b ≡ Some n) × (common_scalar (Some m) (Some n) ≡ Some both)

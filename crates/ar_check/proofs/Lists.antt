@@ -66,7 +66,7 @@ abbrev pub all_suit : Scalar → List Item → Bool
 all_suit scalar [] = true
 all_suit scalar (item ∷ items) = suits scalar item.scalar && all_suit scalar items
 
--- what was found and the items behind it suit what they have in common
+-- what was found and the items after it suit what they have in common
 joined_suit : (scalar : Scalar) (found : Option Scalar) (items : List Item) → joined found items ≡ Some scalar → (suits scalar found ≡ true) × (all_suit scalar items ≡ true)
 joined_suit scalar found [] is = (rw is (suits_itself scalar), refl)
 joined_suit scalar found (item ∷ items) is =

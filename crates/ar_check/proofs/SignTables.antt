@@ -57,7 +57,7 @@ sign_row at unaries.Not operand found h =
 negative_typed : (at : ℕ) (numbers : Option Numbers) (n : Numbers) (tree : Typed) → numbers ≡ Some n → IsTyped (negation_of at numbers tree) (number_kind n)
 negative_typed at numbers n tree h = rw h (typed.unary (unary.Negate n) tree, refl)
 
--- a number behind `+`
+-- a number after `+`
 positive_typed : (at : ℕ) (numbers : Option Numbers) (n : Numbers) (tree : Typed) → numbers ≡ Some n → IsTyped (plus_of at numbers tree) (number_kind n)
 positive_typed at numbers n tree h = rw h (tree, refl)
 

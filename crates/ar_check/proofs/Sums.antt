@@ -155,7 +155,7 @@ module _ (result : Value) (here : Option Value) where
   negative_sound at (Some numbers) tree h = means_then _ _ (mean result here tree) (operators.negative numbers) h (negates numbers)
   negative_sound at None tree h = tt
 
-  -- a number behind `+` means its kind
+  -- a number after `+` means its kind
   pub positive_sound : (at : ℕ) (numbers : Option Numbers) (tree : Typed) → MeansNumbers numbers (mean result here tree) → IfOk (plus_of at numbers tree) (Sound result here)
   positive_sound at (Some numbers) tree h = h
   positive_sound at None tree h = tt

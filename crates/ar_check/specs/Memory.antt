@@ -1,4 +1,4 @@
--- Which errors are want of memory.
+-- Which errors are out of memory.
 use Rattle.std.specs.Prelude.{Bool, true, false}
 use Rattle.ar_check.specs.declared.error.TypeError.{TypeError}
 use Rattle.ar_check.specs.declared.error.TypeError.TheVariants.{OutOfMemory}

@@ -2,7 +2,7 @@
 //! declared shape.
 //!
 //! [`check`] answers the typed tree, in which each operand that is made plain or turned into decimal
-//! is marked, or the first fault of kinds with its place. Only want of memory can keep it from that.
+//! is marked, or the first fault of kinds with its place. Only out of memory can keep it from that.
 //! A checked condition, on a value of its shape, is true or false or meets one of four faults.
 //!
 //! - `typing`: from a tree to its typed tree, by recursion no deeper than the tree; `build` makes

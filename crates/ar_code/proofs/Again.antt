@@ -47,7 +47,7 @@ cut_groups zero n rest =
     rw ends refl
 cut_groups (suc more) n rest = cut_by more n rest (ltb n 128) refl (λ m. cut_groups more m rest)
 
--- how many numbers have no more bytes than so many behind the first
+-- how many numbers have no more bytes than so many after the first
 abbrev room : ℕ → ℕ
 room zero = 128
 room (suc more) = 128 * room more

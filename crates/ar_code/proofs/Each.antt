@@ -41,7 +41,7 @@ seen_more P f xs i d within before holds = subst (λ ys. AllByRecursion P ys) (s
 pub seen_all : {A B : Type 0} (P : B → Type 0) (f : A → B) (xs : List A) (i : ℕ) → length xs ≤ i → AllByRecursion P (map f (take i xs)) → AllByRecursion P (map f xs)
 seen_all P f xs i past before = subst (λ ys. AllByRecursion P (map f ys)) (take_all i xs past) before
 
--- behind a head
+-- after a head
 pub seen_written_more : {A B : Type 0} (f : B → List ℕ) (g : A → B) (xs : List A) (i : ℕ) (d : A) (front head out more : List ℕ) → i < length xs
     → out ≡ front ++ (head ++ flat_map f (map g (take i xs))) → more ≡ out ++ f (g (get_or xs i d)) → more ≡ front ++ (head ++ flat_map f (map g (take (i + 1) xs)))
 seen_written_more f g xs i d front head out more within so_far one =

@@ -1,4 +1,4 @@
--- Bytes one behind another.
+-- Bytes one after another.
 use Rattle.std.proofs.Common.{◌≡◌, ℕ, zero, suc, ◌-◌, ◌+◌, ◌/◌, ◌%◌, ◌<◌, false, ltb, List, [], ◌∷◌, ◌++◌, refl, append_assoc, arith}
 use Rattle.ar_code.specs.Image.{groups}
 

@@ -1,4 +1,4 @@
--- What is read is there, in its form, and no refusal is want of memory.
+-- What is read is there, in its form, and no refusal is out of memory.
 use Rattle.std.proofs.Common.{◌≡◌, ◌≢◌, ℕ, zero, suc, ◌/◌, ◌%◌, ◌<◌, ◌≤◌, pos, negsuc, Bool, true, false, ◌&&◌, cond, eqb, ltb, List, [], ◌∷◌, ◌++◌, length, take, drop, Option, Some, None, Result, Ok, Err, All, refl, sym, ap, subst, ◌∙◌, append_assoc, arith}
 use Rattle.std.specs.Prelude.{option_map}
 use Rattle.std.specs.Bool.{Decides}
@@ -22,7 +22,7 @@ use Rattle.ar_code.specs.declared.error.ImageError.{ImageError}
 use Rattle.ar_code.specs.declared.error.ImageError.TheVariants.{BadMagic, BadVersion, OutOfMemory}
 use Rattle.ar_code.proofs.Loops.{Reads, ops_read, texts_read}
 
--- what holds of an answer, if there is one; a refusal isn't want of memory
+-- what holds of an answer, if there is one; a refusal isn't out of memory
 abbrev Holds : {A : Type 0} → (A → Type 0) → Result A ImageError → Type 0
 Holds P (Ok x) = P x
 Holds P (Err e) = is_memory e ≡ false
@@ -44,13 +44,13 @@ if_holds : {A : Type 0} (P : A → Type 0) (b : Bool) (e : ImageError) (r : Resu
 if_holds P true e r fault holds = holds refl
 if_holds P false e r fault holds = fault
 
--- what was read stands before the bytes behind it
+-- what was read stands before the bytes after it
 abbrev Takes : {A : Type 0} → (A → List ℕ) → List ℕ → A × List ℕ → Type 0
 Takes image bytes x = bytes ≡ image x.0 ++ x.1
 
 -- ---- numbers
 
--- the bytes of a number stand before those behind it
+-- the bytes of a number stand before those after it
 abbrev IsCut : List ℕ → Option (List ℕ × List ℕ) → Type 0
 IsCut bytes None = Unit {0}
 IsCut bytes (Some cut) = bytes ≡ cut.0 ++ cut.1
@@ -203,7 +203,7 @@ signed_by false n e = omega (arith, eqb-false (n % 2) 0 e)
 signed_is : (n : ℕ × List ℕ) (bytes : List ℕ) → Takes number bytes n → bytes ≡ number (zigzag (signed n.0)) ++ n.1
 signed_is n bytes is = is ∙ ap (λ (k : ℕ). number k ++ n.1) (sym (signed_by (eqb (n.0 % 2) 0) n.0 refl))
 
--- the fields of an operation, behind the code that it was read for
+-- the fields of an operation, after the code that it was read for
 abbrev IsOp : (texts names : ℕ) → Op → List ℕ → Op × List ℕ → Type 0
 IsOp texts names op bytes x = Takes fields_of bytes x × (code_of x.0 ≡ code_of op) × Inside texts names x.0
 

@@ -26,7 +26,7 @@ use Rattle.ar_code.specs.declared.version.Version.TheVariants.{First, Second}
 use Rattle.ar_code.specs.declared.error.ImageError.{ImageError}
 use Rattle.ar_code.specs.declared.error.ImageError.TheVariants.{BadMagic, BadVersion, Truncated, BadNumber, UnknownOp, BadText, TooLarge, Trailing, OutOfMemory}
 
--- What is read is a value and the bytes behind it. Where an input ends at a place, what begins with so many bytes of it
+-- What is read is a value and the bytes after it. Where an input ends at a place, what begins with so many bytes of it
 -- stands at the place before these.
 abbrev pub Reading : Type 0 → Type 0
 Reading A = Result (A × List ℕ) ImageError
@@ -40,7 +40,7 @@ byte_at end (byte ∷ bytes) = Ok (byte, bytes)
 
 -- ---- numbers
 
--- the bytes of a number, and those behind it: the last is the first one below 128
+-- the bytes of a number, and those after it: the last is the first one below 128
 abbrev pub cut_number : List ℕ → Option (List ℕ × List ℕ)
 cut_number [] = None
 cut_number (byte ∷ bytes) = if nat_lt byte 128 then Some (byte ∷ [], bytes) else option_map (λ cut. (byte ∷ cut.0, cut.1)) (cut_number bytes)
@@ -170,7 +170,7 @@ entry_at end at count bytes = do
   n ← number_at end narrow bytes
   if nat_lt n.0 count then Ok n else Err (BadText at)
 
--- a source with the field that stands behind its code, in the operation at a place of code with so many texts
+-- a source with the field that stands after its code, in the operation at a place of code with so many texts
 unfoldable pub source_at : ℕ → (at texts : ℕ) → Source → List ℕ → Reading Source
 source_at end at texts (sources.Bool empty) bytes = bit_at end bytes >>= λ holds. Ok (sources.Bool holds.0, holds.1)
 source_at end at texts (sources.Whole empty) bytes = number_at end wide bytes >>= λ n. Ok (sources.Whole (signed n.0), n.1)
@@ -184,7 +184,7 @@ list_at end bytes = do
   count ← items_at end scalar.1
   Ok (MakeList scalar.0 count.0, count.1)
 
--- the operation at a place with the fields that stand behind its code, in code with so many texts and names
+-- the operation at a place with the fields that stand after its code, in code with so many texts and names
 unfoldable pub fields_at : ℕ → (at texts names : ℕ) → Op → List ℕ → Reading Op
 fields_at end at texts names (Push source) bytes = source_at end at texts source bytes >>= λ source. Ok (Push source.0, source.1)
 fields_at end at texts names (MakeList scalar empty) bytes = list_at end bytes

@@ -34,7 +34,7 @@ use Rattle.ar_code.specs.declared.version.Version.TheVariants.{First, Second}
 
 -- ---- numbers and texts
 
--- seven bits a byte, the lowest first, each byte but the last with 128 more; at most so many bytes behind the first
+-- seven bits a byte, the lowest first, each byte but the last with 128 more; at most so many bytes after the first
 abbrev pub groups : ℕ → ℕ → List ℕ
 groups zero n = n % 128 ∷ []
 groups (suc more) n = if nat_lt n 128 then n ∷ [] else (128 + n % 128) ∷ groups more (n / 128)
@@ -172,7 +172,7 @@ source_fields (sources.Decimal millionths) = number (zigzag millionths)
 source_fields (sources.Text text) = number text
 source_fields source = []
 
--- what stands behind an operation's code
+-- what stands after an operation's code
 abbrev pub fields_of : Op → List ℕ
 fields_of (ops.Push source) = source_fields source
 fields_of (ops.MakeList scalar count) = number (scalar_number scalar) ++ number count

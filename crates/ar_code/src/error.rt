@@ -25,7 +25,7 @@ pub enum ImageError {
     /// A count, or the length of a text.
     #[error("TooLarge: expected at most 4096 operations, texts and names, and 4096 bytes a text")]
     TooLarge,
-    /// Bytes stand behind the last operation.
+    /// Bytes stand after the last operation.
     #[error("byte {0}: Trailing: expected the end of the image")]
     Trailing(usize),
     #[error("out of memory")]

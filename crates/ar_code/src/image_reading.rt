@@ -92,7 +92,7 @@ struct Tables {
     names: usize,
 }
 
-/// A source with the field that stands behind its code.
+/// A source with the field that stands after its code.
 #[tactic(auto, unfolding(crate::specs::Decoding::source_at))]
 fn source_at(
     end: usize,
@@ -138,7 +138,7 @@ fn list_at(end: usize, bytes: &[u8]) -> Result<(Op, &[u8]), ImageError>
     Ok((Op::MakeList { scalar, count }, rest))
 }
 
-/// An operation with the fields that stand behind its code.
+/// An operation with the fields that stand after its code.
 #[tactic(auto, unfolding(crate::specs::Decoding::fields_at))]
 fn fields_at(
     end: usize,

@@ -17,10 +17,10 @@ use std::alloc::{AllocError, Global};
 /// What an image begins with.
 pub(crate) const MAGIC: [u8; 4] = *b"ARCV";
 
-/// How many bytes stand behind the first of a number at most.
+/// How many bytes stand after the first of a number at most.
 const MORE_NUMBER_BYTES: usize = 9;
 
-/// Seven bits a byte, the lowest first, in at most so many bytes behind the first.
+/// Seven bits a byte, the lowest first, in at most so many bytes after the first.
 #[tactic(auto, using(crate::proofs::Joins::one_more, crate::proofs::Joins::more_groups))]
 fn put_groups(out: &mut Vec<u8>, more: usize, n: u64) -> Result<(), AllocError>
     ensures { OnOk result (out.new.items ≡ out.old.items ++ groups more n) }
@@ -161,7 +161,7 @@ fn image_of(alloc: Global, code: &Code) -> Result<Vec<u8>, AllocError>
 ///
 /// # Errors
 ///
-/// Want of memory, which the bytes take.
+/// Out of memory, which the bytes take.
 #[tactic(auto, using(crate::proofs::Again::read_again))]
 pub fn encode(alloc: Global, code: &Code) -> Result<Vec<u8>, AllocError>
     ensures image { IfOk result (λ bytes. bytes.items ≡ image code.now) }

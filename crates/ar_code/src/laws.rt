@@ -26,7 +26,7 @@ pub fn second_version()
     ensures { (code : Code) → list_any is_new code.ops ≡ true → image code ≡ magic ++ 2 ∷ body code }
 {}
 
-/// No bytes are refused for want of memory: that is never their own fault.
+/// No bytes are refused as out of memory: that is never their own fault.
 #[tactic(auto, using(crate::proofs::Readings::decoded_not_memory))]
 pub fn memory_is_no_fault()
     ensures { (bytes : List ℕ) → decoded bytes ≢ Err OutOfMemory }

@@ -76,11 +76,11 @@ fn put_line(out: &mut String, code: &Code, place: usize, op: Op) -> Result<(), A
 }
 
 /// The listing of code: a line for each operation, with its place, its name and its fields, one space
-/// between, and the text itself behind a text's or name's number. A text is listed as it is.
+/// between, and the text itself after a text's or name's number. A text is listed as it is.
 ///
 /// # Errors
 ///
-/// Want of memory, which the lines take.
+/// Out of memory, which the lines take.
 #[tactic(auto, using(crate::proofs::Entries::no_line))]
 pub fn listing(alloc: Global, code: &Code) -> Result<String, AllocError>
     ensures { IfOk result (λ text. string_bytes text ≡ listing code.now) }

@@ -1,5 +1,5 @@
 //! Reading numbers from bytes. A reader is handed the bytes that are left and the length of all of
-//! them, and answers what it read and the bytes behind it.
+//! them, and answers what it read and the bytes after it.
 
 ghost use Rattle.std.specs.Prelude.{◌≡◌, ◌≤◌, drop, false, length, option_map, suc, take, IfNone, IfOk, IfSome};
 ghost use Rattle.std.specs.Str.{bytes_eq};
@@ -61,7 +61,7 @@ fn sum_of(text: &[u8]) -> Option<u64>
     }
 }
 
-/// Whether bytes are the one form of a number, of at most so many bytes behind the first.
+/// Whether bytes are the one form of a number, of at most so many bytes after the first.
 fn is_form_of(text: &[u8], more: usize, n: u64) -> bool
     ensures { result ≡ bytes_eq (groups more n) text.now }
 {

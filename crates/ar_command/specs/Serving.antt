@@ -141,7 +141,7 @@ abbrev pub IsCauseOf : Command → Bundle → WorkError → Type 0
 IsCauseOf (commands.Ordered workers) bundle error = IsNotLost error
 IsCauseOf command bundle error = IsCause bundle error
 
--- and so no report of the bundle of an input; want of memory is answered as such
+-- and so no report of the bundle of an input; out of memory is answered as such
 pub record Breaks (command : Command) (input : List ℕ) (error : WorkError) : Type 0 where
   pub bundle : Bundle
   pub reads : document.ReadsInput input (Ok bundle)

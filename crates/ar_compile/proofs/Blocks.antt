@@ -173,7 +173,7 @@ module _ (ops : List Op) where
     skip_no_loop target (Jump jumps.Or named) to = tt
     skip_no_loop target op to = absurd to
 
-    -- the operations of a block are nested as they should be, and behind it the same loops are around as before it
+    -- the operations of a block are nested as they should be, and after it the same loops are around as before it
     record Nested (around begin end : ℕ) : Type 0 where
       each : (place : ℕ) → begin ≤ place → place < end → NestsWell place
       behind : held ops end ≡ held ops begin
@@ -191,7 +191,7 @@ module _ (ops : List Op) where
     at_first : (begin place : ℕ) → begin ≤ place → place < suc begin → NestsWell begin → NestsWell place
     at_first begin place from below well = let same : begin ≡ place = omega arith in subst NestsWell same well
 
-    -- behind an operation that begins no loop
+    -- after an operation that begins no loop
     no_enter : (place : ℕ) (op : Op) → At place op → IsNoLoop op → EntersBelow place → EntersBelow (suc place)
     no_enter place op there plain before enter step predicate below enter_there = elim (leb_tells place enter) [
       | inl w ↦ let same : place ≡ enter = omega (arith, w.1) in absurd (subst IsNoLoop (one_op place op (Enter predicate step) there (subst (λ at. At at (Enter predicate step)) (sym same) enter_there)) plain)

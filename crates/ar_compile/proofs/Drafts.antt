@@ -1,4 +1,4 @@
--- What was drafted is the code of the tree, behind what was there.
+-- What was drafted is the code of the tree, after what was there.
 use Rattle.std.proofs.Common.{◌≡◌, ℕ, ◌+◌, List, [], ◌∷◌, ◌++◌, length, set, refl, sym, ap, ◌∙◌, append_assoc, arith}
 use Rattle.std.proofs.lemmas.List.{append-nil, length-append, length-set}
 use Rattle.ar_condition.specs.Typed.{Typed, Typeds, how_many}
@@ -18,7 +18,7 @@ use Rattle.ar_compile.proofs.Standing.{around_length, length_is, one_length}
 abbrev tables_of : Code → Tables
 tables_of draft = record { texts = draft.texts; names = draft.names }
 
--- operations behind those of a draft, and tables in place of its own
+-- operations after those of a draft, and tables in place of its own
 abbrev extended : Code → List Op → Tables → Code
 extended draft ops tables = code_of_parts (draft.ops ++ ops) tables.texts tables.names
 
@@ -29,7 +29,7 @@ Drafted tree draft = drafted tree draft ≡ extended draft (code_at (place_of dr
 abbrev other_ops : List Op → Code → Code
 other_ops ops draft = code_of_parts ops draft.texts draft.names
 
--- one operation behind extended code
+-- one operation after extended code
 behind_one : (draft : Code) (ops : List Op) (tables : Tables) (op : Op) → with_op op (extended draft ops tables) ≡ extended draft (ops ++ op ∷ []) tables
 behind_one draft ops tables op = ap (λ o. code_of_parts o tables.texts tables.names) (append_assoc draft.ops ops (op ∷ []))
 
@@ -40,11 +40,11 @@ set_behind (z ∷ xs) x y ys = ap (λ l. z ∷ l) (set_behind xs x y ys)
 place_behind : (draft : Code) (ops : List Op) (n : ℕ) → length ops ≡ n → length (draft.ops ++ ops) ≡ place_of draft + n
 place_behind draft ops n is = length-append draft.ops ops ∙ ap (λ k. place_of draft + k) is
 
--- an operation behind extended code
+-- an operation after extended code
 then_op : (draft found : Code) (ops : List Op) (tables : Tables) (op : Op) → found ≡ extended draft ops tables → with_op op found ≡ extended draft (ops ++ op ∷ []) tables
 then_op draft found ops tables op is = ap (with_op op) is ∙ behind_one draft ops tables op
 
--- a tree behind extended code
+-- a tree after extended code
 then_tree : (draft found : Code) (ops : List Op) (tables : Tables) (n : ℕ) (tree : Typed) → found ≡ extended draft ops tables → length ops ≡ n → ((d : Code) → Drafted tree d)
     → drafted tree found ≡ extended draft (ops ++ code_at (place_of draft + n) tables tree) (tables_with tree tables)
 then_tree draft found ops tables n tree is many drafts =
@@ -63,7 +63,7 @@ then_set draft found xs ys x y tables place is at =
     ∙ ap (λ o. code_of_parts (set o (length (draft.ops ++ xs)) y) tables.texts tables.names) (sym (append_assoc draft.ops xs (x ∷ ys)))
     ∙ ap (λ o. code_of_parts o tables.texts tables.names) (set_behind (draft.ops ++ xs) x y ys ∙ append_assoc draft.ops xs (y ∷ ys))
 
--- the place behind extended code
+-- the place after extended code
 place_found : (draft found : Code) (ops : List Op) (tables : Tables) (n : ℕ) → found ≡ extended draft ops tables → length ops ≡ n → place_of found ≡ place_of draft + n
 place_found draft found ops tables n is many = ap place_of is ∙ place_behind draft ops n many
 

@@ -1,4 +1,4 @@
--- Blocks of code that give operands of one kind more or other kinds: what the verifier's pass 5 sends through them arrives behind
+-- Blocks of code that give operands of one kind more or other kinds: what the verifier's pass 5 sends through them arrives after
 -- them, unless the operands are too many.
 use Rattle.std.proofs.Common.{◌≡◌, ◌<◌, ◌≤◌, ℕ, zero, suc, Bool, true, false, nat_le, List, [], ◌∷◌, ◌++◌, length, drop, Some, Result, Ok, Err, refl, sym, ap, subst, inl, inr, ◌∙◌, arith}
 use Rattle.std.specs.Prelude.{◌⊎◌, ◌==◌, if◌then◌else◌, nat_lt}
@@ -119,7 +119,7 @@ module _ (code : Code) (shape : Shape) where
       let same : first ≡ came.first = first_of first came.first others came.others came.are in
       ap (λ (o : Operands). o.loops) same ∙ came.loops
 
-  -- what comes first, and all that comes behind it
+  -- what comes first, and all that comes after it
   front_arrives : (around : List Around) (first given all : List Kind) (others : List Operands) → arrived others ≡ Ok (operands given around) → merged first given ≡ Some all → arrived (operands first around ∷ others) ≡ Ok (operands all around)
   front_arrives around first given all [] h k = absurd cc
   front_arrives around first given all (second ∷ others) h k =
@@ -185,14 +185,14 @@ module _ (code : Code) (shape : Shape) where
         | inr deep ↦ inr deep
       ]
 
-  -- the messages of a jump, and all that comes behind it
+  -- the messages of a jump, and all that comes after it
   skip_passes : (place target : ℕ) (op : Op) (kinds : List Kind) (around : List Around) → SkipsTo target op
       → (lacks op (operands (truth ∷ kinds) around) ≡ false) × (passed_on code shape place op (truth ∷ kinds) around ≡ Ok (sent target (truth ∷ kinds) around ∷ sent (suc place) kinds around ∷ []))
   skip_passes place target (Jump jumps.And named) kinds around to = (none_lacks (length kinds), rw to refl)
   skip_passes place target (Jump jumps.Or named) kinds around to = (none_lacks (length kinds), rw to refl)
   skip_passes place target op kinds around to = absurd to
 
-  -- from messages to the end of a block and to another place, through what is behind that place
+  -- from messages to the end of a block and to another place, through what is after that place
   two_ways : (around_it : List Around) (begin start end : ℕ) (first second given all : List Kind) (before : List Sent) → begin < start → start < end → flow begin before ≡ flow start (before ++ sent end first around_it ∷ sent start second around_it ∷ [])
       → Through around_it start end given (before ++ sent end first around_it ∷ sent start second around_it ∷ []) → merged first given ≡ Some all → Through around_it begin end all before
   two_ways around_it begin start end first second given all before h k goes rest merges =

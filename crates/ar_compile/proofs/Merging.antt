@@ -273,7 +273,7 @@ joined_by : (around : List Around) (first second both all : List Kind) (next : O
 joined_by around first second both all next others further (Some middle) is h = joined_step around first second all next others middle is (merged first middle) refl (further middle h)
 joined_by around first second both all next others further None is h = absurd (never_joined BadMerge others (operands both around) h)
 
--- what comes first, and what is joined of all that comes behind it
+-- what comes first, and what is joined of all that comes after it
 pub joined_front : (around : List Around) (first second both all : List Kind) (others : List Operands) → joined (Ok (operands second around)) others ≡ Ok (operands both around) → merged first both ≡ Some all → JoinedFront around first second all others
 joined_front around first second both all [] h k =
     let same : second ≡ both = ap (λ (o : Operands). o.kinds) (one_joined (operands second around) (operands both around) h) in

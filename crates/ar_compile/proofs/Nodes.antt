@@ -177,7 +177,7 @@ module _ (code : Code) (result : Value) (answer : Result Bool Fault) where
 
   -- ---- choices
 
-  -- behind what is met, on to the end
+  -- after what is met, on to the end
   met_jumps : (place target end : ℕ) (v : Value) (operands : List Value) (loops : List Loop) → At code place (Jump jumps.Always target) → target ≡ end → floor loops ≤ length operands
       → Reached end (v ∷ operands) loops → Reached place (v ∷ operands) loops
   met_jumps place target end v operands loops there to room h =

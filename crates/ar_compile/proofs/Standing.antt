@@ -151,7 +151,7 @@ mutual
 
 -- ---- operations
 
--- operations stand one behind the other from a place
+-- operations stand one after the other from a place
 abbrev pub Hold : List Op → (place : ℕ) → List Op → Type 0
 Hold ops place [] = Unit {0}
 Hold ops place (op ∷ others) = (nth ops place ≡ Some op) × Hold ops (place + 1) others
@@ -198,7 +198,7 @@ module _ (code : Code) where
   have_before : (tables grown : Tables) → GrowTables tables grown → Have grown → Have tables
   have_before tables grown h k = (λ n text is. k.0 n text (h.0 n text is), λ n name is. k.1 n name (h.1 n name is))
 
-  -- an operation behind so many others
+  -- an operation after so many others
   at_end : (place m n : ℕ) (op : Op) → m ≡ n → Hold code.ops (place + m) (op ∷ []) → At code (place + n) op
   at_end place m n op is h = subst (λ (k : ℕ). At code (place + k) op) is h.0
 
@@ -212,7 +212,7 @@ module _ (code : Code) where
   abbrev After : Tables → (place : ℕ) → Typed → Type 0
   After tables place tree = Hold code.ops place (code_at place tables tree)
 
-  -- of two parts and an operation behind them
+  -- of two parts and an operation after them
   record TwoHold (place : ℕ) (tables : Tables) (left right : Typed) (op : Op) : Type 0 where
     first : After tables place left
     second : After (tables_with left tables) (place + operations left) right
@@ -298,7 +298,7 @@ module _ (code : Code) where
 
 -- ---- conditions
 
--- compiled code has the condition's code, and behind it Return
+-- compiled code has the condition's code, and after it Return
 pub record CompiledStands (code : Code) (condition : Typed) : Type 0 where
   pub tree : Stands code 0 condition
   pub end : At code (operations condition) Return

@@ -73,7 +73,7 @@ abbrev mutual
   code_at place tables (typed.unary operator operand) = code_at place tables operand ++ Unary operator ∷ []
   code_at place tables (typed.binary operator left right) =
       code_at place tables left ++ (code_at (place + operations left) (tables_with left tables) right ++ Binary operator ∷ [])
-  -- behind the right side, with the left one on the stack, where that decides
+  -- after the right side, with the left one on the stack, where that decides
   code_at place tables (typed.both left right) =
       code_at place tables left ++ (Jump jumps.And (place + operations left + 1 + operations right) ∷ code_at (place + operations left + 1) (tables_with left tables) right)
   code_at place tables (typed.either left right) =

@@ -15,7 +15,7 @@ abbrev mutual
   -- a jump stands between the sides
   operations (typed.both left right) = operations left + 1 + operations right
   operations (typed.either left right) = operations left + 1 + operations right
-  -- a branch stands before what is met, and a jump behind it
+  -- a branch stands before what is met, and a jump after it
   operations (typed.choice condition met unmet) = operations condition + 1 + operations met + 1 + operations unmet
   operations (typed.listed scalar items) = operations_of_items items + 1
   -- the body stands between the loop's Enter and its Step

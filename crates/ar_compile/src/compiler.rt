@@ -44,7 +44,7 @@ fn put_literal(alloc: Global, draft: &mut Draft, literal: &Literal) -> Result<()
     }
 }
 
-/// The code of a tree, behind what is there.
+/// The code of a tree, after what is there.
 #[cycle(compiler)]
 pub(crate) fn put(alloc: Global, draft: &mut Draft, tree: &Typed) -> Result<(), AllocError>
     requires { (InLimits (typed_view tree.now)) × (place_of draft.old + operations (typed_view tree.now) ≤ 4096) }
@@ -253,7 +253,7 @@ pub fn compile(alloc: Global, condition: &Typed) -> Result<Code, CompileError>
     ensures accepted { IfOk result (λ code. (shape : Shape) (tree : Expression)
         → checked shape tree ≡ Ok (typed_view condition.now) → OnlyTooLarge code shape) }
 
-    // Too many operations, or want of memory, which is answered nowhere else.
+    // Too many operations, or out of memory, which is answered nowhere else.
     ensures refused { result ≡ Err TooManyOps → most_entries < length_of (typed_view condition.now) }
     ensures too_many { most_entries < length_of (typed_view condition.now) → result ≡ Err TooManyOps }
 {

@@ -7,7 +7,7 @@ ghost use Rattle.ar_compile.specs.Private.Trees.{items_view, operations_of_two};
 
 use ar_condition::Typed;
 
-/// What is left of so much room behind the operations of a tree, if there is enough.
+/// What is left of so much room after the operations of a tree, if there is enough.
 #[cycle(length)]
 pub(crate) fn room_after(room: usize, tree: &Typed) -> Option<usize>
     ensures { SomeIff result (operations (typed_view tree.now) ≤ room) (room - (operations (typed_view tree.now))) }

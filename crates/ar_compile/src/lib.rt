@@ -4,7 +4,7 @@
 //! turned into decimal where the typed tree says so, then the operation; texts and names numbered in
 //! the order of their first use. Run on the machine of `ar_op`, the code of a condition that was
 //! checked for a shape ends with what the condition means, on every value of the shape, and is never
-//! stuck. Only a condition of too many operations (`specs/Length`) and want of memory keep it from its
+//! stuck. Only a condition of too many operations (`specs/Length`) and out of memory keep it from its
 //! answer.
 //!
 //! [`compile`] asks for a tree within limits. Each condition that was parsed and checked is: the parser

@@ -214,7 +214,7 @@ posts bundle places state runs later worker number is sound histories holds appe
     let after = posted_after bundle places state worker number (histories_of later) holds (ap (λ (histories : List (List Entry)). posted bundle histories number) histories ∙ appended.posts) in
     record { after = after; sound = subst (IsSound bundle) after (step_sound bundle places false state (Post worker) is sound) }
 
--- the core behind it
+-- the core after it
 pub stepped_at_once : (core : Core) (worker : ℕ) (later : State) → core.ordered ≡ false → after_step core.bundle core.places false core.state (Post worker) ≡ later → record { bundle = core.bundle; places = core.places; ordered = core.ordered; state = later } ≡ stepped core (Post worker)
 stepped_at_once core worker later off after =
     ap (λ (state : State). record { bundle = core.bundle; places = core.places; ordered = core.ordered; state = state }) (sym after)

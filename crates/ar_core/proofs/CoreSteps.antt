@@ -156,7 +156,7 @@ run_inside bundle number run (Some entry) there is own =
     let same : entry.run ≡ run = cc in
     subst (λ (at : ℕ). at < length bundle.runs) same entered.run
 
--- what an entry behind a history is
+-- what an entry after a history is
 record Comes (bundle : Bundle) (run : ℕ) (history : List Entry) (number : ℕ) (entry : Entry) : Type 0 where
   part : RunPart
   finding : Finding

@@ -145,7 +145,7 @@ hand_changes hands worker number full same =
     let both : None ≡ Some number = sym now ∙ before in
     cc
 
--- so the state isn't the same behind a post
+-- so the state isn't the same after a post
 pub post_changes : (core : Inside) (seen later : Core) (worker number run : ℕ) → core_of core ≡ seen → held (state_of core) worker ≡ Some number
     → later ≡ settled_core (record { bundle = core.bundle.now; places = core.places; ordered = core.ordered; state = parked_by (state_of core) worker number }) run → later.state ≡ seen.state → ⊥
 post_changes core seen later worker number run view full is same =

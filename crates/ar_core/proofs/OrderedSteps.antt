@@ -111,7 +111,7 @@ ordered_post_sound bundle state worker (Some own) is holds sound = settled_in_so
 
 -- ---- histories in order
 
--- what is behind a move, where it was made
+-- what is after a move, where it was made
 order_by_test : (bundle : Bundle) (run number : ℕ) (others : List ℕ) (state : State) (test : Bool) → IsBundle bundle → run < length bundle.runs → AreHistories bundle 0 bundle.runs state.histories → AreInOrder bundle state.histories → number ∷ others ≡ drop (length (get_or state.histories run [])) (own_numbers bundle run)
     → ((later : State) → AreHistories bundle 0 bundle.runs later.histories → AreInOrder bundle later.histories → others ≡ drop (length (get_or later.histories run [])) (own_numbers bundle run) → AreInOrder bundle (settled bundle later others).histories)
     → AreInOrder bundle (if test then settled bundle (moved state number (posted bundle state.histories number)) others else state).histories

@@ -84,7 +84,7 @@ all_lacked : (numbers : List ℕ) → filter (λ number. times_in number [] == 0
 all_lacked [] = refl
 all_lacked (first ∷ numbers) = ap (λ (numbers : List ℕ). first ∷ numbers) (all_lacked numbers)
 
--- a lower number is none of those behind it
+-- a lower number is none of those after it
 lower_stays : (first : ℕ) (numbers others : List ℕ) → AllByRecursion (λ number. first < number) others → AllByRecursion (λ number. (times_in number (first ∷ numbers) == 0) ≡ (times_in number numbers == 0)) others
 lower_stays first numbers [] above = tt
 lower_stays first numbers (number ∷ others) above =

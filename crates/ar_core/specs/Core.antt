@@ -106,7 +106,7 @@ after_step bundle places ordered state Put = if can_put bundle places state then
 after_step bundle places ordered state (Take worker) = if has_empty_hand state worker then taken state worker state.queue else state
 after_step bundle places ordered state (Post worker) = if ordered then ordered_post_of bundle state worker (held state worker) else post_of bundle state worker (held state worker)
 
--- the state behind some steps
+-- the state after some steps
 abbrev pub after : Bundle → (places : ℕ) → (ordered : Bool) → State → List CoreStep → State
 after bundle places ordered state [] = state
 after bundle places ordered state (step ∷ steps) = after bundle places ordered (after_step bundle places ordered state step) steps
@@ -149,15 +149,15 @@ pub record Core : Type 0 where
   pub ordered : Bool
   pub state : State
 
--- the core behind a step
+-- the core after a step
 abbrev pub stepped : Core → CoreStep → Core
 stepped core step = record { bundle = core.bundle; places = core.places; ordered = core.ordered; state = after_step core.bundle core.places core.ordered core.state step }
 
--- the core behind some steps of the opening state
+-- the core after some steps of the opening state
 abbrev pub core_after : Bundle → (workers places : ℕ) → (ordered : Bool) → List CoreStep → Core
 core_after bundle workers places ordered steps = record { bundle = bundle; places = places; ordered = ordered; state = after bundle places ordered (opening bundle workers) steps }
 
--- where a run stands behind its history
+-- where a run stands after its history
 abbrev pub IsStateOf : Core → (run : ℕ) → Standing → Type 0
 IsStateOf core run standing =
     IfSome (slice_get core.bundle.runs run) (λ part. Replays part.limits (events_of core.bundle (numbers_of (get_or core.state.histories run []))) standing)

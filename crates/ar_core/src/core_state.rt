@@ -98,7 +98,7 @@ impl<'b> CoreState<'b> {
     ///
     /// # Errors
     ///
-    /// Want of memory alone.
+    /// Out of memory alone.
     pub fn new(
         alloc: Global,
         bundle: &'b Bundle,
@@ -117,7 +117,7 @@ impl<'b> CoreState<'b> {
     ///
     /// # Errors
     ///
-    /// Want of memory alone.
+    /// Out of memory alone.
     pub fn new_ordered(
         alloc: Global,
         bundle: &'b Bundle,
@@ -192,7 +192,7 @@ impl<'b> CoreState<'b> {
         &self.runs[run].entries
     }
 
-    /// Where a run stands behind its history: its phases and counts are those of the events that its
+    /// Where a run stands after its history: its phases and counts are those of the events that its
     /// history's numbers are.
     pub fn run_state(&self, run: usize) -> &RunState
         requires { run < length self.now.bundle.runs }
@@ -302,11 +302,11 @@ fn make_steps(core: &mut CoreState<'_>, steps: &[CoreStep])
     }
 }
 
-/// The core of a bundle behind these steps, each made where it can be.
+/// The core of a bundle after these steps, each made where it can be.
 ///
 /// # Errors
 ///
-/// Want of memory alone.
+/// Out of memory alone.
 #[tactic(auto, using(crate::proofs::CoreLaws::each_once, crate::proofs::CoreLaws::histories_of_runs))]
 pub fn core_run<'b>(
     alloc: Global,
@@ -326,12 +326,12 @@ pub fn core_run<'b>(
     Ok(core)
 }
 
-/// The ordered core of a bundle behind these steps, each made where it can be. A number that is posted
+/// The ordered core of a bundle after these steps, each made where it can be. A number that is posted
 /// before a lower one of its run is parked meanwhile.
 ///
 /// # Errors
 ///
-/// Want of memory alone.
+/// Out of memory alone.
 #[tactic(auto, using(crate::proofs::CoreLaws::each_once, crate::proofs::CoreLaws::histories_of_runs, crate::proofs::CoreLaws::histories_rise))]
 pub fn core_run_ordered<'b>(
     alloc: Global,

@@ -5,7 +5,7 @@
 //! the run are there. [`CoreState`] is a core in memory: [`CoreState::new`] and
 //! [`CoreState::new_ordered`] judge every number and make all room, [`core_step`] makes one step and
 //! takes no memory, and [`core_run`] and [`core_run_ordered`] make a list of them. [`laws`] say what
-//! holds behind every list of steps.
+//! holds after every list of steps.
 //!
 //! - [`core_steps`]: steps of the core; [`core_state`]: the core in memory; [`laws`]
 #![tactic(auto)]

@@ -21,7 +21,7 @@ use Rattle.ar_document.specs.declared.error.BundleError.TheVariants.{OutOfMemory
 use Rattle.ar_document.specs.declared.opening.Opened.{Opened}
 use Rattle.ar_document.proofs.Bundling.{are_runs, as_many_parts}
 
--- a refusal that isn't want of memory, where it is the document's first fault
+-- a refusal that isn't out of memory, where it is the document's first fault
 pub refuses : (document : Data) (error : BundleError) → Unless (is_memory error) (IsFaultOf document error) → UnlessMemory (Err error) (Reads document)
 refuses document OutOfMemory fault = tt
 refuses document error fault = fault

@@ -20,7 +20,7 @@ by_memory : (memory under : Bool) (P : Type 0) → (under ≡ true → memory �
 by_memory memory true P more none told = absurd (let is = more refl in cc)
 by_memory memory false P more none told = told
 
--- what was read is a misfit, where it isn't want of memory
+-- what was read is a misfit, where it isn't out of memory
 pub misfit_told : (shape : Shape) (json : Data) (fault : ShapeFault) → is_memory fault ≡ false → Unless (is_memory_under shape fault) (read shape json ≡ Err fault) → sample_by (read shape json) ≡ misfit fault
 misfit_told shape json fault none told = rw (by_memory (is_memory fault) (is_memory_under shape fault) (read shape json ≡ Err fault) (under_is_memory shape fault) none told) refl
 

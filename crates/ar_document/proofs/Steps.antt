@@ -1,7 +1,7 @@
 -- One item of a document after another: items are seen by a view, and so is what is made of them.
-use Rattle.std.proofs.Common.{◌≡◌, ℕ, ◌+◌, ◌≤◌, ◌<◌, List, [], ◌∷◌, ◌++◌, length, drop, map, get_or, refl, ◌∙◌, ap, Result, Ok, Err}
+use Rattle.std.proofs.Common.{◌≡◌, ℕ, ◌+◌, ◌≤◌, ◌<◌, List, [], ◌∷◌, ◌++◌, length, drop, map, get_or, refl, sym, ◌∙◌, ap, Result, Ok, Err}
 use Rattle.std.proofs.lemmas.List.{map-append, map-id}
-use Rattle.ar_value.specs.Answer.{Unless, each_behind}
+use Rattle.ar_value.specs.Answer.{◌>>=◌, Unless, each_behind}
 use Rattle.ar_value.proofs.Steps as steps
 use Rattle.ar_document.specs.Document.{is_memory}
 use Rattle.ar_document.specs.declared.error.BundleError.{BundleError}
@@ -18,9 +18,33 @@ module _ {J A C B : Type 0} (view : J → A) (made_view : C → B) (step : List 
       → each_behind step (map made_view earlier) (map view (drop i list)) ≡ all → Unless (is_memory refusal) (all ≡ Err refusal)
   step_fault item refusal = steps.step_fault view step list i (map made_view earlier) all (is_memory refusal) item refusal
 
-  -- behind the last item all are made
+  -- after the last item all are made
   pub step_end : length list ≤ i → each_behind step (map made_view earlier) (map view (drop i list)) ≡ all → all ≡ Ok (map made_view earlier)
   step_end past = steps.step_end view step list i (map made_view earlier) all (map made_view earlier) past refl
+
+-- Of a list of which each item is dropped after its step, what is left.
+module _ {J A C B : Type 0} (view : J → A) (made_view : C → B) (step : List B → A → Result B BundleError) (left : List J) (earlier : List C) (all : Result (List B) BundleError) where
+  -- the first becomes what the step makes of it
+  pub next_more : (item : J) (others : List J) (made : C) (later : List C) → left ≡ item ∷ others → step (map made_view earlier) (view item) ≡ Ok (made_view made) → later ≡ earlier ++ made ∷ []
+      → each_behind step (map made_view earlier) (map view left) ≡ all → each_behind step (map made_view later) (map view others) ≡ all
+  unfolding each_behind
+  next_more item others made later is makes pushed so_far =
+      ap (λ behind. each_behind step behind (map view others)) (ap (map made_view) pushed ∙ map-append made_view earlier (made ∷ []))
+      ∙ sym (ap (λ answer. answer >>= λ next. each_behind step (map made_view earlier ++ next ∷ []) (map view others)) makes)
+      ∙ sym (ap (λ rest. each_behind step (map made_view earlier) (map view rest)) is) ∙ so_far
+
+  -- or is refused, and so are all
+  pub next_fault : (item : J) (others : List J) (refusal : BundleError) → left ≡ item ∷ others → Unless (is_memory refusal) (step (map made_view earlier) (view item) ≡ Err refusal)
+      → each_behind step (map made_view earlier) (map view left) ≡ all → Unless (is_memory refusal) (all ≡ Err refusal)
+  unfolding each_behind
+  next_fault item others refusal is refused so_far =
+      steps.refuses_first (is_memory refusal) refusal (step (map made_view earlier) (view item)) (λ next. each_behind step (map made_view earlier ++ next ∷ []) (map view others)) all refused
+      (sym (ap (λ rest. each_behind step (map made_view earlier) (map view rest)) is) ∙ so_far)
+
+  -- where nothing is left all are made
+  pub none_left : left ≡ [] → each_behind step (map made_view earlier) (map view left) ≡ all → all ≡ Ok (map made_view earlier)
+  unfolding each_behind
+  none_left is so_far = sym so_far ∙ ap (λ rest. each_behind step (map made_view earlier) (map view rest)) is
 
 -- what is made is seen as it is
 pub as_it_is : {B : Type 0} (all : Result (List B) BundleError) (made : List B) → all ≡ Ok (map (λ x. x) made) → all ≡ Ok made

@@ -49,7 +49,7 @@ few_items (item ∷ items) some is = by_test (nat_lt 64 (length (item ∷ items)
 same_metrics : (made template : Template) (answer : Result Template ManifestError) → answer ≡ Ok made → answer ≡ Ok template → made.metrics ≡ template.metrics
 same_metrics made template answer first is = let same : made ≡ template = cc in ap (λ (template : Template). template.metrics) same
 
--- as many metrics stand behind `dryRun` as before it
+-- as many metrics stand after `dryRun` as before it
 as_many_dry : (found : Option Data) (metrics marked : List Metric) → with_dry_run found metrics ≡ Ok marked → length marked ≡ length metrics
 as_many_dry found metrics marked is =
     let named = first_answers (λ (names : List (List ℕ)). Ok (map (with_dry names) metrics)) marked (dry_names metrics found) is in

@@ -81,7 +81,7 @@ measurement_of opened number name item = do
   run ← there_or (UnknownRun number) (number_of name (names_of opened.runs))
   measured_of opened number run metric found
 
--- an entry behind earlier ones: it names its run, and is a stop or a measurement
+-- an entry after earlier ones: it names its run, and is a stop or a measurement
 unfoldable pub entry_in : Opened → (earlier : List Entry) → Data → Result Entry BundleError
 entry_in opened earlier item = do
   name ← there_or (BadEntry (length earlier)) (text_of (codes "run") item)

@@ -40,7 +40,7 @@ metric_of name shape = record { name = name; shape = shape }
 abbrev pub metric_view : MetricPart → Metric
 metric_view part = metric_of part.name (shape_view part.shape)
 
--- the shape that is declared for a metric, behind earlier ones; what is no object declares none
+-- the shape that is declared for a metric, after earlier ones; what is no object declares none
 abbrev pub with_shape : (shapes : Option Data) → (earlier : List Metric) → templates.Metric → Result Metric BundleError
 with_shape shapes earlier metric = do
   declared ← there_or (ShapeMissing (length earlier)) (option_and_then (get metric.name) shapes)
@@ -52,7 +52,7 @@ metrics_in shapes metrics = each_behind (with_shape shapes) [] metrics
 
 -- ---- runs, as they are written
 
--- texts by name, behind earlier ones
+-- texts by name, after earlier ones
 abbrev pub texts_by_name : RunArguments → Members → Result RunArguments BundleError
 texts_by_name earlier no_members = Ok earlier
 texts_by_name earlier (member name (string text) others) = texts_by_name (with_value earlier name text) others
@@ -82,7 +82,7 @@ abbrev pub number_of : List ℕ → List (List ℕ) → Option ℕ
 number_of name [] = None
 number_of name (first ∷ names) = if bytes_eq name first then Some 0 else option_map suc (number_of name names)
 
--- names behind earlier ones, each of which is new
+-- names after earlier ones, each of which is new
 unfoldable pub are_new : (earlier : List (List ℕ)) → List (List ℕ) → Result ⊤ BundleError
 are_new earlier [] = Ok tt
 are_new earlier (name ∷ names) = holds_or (DoubleRun (length earlier)) (is_none (number_of name earlier)) >>= λ new. are_new (earlier ++ name ∷ []) names

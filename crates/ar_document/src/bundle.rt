@@ -23,21 +23,21 @@ use std::alloc::Global;
 fn parts_and_entries(
     alloc: Global,
     opened: &Opened,
-    document: &Json,
+    document: Json,
 ) -> Result<(Vec<RunPart>, Vec<EventPart>), BundleError>
     requires { IsOpened opened.now }
-    ensures made { IfOk result (λ made. IsMade opened.now (view document.now) made.0.items made.1.items) }
-    ensures refused { IfRefused result (RefusesMade (opened_view opened.now) (view document.now)) }
+    ensures made { IfOk result (λ made. IsMade opened.now (view document) made.0.items made.1.items) }
+    ensures refused { IfRefused result (RefusesMade (opened_view opened.now) (view document)) }
 {
-    let parts = parts_of(alloc, opened)?;
+    let (document, parts) = beside(document, parts_of(alloc, opened))?;
     beside(parts, read_entries(alloc, opened, document))
 }
 
-/// The bundle of a JSON document.
-fn bundle_of(alloc: Global, document: &Json) -> Result<Bundle, BundleError>
-    ensures { UnlessMemory result (Reads (view document.now)) }
+/// The bundle of a JSON document, which is dropped as it is read, so that it isn't kept beside the bundle.
+fn bundle_of(alloc: Global, document: Json) -> Result<Bundle, BundleError>
+    ensures { UnlessMemory result (Reads (view document)) }
 {
-    let opened = open(alloc, document)?;
+    let opened = open(alloc, &document)?;
     let made = parts_and_entries(alloc, &opened, document);
     let (opened, (parts, entries)) = beside(opened, made)?;
     Ok(Bundle::of_parts(opened.into_metrics(), parts, entries))
@@ -56,5 +56,5 @@ pub fn read_bundle(alloc: Global, input: &[u8]) -> Result<Bundle, BundleError>
     ensures too_large { most_bytes < length input.now → result ≡ Err TooLarge }
 {
     let document = read_json(alloc, input)?;
-    bundle_of(alloc, &document)
+    bundle_of(alloc, document)
 }

@@ -1,6 +1,6 @@
 //! Entries of a document: what happened to its runs.
 
-ghost use Rattle.std.specs.Prelude.{◌≡◌, ◌<◌, ◌≤◌, ℕ, List, [], IfErr, IfOk, false, length, map, option_map};
+ghost use Rattle.std.specs.Prelude.{◌≡◌, ◌<◌, ◌≤◌, ℕ, List, [], IfErr, IfOk, Some, codes, false, length, map, option_map};
 ghost use Rattle.std.specs.List.{AllByRecursion};
 ghost use Rattle.serde_json.specs.Find.{get};
 ghost use Rattle.serde_json.specs.View.{view};
@@ -21,7 +21,6 @@ use crate::error::BundleError;
 use crate::names::Numbers;
 use crate::opening::Opened;
 use ar_bundle::{EventPart, What};
-use ar_json::members::list_of;
 use ar_json::value_reading::{ShapeFault, read_value};
 use ar_judge::Sample;
 use ar_value::holding::add;
@@ -67,7 +66,7 @@ fn given<'a>(value: Option<&'a Json>, error: Option<&Json>) -> Option<Option<&'a
     }
 }
 
-/// A misfit, unless it is want of memory.
+/// A misfit, unless it is out of memory.
 fn misfit_of(fault: ShapeFault) -> Result<Sample, BundleError>
     ensures misfit { IfOk result (λ sample. (sample_view sample ≡ misfit fault) × (is_fault_of_memory fault ≡ false)) }
     ensures memory { IfErr result (λ e. e ≡ OutOfMemory) }
@@ -187,62 +186,77 @@ fn entry_of(
     }
 }
 
+/// What a document has as `measurements`, taken out of it: null where it has nothing.
+fn taken_measurements(mut document: Json) -> Json
+    ensures { unless_null (Some (view result)) ≡ unless_null (get (codes "measurements") (view document)) }
+{
+    match document.get_mut("measurements") {
+        Some(found) => found.take(),
+        None => Json::Null,
+    }
+}
+
 /// The items of a list that may be missing.
-fn listed_entries(found: Option<&Json>) -> Result<&[Json], BundleError>
-    ensures { Gives (λ _. false) (λ items. map (λ json. view json) items.now) result
-        (listed_entries (unless_null (option_map (λ json. view json.now) found.entry))) }
+fn listed_entries(alloc: Global, found: Json) -> Result<Vec<Json>, BundleError>
+    ensures { Gives (λ _. false) (λ items. map (λ json. view json) items.items) result
+        (listed_entries (unless_null (Some (view found)))) }
 {
     match found {
-        None | Some(Json::Null) => Ok(&[]),
-        Some(json) => list_of(json).ok_or(BundleError::BadEntry(0)),
+        Json::Null => Ok(Vec::new(alloc)),
+        Json::Array(items) => Ok(items),
+        _ => Err(BundleError::BadEntry(0)),
     }
 }
 
 /// The items of `measurements`, at most 100,000 of them.
 #[tactic(auto, using(crate::proofs::Counting::many_entries, crate::proofs::Counting::few_entries_are))]
-fn entry_items(document: &Json) -> Result<&[Json], BundleError>
-    ensures exact { Gives (λ _. false) (λ items. map (λ json. view json) items.now) result
-        (entry_items (view document.now)) }
-    ensures few { IfOk result (λ items. length items.now ≤ most_events) }
+fn entry_items(alloc: Global, document: Json) -> Result<Vec<Json>, BundleError>
+    ensures exact { Gives (λ _. false) (λ items. map (λ json. view json) items.items) result
+        (entry_items (view document)) }
+    ensures few { IfOk result (λ items. length items.items ≤ most_events) }
 {
-    let items = listed_entries(document.get("measurements"))?;
+    let items = listed_entries(alloc, taken_measurements(document))?;
     if items.len() > MOST_ENTRIES {
         return Err(BundleError::TooManyMeasurements);
     }
     Ok(items)
 }
 
-/// The entries of JSON values.
-fn entries_of(alloc: Global, opened: &Opened, items: &[Json]) -> Result<Vec<EventPart>, BundleError>
+/// The entries of JSON values, each of which is dropped once it was read.
+fn entries_of(
+    alloc: Global,
+    opened: &Opened,
+    items: Vec<Json>,
+) -> Result<Vec<EventPart>, BundleError>
     requires { IsOpened opened.now }
     ensures exact { Gives is_memory (λ entries. map entry_view entries.items) result
-        (each_behind (entry_in (opened_view opened.now)) [] (map (λ json. view json) items.now)) }
-    ensures each { IfOk result (λ entries. length entries.items ≡ length items.now) }
+        (each_behind (entry_in (opened_view opened.now)) [] (map (λ json. view json) items.items)) }
+    ensures each { IfOk result (λ entries. length entries.items ≡ length items.items) }
     ensures entries { IfOk result
         (λ entries. AllByRecursion (IsEntry opened.now.metrics.items (length opened.now.runs.items)) entries.items) }
 {
     let mut entries = Vec::with_capacity(alloc, items.len())?;
-    for (number, item) in items.iter().enumerate() {
-        let entry = entry_of(alloc, opened, number, item)?;
+    for item in items {
+        let entry = entry_of(alloc, opened, entries.len(), &item)?;
         add(&mut entries, entry)?;
     }
     Ok(entries)
 }
 
-/// The entries of a document.
+/// The entries of a document, which is dropped part by part.
 #[tactic(auto, unfolding(crate::specs::Entries::entries_in))]
 pub(crate) fn read_entries(
     alloc: Global,
     opened: &Opened,
-    document: &Json,
+    document: Json,
 ) -> Result<Vec<EventPart>, BundleError>
     requires { IsOpened opened.now }
     ensures exact { Gives is_memory (λ entries. map entry_view entries.items) result
-        (entries_in (opened_view opened.now) (view document.now)) }
+        (entries_in (opened_view opened.now) (view document)) }
     ensures few { IfOk result (λ entries. length entries.items ≤ most_events) }
     ensures entries { IfOk result
         (λ entries. AllByRecursion (IsEntry opened.now.metrics.items (length opened.now.runs.items)) entries.items) }
 {
-    let items = entry_items(document)?;
+    let items = entry_items(alloc, document)?;
     entries_of(alloc, opened, items)
 }

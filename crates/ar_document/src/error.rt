@@ -74,7 +74,7 @@ impl BundleError {
         }
     }
 
-    /// The words behind the number, or all where there is none, up to the fault of what is inside.
+    /// The words after the number, or all where there is none, up to the fault of what is inside.
     fn words(self) -> &'static str {
         match self {
             BundleError::TooLarge => "document: TooLarge: expected at most 16777216 bytes",

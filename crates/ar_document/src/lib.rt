@@ -3,7 +3,7 @@
 //! [`read_bundle`] takes the bytes of one JSON document with a template `manifest`, the `shapes` of
 //! its metrics, `runs` and `measurements`, and answers the bundle that `specs/Document` defines, or
 //! the first fault that stands in the document: its parts are looked at in their order, its runs one
-//! after another, and so are its entries. Only want of memory can keep it from its answer. Names of
+//! after another, and so are its entries. Only out of memory can keep it from its answer. Names of
 //! runs and metrics are found by a map.
 //!
 //! - [`bundle`]: bundles of documents; [`error`]: why a document is none

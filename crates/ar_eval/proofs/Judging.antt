@@ -62,6 +62,6 @@ of_no_document input json_error.OutOfMemory none = tt
 of_no_document input json_error.TooLarge none = record { follows = rw none refl }
 of_no_document input json_error.Utf8OrJson none = record { follows = rw none refl }
 
--- what may be want of memory under a shape is want of memory
+-- what may be out of memory under a shape is out of memory
 pub misfits : (shape : Shape) (json : Data) (fault : ShapeFault) → Unless (is_memory_under shape fault) (read shape json ≡ Err fault) → Unless (is_memory fault) (read shape json ≡ Err fault)
 misfits shape json fault h = unless_more (read shape json ≡ Err fault) (is_memory_under shape fault) (is_memory fault) (under_is_memory shape fault) h

@@ -2,7 +2,7 @@
 //!
 //! [`evaluate`] takes the bytes of a document with a text `condition`, a `shape` and a `value`, and
 //! answers what the condition says of the value, or the first fault that stands in the document, as
-//! `specs/Evaluation` defines it. Only want of memory can keep it from that.
+//! `specs/Evaluation` defines it. Only out of memory can keep it from that.
 #![tactic(auto)]
 
 pub mod eval;

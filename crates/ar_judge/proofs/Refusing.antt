@@ -15,7 +15,7 @@ success_told shape success failure (Kinds error) told = record { refused_text = 
 success_told shape success failure (Compiler error) told = record { refused_text = told.refused_text; is_there = told.is_there; own = λ same. absurd cc; is = told.is }
 success_told shape success failure (Verifier place reason) told = record { refused_text = told.refused_text; is_there = told.is_there; own = λ same. absurd cc; is = told.is }
 
--- a failure condition that is refused, behind a success condition that isn't
+-- a failure condition that is refused, after a success condition that isn't
 pub failure_told : (shape : Shape) (success failure : Option (List ℕ)) (built : Option Condition) (cause : BuildCause) → BuildsEach shape success (Ok built) → BuildsEach shape failure (Err cause) → RefusesTexts shape success failure (failure_refused cause)
 failure_told shape success failure built OutOfMemory stands told = tt
 failure_told shape success failure built (Grammar error) stands told = ((built, stands), record { refused_text = told.refused_text; is_there = told.is_there; own = λ same. absurd cc; is = told.is })

@@ -78,7 +78,7 @@ pub record IsUnsafe (shape : Shape) (text : List ℕ) (place : ℕ) (reason : Re
   pub short : length_of tree ≤ most_entries
   pub fault : IsFault (compiled tree) shape place reason
 
--- why a text is no condition that can be run, if it isn't for want of memory
+-- why a text is no condition that can be run, if it isn't out of memory
 abbrev pub IsRefused : Shape → List ℕ → BuildCause → Type 0
 IsRefused shape text (Grammar error) = typed_of shape text ≡ Err (Grammar error)
 IsRefused shape text (Kinds error) = typed_of shape text ≡ Err (Kinds error)

@@ -73,7 +73,7 @@ abbrev pub FitsEach : Value → Option Condition → Type 0
 FitsEach value (Some condition) = fits value (shape_view condition.verified.shape) ≡ true
 FitsEach value None = Unit {0}
 
--- a measured value fits the shape that the conditions are for, and a misfit is no want of memory
+-- a measured value fits the shape that the conditions are for, and a misfit is never out of memory
 abbrev pub Suits : Judge → Sample → Type 0
 Suits judge provider = Unit {0}
 Suits judge (misfit fault) = fault ≢ shape_fault.OutOfMemory
@@ -112,7 +112,7 @@ pub record IsJudge (shape : Shape) (success failure : Option (List ℕ)) (judge 
   pub success_is : AreBuilt shape success judge.success
   pub failure_is : AreBuilt shape failure judge.failure
 
--- a text is there and refused, and not for want of memory
+-- a text is there and refused, and not as out of memory
 pub record RefusesText (shape : Shape) (text : Option (List ℕ)) (cause : BuildCause) : Type 0 where
   pub refused_text : List ℕ
   pub is_there : text ≡ Some refused_text

@@ -8,7 +8,7 @@ use std::alloc::AllocError;
 use thiserror::Error;
 
 /// Why a text is no condition that can be run, in the order in which it is looked at. It is told
-/// behind the name of the condition.
+/// after the name of the condition.
 #[derive(Clone, Copy, Debug, Error)]
 pub enum BuildCause {
     /// It isn't of the language.

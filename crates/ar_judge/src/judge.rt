@@ -132,7 +132,7 @@ impl Judge {
     }
 
     /// The verdict of a sample. Its value, if it has one, must fit the shape that the conditions are
-    /// for, and its misfit, if it has one, must not be want of memory.
+    /// for, and its misfit, if it has one, must not be out of memory.
     ///
     /// # Errors
     ///

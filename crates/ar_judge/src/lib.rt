@@ -4,7 +4,7 @@
 //! and answers a judge only where each text is a condition with kinds whose code the verifier
 //! accepts; otherwise it names the first text that isn't, and why. [`Judge::judge`] gives the verdict
 //! of a sample, which is that of the definitions in `specs/Verdict`: by what the conditions of these
-//! texts mean, with no code and no machine in it. Only want of memory can keep it from its answer.
+//! texts mean, with no code and no machine in it. Only out of memory can keep it from its answer.
 //!
 //! - [`condition`]: one condition, ready to be run; [`shared_condition`]: one with several owners
 //! - [`judge`]: the conditions of a metric; [`sample`]: what it judges; [`verdict`]: what it finds

@@ -82,7 +82,7 @@ impl Made for Tree {
     }
 }
 
-/// The typed tree of a condition that can be parsed. The shape is looked at behind the condition.
+/// The typed tree of a condition that can be parsed. The shape is looked at after the condition.
 fn put_checked(alloc: Global, case: &Json, out: &mut Output) -> Written {
     match parse(alloc, members::text(case, "condition")?) {
         Ok(tree) => put_typed_of(alloc, case, Box::new(alloc, tree)?, out),

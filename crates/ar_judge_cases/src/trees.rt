@@ -121,7 +121,7 @@ pub(crate) fn put_tree(out: &mut Output, tree: &Tree) {
     }
 }
 
-/// The parts of a node, each behind a blank; a leaf has none.
+/// The parts of a node, each after a blank; a leaf has none.
 #[cycle(put_tree)]
 fn put_parts(out: &mut Output, tree: &Tree) {
     match tree {

@@ -133,7 +133,7 @@ pub(crate) fn put_typed(out: &mut Output, typed: &Typed) {
     }
 }
 
-/// The parts of a node, each behind a blank; a leaf has none.
+/// The parts of a node, each after a blank; a leaf has none.
 #[cycle(put_typed)]
 fn put_parts(out: &mut Output, typed: &Typed) {
     match typed {

@@ -238,7 +238,7 @@ pub metric_before : (limits : List Limits) (events : List Event) (e : Event) (q 
 metric_before limits events e q metric other =
     record { number = metric.number; own = metric.own; there = metric.there; phase_is = rw (marks_of-push_other metric.number events e other) at metric.phase_is; unsuccessful = metric.unsuccessful; decides = metric.decides }
 
--- behind events that have no reason, an unsuccessful metric is the one that the last event marks
+-- after events that have no reason, an unsuccessful metric is the one that the last event marks
 last_metric : (limits : List Limits) (events : List Event) (e : Event) (q : Phase)
     → ((p : Phase) → ClosesAs limits events p → ⊥) → (metric : HasUnsuccessful limits (events ++ e ∷ []) q)
     → (m : Mark) × (e ≡ event.Mark metric.number m)
@@ -272,7 +272,7 @@ not_stop limits events e q none metric stop =
     let own = last_metric limits events e q none metric in
     false≢true (sym (ends_with_stop-push events e ∙ ap is_stop own.1) ∙ stop)
 
--- two reasons of the same prefix, behind events without any, close with one phase
+-- two reasons of the same prefix, after events without any, close with one phase
 one_reason : (limits : List Limits) (events : List Event) (e : Event) (p q : Phase)
     → ((r : Phase) → ClosesAs limits events r → ⊥) → ClosesAs limits (events ++ e ∷ []) p
     → ClosesAs limits (events ++ e ∷ []) q → p ≡ q

@@ -84,7 +84,7 @@ at_the_limit_the_run_goes_on : outcome (limits_of 1 0 4 (Some 5) ∷ []) (failur
 unfolding outcome
 at_the_limit_the_run_goes_on = refl
 
--- a second failure is one too many, and what comes behind it is late
+-- a second failure is one too many, and what comes after it is late
 past_the_limit_the_run_fails : outcome (limits_of 1 0 4 (Some 5) ∷ []) (failure ∷ success ∷ failure ∷ failure ∷ [])
     ≡ record {
       effects = effect.Applied ∷ effect.Applied ∷ effect.Closed phase.Failed ∷ effect.Late ∷ [];

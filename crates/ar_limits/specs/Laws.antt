@@ -89,14 +89,14 @@ abbrev pub AreAsComplete : List Limits → (events events' : List Event) → Typ
 AreAsComplete limits events events' =
     map is_complete (phases_by_marks limits events) ≡ map is_complete (phases_by_marks limits events')
 
--- two lists that differ in the marks of dry metrics alone, which are complete behind as many events in both
+-- two lists that differ in the marks of dry metrics alone, which are complete after as many events in both
 pub record DifferInDryMarks (limits : List Limits) (events events' : List Event) : Type 0 where
   pub long : length events ≡ length events'
   pub each : (k : ℕ) (event event' : Event) → slice_get events k ≡ Some event → slice_get events' k ≡ Some event'
       → AreOneButDry limits event event'
   pub complete : (k : ℕ) → AreAsComplete limits (take k events) (take k events')
 
--- what a dry metric is judged as changes no run's phase, nor what any event does, where it is complete behind as
+-- what a dry metric is judged as changes no run's phase, nor what any event does, where it is complete after as
 -- many events
 abbrev pub DryMarksDecideNothing : Type 0
 DryMarksDecideNothing = (limits : List Limits) (events events' : List Event)

@@ -31,7 +31,7 @@ is_error _ = false
 
 -- ---- Counts over a list of marks
 
--- the errors at the end of the list, with no other mark behind them
+-- the errors at the end of the list, with no other mark after them
 abbrev pub errors_at_end : List Mark → ℕ
 errors_at_end marks = length (take_while is_error (reverse marks))
 

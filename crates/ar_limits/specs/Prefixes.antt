@@ -23,7 +23,7 @@ unfoldable pub phase_by : {A : Type 0} → (List A → Option Phase) → List A 
 phase_by decides items =
     unwrap_or (option_and_then decides (deciding_prefix decides items)) (open_phase items)
 
--- each item of a list, behind the items that come before it
+-- each item of a list, after the items that come before it
 unfoldable pub with_earlier : {A : Type 0} → List A → List (List A × A)
 with_earlier [] = []
 with_earlier (item ∷ items) = ([], item) ∷ map (λ (earlier, last). (item ∷ earlier, last)) (with_earlier items)

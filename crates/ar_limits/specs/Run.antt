@@ -109,7 +109,7 @@ unfoldable pub is_late : List Limits → List Event → Event → Bool
 is_late limits earlier event =
     is_some (closing_prefix limits earlier) || metric_was_complete limits earlier event
 
--- what an event does behind the earlier ones: nothing where it is late; else it closes the run, or is applied
+-- what an event does after the earlier ones: nothing where it is late; else it closes the run, or is applied
 unfoldable pub effect_of : List Limits → List Event → Event → Effect
 effect_of limits earlier event =
     if is_late limits earlier event then effect.Late

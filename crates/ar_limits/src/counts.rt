@@ -12,7 +12,7 @@ pub struct Counts {
     pub failed: u64,
     pub inconclusive: u64,
     pub error: u64,
-    /// The errors at the end, with no other mark behind them.
+    /// The errors at the end, with no other mark after them.
     pub succession: u64,
 }
 

@@ -23,7 +23,7 @@ pub fn without_dry_metrics()
 {}
 
 /// What a dry metric is judged as changes no run's phase, nor what any event does: two lists of events that
-/// differ in the marks of dry metrics alone have the same ones, where these are complete behind as many
+/// differ in the marks of dry metrics alone have the same ones, where these are complete after as many
 /// events in both.
 pub fn dry_marks_decide_nothing()
     ensures { DryMarksDecideNothing }

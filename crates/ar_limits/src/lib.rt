@@ -6,7 +6,7 @@
 //! `specs/Metric.antt` and `specs/Run.antt`, by prefixes of the list and counts over them.
 //! `Replays` of `specs/Replay.antt` ties a state to the lists that lead to it: `new` ensures it
 //! for the empty list, `apply` for the list with one event more, and each reader answers for any
-//! such list. Making a state may fail for want of memory. After that nothing takes memory, and
+//! such list. Making a state may fail out of memory. After that nothing takes memory, and
 //! every call answers.
 //!
 //! A dry metric is counted as any other, and decides nothing: `phase_for_run` of `specs/Run.antt` says what

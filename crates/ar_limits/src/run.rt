@@ -38,7 +38,7 @@ impl Model for RunState {
 
 impl RunState {
     /// A run of metrics with these limits, one for each, without events. Each `count` that is there
-    /// must be 1 or more, as `Limits::have_positive_counts` tells. Want of memory is the only fault.
+    /// must be 1 or more, as `Limits::have_positive_counts` tells. Out of memory is the only fault.
     pub fn new(alloc: Global, limits: &[Limits]) -> Result<Self, AllocError>
         requires { HasPositiveCounts limits.now }
         ensures { IfOk result (λ state. Replays limits.now [] state) }

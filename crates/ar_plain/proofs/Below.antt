@@ -85,14 +85,14 @@ all_unlike number upto (first ∷ numbers) below all = let small : first < upto 
 pub not_yet : (bundle : Bundle) (run upto number : ℕ) → upto ≤ number → times_in number (below bundle run upto) ≡ 0
 not_yet bundle run upto number further = never number (below bundle run upto) (all_unlike number upto (below bundle run upto) further (are_below bundle run upto))
 
--- another number comes behind
+-- another number comes after
 behind_other : (number last : ℕ) (numbers : List ℕ) → last ≢ number → times_in number (numbers ++ last ∷ []) ≡ times_in number numbers
 behind_other number last numbers away =
     let none : times_in number (last ∷ []) ≡ 0 = never number (last ∷ []) (away, tt) in
     let pushed = times_push number last numbers in
     omega arith
 
--- the number itself comes behind
+-- the number itself comes after
 behind_own : (number last : ℕ) (numbers : List ℕ) → (last == number) ≡ true → times_in number numbers ≡ 0 → times_in number (numbers ++ last ∷ []) ≡ 1
 behind_own number last numbers test none =
     let one : times_in number (last ∷ []) ≡ 1 = times_by number last [] true test in

@@ -64,6 +64,6 @@ are_lawful bundle states histories is grown =
           once_of bundle (length bundle.entries) 0 number own.0 bundle.runs states histories grown (own.1 ∙ ap Some (omega arith)) own.2 small;
     }
 
--- behind the last number
+-- after the last number
 pub lawful_behind : (bundle : Bundle) (number : ℕ) (states : List Standing) (histories : List (List Entry)) → IsBundle bundle → number ≡ length bundle.entries → AreGrown bundle number 0 bundle.runs states histories → AreLawful bundle histories
 lawful_behind bundle number states histories is all grown = are_lawful bundle states histories is (subst (λ number. AreGrown bundle number 0 bundle.runs states histories) all grown)

@@ -12,7 +12,7 @@ use std::alloc::{AllocError, Global};
 ///
 /// # Errors
 ///
-/// Want of memory alone.
+/// Out of memory alone.
 #[tactic(auto, using(crate::proofs::Lawful::all_rise))]
 pub fn run_plain(alloc: Global, bundle: &Bundle) -> Result<Histories, AllocError>
     ensures lawful { IfOk result (AreLawful bundle.now) }

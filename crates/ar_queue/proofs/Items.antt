@@ -102,7 +102,7 @@ marks_push items item = sum_by_push mark_of items item
 pub marks_first : (item : Item) (items : List Item) → marks_queued (item ∷ items) ≡ mark_of item + marks_queued items
 marks_first item items = sum_by-cons mark_of item items
 
--- a number behind numbers alone, and an end mark behind anything
+-- a number after numbers alone, and an end mark after anything
 pub last_number : (items : List Item) (number : ℕ) → marks_queued items ≡ 0 → MarksLast (items ++ Number number ∷ [])
 last_number [] number none = tt
 last_number (Number own ∷ items) number none = last_number items number (let first = marks_first (Number own) items in omega arith)
@@ -113,7 +113,7 @@ last_mark [] last = refl
 last_mark (Number own ∷ items) last = last_mark items last
 last_mark (End ∷ items) last = numbers_mark items ∙ last
 
--- behind an end mark that is taken
+-- after an end mark that is taken
 pub behind_mark : (items : List Item) → MarksLast (End ∷ items) → MarksLast items
 behind_mark items none = all_marks items none where
   all_marks : (items : List Item) → numbers_in items ≡ [] → MarksLast items

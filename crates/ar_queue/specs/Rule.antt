@@ -30,7 +30,7 @@ numbers_in [] = []
 numbers_in (Number number ∷ items) = number ∷ numbers_in items
 numbers_in (End ∷ items) = numbers_in items
 
--- end marks stand behind all numbers
+-- end marks stand after all numbers
 abbrev pub MarksLast : List Item → Type 0
 MarksLast [] = Unit {0}
 MarksLast (Number number ∷ items) = MarksLast items
@@ -62,7 +62,7 @@ pub record IsQueue (events : ℕ) (items : List Item) (views : List View) : Type
   pub once : (number : ℕ) → total (λ view. times_in number view.taken) views + times_queued number items ≡ once_below number (total (λ view. view.put) views)
   pub put : total (λ view. view.put) views ≤ events
   pub rising : Rise (numbers_in items)
-  -- end marks come behind the last number
+  -- end marks come after the last number
   pub marks_last : MarksLast items
   pub marks : marks_queued items ≤ total (λ view. view.marks) views
   pub all_put : 0 < total (λ view. view.marks) views → total (λ view. view.put) views ≡ events
@@ -75,7 +75,7 @@ pub record IsQueue (events : ℕ) (items : List Item) (views : List View) : Type
 abbrev pub feeder : View
 feeder = record { feeds = 1; live = 1; put = 0; marks = 0; out = 0; ended = 0; taken = [] }
 
--- the next number is put, or an end mark behind the last one
+-- the next number is put, or an end mark after the last one
 abbrev pub CanPut : (events : ℕ) → View → Item → Type 0
 CanPut events view (Number number) = (view.feeds ≡ 1) × (view.marks ≡ 0) × (number ≡ view.put) × (view.put < events)
 CanPut events view End = (view.feeds ≡ 1) × (view.put ≡ events)

@@ -4,7 +4,7 @@ use Rattle.ar_bundle.specs.Lawful.{times_in}
 use Rattle.atomic_table.specs.Seated.{TableId}
 use Rattle.ar_queue.specs.declared.queue.View.{View}
 
--- a worker's pass that has taken some numbers, before it has met an end mark and behind that
+-- a worker's pass that has taken some numbers, before it has met an end mark and after that
 abbrev pub working : (taken : List ℕ) → View
 working taken = record { feeds = 0; live = 1; put = 0; marks = 0; out = 0; ended = 0; taken = taken }
 

@@ -21,7 +21,7 @@ pub trait Desk<M: BundleName>: Drop {
     ///
     /// # Errors
     ///
-    /// Want of memory alone.
+    /// Out of memory alone.
     fn settle<R: Wait>(
         &mut self,
         rt: &R,

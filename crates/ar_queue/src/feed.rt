@@ -47,7 +47,7 @@ fn put_numbers<M: BundleName, R: Wait>(
     }
 }
 
-/// Puts so many end marks behind all numbers.
+/// Puts so many end marks after all numbers.
 #[tactic(auto, using(crate::proofs::Feeding::can_mark, crate::proofs::Feeding::next_mark))]
 fn put_marks<M: BundleName, R: Wait>(
     rt: &R,

@@ -19,7 +19,7 @@ pub const PLACES: usize = 64;
 ///
 /// # Errors
 ///
-/// Want of memory alone.
+/// Out of memory alone.
 pub fn open<M: BundleName>(alloc: Global) -> Result<(Queue<M>, Pass<Item, View>), AllocError>
     ensures places { IfOk result (λ made. ruled_capacity made.0 ≡ PLACES) }
     ensures pass { IfOk result (λ made. IsPassOf made.0 made.1) }

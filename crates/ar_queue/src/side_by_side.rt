@@ -91,7 +91,7 @@ where
     Ok(())
 }
 
-/// Joins all workers, each one's pass into the feeder's. Behind one that ended early the scope joins the
+/// Joins all workers, each one's pass into the feeder's. After one that ended early the scope joins the
 /// others.
 fn join_all<M: BundleName, D: Desk<M>, T: QueueName, R: Threads>(
     rt: &R,

@@ -50,7 +50,7 @@ pub(crate) struct Completed<M: BundleName, D: Desk<M>, T: QueueName> {
 pub(crate) enum Outcome<M: BundleName, D: Desk<M>, T: QueueName> {
     /// It settled all numbers that it took.
     All(Completed<M, D, T>),
-    /// Memory was refused to it: behind that it took numbers without judging them.
+    /// Memory was refused to it: after that it took numbers without judging them.
     Short(Ended<T>),
 }
 

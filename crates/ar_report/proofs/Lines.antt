@@ -1,4 +1,4 @@
--- Lines, one behind another.
+-- Lines, one after another.
 use Rattle.std.proofs.Common.{◌≡◌, ◌<◌, ◌≤◌, ℕ, zero, suc, ◌+◌, List, [], ◌∷◌, ◌++◌, length, map, drop, Option, Some, None, refl, sym, ◌∙◌, ap, subst, arith, append-nil}
 use Rattle.std.specs.Prelude.{Err, Ok, OnOk, Result, option_and_then, option_map, slice_get, slice_index_or, unwrap_or}
 use Rattle.std.proofs.Math.Seq.{drop-nil}
@@ -104,7 +104,7 @@ run_is bundle run entries state before lined counted all replays are line metric
     joined : {a b c d e f : List ℕ} → a ≡ b → c ≡ d → e ≡ f → a ++ (c ++ e) ≡ b ++ (d ++ f)
     joined one two three = rw (one, two, three) refl
 
--- ---- texts, one behind another
+-- ---- texts, one after another
 
 pub on_ok : {A E P Q : Type 0} (result : Result A E) → (P → Q) → OnOk result P → OnOk result Q
 on_ok (Ok x) f p = f p

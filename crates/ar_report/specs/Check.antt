@@ -14,7 +14,7 @@ use Rattle.ar_report.specs.Report.{counted}
 unfoldable pub condition_name : (run metric which : List ℕ) → List ℕ
 condition_name run metric which = codes "run " ++ (run ++ (codes " metric " ++ (metric ++ (codes " " ++ which))))
 
--- a condition's name and its text behind it, where there is one
+-- a condition's name and its text after it, where there is one
 abbrev pub condition_text : (Verified → List ℕ) → (name : List ℕ) → Option Verified → List ℕ
 condition_text text name (Some verified) = name ++ text verified
 condition_text text name None = []

@@ -20,7 +20,7 @@ phase_name phases.Failed = codes "Failed"
 phase_name phases.Error = codes "Error"
 phase_name phases.Inconclusive = codes "Inconclusive"
 
--- a bundle has no misfit that is want of memory, so that no report prints the last name
+-- a bundle has no misfit that is out of memory, so that no report prints the last name
 abbrev pub misfit_name : ShapeFault → List ℕ
 misfit_name WrongKind = codes "WrongKind"
 misfit_name FloatNumber = codes "FloatNumber"

@@ -151,19 +151,19 @@ fn put_runs(alloc: Global, shown: Shown, bundle: &Bundle) -> Result<String, Allo
 ///
 /// # Errors
 ///
-/// Want of memory alone.
+/// Out of memory alone.
 pub fn check_text(alloc: Global, bundle: &Bundle) -> Result<String, AllocError>
     ensures { IfOk result (λ text. string_bytes text ≡ check_text bundle.now) }
 {
     put_runs(alloc, Shown::Bounds, bundle)
 }
 
-/// The listing of each condition's code, behind a line with its run and metric and which of the two
+/// The listing of each condition's code, after a line with its run and metric and which of the two
 /// it is.
 ///
 /// # Errors
 ///
-/// Want of memory alone.
+/// Out of memory alone.
 pub fn list_text(alloc: Global, bundle: &Bundle) -> Result<String, AllocError>
     ensures { IfOk result (λ text. string_bytes text ≡ list_text bundle.now) }
 {

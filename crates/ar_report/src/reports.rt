@@ -231,7 +231,7 @@ fn put_run(
 ///
 /// # Errors
 ///
-/// Want of memory alone.
+/// Out of memory alone.
 #[tactic(auto, using(crate::proofs::Runs::has_history, crate::proofs::Runs::next_run, crate::proofs::Runs::no_run, crate::proofs::Runs::run_is_run))]
 pub fn report(alloc: Global, bundle: &Bundle, histories: &Histories) -> Result<String, AllocError>
     requires { AreHistoriesSoFar bundle.now histories.now }
@@ -250,7 +250,7 @@ pub fn report(alloc: Global, bundle: &Bundle, histories: &Histories) -> Result<S
 ///
 /// # Errors
 ///
-/// Want of memory alone.
+/// Out of memory alone.
 #[tactic(auto, using(crate::proofs::Runs::has_history, crate::proofs::Runs::next_phase, crate::proofs::Runs::no_phase, crate::proofs::Runs::run_is_run))]
 pub fn run_phases(
     alloc: Global,

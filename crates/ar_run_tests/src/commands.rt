@@ -115,7 +115,7 @@ fn a_byte_a_read(rt: HostRuntime) {
     assert!(rt; writes(rt.alloc(), Command::List, LIST));
 }
 
-/// Whether a command tells that its reader failed behind so many reads, and writes nothing.
+/// Whether a command tells that its reader failed after so many reads, and writes nothing.
 fn tells_failing(alloc: Global, command: Command, reads: usize) -> bool
     requires { RunsAlone command }
 {

@@ -1,4 +1,4 @@
--- Answers that may be want of memory.
+-- Answers that may be out of memory.
 use Rattle.std.proofs.Common.{Bool, true, false}
 use Rattle.ar_value.specs.Answer.{Unless}
 

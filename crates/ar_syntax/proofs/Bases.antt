@@ -18,7 +18,7 @@ next-le-total base n total ds i some spelled below =
     let front : drop i ds ≡ get_or ds i 0 ∷ drop (i + 1) ds = rw (add-one, drop-cons ds i 0) refl in
     omega (arith, rw front at spelled, before-le-digits_value_after base (n * base + digit_value (get_or ds i 0)) (drop (i + 1) ds) some)
 
--- a number with the next digit spells with the digits behind it what it spelled with all that were left
+-- a number with the next digit spells with the digits after it what it spelled with all that were left
 pub next-spelled : (base n next total : ℕ) (ds : List ℕ) (i : ℕ) → next ≡ n * base + digit_value (get_or ds i 0) → i < length ds → digits_value_after base n (drop i ds) ≡ total → digits_value_after base next (drop (i + 1) ds) ≡ total
 next-spelled base n next total ds i is below spelled =
     let front : drop i ds ≡ get_or ds i 0 ∷ drop (i + 1) ds = rw (add-one, drop-cons ds i 0) refl in

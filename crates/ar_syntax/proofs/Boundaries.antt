@@ -1,4 +1,4 @@
--- Where a text may be cut: a token, a blank or a comment ends behind an ASCII byte, before one, or where the text ends.
+-- Where a text may be cut: a token, a blank or a comment ends after an ASCII byte, before one, or where the text ends.
 use Rattle.std.proofs.Common.{◌≡◌, ℕ, suc, ◌+◌, ◌-◌, ◌≤◌, ◌<◌, Bool, true, false, cond, ltb, List, [], ◌∷◌, ◌++◌, length, take, drop, get_or, refl, sym, ◌∙◌, ap, subst, arith, append_assoc, ◌==◌, Some, length-append, take-append-drop, inl, inr}
 use Rattle.std.specs.Prelude.{◌&&◌, nat_lt, slice_index}
 use Rattle.std.specs.Char.{digit_value, is_ascii_digit}
@@ -53,7 +53,7 @@ EndsAscii-all p (byte ∷ []) small some all = record { front = []; last = byte;
 EndsAscii-all p (byte ∷ second ∷ bytes) small some all =
     EndsAscii-behind (byte ∷ []) (second ∷ bytes) (EndsAscii-all p (second ∷ bytes) small (omega arith) (both_pass (p byte) (list_all p (second ∷ bytes)) all).1)
 
--- a text may be cut behind them
+-- a text may be cut after them
 pub boundary_behind : (bytes front rest : List ℕ) → IsUtf8 bytes → bytes ≡ front ++ rest → EndsAscii front → IsCharBoundary bytes (length front)
 boundary_behind bytes front rest utf8 are ends =
     let len : length front ≡ length ends.front + 1 = omega (arith, ap length ends.are, length-append ends.front (ends.last ∷ [])) in
@@ -238,7 +238,7 @@ gap_end-begins bytes len utf8 some within (cuts.block is ends) =
     let slash = comment_slash 2 false (drop 2 bytes) len ends in
     block_boundary bytes len utf8 (omega (arith, within, slash.1)) is ends
 
--- a text whose rest begins with a blank, a comment or a token may be cut behind that
+-- a text whose rest begins with a blank, a comment or a token may be cut after that
 module _ (text : List ℕ) (at : ℕ) (utf8 : IsUtf8 text) (boundary : IsCharBoundary text at) where
   pub boundary_behind_gap : (len : ℕ) → IsFrontGap (drop at text) len → IsCharBoundary text (at + len)
   boundary_behind_gap len gap = IsCharBoundary-from_rest text at len boundary.0 (gap_end-begins (drop at text) len (IsUtf8-drop text at utf8 boundary) gap.some gap.within gap.begins)
@@ -254,7 +254,7 @@ word_boundary-chosen : (bytes front : List ℕ) → IsUtf8 bytes → bytes ≡ f
 word_boundary-chosen bytes [] utf8 are all = IsCharBoundary-start bytes utf8
 word_boundary-chosen bytes (byte ∷ front) utf8 are all = boundary_behind bytes (byte ∷ front) _ utf8 are (EndsAscii-all continues_word (byte ∷ front) continues-small (omega arith) all)
 
--- a text may be cut behind the word at its front
+-- a text may be cut after the word at its front
 pub word_boundary : (text bytes : List ℕ) (len : ℕ) → IsUtf8 text → bytes ≡ text → len ≡ length (word_at bytes) → IsCharBoundary text len
 word_boundary text bytes len utf8 same is =
     rw is (subst (λ (t : List ℕ). IsCharBoundary t (length (word_at bytes))) same (word_boundary-chosen bytes (word_at bytes) (subst IsUtf8 (sym same) utf8) (take_while-front continues_word bytes) (list_all-take_while continues_word bytes)))

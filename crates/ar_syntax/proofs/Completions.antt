@@ -191,7 +191,7 @@ module _ (rules : Rules) where
       let inner = behind.2 in
       (behind.0, digit ∷ behind.1, (inner.0, inner.1, digit-argument stack function so_far inner.0 behind.1 inner.1 inner.2, inner.3))
 
-  -- some tokens behind a state lead to a tree
+  -- some tokens after a state lead to a tree
   pub complete-state : (state : State) → IsCountedState rules state → (final : Expression) × (tokens : List Token) × Leads rules final state tokens
   complete-state (Want stack) is = let wants = complete-want stack is in (wants.0, digit ∷ wants.1, wants.2)
   complete-state (Have stack tree) is = complete-had stack (complete stack is) tree

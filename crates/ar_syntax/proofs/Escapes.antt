@@ -78,7 +78,7 @@ IsUtf8-byte byte bytes small utf8 = IsUtf8-append (byte ∷ []) bytes (IsUtf8-fr
     one zero = small
     one (suc i) = omega arith
 
--- what a character with text behind it stands for, where the text behind it stands for UTF-8
+-- what a character with text after it stands for, where the text after it stands for UTF-8
 module _ (bytes : List ℕ) (behind-utf8 : (place : ℕ) (escaped : Bool) (value : List ℕ) → unescaped place escaped bytes ≡ Ok value → IsUtf8 value) where
   with_byte-utf8 : (place byte : ℕ) (value : List ℕ) → byte < 128 → with_byte byte (unescaped place false bytes) ≡ Ok value → IsUtf8 value
   with_byte-utf8 place byte value small e =

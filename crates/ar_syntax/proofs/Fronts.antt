@@ -64,7 +64,7 @@ chosen false x y z e = inr (refl, e)
 
 -- ---- the front of a list
 
--- the front part, and the rest behind it
+-- the front part, and the rest after it
 pub take_while-front : (p : ℕ → Bool) (xs : List ℕ) → xs ≡ take_while p xs ++ drop (length (take_while p xs)) xs
 take_while-front p xs = sym (take-append-drop (length (take_while p xs)) xs) ∙ ap (λ (front : List ℕ). front ++ drop (length (take_while p xs)) xs) (take-length-take_while p xs)
 
@@ -93,7 +93,7 @@ word_at-first (byte ∷ bytes) h = rw (take_while-cons continues_word byte bytes
 
 -- ---- numbers
 
--- digits with what may be a point behind them begin with a number's text
+-- digits with what may be a point after them begin with a number's text
 point_front-chosen : (whole bytes : List ℕ) (byte : ℕ) (is_point : Bool) (fraction : List ℕ) → (byte == 46) ≡ is_point → fraction ≡ cond is_point (digits_at bytes) []
     → (rest : List ℕ) × (whole ++ byte ∷ bytes ≡ number_text whole fraction ++ rest)
 point_front-chosen whole bytes byte is_point [] test e = (byte ∷ bytes, refl)
@@ -127,7 +127,7 @@ list_all-digits_behind_point behind = elim (chosen (slice_index behind 0 == 46) 
   | inr none ↦ rw (← none.1) refl
 ]
 
--- a number that begins here has digits before its point or behind it
+-- a number that begins here has digits before its point or after it
 number-some-chosen : (field : Bool) (byte : ℕ) (bytes : List ℕ) (digit point next : Bool) → is_ascii_digit byte ≡ digit → (byte == 46) ≡ point → is_ascii_digit (slice_index bytes 0) ≡ next
     → (digit || (point && next && not field)) ≡ true → fraction_at (byte ∷ bytes) ≡ [] → 0 < length (digits_at (byte ∷ bytes))
 number-some-chosen field byte bytes true point next d p n begins none = take_while-some is_ascii_digit byte bytes d
@@ -211,7 +211,7 @@ prefix-len Binary = refl
 prefix-len Octal = refl
 prefix-len Hexadecimal = refl
 
--- a prefix and the digits behind it
+-- a prefix and the digits after it
 pub prefixed_front : (base : Base) (bytes : List ℕ) → IsPrefixed base bytes → (rest : List ℕ) × (bytes ≡ (prefix base ++ base_digits base bytes) ++ rest)
 prefixed_front base bytes is =
     let digits = take_while-front (is_digit_in base) (drop 2 bytes) in

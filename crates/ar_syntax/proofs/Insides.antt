@@ -320,7 +320,7 @@ pub hash-is : hash.kind ≡ kinds.Sign signs.Hash
 unfolding hash token_of
 hash-is = refl
 
--- where one is inside, `#` may stand next, or behind a few tokens without a comma
+-- where one is inside, `#` may stand next, or after a few tokens without a comma
 abbrev pub Arrives : State → List Token → Type 0
 Arrives state further = accepts (run strict (Some state) (further ++ hash ∷ [])) ≡ true
 

@@ -9,7 +9,7 @@ use Rattle.ar_syntax.specs.declared.token.Token.{Token}
 use Rattle.ar_condition.specs.declared.tree.Binary.TheVariants.{NotIn}
 use Rattle.ar_condition.specs.declared.tree.Literal.TheVariants.{Text}
 
--- what may be said of a tree with the tokens behind it
+-- what may be said of a tree with the tokens after it
 abbrev pub Claim : Type 1
 Claim = Expression → List Token → Type 0
 
@@ -89,7 +89,7 @@ module _ (rules : Rules) where
   Opened final stack at function [] = ⊥
   Opened final stack at function (opener ∷ behind) = (is_group opener ≡ true) × Called final stack at function [] behind
 
-  -- a state and the tokens behind it lead to the final tree
+  -- a state and the tokens after it lead to the final tree
   abbrev pub Leads : Expression → State → List Token → Type 0
   Leads final (Want stack) tokens = Wanted final stack tokens
   Leads final (Have stack tree) tokens = Had stack (After final stack) tree tokens

@@ -1,4 +1,4 @@
--- No text is refused for want of memory.
+-- No text is refused as out of memory.
 use Rattle.std.proofs.Common.{◌≡◌, ◌≢◌, ℕ, zero, suc, ◌+◌, ◌==◌, Bool, true, false, cond, ltb, pos, List, [], ◌∷◌, length, take, drop, refl, Option, Some, None, Result, Ok, Err}
 use Rattle.std.specs.Prelude.{nat_lt, slice_index}
 use Rattle.std.specs.Str.Parse.{digits_value}
@@ -21,7 +21,7 @@ use Rattle.ar_syntax.specs.declared.token.TokenKind.{TokenKind}
 use Rattle.ar_syntax.specs.declared.token.TokenKind.TheVariants as kinds
 use Rattle.ar_syntax.proofs.Texts.{IsRefusal-from_parse_of}
 
--- the answer isn't want of memory
+-- the answer isn't out of memory
 abbrev IsDefined : {A : Type 0} → Result A SyntaxError → Type 0
 IsDefined (Ok x) = Unit {0}
 IsDefined (Err error) = error ≢ OutOfMemory

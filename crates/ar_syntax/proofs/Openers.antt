@@ -55,13 +55,13 @@ pub not_all_arguments : (function : Call) (arguments : List Tree) (n : ℕ) (sta
     → (when strict (takes_all strict function (length (map expression_of arguments))) state ≡ None) × (forbids (λ rules. when rules (takes_all rules function (length (map expression_of arguments))) state) ≡ Arguments)
 not_all_arguments function arguments n state is other = let none : nat_eq (length (map expression_of arguments)) (arity function) ≡ false = rw (length_of_map arguments) (grind (arith, nat_tests)) in rw none (refl, refl)
 
--- a text behind which no bracket closes is an operand
+-- a text after which no bracket closes is an operand
 pub text_is_operand : (rules : Rules) (stack : List Frame) (at : ℕ) (whole : Expression) (text_at : ℕ) (text : List ℕ) (token : Token) (role : Follow) → ends_bracket role ≡ false
     → close_text rules stack at whole text_at text token role ≡ have rules (Indexed at whole ∷ stack) (LiteralAt text_at (Text text)) token
 text_is_operand rules stack at whole text_at text token (Ends EndBracket) h = absurd cc
 text_is_operand rules stack at whole text_at text token role h = refl
 
--- a token that closes a bracket closes it behind a text
+-- a token that closes a bracket closes it after a text
 pub text_is_name : (rules : Rules) (stack : List Frame) (at : ℕ) (whole : Expression) (text_at : ℕ) (text : List ℕ) (token : Token) (role : Follow) → ends_bracket role ≡ true
     → close_text rules stack at whole text_at text token role ≡ Some (Have stack (FieldAt at whole text))
 text_is_name rules stack at whole text_at text token (Ends EndBracket) h = refl
@@ -115,7 +115,7 @@ braces_left n state h = let some : nat_lt 0 (pred n) ≡ true = above_one n (λ 
 pub no_braces_left : (n : ℕ) (state : State) → n < 2 → (when strict (may_open strict (pred n)) state ≡ None) × (forbids (λ rules. when rules (may_open rules (pred n)) state) ≡ Depth)
 no_braces_left n state h = let none : nat_lt 0 (pred n) ≡ false = below_two n h in rw none (refl, refl)
 
--- `)` directly behind `(` ends no call, and it is the number of arguments that forbids it
+-- `)` directly after `(` ends no call, and it is the number of arguments that forbids it
 pub empty_call : (stack : List Frame) (at : ℕ) (function : Call) (token : Token) (so_far : List Expression) (role : Follow) → is_empty_call so_far role ≡ true
     → (close_empty strict stack at function token so_far role ≡ None) × (forbids (λ rules. close_empty rules stack at function token so_far role) ≡ Arguments)
 empty_call stack at Len token [] (Ends EndGroup) h = (refl, refl)

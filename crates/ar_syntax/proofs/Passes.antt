@@ -1,4 +1,4 @@
--- What one token does behind an operand: phrases of tighter levels end before it.
+-- What one token does after an operand: phrases of tighter levels end before it.
 use Rattle.std.proofs.Common.{◌≡◌, ◌≢◌, ℕ, zero, suc, ◌+◌, ◌-◌, ◌<◌, ◌≤◌, Bool, true, false, List, [], ◌∷◌, ◌++◌, refl, sym, ◌∙◌, ap, subst, arith, Option, Some, None}
 use Rattle.std.specs.Prelude.{pred}
 use Rattle.ar_condition.specs.Expression.{Expression, UnaryAt, BinaryAt, ChoiceAt}

@@ -14,7 +14,7 @@ use Rattle.ar_syntax.specs.declared.error.SyntaxError.TheVariants.{BadEscape}
 next_byte : (bytes : List ℕ) (i : ℕ) → i < length bytes → drop i bytes ≡ get_or bytes i 0 ∷ drop (i + 1) bytes
 next_byte bytes i below = rw (add-one, drop-cons bytes i 0) refl
 
--- the byte behind a backslash ends no text
+-- the byte after a backslash ends no text
 pub text_end-escaped : (quote at i : ℕ) (bytes : List ℕ) (end : Option ℕ) → i < length bytes → text_end quote at true (drop i bytes) ≡ end → text_end quote (at + 1) false (drop (i + 1) bytes) ≡ end
 text_end-escaped quote at i bytes end below e = rw (next_byte bytes i below) at e
 

@@ -162,7 +162,7 @@ module _ (rules : Rules) where
     unfolding follows starts
     ender-start b c role = kind_ender-start b c.span.start c.kind role
 
-    -- `)` directly behind `(`, or an argument
+    -- `)` directly after `(`, or an argument
     empty-to : (stack : List Frame) (at : ℕ) (function : Call) (so_far : List Expression) (c : Token) (tokens : List Token) (r : Follow) → follows c ≡ r → LeadsFrom rules final (argue rules stack at function so_far c (is_body function (length so_far)) (is_brace c)) tokens
         → LeadsFrom rules final (close_empty rules stack at function c so_far r) tokens
     empty-to stack at function [] c tokens (Ends EndGroup) role leads = absurd (no_argument function leads)

@@ -1,4 +1,4 @@
--- One token: a state and tokens lead where the state behind the first and the others do.
+-- One token: a state and tokens lead where the state after the first and the others do.
 use Rattle.std.proofs.Common.{◌≡◌, ◌≢◌, ℕ, suc, ◌-◌, ◌<◌, Bool, true, false, List, [], ◌∷◌, ◌++◌, length, refl, sym, ◌∙◌, ap, subst, arith, Option, Some, None}
 use Rattle.std.specs.Prelude.{pred}
 use Rattle.ar_condition.specs.Expression.{Expression, FieldAt, IndexAt, ItemAt, LiteralAt, UnaryAt, BinaryAt, ChoiceAt, ListAt, expressions}
@@ -104,7 +104,7 @@ module _ (rules : Rules) (final : Expression) where
   pub want-from : (stack : List Frame) (c : Token) (tokens : List Token) → LeadsFrom rules final (want rules stack c) tokens → Wanted rules final stack (c ∷ tokens)
   want-from stack c tokens leads = start-from stack c tokens (starts (inside stack) c) refl leads
 
-  -- ---- behind an operand
+  -- ---- after an operand
 
   had-pass : (stack : List Frame) (tree : Expression) (c : Token) (tokens : List Token) → follows c ≢ Select → follows c ≢ Open → Had rules stack (After rules final stack) tree (c ∷ tokens)
       → Rise rules (wanted stack) 0 (inside stack) (left stack) (After rules final stack) tree (c ∷ tokens)
@@ -209,7 +209,7 @@ module _ (rules : Rules) (final : Expression) where
           rise-join (wanted stack) 5 (inside stack) (left stack) (After rules final stack) tree (c ∷ tokens) looser
           (ChoiceAt c.span.start tree met unmet.0, unmet.1, grammar.choice role opens refl phrase leads.0 unmet.2, rise-stay rules (wanted stack - 6) 6 (inside stack) (left stack) (After rules final stack) (ChoiceAt c.span.start tree met unmet.0) unmet.1 unmet.3)
 
-  -- ---- behind what stands in brackets, or before `:`
+  -- ---- after what stands in brackets, or before `:`
 
   module _ (c : Token) (tokens : List Token) (ender : Ender) (role : follows c ≡ Ends ender) where
     ends-at : (other : Ender) (state : Ender → Option State) → follows c ≡ Ends other → LeadsFrom rules final (state other) tokens → LeadsFrom rules final (state ender) tokens
@@ -226,7 +226,7 @@ module _ (rules : Rules) (final : Expression) where
       ends-at c tokens ender role Comma (λ e. end_with rules e (Have (Listed at so_far ∷ stack) tree)) role'
       (when-to (may_continue rules (length (so_far ++ tree ∷ []))) _ tokens may (_, _, phrase, (items, rest, behind, had)))
 
-  -- behind an argument, which may be in braces
+  -- after an argument, which may be in braces
   pub arguments-to : (stack : List Frame) (at : ℕ) (function : Call) (so_far arguments : List Expression) (c : Token) (tokens rest : List Token) → ArgumentsBehind rules (inside stack) (pred (left stack)) function so_far (c ∷ tokens) arguments rest
       → Had rules stack (After rules final stack) (called at function arguments) rest → LeadsFrom rules final (close_braced rules stack at function so_far (follows c)) tokens
   arguments-to stack at function so_far arguments c tokens rest (grammar.last_argument role all) had =
@@ -304,7 +304,7 @@ module _ (rules : Rules) (final : Expression) where
   end-from (Braced at function so_far ∷ stack) tree c tokens EndBrace role leads = (role, leads)
   end-from (Braced at function so_far ∷ stack) tree c tokens ender role leads = absurd leads
 
-  -- ---- any token behind an operand
+  -- ---- any token after an operand
 
   no_level : (stack : List Frame) (tree : Expression) (c : Token) (tokens : List Token) → IsStack stack → ((ender : Ender) → follows c ≢ Ends ender) → ((j : ℕ) → level_of (follows c) ≢ Some j)
       → ¬ Rise rules (wanted stack) 0 (inside stack) (left stack) (After rules final stack) tree (c ∷ tokens)
@@ -350,7 +350,7 @@ module _ (rules : Rules) (final : Expression) where
   pub select-follow-to : (stack : List Frame) (tree : Expression) (c : Token) (tokens : List Token) → follows c ≡ Select → IsStack stack → Had rules stack (After rules final stack) tree (c ∷ tokens) → Named rules final stack c.span.start tree tokens
   select-follow-to stack tree c tokens role is had = select-to stack tree had.0 c tokens had.1 role is had.2 had.3
 
-  -- ---- behind the bracket of an index or field
+  -- ---- after the bracket of an index or field
 
   kind_text-start : (b : Bool) (at : ℕ) (kind : TokenKind) (word : List ℕ) → kind_text kind ≡ Some word → kind_start b at kind ≡ Leaf (LiteralAt at (Text word))
   kind_text-start b at (kinds.Text text) word is = let same : text ≡ word = cc in ap (λ (w : List ℕ). Leaf (LiteralAt at (Text w))) same
@@ -424,7 +424,7 @@ module _ (rules : Rules) (final : Expression) where
       inner (Some word) value leads = text-from stack tree c token word behind role opens value leads
       inner None value leads = index-from stack tree c (token ∷ behind) role opens (ap (λ (v : Option (List ℕ)). is_alone v behind) value) leads
 
-  -- ---- behind an operand, whatever token it is
+  -- ---- after an operand, whatever token it is
 
   follow-to : (stack : List Frame) (tree : Expression) (c : Token) (tokens : List Token) (r : Follow) → follows c ≡ r → IsStack stack → Had rules stack (After rules final stack) tree (c ∷ tokens) → LeadsFrom rules final (follow rules stack tree c.span.start r) tokens
   follow-to stack tree c tokens (Operator operator) role is had =

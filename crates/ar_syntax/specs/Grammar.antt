@@ -14,7 +14,7 @@
 --          | ("all" | "any" | "none" | "one" | "count" | "filter") "(" tern "," pred ")"
 --     pred = "{" tern "}" | tern
 --
--- A rule relates the tokens from a phrase's first on, what the phrase says, and the tokens behind it, inside a predicate or
+-- A rule relates the tokens from a phrase's first on, what the phrase says, and the tokens after it, inside a predicate or
 -- not, where so many openers may still begin.
 use Rattle.std.specs.Prelude.{◌≡◌, ℕ, zero, suc, Bool, true, false, ◌||◌, nat_eq, nat_lt, List, [], ◌∷◌, ◌++◌, length, Option, Some, None, pred}
 use Rattle.ar_condition.specs.Expression.{Expression, FieldAt, IndexAt, ItemAt, UnaryAt, BinaryAt, ChoiceAt, ListAt, expressions}
@@ -40,11 +40,11 @@ most_openers = 64
 abbrev pub may_open : Rules → ℕ → Bool
 may_open rules left = nat_lt 0 left || rules.any_depth
 
--- one more item behind so many
+-- one more item after so many
 abbrev pub may_continue : Rules → ℕ → Bool
 may_continue rules items = nat_lt items most_items || rules.any_items
 
--- one more argument behind so many, and none behind them
+-- one more argument after so many, and none after them
 abbrev pub takes_more : Rules → Call → ℕ → Bool
 takes_more rules call arguments = nat_lt arguments (arity call) || rules.any_count
 
@@ -138,7 +138,7 @@ module _ (rules : Rules) where
           → starts inside name ≡ Calls function → may_open rules left ≡ true → is_group opener ≡ true → Arguments inside (pred left) function [] behind arguments rest
           → Primary inside left (name ∷ opener ∷ behind) (called name.span.start function arguments) rest
 
-    -- a list's items behind those so far, up to the bracket
+    -- a list's items after those so far, up to the bracket
     pub data Items : Bool → ℕ → List Expression → List Token → List Expression → List Token → Type 0 where
       item : {inside : Bool} {left : ℕ} {so_far items : List Expression} {tokens mid rest : List Token} {first : Expression}
           → Phrase ternary inside left tokens first mid → ItemsBehind inside left (so_far ++ first ∷ []) mid items rest → Items inside left so_far tokens items rest
@@ -148,7 +148,7 @@ module _ (rules : Rules) where
       comma_item : {inside : Bool} {left : ℕ} {so_far items : List Expression} {comma : Token} {behind rest : List Token}
           → follows comma ≡ Ends Comma → may_continue rules (length so_far) ≡ true → Items inside left so_far behind items rest → ItemsBehind inside left so_far (comma ∷ behind) items rest
 
-    -- a call's arguments behind those so far, up to the parenthesis
+    -- a call's arguments after those so far, up to the parenthesis
     pub data Arguments : Bool → ℕ → Call → List Expression → List Token → List Expression → List Token → Type 0 where
       no_argument : {inside : Bool} {left : ℕ} {function : Call} {close : Token} {rest : List Token}
           → follows close ≡ Ends EndGroup → takes_all rules function 0 ≡ true → Arguments inside left function [] (close ∷ rest) [] rest

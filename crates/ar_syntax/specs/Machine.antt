@@ -15,7 +15,7 @@ pub data Frame : Type 0 where
   RightOf : (at : ℕ) (operator : Binary) (first : Expression) → Frame
   -- the operand of a sign before it
   Prefixed : (at : ℕ) (operator : Unary) → Frame
-  -- what stands behind `?`, and behind `:`
+  -- what stands after `?`, and after `:`
   Yes : (at : ℕ) (condition : Expression) → Frame
   No : (at : ℕ) (condition met : Expression) → Frame
   -- what stands in `(`, in the `[` of a list and in that of an index
@@ -32,14 +32,14 @@ pub data State : Type 0 where
   -- an operand is wanted; one is there
   Want : (stack : List Frame) → State
   Have : (stack : List Frame) (tree : Expression) → State
-  -- a word is wanted, behind the point of a field
+  -- a word is wanted, after the point of a field
   WantName : (stack : List Frame) (at : ℕ) (owner : Expression) → State
-  -- behind the `[` of an index or field, and behind a text there
+  -- after the `[` of an index or field, and after a text there
   WantIndex : (stack : List Frame) (at : ℕ) (owner : Expression) → State
   HaveText : (stack : List Frame) (at : ℕ) (owner : Expression) (text_at : ℕ) (text : List ℕ) → State
-  -- `in` is wanted, behind `not`
+  -- `in` is wanted, after `not`
   WantIn : (stack : List Frame) (at : ℕ) (first : Expression) → State
-  -- `(` is wanted, behind the name of a call; an argument is wanted; one in braces is there
+  -- `(` is wanted, after the name of a call; an argument is wanted; one in braces is there
   WantGroup : (stack : List Frame) (at : ℕ) (function : Call) → State
   WantArgument : (stack : List Frame) (at : ℕ) (function : Call) (so_far : List Expression) → State
   HaveArgument : (stack : List Frame) (at : ℕ) (function : Call) (so_far : List Expression) → State
@@ -99,7 +99,7 @@ module _ (rules : Rules) where
   abbrev pub want : List Frame → Token → Option State
   want stack token = begin stack token.span.start (starts (inside stack) token)
 
-  -- behind the operand that ends what stands in brackets or before `:`
+  -- after the operand that ends what stands in brackets or before `:`
   abbrev pub end_with : Ender → State → Option State
   end_with Colon (Have (Yes at condition ∷ stack) tree) = Some (Want (No at condition tree ∷ stack))
   end_with EndGroup (Have (Grouped ∷ stack) tree) = Some (Have stack tree)
@@ -113,7 +113,7 @@ module _ (rules : Rules) where
   end_with EndBrace (Have (Braced at function so_far ∷ stack) tree) = Some (HaveArgument stack at function (so_far ++ tree ∷ []))
   end_with ender state = None
 
-  -- an operator behind the operand that is its first
+  -- an operator after the operand that is its first
   abbrev pub operate : ℕ → Binary → State → Option State
   operate at operator (Have stack tree) = Some (Want (RightOf at operator tree ∷ stack))
   operate at operator state = None
@@ -126,7 +126,7 @@ module _ (rules : Rules) where
   choose at (Have stack tree) = when (may_open rules (left stack)) (Want (Yes at tree ∷ stack))
   choose at state = None
 
-  -- behind an operand
+  -- after an operand
   abbrev pub follow : List Frame → Expression → ℕ → Follow → Option State
   follow stack tree at (Operator operator) = operate at operator (climbed (looseness operator) stack tree)
   follow stack tree at NotOf = negate at (climbed (looseness NotIn) stack tree)
@@ -139,17 +139,17 @@ module _ (rules : Rules) where
   abbrev pub have : List Frame → Expression → Token → Option State
   have stack tree token = follow stack tree token.span.start (follows token)
 
-  -- behind the point of a field
+  -- after the point of a field
   abbrev pub select : List Frame → ℕ → Expression → Option (List ℕ) → Option State
   select stack at owner (Some word) = Some (Have stack (FieldAt at owner word))
   select stack at owner None = None
 
-  -- behind `[`: a text may be a field's name
+  -- after `[`: a text may be a field's name
   abbrev pub open_index : List Frame → ℕ → Expression → Token → Option (List ℕ) → Option State
   open_index stack at owner token (Some text) = Some (HaveText stack at owner token.span.start text)
   open_index stack at owner token None = want (Indexed at owner ∷ stack) token
 
-  -- it is where `]` stands behind it, and else an operand
+  -- it is where `]` stands after it, and else an operand
   abbrev pub close_text : List Frame → ℕ → Expression → ℕ → List ℕ → Token → Follow → Option State
   close_text stack at owner text_at text token (Ends EndBracket) = Some (Have stack (FieldAt at owner text))
   close_text stack at owner text_at text token role = have (Indexed at owner ∷ stack) (LiteralAt text_at (Text text)) token
@@ -160,18 +160,18 @@ module _ (rules : Rules) where
   argue stack at function so_far token true false = want (Body at function so_far ∷ stack) token
   argue stack at function so_far token true true = when (may_open rules (pred (left stack))) (Want (Braced at function so_far ∷ stack))
 
-  -- `)` directly behind `(`
+  -- `)` directly after `(`
   abbrev pub close_empty : List Frame → ℕ → Call → Token → List Expression → Follow → Option State
   close_empty stack at function token [] (Ends EndGroup) = when (takes_all rules function 0) (Have stack (called at function []))
   close_empty stack at function token so_far role = argue stack at function so_far token (is_body function (length so_far)) (is_brace token)
 
-  -- behind an argument in braces
+  -- after an argument in braces
   abbrev pub close_braced : List Frame → ℕ → Call → List Expression → Follow → Option State
   close_braced stack at function arguments (Ends EndGroup) = when (takes_all rules function (length arguments)) (Have stack (called at function arguments))
   close_braced stack at function arguments (Ends Comma) = when (takes_more rules function (length arguments)) (WantArgument stack at function arguments)
   close_braced stack at function arguments role = None
 
-  -- the state behind one token more, where a condition may have it
+  -- the state after one token more, where a condition may have it
   unfoldable pub step : State → Token → Option State
   step (Want stack) token = want stack token
   step (Have stack tree) token = have stack tree token
@@ -187,7 +187,7 @@ module _ (rules : Rules) where
   step_from (Some state) token = step state token
   step_from None token = None
 
-  -- the state behind tokens
+  -- the state after tokens
   abbrev pub run : Option State → List Token → Option State
   run state [] = state
   run state (token ∷ tokens) = run (step_from state token) tokens
@@ -208,7 +208,7 @@ abbrev pub finished_from : Option State → Option Expression
 finished_from (Some state) = finished state
 finished_from None = None
 
--- the state behind tokens from the start
+-- the state after tokens from the start
 abbrev pub reached : Rules → List Token → Option State
 reached rules tokens = run rules (Some start_state) tokens
 

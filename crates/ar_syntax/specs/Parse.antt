@@ -19,12 +19,12 @@ abbrev pub ended : ℕ → Option Expression → Result Expression SyntaxError
 ended end (Some tree) = limited tree
 ended end None = Err (Unexpected end)
 
--- the state behind one token more, or its refusal
+-- the state after one token more, or its refusal
 abbrev pub stepped : State → Token → Option State → Result State SyntaxError
 stepped state token (Some next) = Ok next
 stepped state token None = Err (fault_of state token)
 
--- the tree of tokens behind a state, whose text ends at a place
+-- the tree of tokens after a state, whose text ends at a place
 abbrev pub walk : ℕ → State → List Token → Result Expression SyntaxError
 walk end state [] = ended end (finished state)
 walk end state (token ∷ tokens) = stepped state token (step strict state token) >>= λ next. walk end next tokens

@@ -35,7 +35,7 @@ BeginsCondition tokens = BeginsBy strict tokens
 
 -- ---- what is wanted
 
--- an operand may stand behind these tokens: a number may
+-- an operand may stand after these tokens: a number may
 abbrev pub WantsOperand : List Token → Type 0
 WantsOperand before = (number : Token) × (value : ℤ) × (number.kind ≡ kinds.Whole value) × BeginsCondition (before ++ number ∷ [])
 
@@ -47,13 +47,13 @@ abbrev pub has_no_comma : List Token → Bool
 has_no_comma [] = true
 has_no_comma (token ∷ tokens) = not (is_comma token.kind) && has_no_comma tokens
 
--- one is inside a predicate behind these tokens: `#` may stand there, or further on before any comma
+-- one is inside a predicate after these tokens: `#` may stand there, or further on before any comma
 abbrev pub IsInside : List Token → Type 0
 IsInside before = (further : List Token) × (item : Token) × (has_no_comma further ≡ true) × (item.kind ≡ kinds.Sign Hash) × BeginsCondition ((before ++ further) ++ item ∷ [])
 
 -- ---- the name of a fault
 
--- the refusal of a token that can't stand behind those before it, where it has a name of its own
+-- the refusal of a token that can't stand after those before it, where it has a name of its own
 pub data IsNamedBehind (before : List Token) (token : Token) : SyntaxError → Type 0 where
   -- a word that the language doesn't name, where an operand is wanted
   unknown_name : {name : List ℕ} → token.kind ≡ kinds.Name name → WantsOperand before → IsNamedBehind before token (UnknownName token.span.start)

@@ -1,4 +1,4 @@
--- What a token can be where an operand is wanted, and behind an operand.
+-- What a token can be where an operand is wanted, and after an operand.
 use Rattle.std.specs.Prelude.{ℕ, Bool, true, false, nat_eq, List, [], ◌∷◌, Option, Some, None}
 use Rattle.ar_condition.specs.Expression.{Expression, ResultAt, ItemAt, LiteralAt, LenAt, IsNilAt, DefaultAt, PredicateAt}
 use Rattle.ar_syntax.specs.Token.{letters}
@@ -30,7 +30,7 @@ arity IsNil = 1
 arity Default = 2
 arity (Over predicate) = 2
 
--- the argument behind so many others is a predicate
+-- the argument after so many others is a predicate
 abbrev pub is_body : Call → ℕ → Bool
 is_body (Over predicate) before = nat_eq before 1
 is_body call before = false
@@ -92,7 +92,7 @@ kind_start inside at (kinds.Sign sign) = sign_start inside at sign
 unfoldable pub starts : Bool → Token → Start
 starts inside token = kind_start inside token.span.start token.kind
 
--- ---- behind an operand
+-- ---- after an operand
 
 abbrev pub word_follow : Word → Follow
 word_follow words.Or = Operator binaries.Or
@@ -133,7 +133,7 @@ kind_follow (kinds.Word word) = word_follow word
 kind_follow (kinds.Sign sign) = sign_follow sign
 kind_follow kind = NoFollow
 
--- what a token is behind an operand
+-- what a token is after an operand
 unfoldable pub follows : Token → Follow
 follows token = kind_follow token.kind
 
@@ -153,7 +153,7 @@ looseness binaries.Remainder = 0
 
 -- ---- elsewhere
 
--- behind a point every word is a name
+-- after a point every word is a name
 abbrev pub kind_name : TokenKind → Option (List ℕ)
 kind_name (kinds.Word word) = Some (letters word)
 kind_name (kinds.Name name) = Some name

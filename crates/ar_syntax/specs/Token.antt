@@ -113,7 +113,7 @@ spelling signs.OpenBrace = codes "{"
 spelling signs.CloseBrace = codes "}"
 spelling signs.Hash = codes "#"
 
--- directly behind a word, `)`, `]` or `#` a point is a field's, and begins no number
+-- directly after a word, `)`, `]` or `#` a point is a field's, and begins no number
 abbrev pub takes_field : TokenKind → Bool
 takes_field (kinds.Word word) = true
 takes_field (kinds.Name name) = true
@@ -166,7 +166,7 @@ text_end quote at escaped [] = None
 text_end quote at true (byte ∷ bytes) = text_end quote (at + 1) false bytes
 text_end quote at false (byte ∷ bytes) = if byte == quote then Some at else text_end quote (at + 1) (byte == 92) bytes
 
--- what stands for a backslash with a byte behind it: itself, a quote, LF, CR or tab
+-- what stands for a backslash with a byte after it: itself, a quote, LF, CR or tab
 abbrev pub escape_of : ℕ → Option ℕ
 escape_of byte =
     if byte == 92 || byte == 34 || byte == 39 then Some byte
@@ -183,7 +183,7 @@ abbrev pub with_escape : ℕ → Option ℕ → Result (List ℕ) SyntaxError �
 with_escape at (Some byte) behind = with_byte byte behind
 with_escape at None behind = Err (BadEscape at)
 
--- what the bytes of a text directly behind a place stand for
+-- what the bytes of a text directly after a place stand for
 abbrev pub unescaped : ℕ → Bool → List ℕ → Result (List ℕ) SyntaxError
 unescaped before escaped [] = Ok []
 unescaped before true (byte ∷ bytes) = with_escape before (escape_of byte) (unescaped (before + 1) false bytes)

@@ -65,11 +65,11 @@ word_token at word = token (named word (word_of word)) at (length word)
 abbrev pub digits_at : List ℕ → List ℕ
 digits_at bytes = take_while is_ascii_digit bytes
 
--- the digits directly behind a point at the front
+-- the digits directly after a point at the front
 abbrev pub digits_behind_point : List ℕ → List ℕ
 digits_behind_point bytes = if slice_index bytes 0 == 46 then digits_at (drop 1 bytes) else []
 
--- of the number at the front, the digits behind its point: a point belongs to it where a digit follows
+-- of the number at the front, the digits after its point: a point belongs to it where a digit follows
 abbrev pub fraction_at : List ℕ → List ℕ
 fraction_at bytes = digits_behind_point (drop (length (digits_at bytes)) bytes)
 
@@ -86,7 +86,7 @@ begins_number field bytes = is_ascii_digit (slice_index bytes 0) || (slice_index
 abbrev pub whole_of : ℕ → ℕ → Result TokenKind SyntaxError
 whole_of at value = if is_i64 (pos value) then Ok (kinds.Whole (pos value)) else Err (NumberTooLarge at)
 
--- digits with a point spell a decimal, which has six digits behind the point at most and is an i64 in millionths
+-- digits with a point spell a decimal, which has six digits after the point at most and is an i64 in millionths
 abbrev pub decimal_of : ℕ → List ℕ → List ℕ → Result TokenKind SyntaxError
 decimal_of at whole fraction =
     if nat_lt 6 (length fraction) then Err (LiteralTooFine at)
@@ -97,7 +97,7 @@ abbrev pub value_of : ℕ → List ℕ → List ℕ → Result TokenKind SyntaxE
 value_of at whole [] = whole_of at (digits_value 10 whole)
 value_of at whole (digit ∷ fraction) = decimal_of at whole (digit ∷ fraction)
 
--- no letter, digit or `_` stands directly behind a number (behind the last byte `slice_index` is 0)
+-- no letter, digit or `_` stands directly after a number (after the last byte `slice_index` is 0)
 abbrev pub ended : ℕ → ℕ → List ℕ → TokenKind → Result Token SyntaxError
 ended at len bytes kind = if continues_word (slice_index bytes len) then Err (BadCharacter (at + len)) else Ok (token kind at len)
 
@@ -105,7 +105,7 @@ ended at len bytes kind = if continues_word (slice_index bytes len) then Err (Ba
 abbrev pub plain_number : ℕ → List ℕ → Result Token SyntaxError
 plain_number at bytes = value_of at (digits_at bytes) (fraction_at bytes) >>= ended at (length (number_text (digits_at bytes) (fraction_at bytes))) bytes
 
--- the base that a letter behind a 0 names
+-- the base that a letter after a 0 names
 abbrev pub base_named : ℕ → Option Base
 base_named byte =
     if byte == 98 then Some Binary
@@ -122,7 +122,7 @@ with_digit byte (Some base) = if is_digit_in base byte then Some base else None
 unfoldable pub base_of : List ℕ → Option Base
 base_of bytes = if slice_index bytes 0 == 48 then with_digit (slice_index bytes 2) (base_named (slice_index bytes 1)) else None
 
--- the digits of a base behind its prefix
+-- the digits of a base after its prefix
 abbrev pub base_digits : Base → List ℕ → List ℕ
 base_digits base bytes = take_while (is_digit_in base) (drop 2 bytes)
 
@@ -174,7 +174,7 @@ sign_of at bytes = if is_coalescing bytes then Err (BadCharacter at) else sign_t
 
 -- ---- all tokens
 
--- want of memory, which is a refusal of no text
+-- out of memory, which is a refusal of no text
 abbrev pub is_memory : SyntaxError → Bool
 is_memory OutOfMemory = true
 is_memory error = false
@@ -204,12 +204,12 @@ front_of at field bytes =
     else (if begins_block_comment bytes then block_comment at bytes
     else token_of at field bytes >>= found))
 
--- a token, and those behind it
+-- a token, and those after it
 abbrev pub with_front : ℕ → Piece → (ℕ → Bool → Result (List Token) SyntaxError) → Result (List Token) SyntaxError
 with_front at (Gap len) behind = behind (len - 1) false
 with_front at (Found token) behind = behind (token.span.end - (at + 1)) (takes_field token.kind) >>= λ tokens. Ok (token ∷ tokens)
 
--- the tokens behind the next `skip` bytes, of bytes that begin at a place of the text; `field` says that a point here is a field's
+-- the tokens after the next `skip` bytes, of bytes that begin at a place of the text; `field` says that a point here is a field's
 unfoldable pub tokens_behind : ℕ → ℕ → Bool → List ℕ → Result (List Token) SyntaxError
 tokens_behind skip at field [] = Ok []
 tokens_behind (suc skip) at field (byte ∷ bytes) = tokens_behind skip (at + 1) field bytes
@@ -245,7 +245,7 @@ pub data IsGap : List ℕ → List ℕ → Type 0 where
   none : {rest : List ℕ} → IsGap rest rest
   more : {bytes rest : List ℕ} {len : ℕ} → BeginsWithGap bytes len → IsGap (drop len bytes) rest → IsGap bytes rest
 
--- nothing but blanks and comments stands between a place and the tokens behind it, and between and behind these
+-- nothing but blanks and comments stands between a place and the tokens after it, and between and after these
 abbrev pub IsGapBetween : List ℕ → ℕ → List Token → Type 0
 IsGapBetween text place [] = IsGap (drop place text) []
 IsGapBetween text place (token ∷ tokens) = IsGap (drop place text) (drop token.span.start text) × IsGapBetween text token.span.end tokens

@@ -14,7 +14,7 @@ use crate::token::Token;
 use ar_condition::tree::Tree;
 use std::alloc::{AllocError, Global};
 
-/// Behind the name of a call.
+/// After the name of a call.
 pub(crate) fn want_group(
     alloc: Global,
     at: usize,
@@ -36,7 +36,7 @@ pub(crate) fn want_group(
     }
 }
 
-/// Behind an argument in braces.
+/// After an argument in braces.
 pub(crate) fn have_argument(
     alloc: Global,
     at: usize,

@@ -24,7 +24,7 @@ pub enum SyntaxError {
     LiteralTooFine(usize),
     /// The number that begins here is above the greatest whole or decimal.
     NumberTooLarge(usize),
-    /// No condition has the token at this place behind those before it. The end of the text
+    /// No condition has the token at this place after those before it. The end of the text
     /// counts as a token.
     Unexpected(usize),
     /// An operand is wanted here, and the language doesn't name this word.
@@ -33,7 +33,7 @@ pub enum SyntaxError {
     WrongCount(usize),
     /// `#`, or a point for its field, stands outside predicates.
     ItemOutside(usize),
-    /// A list goes on behind its sixteenth item.
+    /// A list goes on after its sixteenth item.
     TooManyItems(usize),
     /// A parenthesis, bracket, brace, call, sign or `?` begins while 64 are unfinished; at 0, the
     /// tree of the whole text is deeper than 64.

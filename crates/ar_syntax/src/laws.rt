@@ -39,7 +39,7 @@ pub fn words_are_named()
     ensures { (word : Word) → word_of (letters word) ≡ Some word }
 {}
 
-/// No text is refused for want of memory.
+/// No text is refused as out of memory.
 pub fn memory_is_no_refusal()
     ensures { (text : List ℕ) → parse_of text ≢ Err SyntaxError.OutOfMemory }
 {}

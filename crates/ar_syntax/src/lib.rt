@@ -4,11 +4,11 @@
 //!
 //! [`tokens`] answers the tokens of a text, or says at which byte it stops being one and what was
 //! expected there. [`parse`] answers the one tree of a condition, or the first refusal and its
-//! place. Only want of memory can keep them from it.
+//! place. Only out of memory can keep them from it.
 //!
 //! - [`token`]: words, numbers, texts and signs, and how they are spelled; `scanner` cuts a text
 //!   into them, with `number` for numbers and `quoted` for texts
-//! - [`role`]: what a token can be behind an operand, and what calls take
+//! - [`role`]: what a token can be after an operand, and what calls take
 //! - `parser`: from tokens to a tree, one `step` for each token, with `call` for what stands in a
 //!   call's parentheses; `start` says what a token begins, `state` what may come next, `machine`
 //!   what is begun and not ended, `climb` ends it, `build` boxes the nodes, `stack` counts what is

@@ -17,12 +17,12 @@ pub(crate) enum Frame {
         at: usize,
         operator: Unary,
     },
-    /// What stands behind `?`.
+    /// What stands after `?`.
     Yes {
         at: usize,
         condition: Box<Tree>,
     },
-    /// What stands behind `:`.
+    /// What stands after `:`.
     No {
         at: usize,
         condition: Box<Tree>,

@@ -15,7 +15,7 @@ use crate::token::{Base, Token, TokenKind, continues_word, placed};
 use ar_value::decimal::Decimal;
 use ar_value::digits::{millionths, number};
 
-/// How many digits a decimal may have behind its point.
+/// How many digits a decimal may have after its point.
 const MOST_FRACTION_DIGITS: usize = 6;
 
 /// How many bytes the prefix of a base has.
@@ -44,7 +44,7 @@ pub(crate) fn number_token(bytes: &[u8], at: usize) -> Result<Token, SyntaxError
     }
 }
 
-/// The base of the number at the front, where it has a prefix and a digit behind it.
+/// The base of the number at the front, where it has a prefix and a digit after it.
 #[tactic(auto, unfolding(crate::specs::Tokens::base_of))]
 fn base(bytes: &[u8]) -> Option<Base>
     ensures base { result ≡ base_of bytes.now }
@@ -89,7 +89,7 @@ fn prefixed_number(bytes: &[u8], at: usize, base: Base) -> Result<Token, SyntaxE
     )
 }
 
-/// The bytes behind the prefix of a base.
+/// The bytes after the prefix of a base.
 fn behind_prefix(bytes: &[u8]) -> &[u8]
     ensures { result.now ≡ drop 2 bytes.now }
 {
@@ -163,7 +163,7 @@ fn plain_number(bytes: &[u8], at: usize) -> Result<Token, SyntaxError>
     ended(bytes, at, number_len(whole, fraction), kind)
 }
 
-/// A number of so many bytes, where none stands behind it that continues a word.
+/// A number of so many bytes, where none stands after it that continues a word.
 fn ended(bytes: &[u8], at: usize, len: usize, kind: TokenKind) -> Result<Token, SyntaxError>
     requires within { len ≤ length bytes.now }
     requires in_range { at + length bytes.now < 2 ^ 64 }
@@ -194,7 +194,7 @@ fn digits_len(bytes: &[u8]) -> usize
         .count()
 }
 
-/// The digits directly behind a point at the front.
+/// The digits directly after a point at the front.
 fn digits_behind_point(bytes: &[u8]) -> &[u8]
     ensures front { result.now ≡ digits_behind_point bytes.now }
     ensures digits { list_all is_ascii_digit result.now ≡ true }

@@ -36,7 +36,7 @@ const MOST_TREE_LEVELS: usize = 64;
 /// before it, begins no condition, at its first byte; the end of the text counts as a token.
 /// `TooManyItems` and `WrongCount` where just the number of items or arguments is to blame,
 /// `ItemOutside` for `#` outside a predicate, `UnknownName` for a word that the language doesn't
-/// name where an operand is wanted, `TooDeep` for the opener behind 64 unfinished ones, else
+/// name where an operand is wanted, `TooDeep` for the opener after 64 unfinished ones, else
 /// `Unexpected`. Last, `TooDeep` at byte 0 for a tree of more than 64 levels.
 pub fn parse(alloc: Global, text: &str) -> Result<Tree, SyntaxError>
     // This tree, or this refusal.

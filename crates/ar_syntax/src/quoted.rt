@@ -54,7 +54,7 @@ fn text_end(bytes: &[u8], quote: u8) -> Option<usize>
     None
 }
 
-/// What a text directly behind a place stands for.
+/// What a text directly after a place stands for.
 fn unescaped(alloc: Global, text: &str, before: usize) -> Result<Text, SyntaxError>
     requires in_range { before + length text.now < 2 ^ 64 }
     ensures { Gives is_memory (λ value. value) result (unescaped before false text.now) }
@@ -66,7 +66,7 @@ fn unescaped(alloc: Global, text: &str, before: usize) -> Result<Text, SyntaxErr
     }
 }
 
-/// What the bytes of a text directly behind a place stand for.
+/// What the bytes of a text directly after a place stand for.
 #[tactic(auto, using(crate::proofs::Quotes::text_values))]
 fn unescaped_bytes(alloc: Global, bytes: &[u8], before: usize) -> Result<Vec<u8>, SyntaxError>
     requires in_range { before + length bytes.now < 2 ^ 64 }

@@ -1,4 +1,4 @@
-//! What a token can be behind an operand, and what calls take.
+//! What a token can be after an operand, and what calls take.
 
 ghost use Rattle.std.specs.Prelude.{◌≡◌};
 ghost use Rattle.ar_syntax.specs.Roles.{arity, follows, is_body, is_brace, is_group, is_in, looseness, sign_follow, word_follow};
@@ -26,7 +26,7 @@ pub enum Ender {
     EndBrace,
 }
 
-/// What a token is behind an operand.
+/// What a token is after an operand.
 #[derive(Clone, Copy)]
 pub enum Follow {
     Operator(Binary),
@@ -53,7 +53,7 @@ impl Call {
         }
     }
 
-    /// Whether the argument behind so many others is a predicate.
+    /// Whether the argument after so many others is a predicate.
     pub(crate) fn is_body(self, before: usize) -> bool
         ensures { result ≡ is_body self before }
     {
@@ -74,7 +74,7 @@ pub(crate) fn looseness(operator: Binary) -> usize
     }
 }
 
-/// What a token is behind an operand.
+/// What a token is after an operand.
 #[tactic(auto, unfolding(crate::specs::Roles::follows))]
 pub(crate) fn follow_of(token: &Token) -> Follow
     ensures { result ≡ follows token.now }

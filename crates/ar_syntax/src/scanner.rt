@@ -63,7 +63,7 @@ enum Piece {
 ///
 /// `TooLong` for more than 4,096 bytes, else the first fault of a token: `BadCharacter`,
 /// `OpenText`, `OpenComment`, `BadEscape`, `LiteralTooFine` or `NumberTooLarge`, a number's own
-/// faults before that of the byte behind it, and `OpenText` before an escape of the text.
+/// faults before that of the byte after it, and `OpenText` before an escape of the text.
 /// `OutOfMemory` where a growth was refused.
 pub fn tokens(alloc: Global, text: &str) -> Result<Vec<Token>, SyntaxError>
     // These tokens, or this fault.

@@ -15,34 +15,34 @@ pub(crate) enum State {
     Want,
     /// An operand is there.
     Have(Box<Tree>),
-    /// A word is wanted, behind the point of a field.
+    /// A word is wanted, after the point of a field.
     WantName {
         at: usize,
         owner: Box<Tree>,
     },
-    /// What stands behind the `[` of an index or field is wanted.
+    /// What stands after the `[` of an index or field is wanted.
     WantIndex {
         at: usize,
         owner: Box<Tree>,
     },
-    /// A text stands behind such a `[`.
+    /// A text stands after such a `[`.
     HaveText {
         at: usize,
         owner: Box<Tree>,
         text_at: usize,
         text: Text,
     },
-    /// `in` is wanted, behind `not`.
+    /// `in` is wanted, after `not`.
     WantIn {
         at: usize,
         first: Box<Tree>,
     },
-    /// `(` is wanted, behind the name of a call.
+    /// `(` is wanted, after the name of a call.
     WantGroup {
         at: usize,
         function: Call,
     },
-    /// An argument is wanted, behind so many.
+    /// An argument is wanted, after so many.
     WantArgument {
         at: usize,
         function: Call,

@@ -58,7 +58,7 @@ fn open(stack: &mut Vec<Frame>, frame: Frame) -> Result<State, Refusal>
     }
 }
 
-/// The state behind an opener that makes no frame yet, where one may begin.
+/// The state after an opener that makes no frame yet, where one may begin.
 #[tactic(auto, using(crate::proofs::Openers::opener_left, crate::proofs::Openers::no_opener_left))]
 fn with_opener(stack: &[Frame], state: State) -> Result<State, Refusal>
     ensures { Steps
@@ -132,7 +132,7 @@ fn with_item(items: Vec<Tree>, item: Box<Tree>) -> Result<Vec<Tree>, AllocError>
     Ok(items)
 }
 
-/// Behind an operand.
+/// After an operand.
 fn have(
     alloc: Global,
     stack: &mut Vec<Frame>,
@@ -154,7 +154,7 @@ fn have(
     }
 }
 
-/// An operator behind its first operand.
+/// An operator after its first operand.
 #[tactic(auto, using(crate::proofs::Climbs::pops))]
 fn operate(
     alloc: Global,
@@ -179,7 +179,7 @@ fn operate(
     )
 }
 
-/// `not` behind the first operand of `not in`.
+/// `not` after the first operand of `not in`.
 fn negate(
     alloc: Global,
     stack: &mut Vec<Frame>,
@@ -194,7 +194,7 @@ fn negate(
     Ok(State::WantIn { at, first })
 }
 
-/// `?` behind its condition.
+/// `?` after its condition.
 fn choose(
     alloc: Global,
     stack: &mut Vec<Frame>,
@@ -209,7 +209,7 @@ fn choose(
     open(stack, Frame::Yes { at, condition })
 }
 
-/// A closing sign, a comma or a colon behind the operand that it ends.
+/// A closing sign, a comma or a colon after the operand that it ends.
 fn end_with(
     alloc: Global,
     stack: &mut Vec<Frame>,
@@ -341,7 +341,7 @@ fn end_braces(
     }
 }
 
-/// What stands behind `?` ends.
+/// What stands after `?` ends.
 #[tactic(auto, using(crate::proofs::Climbs::pops))]
 fn end_yes(
     stack: &mut Vec<Frame>,
@@ -430,7 +430,7 @@ fn next_item(stack: &mut Vec<Frame>, at: usize, so_far: Vec<Tree>) -> Result<Sta
     }
 }
 
-/// Behind the point of a field.
+/// After the point of a field.
 fn select(alloc: Global, at: usize, owner: Box<Tree>, token: &Token) -> Result<State, Refusal>
     ensures { (stack : _)
         → Steps (λ rules. select rules stack at (expression_of owner.value) (name_of token.now)) stack result }
@@ -441,7 +441,7 @@ fn select(alloc: Global, at: usize, owner: Box<Tree>, token: &Token) -> Result<S
     }
 }
 
-/// What a token names behind a point.
+/// What a token names after a point.
 #[tactic(auto, unfolding(crate::specs::Roles::name_of))]
 fn name_of(alloc: Global, token: &Token) -> Result<Option<Text>, AllocError>
     ensures { IfOk result (λ name. name ≡ name_of token.now) }
@@ -465,7 +465,7 @@ fn text_of(alloc: Global, token: &Token) -> Result<Option<Text>, AllocError>
     }
 }
 
-/// Behind the `[` of an index or field.
+/// After the `[` of an index or field.
 #[tactic(auto, using(crate::proofs::Climbs::pops))]
 fn open_index(
     alloc: Global,
@@ -497,7 +497,7 @@ fn closes_bracket(token: &Token) -> bool
     matches!(follow_of(token), Follow::Ends(Ender::EndBracket))
 }
 
-/// Behind a text that stands behind such a `[`.
+/// After a text that stands after such a `[`.
 #[tactic(auto, using(crate::proofs::Climbs::pops, crate::proofs::Openers::text_goes_on, crate::proofs::Openers::text_is_name))]
 fn close_text(
     alloc: Global,
@@ -534,7 +534,7 @@ fn text_operand(alloc: Global, at: usize, text: Text) -> Result<Box<Tree>, Alloc
     boxed(alloc, Tree::Literal { at, literal })
 }
 
-/// Behind the operand of an index.
+/// After the operand of an index.
 #[tactic(auto, using(crate::proofs::Climbs::pops))]
 fn have_indexed(
     alloc: Global,
@@ -553,7 +553,7 @@ fn have_indexed(
     have(alloc, stack, tree, token)
 }
 
-/// Behind the `not` of `not in`.
+/// After the `not` of `not in`.
 #[tactic(auto, using(crate::proofs::Climbs::pops))]
 fn want_in(
     stack: &mut Vec<Frame>,
@@ -601,7 +601,7 @@ fn want_argument(
     argue(alloc, stack, at, function, so_far, token)
 }
 
-/// Whether the token is `)` directly behind `(`.
+/// Whether the token is `)` directly after `(`.
 fn is_empty_call(so_far: &[Tree], token: &Token) -> bool
     ensures { result ≡ is_empty_call (map expression_of so_far.now) (follows token.now) }
 {
@@ -677,7 +677,7 @@ fn open_braces(
     }
 }
 
-/// One token more: the state behind it, or why it can't stand here.
+/// One token more: the state after it, or why it can't stand here.
 #[tactic(auto, unfolding(crate::specs::Machine::step))]
 pub(crate) fn step(
     alloc: Global,

@@ -9,7 +9,7 @@ use ar_value::decimal::Decimal;
 use ar_value::operator::{Predicate, TextTest};
 use ar_value::text::Text;
 
-/// Where a token stands in its text: byte offsets from 0, `end` being the first byte behind it.
+/// Where a token stands in its text: byte offsets from 0, `end` being the first byte after it.
 #[derive(Clone, Copy)]
 pub struct Span {
     pub start: usize,
@@ -30,9 +30,9 @@ pub enum TokenKind {
     Word(Word),
     /// Any other word.
     Name(Text),
-    /// Digits, in base 10 or behind `0x`, `0o` or `0b`.
+    /// Digits, in base 10 or after `0x`, `0o` or `0b`.
     Whole(i64),
-    /// A point among or before digits, at most six of them behind it.
+    /// A point among or before digits, at most six of them after it.
     Decimal(Decimal),
     /// A text between quotes.
     Text(Text),
@@ -96,7 +96,7 @@ pub enum Base {
 }
 
 impl TokenKind {
-    /// Whether a point directly behind the token is a field's.
+    /// Whether a point directly after the token is a field's.
     pub fn takes_field(&self) -> bool
         ensures { result ≡ takes_field self.now }
     {

@@ -4,7 +4,7 @@
 //! taken: it answers true, false or a fault, with what the run cost, or tells that the machine is stuck at
 //! a place or that the next operation costs more than is left. That is how the run of the machine in
 //! `ar_op/specs/Machine` ends, by the definitions in `specs/Run`; [`laws`] says that a run ends in one way
-//! only. Only want of memory can keep it from that, which operands, loops and the lists that code makes
+//! only. Only out of memory can keep it from that, which operands, loops and the lists that code makes
 //! take. Texts and values are lent by the measured value and by the code.
 //!
 //! Nothing that the program runs stands on it: judges run verified code by `ar_machine`.

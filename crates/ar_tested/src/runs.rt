@@ -17,7 +17,7 @@ use std::alloc::{AllocError, Global};
 ///
 /// # Errors
 ///
-/// Want of memory, which operands, loops and the lists that code makes take.
+/// Out of memory, which operands, loops and the lists that code makes take.
 #[tactic(auto, using(ar_operand::proofs::Reached::reaches_begin))]
 pub fn run_tested(alloc: Global, code: &Code, value: &Value, fuel: u64) -> Result<Ended, AllocError>
     ensures { IfOk result (EndsAs code.now (value_view value.now) fuel) }

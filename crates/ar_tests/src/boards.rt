@@ -202,7 +202,7 @@ fn put_closed(text: &mut String, outcome: &Result<Histories, Lost>) -> Result<()
     }
 }
 
-/// Writes what calls at a new board come to, and what closing gives behind them.
+/// Writes what calls at a new board come to, and what closing gives after them.
 fn put_board<M: BundleName, L: LockNames, R: Wait>(
     rt: &R,
     alloc: Global,

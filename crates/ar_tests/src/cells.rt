@@ -229,7 +229,7 @@ const STOPPED: &str =
     "measurements":[{"run":"r0","metric":"m","value":1},{"run":"r0","stop":true},
     {"run":"r0","metric":"m","value":0}]}"#;
 
-/// What is added behind a stop is late, and is shown among the posts.
+/// What is added after a stop is late, and is shown among the posts.
 #[test]
 fn stopped(rt: HostRuntime) -> Result<(), Fail> {
     const IN_ORDER: &[Receipt] = &[

@@ -25,7 +25,7 @@ fn taken<M: BundleName>(alloc: Global) -> Result<u64, AllocError>
     Ok(PLACES as u64 + 1)
 }
 
-/// A queue takes 64 numbers, and is full for the one behind them.
+/// A queue takes 64 numbers, and is full for the one after them.
 #[test]
 fn places(rt: HostRuntime) -> Result<(), Fail> {
     assert_eq!(rt; taken::<Brand>(rt.alloc())?, 64);

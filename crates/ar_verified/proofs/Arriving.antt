@@ -76,7 +76,7 @@ Room had one = Widens one.kinds had.kinds
 abbrev Kept : Operands → Operands → Type 0
 Kept before had = Room had before × (length before.kinds ≡ length had.kinds) × (before.loops ≡ had.loops)
 
--- what was joined so far, and what comes behind it
+-- what was joined so far, and what comes after it
 abbrev Joins : Result Operands Reason → List Operands → Operands → Type 0
 Joins (Ok before) others had = Kept before had × AllByRecursion (Room had) others
 Joins (Err reason) others had = ⊥

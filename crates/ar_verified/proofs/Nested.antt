@@ -10,7 +10,7 @@ use Rattle.ar_verified.specs.Places.{held, holding, in_innermost, most_loops, na
 use Rattle.ar_verified.proofs.Nesting.{begins, no_reason, none_of_both, reaches_less, reaching}
 
 module _ (ops : List Op) where
-  -- whoever holds a place holds those in front of it that lie behind its Enter
+  -- whoever holds a place holds those in front of it that lie after its Enter
   longer : (op : Option Op) (place before : ℕ) (enter : ℕ) (others fewer : List ℕ) → before ≤ place → length others ≤ length fewer
       → (holds : Bool) → holds ≡ reaches op place → (also : Bool) → also ≡ reaches op before → length (if holds then enter ∷ others else others) ≤ length (if also then enter ∷ fewer else fewer)
   longer op place before enter others fewer le less true is true are = omega arith

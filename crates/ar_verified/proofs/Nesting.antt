@@ -163,7 +163,7 @@ module _ (ops : List Op) (paired : (place : ℕ) (op : Op) → nth ops place ≡
       let tests = both (nat_lt enter step) (begins_loop predicate step (nth ops enter)) (no_reason (nat_lt enter step && begins_loop predicate step (nth ops enter)) _ parts.1) in
       (ltb-true enter step tests.0, the_enter predicate step (nth ops enter) tests.1)
 
-  -- behind a place stands who held it, but for the loop that ends there
+  -- after a place stands who held it, but for the loop that ends there
   pub held_further : (place enter : ℕ) → ((predicate : Predicate) → nth ops place ≡ Some (Step predicate enter) → ⊥) → reaches (nth ops enter) (suc place) ≡ reaches (nth ops enter) place
   held_further place enter no_end =
       alike (reaches (nth ops enter) (suc place)) (reaches (nth ops enter) place)
@@ -187,7 +187,7 @@ module _ (ops : List Op) (paired : (place : ℕ) (op : Op) → nth ops place ≡
       holding_alike ops (suc place) place place (λ enter below. held_further place enter (λ predicate is. let step : op ≡ Step predicate enter = cc in subst IsNoLoop step plain)) in
       rw none same
 
-  -- a loop begins behind its Enter
+  -- a loop begins after its Enter
   pub begins : (predicate : Predicate) (enter step : ℕ) → nth ops enter ≡ Some (Enter predicate step) → held ops (suc enter) ≡ enter ∷ held ops enter
   begins predicate enter step there =
       let pair = enter_pairs predicate enter step there in
@@ -243,7 +243,7 @@ module _ (ops : List Op) (paired : (place : ℕ) (op : Op) → nth ops place ≡
     pub lies_within : (predicate : Predicate) (enter step : ℕ) → enter < n → nth ops enter ≡ Some (Enter predicate step) → (outer : ℕ) → outer < enter → reaches (nth ops outer) enter ≡ true → reaches (nth ops outer) step ≡ true
     lies_within predicate enter step before there = lies_within_by (suc enter) enter (omega arith) before predicate step there
 
-    -- at a Step, no loop that began behind its Enter is still open, and those around are the same as at the Enter
+    -- at a Step, no loop that began after its Enter is still open, and those around are the same as at the Enter
     none_inside : (predicate : Predicate) (enter step : ℕ) → nth ops step ≡ Some (Step predicate enter) → step ≤ n → (inner : ℕ) → suc enter ≤ inner → inner < step → reaches (nth ops inner) step ≡ false
     none_inside predicate enter step there le inner behind below = not_true (reaches (nth ops inner) step) (λ h.
         let itself = step_pairs predicate step enter there in
@@ -277,7 +277,7 @@ module _ (ops : List Op) (paired : (place : ℕ) (op : Op) → nth ops place ≡
         let around : holding ops step enter ≡ holding ops enter enter = holding_alike ops step enter enter (same_around predicate enter step there le) in
         rw (down, own, around) refl
 
-    -- behind a Step its loop has ended
+    -- after a Step its loop has ended
     pub behind_step : (predicate : Predicate) (step enter : ℕ) → nth ops step ≡ Some (Step predicate enter) → step ≤ n → held ops (suc step) ≡ held ops enter
     behind_step predicate step enter there le =
         let itself = step_pairs predicate step enter there in

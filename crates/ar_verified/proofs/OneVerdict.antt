@@ -18,7 +18,7 @@ use Rattle.ar_verified.specs.declared.error.Reason.TheVariants.{BudgetTooLarge, 
 use Rattle.ar_verified.proofs.Dearest.{due, due_is}
 use Rattle.ar_verified.proofs.Reached.{clean, first_inside}
 
--- ---- what is defined is never want of memory
+-- ---- what is defined is never out of memory
 
 abbrev IsFree : {A : Type 0} → Result A Cause → Type 0
 IsFree answer = answer ≡ Err OutOfMemory → ⊥

@@ -149,7 +149,7 @@ module _ (code : Code) (shape : Shape) where
 
     -- ---- all operations, one after the other
 
-    -- all that is sent from a place on is behind what was sent before, and goes further on
+    -- all that is sent from a place on is after what was sent before, and goes further on
     pub record Later (place : ℕ) (before final : List Sent) : Type 0 where
       pub later : List Sent
       pub are : final ≡ before ++ later

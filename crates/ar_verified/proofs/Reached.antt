@@ -113,7 +113,7 @@ module _ (code : Code) (shape : Shape) (sents : List Sent) (is : Clean code shap
       let return_there : is_return (Some op) ≡ true = rw there at returns in
       no_return op return_there further
 
-  -- behind an operation that is no Return stands another one
+  -- after an operation that is no Return stands another one
   pub not_last : (place : ℕ) (op : Op) → At place op → GoesFurther op → suc place < length code.ops
   not_last place op there further = elim (leb_tells (length code.ops) (suc place)) [
     | inl w ↦ absurd (no_end place op there further w.1)

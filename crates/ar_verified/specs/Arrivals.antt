@@ -106,7 +106,7 @@ answer_kind predicates.One item most = truth
 answer_kind predicates.Count item most = shaped whole
 answer_kind predicates.Filter item most = shaped (list item most)
 
--- to the begin of a loop's body, with the operands below its floor alone, and behind the loop with its answer
+-- to the begin of a loop's body, with the operands below its floor alone, and after the loop with its answer
 abbrev pub entered : Predicate → (place step : ℕ) → List Kind → List Around → Result (List Sent) Reason
 entered predicate place step (shaped (list item most) ∷ kinds) loops =
     Ok (sent (suc place) [] (record { item = item; most = most; below = kinds } ∷ loops) ∷ sent (suc step) (answer_kind predicate item most ∷ kinds) loops ∷ [])
@@ -152,7 +152,7 @@ abbrev pub at_place : {A : Type 0} → ℕ → Result A Reason → Result A Caus
 at_place place (Ok x) = Ok x
 at_place place (Err reason) = Err (Fault place reason)
 
--- what operations send on from a place, behind what was sent before
+-- what operations send on from a place, after what was sent before
 abbrev pub sent_on : Code → Shape → (place : ℕ) → List Op → List Sent → Result (List Sent) Cause
 sent_on code result place [] before = Ok before
 sent_on code result place (op ∷ ops) before =

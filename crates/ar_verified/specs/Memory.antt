@@ -1,4 +1,4 @@
--- Which causes are want of memory.
+-- Which causes are out of memory.
 use Rattle.std.specs.Prelude.{Bool, true, false}
 use Rattle.ar_verified.specs.declared.error.Cause.{Cause}
 use Rattle.ar_verified.specs.declared.error.Cause.TheVariants.{OutOfMemory}

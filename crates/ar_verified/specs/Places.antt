@@ -1,5 +1,5 @@
 -- What the verifier wants of the places that operations name, and of loops: its passes 1 to 4. A loop, from its Enter to its
--- Step, holds the places behind its Enter up to its Step.
+-- Step, holds the places after its Enter up to its Step.
 use Rattle.std.specs.Prelude.{ℕ, zero, suc, ◌-◌, ◌==◌, Bool, true, false, ◌&&◌, if◌then◌else◌, nat_le, nat_lt, List, [], ◌∷◌, length, Option, Some, None, Result, Ok, Err}
 use Rattle.ar_value.specs.Answer.{◌>>=◌}
 use Rattle.ar_value.specs.Predicates.{is_same}

@@ -49,7 +49,7 @@ pub record IsTooDear (code : Code) (shape : Shape) : Type 0 where
 abbrev pub IsFault : Code → Shape → (place : ℕ) → Reason → Type 0
 IsFault code shape place reason = (passed code shape ≡ Err (Fault place reason)) ⊎ ((place ≡ 0) × (reason ≡ BudgetTooLarge) × IsTooDear code shape)
 
--- a cause for which code is refused: a fault of it, or want of memory
+-- a cause for which code is refused: a fault of it, or out of memory
 abbrev pub IsCause : Code → Shape → Cause → Type 0
 IsCause code shape (Fault place reason) = IsFault code shape place reason
 IsCause code shape OutOfMemory = Unit {0}

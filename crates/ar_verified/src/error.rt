@@ -9,7 +9,7 @@ use thiserror::Error;
 #[derive(Clone, Copy, Debug, Error)]
 pub enum Reason {
     Empty,
-    /// The operation names a place behind the last one.
+    /// The operation names a place after the last one.
     JumpOutside,
     /// A jump or an Enter names its own place, or one before it.
     Backward,
@@ -64,7 +64,7 @@ impl fmt::Display for Reason {
     }
 }
 
-/// Why code isn't accepted: its first fault, or want of memory.
+/// Why code isn't accepted: its first fault, or out of memory.
 #[derive(Clone, Copy, Debug, Error)]
 pub enum Cause {
     /// The fault stands at an operation of the code, counted from 0.

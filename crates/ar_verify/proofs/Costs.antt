@@ -51,7 +51,7 @@ module _ (code : Code) (shape : Shape) (sents : List Sent) (is : Clean code shap
   abbrev most_here : ℕ → ℕ
   most_here place = most_at code.ops sents place
 
-  -- ---- what is due at a place, by what is due behind it
+  -- ---- what is due at a place, by what is due after it
 
   -- one of the ways from a place costs what is due there
   way_due : (place : ℕ) (op : Op) → At place op → WayBy code shape sents is place op (due_from place)
@@ -108,7 +108,7 @@ module _ (code : Code) (shape : Shape) (sents : List Sent) (is : Clean code shap
   pub stands_for : (place number : ℕ) → place < length code.ops → Capped place number → IsCapped code sents place number
   stands_for place number inside capped = record { cost = due_from place; dearest = due_is code shape sents is place inside; is = capped }
 
-  -- ---- from the numbers of the places behind a place to its own
+  -- ---- from the numbers of the places after a place to its own
 
   module _ (place : ℕ) (costs : List ℕ) (behind : (other : ℕ) → place < other → other < length code.ops → Capped other (number_at costs other)) where
     next_by : (op : Op) → At place op → GoesOn op → suc place < length code.ops → NextWay code shape sents is place op (due_from place) → Capped place (cost_by_next op (most_here place) (number_at costs (suc place)))
@@ -173,7 +173,7 @@ leads_inside code place op has there = leads code has.0 has.1.0 (clean code has.
     leads code shape sents is place Return there = tt
     leads code shape sents is place op there = not_last code shape sents is place op there tt
 
--- the number of the place before, once those behind it are there
+-- the number of the place before, once those after it are there
 own_cost : (code : Code) (most costs : List ℕ) (place : ℕ) (op : Op) → nth code.ops place ≡ Some op → AreCosts code most (suc place) costs → IsCost code most place (cost_by costs place (number_at most place) op)
 own_cost code most costs place op there behind shape sents passes are =
     let is = clean code shape sents passes in

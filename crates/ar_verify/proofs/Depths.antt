@@ -108,7 +108,7 @@ module _ (ops : List Op) where
 -- ---- where pass 2 found nothing
 
 module _ (ops : List Op) (paired : (place : ℕ) (op : Op) → nth ops place ≡ Some op → names_well ops place op ≡ None) where
-  -- one loop fewer is around the place behind a Step, whichever loops cross each other
+  -- one loop fewer is around the place after a Step, whichever loops cross each other
   fewer_by_one : (predicate : Predicate) (step enter k : ℕ) → nth ops step ≡ Some (Step predicate enter) → suc enter ≤ k → k ≤ step
       → length (holding ops step k) ≡ suc (length (holding ops (suc step) k))
   fewer_by_one predicate step enter zero there behind le = absurd (omega arith)

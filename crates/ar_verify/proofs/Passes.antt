@@ -1,4 +1,4 @@
--- A pass over operations one after the other: what it finds stands at the first place that is left, or behind it.
+-- A pass over operations one after the other: what it finds stands at the first place that is left, or after it.
 use Rattle.std.proofs.Common.{◌≡◌, ℕ, suc, ◌+◌, ◌<◌, ◌≤◌, List, ◌∷◌, length, drop, Some, None, Result, Ok, Err, sym, ap, ◌∙◌, add-one, drop-cons}
 use Rattle.std.specs.Prelude.{slice_index_or}
 use Rattle.std.proofs.Math.ListN.{drop_of_length-le}

@@ -60,7 +60,7 @@ fn most_on_top<M: ShapeName>(kinds: &[Kind<M>]) -> usize
     }
 }
 
-/// A table of the places of so many operations, and of one behind them. A run begins at the first.
+/// A table of the places of so many operations, and of one after them. A run begins at the first.
 fn table<M: ShapeName>(
     alloc: Global,
     count: usize,
@@ -88,7 +88,7 @@ fn take<M: ShapeName>(
     mem::replace(&mut arrived[place], Err(Reason::Unreachable))
 }
 
-/// What arrived somewhere, and one more behind it.
+/// What arrived somewhere, and one more after it.
 fn one_more<M: ShapeName>(
     alloc: Global,
     arrived: Result<Operands<M>, Reason>,

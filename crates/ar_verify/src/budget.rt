@@ -52,7 +52,7 @@ fn cost_by_loop(most: u64, body: u64, behind: u64) -> u64
         .min(TOO_DEAR)
 }
 
-/// The cost of the dearest way from a place, by those of the places behind it.
+/// The cost of the dearest way from a place, by those of the places after it.
 fn cost_by(costs: &[u64], place: usize, most: u64, op: Op) -> u64
     requires { LeadsInside (length costs.now) place op }
     ensures { result ≡ cost_by costs.now place most op }
@@ -70,7 +70,7 @@ fn cost_by(costs: &[u64], place: usize, most: u64, op: Op) -> u64
     }
 }
 
-/// The cost of the dearest way from each place. Ways lead on to places behind alone, so the costs
+/// The cost of the dearest way from each place. Ways lead on to places after alone, so the costs
 /// are found from the code's end.
 fn costs(alloc: Global, code: &Code, most: &[usize]) -> Result<Vec<u64>, AllocError>
     requires passed { HasPassed code.now }

@@ -3,7 +3,7 @@
 use ar_verified::{Cause, Reason};
 use std::alloc::AllocError;
 
-/// A fault of an operation, told without its place, or want of memory.
+/// A fault of an operation, told without its place, or out of memory.
 #[derive(Clone, Copy)]
 pub(crate) enum Failure {
     Fault(Reason),

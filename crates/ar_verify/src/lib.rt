@@ -2,7 +2,7 @@
 //!
 //! [`verify`] takes code and the shape of the values that it is to judge, and answers
 //! [`Verified`] code or its first fault, as `ar_verified/specs/Verdict` defines
-//! them. Each pass is one way through the operations. Only want of memory can keep the verifier from its
+//! them. Each pass is one way through the operations. Only out of memory can keep the verifier from its
 //! answer.
 //!
 //! - `verifier`: the passes, one after the other

@@ -18,7 +18,7 @@ use std::alloc::{AllocError, Global};
 /// How many loops may be around an operation.
 const MOST_LOOPS: usize = 4;
 
-/// How many loops are around the place behind an operation.
+/// How many loops are around the place after an operation.
 fn depth_behind(op: Op, depth: usize) -> usize
     requires { depth < usize.MAX }
     ensures { result ≡ depth_behind op depth }

@@ -194,7 +194,7 @@ fn inside<M: ShapeName>(
     })
 }
 
-/// Operands behind a loop over a list, with its answer on top.
+/// Operands after a loop over a list, with its answer on top.
 fn behind<M: ShapeName>(
     alloc: Global,
     predicate: Predicate,
@@ -209,7 +209,7 @@ fn behind<M: ShapeName>(
     Ok(below)
 }
 
-/// Operands behind a loop over a list, with its answer on top of those that were there.
+/// Operands after a loop over a list, with its answer on top of those that were there.
 fn skip_loop<M: ShapeName>(
     alloc: Global,
     predicate: Predicate,
@@ -225,7 +225,7 @@ fn skip_loop<M: ShapeName>(
     Ok(Operands { kinds, loops })
 }
 
-/// Begins a loop over a list that was on top, or goes behind it with its answer.
+/// Begins a loop over a list that was on top, or goes after it with its answer.
 fn begin_loop<M: ShapeName>(
     alloc: Global,
     predicate: Predicate,
@@ -251,7 +251,7 @@ fn begin_loop<M: ShapeName>(
     ))
 }
 
-/// Begins a loop over the list on top, or goes behind it with its answer.
+/// Begins a loop over the list on top, or goes after it with its answer.
 fn enter<M: ShapeName>(
     alloc: Global,
     predicate: Predicate,
@@ -279,7 +279,7 @@ fn take_answer<M: ShapeName>(mut kinds: Vec<Kind<M>>) -> Result<(), Failure>
     }
 }
 
-/// Goes behind the innermost loop, with its answer.
+/// Goes after the innermost loop, with its answer.
 fn end_loop<M: ShapeName>(
     alloc: Global,
     predicate: Predicate,

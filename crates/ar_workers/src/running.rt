@@ -70,7 +70,7 @@ where
     closed(board, seats, doubles)
 }
 
-/// The seats behind a run of workers at them, and the numbers whose post was a double.
+/// The seats after a run of workers at them, and the numbers whose post was a double.
 fn posted_by<M, L, G, R>(
     rt: &R,
     alloc: Global,

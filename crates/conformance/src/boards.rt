@@ -43,7 +43,7 @@ fn opened<'b>(
     }
 }
 
-/// The core behind some steps.
+/// The core after some steps.
 fn run<'b>(
     alloc: Global,
     bundle: &'b Bundle,
@@ -71,7 +71,7 @@ pub(crate) fn put_core(alloc: Global, case: &Json, bundle: &Bundle, out: &mut Ou
     put_states(alloc, bundle, making, &steps, out)
 }
 
-/// What each step did, and the state behind them; behind it that of `core_run` or `core_run_ordered`, where
+/// What each step did, and the state after them; after it that of `core_run` or `core_run_ordered`, where
 /// it is another.
 fn put_states(
     alloc: Global,
@@ -237,7 +237,7 @@ fn put_parked(parked: &[bool], out: &mut Output) {
     out.put("]");
 }
 
-/// Each entry behind the colon of its run.
+/// Each entry after the colon of its run.
 fn put_history(history: &[Entry], out: &mut Output) {
     out.put(if history.is_empty() { ":" } else { ": " });
     put_all(out, ", ", history);

@@ -12,7 +12,7 @@
 //! - `phases`, `documents`, `boards`, `commands`: the other calls, by their subjects
 //! - `inputs`: the bytes of the documents of cases
 //! - `lists`: the lists of a case
-//! - `parts`: parts of answers, printed one behind another
+//! - `parts`: parts of answers, printed one after another
 //!
 //! Which names are those of calls is proved of every case (`specs/Calls`). What these calls answer is only
 //! tested, by the suite.
@@ -57,7 +57,7 @@ fn run<R: AllocGlobal + Input + Print + Eprint>(rt: &R) -> u8 {
     0
 }
 
-/// A read or a write that failed, or want of memory.
+/// A read or a write that failed, or out of memory.
 fn of_device(error: &io::Error) -> LineFault {
     if error.kind() == io::ErrorKind::OutOfMemory {
         LineFault::Case(CaseFault::OutOfMemory)

@@ -1,4 +1,4 @@
-//! Parts of answers, printed one behind another.
+//! Parts of answers, printed one after another.
 
 use ar_cases::output::Output;
 use ar_cases::printing::put_between;

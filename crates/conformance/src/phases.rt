@@ -60,7 +60,7 @@ fn limit_of(item: &Json, place: usize) -> Option<u32> {
     u32::try_from(number_in(item.get(place))?).ok()
 }
 
-/// Whether the text `dry` stands behind a metric's limits.
+/// Whether the text `dry` stands after a metric's limits.
 fn is_dry(item: &Json) -> bool {
     item.get(4usize).and_then(Json::as_str) == Some("dry")
 }

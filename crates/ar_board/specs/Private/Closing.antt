@@ -40,7 +40,7 @@ pub record AreOfCell (bundle : Bundle) (workers lock amount : ℕ) (histories : 
 abbrev pub IsAt : List (List Entry) → Receipt → Type 0
 IsAt histories receipt = slice_get (numbers_at histories receipt.run) receipt.place ≡ Some receipt.number
 
--- a place is behind the last one so far
+-- a place is after the last one so far
 abbrev pub IsBehind : (last : Option ℕ) → (place : ℕ) → Type 0
 IsBehind None place = Unit {0}
 IsBehind (Some last) place = last < place

@@ -19,6 +19,6 @@ IfUnanswered (Err Write) P Q = ⊥
 abbrev pub IfRefused : {A : Type 0} → Result A ServeError → (Refusal → Type 0) → Type 0
 IfRefused result P = IfUnanswered result P (λ error. ⊥)
 
--- what an end of workers says, and that it isn't want of memory; the input was read
+-- what an end of workers says, and that it isn't out of memory; the input was read
 abbrev pub IfBroken : {A : Type 0} → Result A ServeError → (WorkError → Type 0) → Type 0
 IfBroken result Q = IfUnanswered result (λ refusal. ⊥) (λ error. Q error × (error ≢ work.OutOfMemory))

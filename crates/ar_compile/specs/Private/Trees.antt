@@ -10,7 +10,7 @@ use Rattle.ar_condition.specs.Limits.{AllInLimits}
 abbrev pub items_view : List TypedCode → Typeds
 items_view items = typeds (map typed_view items)
 
--- how many operations two trees have, with one behind them
+-- how many operations two trees have, with one after them
 abbrev pub operations_of_two : (left right : TypedCode) → ℕ
 operations_of_two left right = operations (typed_view left) + operations (typed_view right) + 1
 

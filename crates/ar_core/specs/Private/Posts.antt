@@ -26,7 +26,7 @@ pub record IsAppended (bundle : Bundle) (number : ℕ) (old new : RunHistory) : 
   pub replays : ForEachReplay old.state (λ limits events. Replays limits (events ++ event ∷ []) new.state)
   pub capacity : vec_capacity new.entries ≡ vec_capacity old.entries
 
--- of a run's numbers in rising order, the one behind as many as its history has
+-- of a run's numbers in rising order, the one after as many as its history has
 abbrev pub next_own : Core → (run : ℕ) → Option ℕ
 next_own core run = slice_get (own_numbers core.bundle run) (length (get_or core.state.histories run []))
 
@@ -41,6 +41,6 @@ pub record IsTurn (run : ℕ) (old new : Core) : Type 0 where
   pub same : settled_core new run ≡ settled_core old run
   pub fewer : suc (length (lacking new.bundle new.state run)) ≡ length (lacking old.bundle old.state run)
 
--- the core behind some steps
+-- the core after some steps
 abbrev pub stepped_by : Core → List CoreStep → Core
 stepped_by core steps = record { bundle = core.bundle; places = core.places; ordered = core.ordered; state = after core.bundle core.places core.ordered core.state steps }

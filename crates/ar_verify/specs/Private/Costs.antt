@@ -1,4 +1,4 @@
--- Pass 6 as the code makes it: what the dearest way from each place costs, from what those from the places behind it do. What
+-- Pass 6 as the code makes it: what the dearest way from each place costs, from what those from the places after it do. What
 -- costs more than the greatest budget counts as one more than that.
 use Rattle.std.specs.Prelude.{◌≡◌, ℕ, suc, ◌+◌, ◌*◌, ◌<◌, ◌≤◌, min, max, List, length, Ok, slice_index_or}
 use Rattle.ar_value.specs.Shape.{Shape}
@@ -18,7 +18,7 @@ too_dear = 1000000001
 abbrev pub number_at : List ℕ → (place : ℕ) → ℕ
 number_at numbers place = slice_index_or numbers place 0
 
--- ---- what the dearest way costs, where the list on top has at most so many items, by what is behind
+-- ---- what the dearest way costs, where the list on top has at most so many items, by what is after
 
 abbrev pub cost_by_next : Op → (most next : ℕ) → ℕ
 cost_by_next op most next = min too_dear (price op most + next)

@@ -41,7 +41,7 @@ summed_up code shape = all_sent code shape >>= λ sents. Ok (summary (length cod
 
 -- ---- the table
 
--- what arrived somewhere, and one more behind it
+-- what arrived somewhere, and one more after it
 abbrev pub one_more : Result Operands Reason → Operands → Result Operands Reason
 one_more (Ok so_far) next = of_loops so_far.loops (merged so_far.kinds next.kinds)
 one_more (Err Unreachable) next = Ok next

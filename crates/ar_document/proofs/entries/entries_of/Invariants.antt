@@ -1,5 +1,6 @@
-use Rattle.std.proofs.Common.{◌≡◌, [], drop, map, length}
+use Rattle.std.proofs.Common.{◌≡◌, ◌+◌, [], map, length}
 use Rattle.std.specs.List.{AllByRecursion}
+use Rattle.std.specs.Vec.Iter.{into_iter_items}
 use Rattle.serde_json.specs.View.{view}
 use Rattle.ar_bundle.specs.Bundle.{IsEntry}
 use Rattle.ar_value.specs.Answer.{each_behind}
@@ -7,10 +8,10 @@ use Rattle.ar_document.specs.Entries.{entry_in, entry_view}
 use Rattle.ar_document.specs.Private.Opened.{opened_view}
 use Rattle.ar_document.proofs.entries.entries_of.Given as goal
 
--- the entries so far, with those of the items that are left behind them, are all entries
-abbrev pub invariant-loop-number : goal.invariant-loop-number
-invariant-loop-number l = record {
-  made : each_behind (entry_in (opened_view l.opened)) (map entry_view l.entries.items) (map (λ json. view json) (drop l.number l.items)) ≡ each_behind (entry_in (opened_view l.opened)) [] (map (λ json. view json) l.items);
-  each : length l.entries.items ≡ l.number;
+-- the entries so far, with those of the items that are left after them, are all entries
+abbrev pub invariant-loop-item : goal.invariant-loop-item
+invariant-loop-item l = record {
+  made : each_behind (entry_in (opened_view l.opened)) (map entry_view l.entries.items) (map (λ json. view json) (into_iter_items l.item-iterator)) ≡ each_behind (entry_in (opened_view l.opened)) [] (map (λ json. view json) (into_iter_items l.initial.item-iterator));
+  each : length l.entries.items + length (into_iter_items l.item-iterator) ≡ length (into_iter_items l.initial.item-iterator);
   entries : AllByRecursion (IsEntry l.opened.metrics.items (length l.opened.runs.items)) l.entries.items;
 }

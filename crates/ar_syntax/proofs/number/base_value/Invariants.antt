@@ -3,7 +3,7 @@ use Rattle.std.specs.Str.Parse.{digits_value_after}
 use Rattle.ar_syntax.specs.Token.{radix}
 use Rattle.ar_syntax.proofs.number.base_value.Given as goal
 
--- the value so far, with the digits that are left behind it, is the whole number
+-- the value so far, with the digits that are left after it, is the whole number
 abbrev pub invariant-loop-digit : goal.invariant-loop-digit
 invariant-loop-digit l = record {
   radix_is : l.radix ≡ radix l.base;

@@ -4,7 +4,7 @@ use Rattle.ar_syntax.specs.Tokens.{tokens_behind}
 use Rattle.ar_syntax.proofs.Scans.{with_tokens}
 use Rattle.ar_syntax.proofs.scanner.scan.Given as goal
 
--- the tokens so far, with those of the bytes that are left behind them, are all tokens
+-- the tokens so far, with those of the bytes that are left after them, are all tokens
 abbrev pub invariant-loop-at : goal.invariant-loop-at
 invariant-loop-at l = record {
   in_range : l.at ≤ length l.text;

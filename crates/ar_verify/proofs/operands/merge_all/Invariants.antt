@@ -4,6 +4,6 @@ use Rattle.ar_verify.specs.Private.Kinds.{kind_view}
 use Rattle.ar_verify.proofs.Joins.{Behind}
 use Rattle.ar_verify.proofs.operands.merge_all.Given as goal
 
--- what is left decides, behind what has a kind in common so far
+-- what is left decides, after what has a kind in common so far
 abbrev pub invariant-loop-index : goal.invariant-loop-index
 invariant-loop-index g l = Behind (map kind_view l.kinds.items) (drop l.index (map kind_view l.lefts)) (drop l.index (map kind_view l.rights)) (merged (map kind_view l.lefts) (map kind_view l.rights))
