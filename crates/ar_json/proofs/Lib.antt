@@ -1,5 +1,7 @@
 pub mod Lists
+pub mod NeedsLemmas
 pub mod ReadLemmas
+pub mod ReadSteps
 pub mod ReadFits
 pub mod ReadNames
 pub mod Memory

@@ -1,6 +1,6 @@
 -- Reading, item by item and field by field.
-use Rattle.std.proofs.Common.{◌≡◌, All, Box, Global, ℕ, suc, ◌+◌, ◌<◌, ◌≤◌, Bool, true, false, List, [], ◌∷◌, ◌++◌, length, length-take-le, map, drop, take, Option, None, Some, option_map, Result, Ok, Err, refl, sym, ◌∙◌, ap, arith, drop-cons, add-one}
-use Rattle.std.specs.Prelude.{◌==◌, if◌then◌else◌, slice_index_or, unwrap_or}
+use Rattle.std.proofs.Common.{◌≡◌, All, Box, Global, ℕ, zero, suc, ◌+◌, ◌<◌, ◌≤◌, Bool, true, false, List, [], ◌∷◌, ◌++◌, length, length-take-le, map, drop, take, Result, Ok, Err, refl, sym, ◌∙◌, ap, arith, drop-cons, add-one, subst}
+use Rattle.std.specs.Prelude.{◌==◌, if◌then◌else◌, slice_index_or}
 use Rattle.std.proofs.lemmas.Bool.Decides.{Decides-eqb, nat_tests}
 use Rattle.std.proofs.Math.ListN.{drop_of_length-le}
 use Rattle.serde_json.specs.Data as json
@@ -10,7 +10,6 @@ use Rattle.serde_json.specs.View.{view, items_view}
 use Rattle.serde_json.specs.declared.value.Value.{Value as Json}
 use Rattle.ar_value.specs.Answer.{◌>>=◌, Gives, Unless}
 use Rattle.ar_json.specs.Reading.{read, items_read, list_read, fields_read, field_read, item_count, is_memory, is_memory_under}
-use Rattle.ar_json.specs.Private.Added.{IsAdded}
 use Rattle.ar_value.specs.Shape.{Shape}
 use Rattle.ar_value.specs.Shape as shapes
 use Rattle.ar_value.specs.Value.{Value, Items, Fields, items_of, fields_from, value_at, nil, no_items, item, no_fields, field, list, object}
@@ -18,7 +17,6 @@ use Rattle.ar_value.specs.View.{shape_view, value_view}
 use Rattle.ar_value.specs.declared.shape.Shape.{Shape as ShapeCode}
 use Rattle.ar_value.specs.declared.value.Value.{Value as ValueCode, Object as ObjectValue}
 use Rattle.ar_value.specs.declared.value.Fields.{Fields as FieldsCode, out-Fields}
-use Rattle.ar_json.specs.declared.value_reading.Present.{Present}
 use Rattle.ar_json.specs.declared.value_reading.ShapeFault.{ShapeFault}
 use Rattle.ar_json.specs.declared.value_reading.ShapeFault.TheVariants.{ListTooLong}
 use Rattle.std.proofs.lemmas.List.Elements.{All-push}
@@ -46,10 +44,17 @@ under_is_memory (shapes.list shape max) e h = h
 under_is_memory (shapes.object of) e h = h
 under_is_memory (shapes.optional shape) e h = under_is_memory shape e h
 
--- a field that is there is read under its shape
-pub field_there : (shape : Shape) (found : Option Data) (d : Data) (r : Result ValueCode ShapeFault) → Some d ≡ found
-    → Gives (is_memory_under shape) value_view r (read shape d) → Gives is_memory value_view r (field_read (λ d. read shape d) shape found)
-field_there shape found d r there h = rw (← there) (gives_more (is_memory_under shape) is_memory value_view r (read shape d) (under_is_memory shape) h)
+item_same : {X : Type 0} (xs : List X) (i : ℕ) (x y : X) → i < length xs → x ≡ slice_index_or xs i x → y ≡ slice_index_or xs i y → x ≡ y
+item_same [] i x y within is_x is_y = absurd (omega (arith, within))
+item_same (first ∷ xs) zero x y within is_x is_y = is_x ∙ sym is_y
+item_same (first ∷ xs) (suc i) x y within is_x is_y = item_same xs i x y (omega (arith, within)) is_x is_y
+
+-- what is read under the shape at a place
+pub nth_gives : (of : List ShapeCode) (place : ℕ) (at shape : ShapeCode) (d : Data) (r : Result ValueCode ShapeFault) → place < length of → at ≡ slice_index_or of place at → shape ≡ slice_index_or of place shape
+    → Gives (is_memory_under (shape_view at)) value_view r (read (shape_view at) d) → Gives is_memory value_view r (read (shape_view shape) d)
+nth_gives of place at shape d r within is_at is_shape given =
+    subst (λ s. Gives is_memory value_view r (read (shape_view s) d)) (item_same of place at shape within is_at is_shape)
+    (gives_more (is_memory_under (shape_view at)) is_memory value_view r (read (shape_view at) d) (under_is_memory (shape_view at)) given)
 
 -- Items that were read, before what is read of the rest.
 
@@ -199,24 +204,25 @@ module _ (names : List (List ℕ)) (of : List ShapeCode) (given : json.Members) 
       before.read ∙ ap (λ all. all >>= λ rest. Ok (fields_onto 0 (take place names) places (map value_view vs) rest)) (fields_here ∙ rw is refl)
       ∙ moved places added (map value_view vs) (map value_view more) value later at kept
 
-  -- a field was read
-  pub next_field : (old new : Present) (found : Option ValueCode) → Fields_before names of given place old.places old.values.items
-      → here ≡ Ok (unwrap_or (option_map value_view found) nil) → IsAdded old new place found → Fields_before names of given (place + 1) new.places new.values.items
-  next_field old new None before is added = record {
-    same = rw (added.0, added.1) before.same;
-    below = rw added.0 (below_next old.places before.below);
-    read = rw (added.0, added.1)
-        (next_read old.places old.places old.values.items old.values.items nil is (at_none place old.places (map value_view old.values.items) before.below) (λ rest. refl) before);
+  -- a field that is nil needs no value
+  pub field_absent : (places : List ℕ) (vs : List ValueCode) → Fields_before names of given place places vs → here ≡ Ok nil → Fields_before names of given (place + 1) places vs
+  field_absent places vs before is = record {
+    same = before.same;
+    below = below_next places before.below;
+    read = next_read places places vs vs nil is (at_none place places (map value_view vs) before.below) (λ rest. refl) before;
   }
-  next_field old new (Some v) before is added = record {
-    same = rw (added.0, added.1, length_push, length_push, before.same) refl;
-    below = rw added.0 (All-push (λ p. p < place + 1) old.places place (below_next old.places before.below) (omega arith));
-    read = rw (added.0, added.1)
-        (next_read old.places (old.places ++ place ∷ []) old.values.items (old.values.items ++ v ∷ []) (value_view v) is
-        (rw (map-append value_view old.values.items (v ∷ [])) (at_new place old.places (map value_view old.values.items) (value_view v) (before.same ∙ sym (length-map old.values.items value_view)) before.below))
-        (λ rest. rw (map-append value_view old.values.items (v ∷ []))
-        (onto_kept 0 (take place names) old.places (map value_view old.values.items) place (value_view v) rest (before.same ∙ sym (length-map old.values.items value_view)) (omega (arith, length-take-le place names (omega (arith, in_names))))))
-        before);
+
+  -- a field that was read has its place and its value
+  pub field_present : (places : List ℕ) (vs : List ValueCode) (v : ValueCode) → Fields_before names of given place places vs → here ≡ Ok (value_view v)
+      → Fields_before names of given (place + 1) (places ++ place ∷ []) (vs ++ v ∷ [])
+  field_present places vs v before is = record {
+    same = rw (length_push, length_push, before.same) refl;
+    below = All-push (λ p. p < place + 1) places place (below_next places before.below) (omega arith);
+    read = next_read places (places ++ place ∷ []) vs (vs ++ v ∷ []) (value_view v) is
+        (rw (map-append value_view vs (v ∷ [])) (at_new place places (map value_view vs) (value_view v) (before.same ∙ sym (length-map vs value_view)) before.below))
+        (λ rest. rw (map-append value_view vs (v ∷ []))
+        (onto_kept 0 (take place names) places (map value_view vs) place (value_view v) rest (before.same ∙ sym (length-map vs value_view)) (omega (arith, length-take-le place names (omega (arith, in_names))))))
+        before;
   }
 
   pub field_fails : (places : List ℕ) (vs : List ValueCode) (e : ShapeFault) → Fields_before names of given place places vs → Unless (is_memory e) (here ≡ Err e) → Unless (is_memory e) (fields_read (Of names of) given ≡ Err e)
@@ -240,16 +246,21 @@ first_names (n ∷ names) (s ∷ of) = ap (shapes.field n (shape_view s)) (first
 pub record_view : (fields : Box FieldsCode Global) → value_view (ObjectValue fields) ≡ object (fields_from 0 (out-Fields fields.value).names (out-Fields fields.value).places (map value_view (out-Fields fields.value).values.items))
 record_view fields = rw (value_view-object fields, fields_view-from fields.value) refl
 
-pub record_read : (of names : List (List ℕ)) (of_shapes : List ShapeCode) (given : json.Members) (fields : FieldsCode) (boxed : Box FieldsCode Global) → boxed.value ≡ fields
-    → (out-Fields fields).names ≡ take (length of_shapes) of → names ≡ (out-Fields fields).names
-    → fields_read (Of names of_shapes) given ≡ Ok (fields_from 0 names (out-Fields fields).places (map value_view (out-Fields fields).values.items))
+pub record_read : (of : List (List ℕ)) (of_shapes : List ShapeCode) (given : json.Members) (fields : FieldsCode) (boxed : Box FieldsCode Global) → boxed.value ≡ fields
+    → (out-Fields fields).names ≡ take (length of_shapes) of
+    → fields_read (Of (out-Fields fields).names of_shapes) given ≡ Ok (fields_from 0 (out-Fields fields).names (out-Fields fields).places (map value_view (out-Fields fields).values.items))
     → read (shapes.object (Of of of_shapes)) (json.object given) ≡ Ok (value_view (ObjectValue boxed))
-record_read of names of_shapes given fields boxed is first same is_read =
-    ap (λ fs. fields_read fs given >>= λ f. Ok (object f)) (sym (first_names of of_shapes) ∙ ap (λ ns. Of ns of_shapes) (sym first ∙ sym same))
+record_read of of_shapes given fields boxed is first is_read =
+    ap (λ fs. fields_read fs given >>= λ f. Ok (object f)) (sym (first_names of of_shapes) ∙ ap (λ ns. Of ns of_shapes) (sym first))
     ∙ ap (λ all. all >>= λ f. Ok (object f)) is_read
     ∙ ap (λ (v : Value). Ok v)
-    (sym (record_view boxed ∙ ap (λ f. object (fields_from 0 (out-Fields f).names (out-Fields f).places (map value_view (out-Fields f).values.items))) is
-    ∙ ap (λ ns. object (fields_from 0 ns (out-Fields fields).places (map value_view (out-Fields fields).values.items))) (sym same)))
+    (sym (record_view boxed ∙ ap (λ f. object (fields_from 0 (out-Fields f).names (out-Fields f).places (map value_view (out-Fields f).values.items))) is))
+
+pub record_fails : (of names : List (List ℕ)) (of_shapes : List ShapeCode) (given : json.Members) (e : ShapeFault) → names ≡ take (length of_shapes) of
+    → Unless (is_memory e) (fields_read (Of names of_shapes) given ≡ Err e) → Unless (is_memory e) (read (shapes.object (Of of of_shapes)) (json.object given) ≡ Err e)
+record_fails of names of_shapes given e first fails =
+    leads (is_memory e) (λ (h : fields_read (Of names of_shapes) given ≡ Err e).
+    failed (fields_read (Of of of_shapes) given) (λ f. Ok (object f)) e (ap (λ fs. fields_read fs given) (sym (first_names of of_shapes) ∙ ap (λ ns. Of ns of_shapes) (sym first)) ∙ h)) fails
 
 -- Lists.
 

@@ -12,15 +12,19 @@
 //!
 //! - [`document`]: JSON documents of limited size; [`members`]: members of objects
 //! - [`shape_reading`], [`value_reading`]: reading shapes and values
+//! - [`reader`]: reading many values of one shape; `needs` is what a shape asks of records, worked out once
 //! - [`laws`]: what holds of reading as a whole
 #![tactic(auto)]
 
 pub mod document;
 pub mod laws;
 pub mod members;
+mod needs;
+pub mod reader;
 pub mod shape_reading;
 pub mod value_reading;
 
 pub use document::{JsonError, read_json};
+pub use reader::Reader;
 pub use shape_reading::{ShapeError, read_shape};
 pub use value_reading::{ShapeFault, read_value};

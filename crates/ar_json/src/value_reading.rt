@@ -1,20 +1,22 @@
 //! Values of measurements, read from JSON under a shape.
 
-ghost use Rattle.std.specs.Prelude.{◌≡◌, ◌<◌, ◌≤◌, [], All, IfOk, OnOk, false, length, map, option_map, true, unwrap_or};
-ghost use Rattle.ar_json.specs.Private.Added.{IsAdded};
+ghost use Rattle.std.specs.Prelude.{◌≡◌, ◌<◌, ◌≤◌, ◌++◌, ◌∷◌, [], All, IfOk, OnOk, false, length, map, slice_index_or, true};
+ghost use Rattle.ar_json.specs.Private.Needs.{AreNeedsAt, needs_of, needs_view, passed};
 ghost use Rattle.serde_json.specs.Data.{object as json_object};
 ghost use Rattle.serde_json.specs.View.{items_view, members_view, number_view, view};
-ghost use Rattle.serde_json.specs.Find.{as_integer, get_member};
+ghost use Rattle.serde_json.specs.Find.{as_integer};
 ghost use Rattle.ar_value.specs.Answer.{Gives};
 ghost use Rattle.ar_value.specs.DecimalText.{decimal_of};
 ghost use Rattle.ar_value.specs.Fits.{fits};
 ghost use Rattle.ar_json.specs.Names.{ShapeNamesRise, ValueNamesRise};
-ghost use Rattle.ar_json.specs.Reading.{absent_read, decimal_of_text, decimal_of_whole, field_read, fields_read, is_memory, is_memory_under, items_read, list_read, read, whole_of};
-ghost use Rattle.ar_value.specs.Shape.{field_shapes_of, object};
-ghost use Rattle.ar_value.specs.Value.{fields_from, items_of, nil};
+ghost use Rattle.ar_json.specs.Reading.{decimal_of_text, decimal_of_whole, fields_read, is_memory, is_memory_under, items_read, list_read, read, whole_of};
+ghost use Rattle.ar_value.specs.Shape.{field_shapes_of, object, optional};
+ghost use Rattle.ar_value.specs.Value.{fields_from, items_of};
 ghost use Rattle.ar_value.specs.View.{shape_view, value_view};
+ghost use Rattle.ar_value.specs.declared.shape.Shape.{Shape};
 ghost use Rattle.ar_json.specs.declared.value_reading.ShapeFault.TheVariants.{OutOfMemory};
 
+use crate::needs::Needs;
 use ar_value::decimal::{Decimal, NumberFault};
 use ar_value::names::Names;
 use ar_value::places::Places;
@@ -85,7 +87,8 @@ impl<T: Drop> From<AllocFailed<T>> for ShapeFault {
 /// The value that a JSON value is under a shape. Null is nil under an optional shape. A boolean is
 /// read from a JSON boolean, a whole from a whole JSON number, a decimal from such a number or a text
 /// as `"0.95"`, a text from a JSON string, a list from an array and a record from an object. It takes
-/// memory for texts, lists and records alone.
+/// memory for texts, lists and records alone. It looks at the whole shape: for many values of one
+/// shape a `Reader` does that once.
 ///
 /// # Errors
 ///
@@ -106,12 +109,19 @@ pub fn read_value(alloc: Global, json: &Json, shape: &Shape) -> Result<Value, Sh
     ensures names_rise { ShapeNamesRise (shape_view shape.now)
         → IfOk result (λ value. ValueNamesRise (value_view value)) }
 {
-    value_under(alloc, shape, json)
+    let needs = Needs::of(alloc, shape)?;
+    value_under(alloc, shape, &needs, json)
 }
 
-/// The recursion goes down the shape.
+/// The value under a shape with these needs. The recursion goes down the shape.
 #[cycle(value_under)]
-fn value_under(alloc: Global, shape: &Shape, json: &Json) -> Result<Value, ShapeFault>
+pub(crate) fn value_under(
+    alloc: Global,
+    shape: &Shape,
+    needs: &Needs,
+    json: &Json,
+) -> Result<Value, ShapeFault>
+    requires { needs_view needs.now ≡ needs_of (shape_view shape.now) }
     ensures { Gives (is_memory_under (shape_view shape.now)) value_view result
         (read (shape_view shape.now) (view json.now)) }
 {
@@ -121,57 +131,91 @@ fn value_under(alloc: Global, shape: &Shape, json: &Json) -> Result<Value, Shape
         (Shape::Decimal, Json::Number(number)) => decimal_of_whole(number),
         (Shape::Decimal, Json::String(text)) => decimal_of_text(text.as_str()),
         (Shape::Text, Json::String(text)) => Ok(Value::Text(Text::of(alloc, text.as_str())?)),
-        (Shape::List { item, max }, Json::Array(items)) => list_under(alloc, item, *max, items),
-        (Shape::Object(of), Json::Object(members)) => {
-            record_under(alloc, &of.shapes, &of.names, members)
+        (Shape::List { item, max }, Json::Array(items)) => {
+            list_under(alloc, item, needs.items(), *max, items)
         }
-        (Shape::Optional(_), Json::Null) => Ok(Value::Nil),
-        (Shape::Optional(plain), json) => value_under(alloc, plain, json),
+        (Shape::Object(of), Json::Object(members)) => {
+            record_under(alloc, &of.shapes, &of.names, needs, members)
+        }
+        (Shape::Optional(plain), json) => optional_under(alloc, plain, needs, json),
         _ => Err(ShapeFault::WrongKind),
+    }
+}
+
+/// Null is nil, and anything else a value of the plain shape.
+#[cycle(value_under)]
+fn optional_under(
+    alloc: Global,
+    plain: &Shape,
+    needs: &Needs,
+    json: &Json,
+) -> Result<Value, ShapeFault>
+    requires { needs_view needs.now ≡ needs_of (shape_view plain.now) }
+    ensures { Gives (is_memory_under (shape_view plain.now)) value_view result
+        (read (optional (shape_view plain.now)) (view json.now)) }
+{
+    match json {
+        Json::Null => Ok(Value::Nil),
+        Json::Bool(_) | Json::Number(_) | Json::String(_) | Json::Array(_) | Json::Object(_) =>
+            value_under(alloc, plain, needs, json),
     }
 }
 
 #[cycle(value_under)]
 #[tactic(auto, using(crate::proofs::ReadLemmas::list_too_long, crate::proofs::ReadLemmas::list_short))]
-fn list_under(alloc: Global, item: &Shape, max: usize, json: &[Json]) -> Result<Value, ShapeFault>
+fn list_under(
+    alloc: Global,
+    item: &Shape,
+    needs: &Needs,
+    max: usize,
+    json: &[Json],
+) -> Result<Value, ShapeFault>
+    requires { needs_view needs.now ≡ needs_of (shape_view item.now) }
     ensures { Gives is_memory value_view result
         (list_read (λ d. read (shape_view item.now) d) max (items_view json.now)) }
 {
     if json.len() > max {
         return Err(ShapeFault::ListTooLong);
     }
-    let items = items_under(alloc, item, json)?;
+    let items = items_under(alloc, item, needs, json)?;
     Ok(Value::List(Values { items }))
 }
 
 #[cycle(value_under)]
 #[tactic(auto, using(crate::proofs::ReadLemmas::next_item, crate::proofs::ReadLemmas::item_fails, crate::proofs::ReadLemmas::no_item_left))]
-fn items_under(alloc: Global, item: &Shape, json: &[Json]) -> Result<Vec<Value>, ShapeFault>
+fn items_under(
+    alloc: Global,
+    item: &Shape,
+    needs: &Needs,
+    json: &[Json],
+) -> Result<Vec<Value>, ShapeFault>
+    requires { needs_view needs.now ≡ needs_of (shape_view item.now) }
     ensures { Gives is_memory (λ vec. items_of (map value_view vec.items)) result
         (items_read (λ d. read (shape_view item.now) d) (items_view json.now)) }
 {
     let mut items = Vec::with_capacity(alloc, json.len())?;
     for json in json {
-        items.push(value_under(alloc, item, json)?)?;
+        items.push(value_under(alloc, item, needs, json)?)?;
     }
     Ok(items)
 }
 
 /// The record of an object's members. A field that is absent and optional takes no memory.
 #[cycle(value_under)]
-#[tactic(auto, using(crate::proofs::ReadLemmas::first_names))]
 fn record_under(
     alloc: Global,
     shapes: &[Shape],
     of: &Names,
+    needs: &Needs,
     members: &Map<String, Json>,
 ) -> Result<Value, ShapeFault>
+    requires { needs_view needs.now ≡ needs_of (object (field_shapes_of of.now (map shape_view shapes.now))) }
     ensures { Gives is_memory value_view result
         (read (object (field_shapes_of of.now (map shape_view shapes.now)))
         (json_object (members_view members.now.entries))) }
 {
     let names = of.first(shapes.len())?;
-    let present = fields_under(alloc, shapes, names.as_slice(), members)?;
+    let present = fields_under(alloc, shapes, &names, needs, members)?;
     let fields = Fields {
         names,
         places: present.places,
@@ -198,79 +242,81 @@ impl Present {
         Ok(Present { places, values })
     }
 
-    /// Adds the value of a field, if it has one.
-    fn add(&mut self, place: usize, value: Option<Value>) -> Result<(), AllocError>
+    /// Adds the value of a field behind the others.
+    fn add(&mut self, place: usize, value: Value) -> Result<(), AllocError>
         requires { All (λ earlier. earlier < place) self.old.places }
-        ensures { OnOk result (IsAdded self.old self.new place value) }
+        ensures places { OnOk result (self.new.places ≡ self.old.places ++ place ∷ []) }
+        ensures values { OnOk result (self.new.values.items ≡ self.old.values.items ++ value ∷ []) }
     {
-        let Some(value) = value else {
-            return Ok(());
-        };
         self.places.push(place)?;
         self.values.push(value)?;
         Ok(())
     }
 }
 
-/// The fields of an object's members, of as many names as there are shapes.
+/// The fields of an object's members, of as many names as there are shapes. Members and names both come by rising
+/// names, so each member is looked for among the names behind the one before.
 #[cycle(value_under)]
-#[tactic(auto, using(crate::proofs::ReadLemmas::next_field, crate::proofs::ReadLemmas::field_fails, crate::proofs::ReadLemmas::no_field_left))]
 fn fields_under(
     alloc: Global,
     shapes: &[Shape],
-    names: &[Text],
+    names: &Names,
+    needs: &Needs,
     members: &Map<String, Json>,
 ) -> Result<Present, ShapeFault>
-    requires { length names.now ≤ length shapes.now }
+    requires long { length names.now ≤ length shapes.now }
+    requires needs { needs_view needs.now ≡ needs_of (object (field_shapes_of names.now (map shape_view shapes.now))) }
     ensures { Gives is_memory
         (λ present. fields_from 0 names.now present.places (map value_view present.values.items)) result
         (fields_read (field_shapes_of names.now (map shape_view shapes.now)) (members_view members.now.entries)) }
 {
-    let mut present = Present::with_capacity(alloc, names.len().min(members.len()))?;
-    for place in 0..names.len() {
-        let value = field_value(alloc, &shapes[place], names[place].as_str(), members)?;
-        present.add(place, value)?;
+    let count = names.as_slice().len();
+    let required = needs.required();
+    let inner = needs.inner();
+    let mut present = Present::with_capacity(alloc, count.min(members.len()))?;
+    let mut from = 0;
+    let mut next = 0;
+    for (name, json) in members.iter() {
+        if let Some(place) = names.index_from(from, name.as_str()) {
+            next = passed(required, next, place)?;
+            let value = nth_under(alloc, shapes, inner, place, json)?;
+            present.add(place, value)?;
+            from = place + 1;
+        }
     }
+    passed(required, next, count)?;
     Ok(present)
 }
 
-/// The value of a field: none where it is absent and optional.
+/// The value under the shape at a place, whose needs are at the same.
 #[cycle(value_under)]
-fn field_value(
+fn nth_under(
     alloc: Global,
-    shape: &Shape,
-    name: &str,
-    members: &Map<String, Json>,
-) -> Result<Option<Value>, ShapeFault>
-    ensures { Gives is_memory (λ found. unwrap_or (option_map value_view found) nil) result
-        (field_read (λ d. read (shape_view shape.now) d) (shape_view shape.now)
-        (get_member name.now (members_view members.now.entries))) }
+    shapes: &[Shape],
+    inner: &[Needs],
+    place: usize,
+    json: &Json,
+) -> Result<Value, ShapeFault>
+    requires { AreNeedsAt shapes.now inner.now place }
+    ensures { (shape : Shape) → shape ≡ slice_index_or shapes.now place shape
+        → Gives is_memory value_view result (read (shape_view shape) (view json.now)) }
 {
-    match member(members, name) {
-        Some(json) => Ok(Some(value_under(alloc, shape, json)?)),
-        None => absent(shape),
-    }
+    value_under(alloc, &shapes[place], &inner[place], json)
 }
 
-fn member<'json>(members: &'json Map<String, Json>, name: &str) -> Option<&'json Json>
-    ensures { option_map (λ json. view json.now) result ≡ get_member name.now (members_view members.now.entries) }
+/// Of a record's required fields, whose places these are, those before the index `next` were met. Then comes the field
+/// at a place: the index of the next required field that has to be met.
+///
+/// # Errors
+///
+/// `MissingField` where a required field was passed over.
+fn passed(required: &[usize], next: usize, place: usize) -> Result<usize, ShapeFault>
+    ensures { result ≡ passed required.now next place }
 {
-    members.get(name)
-}
-
-/// An absent field has no value where it is optional.
-fn absent(shape: &Shape) -> Result<Option<Value>, ShapeFault>
-    ensures { Gives (λ _. false) (λ found. unwrap_or (option_map value_view found) nil) result
-        (absent_read (shape_view shape.now)) }
-{
-    match shape {
-        Shape::Optional(_) => Ok(None),
-        Shape::Bool
-        | Shape::Whole
-        | Shape::Decimal
-        | Shape::Text
-        | Shape::List { .. }
-        | Shape::Object(_) => Err(ShapeFault::MissingField),
+    match required.get(next) {
+        Some(first) if *first < place => Err(ShapeFault::MissingField),
+        Some(first) if *first == place => Ok(next + 1),
+        _ => Ok(next),
     }
 }
 

@@ -1,6 +1,6 @@
 -- Names and places in order, and where one is among them.
-use Rattle.std.proofs.Common.{◌≡◌, ℕ, zero, suc, ◌+◌, ◌<◌, ◌≤◌, Bool, true, false, List, [], ◌∷◌, ◌++◌, length, take, get_or, Some, None, Result, Ok, Err, ⊎_elim, refl, sym, ◌∙◌, ap, arith, nat_cmp}
-use Rattle.std.specs.Prelude.{All, MatchResult, ◌==◌}
+use Rattle.std.proofs.Common.{◌≡◌, ℕ, zero, suc, ◌+◌, ◌<◌, ◌≤◌, Bool, true, false, List, [], ◌∷◌, ◌++◌, length, take, drop, get_or, Option, Some, None, option_map, Result, Ok, Err, ⊎_elim, refl, sym, ◌∙◌, ap, arith, nat_cmp}
+use Rattle.std.specs.Prelude.{All, MatchResult, ◌==◌, if◌then◌else◌}
 use Rattle.std.specs.Cmp.Lexicographic.{slice_cmp}
 use Rattle.std.specs.List.{AllByRecursion}
 use Rattle.std.specs.List.Sorted.{IsStrictlySortedBy, IsNonDecreasingBy, IsBinarySearchResult, IsSearchInRange}
@@ -32,6 +32,13 @@ unfolding IsStrictlySortedBy
 sorted_take c zero xs sorted = tt
 sorted_take c (suc n) [] sorted = tt
 sorted_take c (suc n) (x ∷ xs) sorted = (all_take (λ y. c x y ≡ Less) n xs sorted.0, sorted_take c n xs sorted.1)
+
+-- the last of a list in order are in order
+pub sorted_drop : {X : Type 0} (c : X → X → Ordering) (n : ℕ) (xs : List X) → IsStrictlySortedBy c xs → IsStrictlySortedBy c (drop n xs)
+unfolding IsStrictlySortedBy
+sorted_drop c zero xs sorted = sorted
+sorted_drop c (suc n) [] sorted = tt
+sorted_drop c (suc n) (x ∷ xs) sorted = sorted_drop c n xs sorted.1
 
 pub sorted_none : {X : Type 0} (c : X → X → Ordering) → IsStrictlySortedBy c []
 unfolding IsStrictlySortedBy
@@ -80,6 +87,16 @@ nowhere : (name : List ℕ) (names : List (List ℕ)) → ((i : ℕ) → i < len
 nowhere name [] apart = refl
 nowhere name (of ∷ names) apart =
     rw (unequal of name (apart 0 (omega arith)), nowhere name names (λ i within. apart (suc i) (omega arith))) refl
+
+within_next : (is : Bool) (found : Option ℕ) (n i : ℕ) → ((j : ℕ) → found ≡ Some j → j < n) → (if is then Some 0 else option_map suc found) ≡ Some i → i < suc n
+within_next true found n i inner is = let first : 0 ≡ i = cc in omega (arith, first)
+within_next false (Some j) n i inner is = let next : suc j ≡ i = cc in omega (arith, inner j refl, next)
+within_next false None n i inner is = absurd (cc)
+
+-- a name that is there has an index inside
+pub index_within : (name : List ℕ) (names : List (List ℕ)) (i : ℕ) → index_named name names ≡ Some i → i < length names
+index_within name [] i is = absurd (cc)
+index_within name (of ∷ names) i is = within_next (bytes_eq of name) (index_named name names) (length names) i (index_within name names) is
 
 not_back : (x y : List ℕ) → slice_cmp nat_cmp x y ≡ Less → is_lt (slice_cmp nat_cmp y x) ≡ false
 not_back x y less = ap is_lt (nat_list_cmp_total.antisymm y x ∙ ap ordering_reverse less)

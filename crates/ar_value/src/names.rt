@@ -1,6 +1,6 @@
 //! The names of a record's fields.
 
-ghost use Rattle.std.specs.Prelude.{◌≡◌, IfOk, take};
+ghost use Rattle.std.specs.Prelude.{◌≡◌, ◌+◌, IfOk, drop, option_map, take};
 ghost use Rattle.ar_value.specs.Names.{Rise, index_named};
 
 use crate::text::Text;
@@ -76,6 +76,18 @@ impl Names {
         ensures { result ≡ index_named name.now self.now }
     {
         search(self.as_slice(), name)
+    }
+
+    /// The index of a name among those from an index on, found by binary search.
+    #[tactic(auto, using(crate::proofs::Orders::index_within))]
+    pub fn index_from(&self, from: usize, name: &str) -> Option<usize>
+        ensures { result ≡ option_map (λ index. from + index) (index_named name.now (drop from self.now)) }
+    {
+        let names = self.as_slice();
+        if from > names.len() {
+            return None;
+        }
+        Some(from + search(&names[from..], name)?)
     }
 }
 

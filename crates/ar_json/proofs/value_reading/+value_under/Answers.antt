@@ -1,10 +1,14 @@
-use Rattle.std.proofs.Common.{rules, arith, Err, ◌∙◌}
-use Rattle.ar_json.proofs.ReadLemmas.{field_there, next_field, record_read, list_too_long, next_item, no_item_left, item_fails, list_short}
+use Rattle.std.proofs.Common.{rules, ap, ◌∙◌}
+use Rattle.ar_json.proofs.NeedsLemmas.{first_need, needs_at, not_longer}
+use Rattle.ar_json.proofs.ReadLemmas.{list_too_long, next_item, no_item_left, item_fails, list_short, nth_gives, record_fails, record_read}
+use Rattle.ar_json.proofs.ReadSteps.{ends, ends_missing, other_member, place_fails, place_inside, place_missing, place_read, starts}
+use Rattle.ar_json.specs.Private.Needs.{needs_inside, needs_view, required_places}
+use Rattle.ar_value.proofs.FieldLists.{Of}
+use Rattle.ar_value.proofs.Steps.{refuses_same}
 use Rattle.serde_json.proofs.Views.{view-Array}
 use Rattle.std.proofs.lemmas.Result.{err_from_is_err_and}
-use Rattle.serde_json.specs.Find.{get_member}
 use Rattle.serde_json.specs.View.{items_view, members_view, view}
-use Rattle.ar_json.specs.Reading.{items_read, read}
+use Rattle.ar_json.specs.Reading.{fields_read, is_memory, items_read, read}
 use Rattle.ar_value.specs.View.{shape_view}
 use Rattle.ar_value.proofs.Views.{shape_view-list}
 use Rattle.ar_value.specs.declared.value.Value.{the_lemmas}
@@ -38,19 +42,74 @@ list_under-returns-then-json-max t c = search (rules, list_too_long, list_short)
 pub list_under-returns-in_err-items : goal.list_under-returns-in_err-items
 list_under-returns-in_err-items t c = search (rules, list_too_long, list_short)
 
-pub field_value-returns-in_err-value_under-in-Some : goal.field_value-returns-in_err-value_under-in-Some
-field_value-returns-in_err-value_under-in-Some t c =
-    let p = err_from_is_err_and c.from_residual.result c.from_residual.ensures.1 in
-    rw (p.1, p.2)
-    (field_there (shape_view c.args.shape.now) (get_member c.args.name.now (members_view c.args.members.now.entries)) (view c.in-Some.json.now) (Err c.in_err-value_under-in-Some.field-0.0) c.in-Some.ensures
-    c.in_err-value_under-in-Some.ensures)
+pub nth_under-returns : goal.nth_under-returns
+nth_under-returns t c =
+    λ shape is. nth_gives c.args.shapes.now c.args.place c.index-shapes-place.result shape (view c.args.json.now) c.value_under.result c.requires.0 c.index-shapes-place.is is c.value_under.ensures
 
-pub fields_under-loop-place-preserved : goal.fields_under-loop-place-preserved
-fields_under-loop-place-preserved t c =
-    next_field c.args.names.now c.args.shapes.now (members_view c.args.members.now.entries) c.loop-place.place c.index-names-place.result c.index-shapes-place.result
-    (omega (arith, c.loop-place-test.true)) (omega (arith, c.loop-place-test.true, c.requires)) c.index-names-place.is c.index-shapes-place.is
-    c.loop-place.present c.add.new.self c.in_ok-value.value c.loop-place.invariant (rw (← c.as_str.ensures) c.in_ok-value.ensures) c.in_ok-add.ensures
+pub fields_under-loop-name-init : goal.fields_under-loop-name-init
+fields_under-loop-name-init t c =
+    starts c.args.names.now c.args.shapes.now c.required-required.result.now c.args.members.now.entries c.into_iter-name-iterator.result c.in_ok-present.present.places c.in_ok-present.present.values.items
+    (search rules) c.in_ok-present.ensures.0 c.in_ok-present.ensures.1 (search rules) (c.required-required.ensures ∙ ap required_places c.requires.needs)
+
+pub fields_under-returns-in_err-next : goal.fields_under-returns-in_err-next
+fields_under-returns-in_err-next t c =
+    let p = err_from_is_err_and c.from_residual-in_err-next.result c.from_residual-in_err-next.ensures.1 in
+    rw (p.1, p.2)
+    (refuses_same (is_memory c.in_err-next.field-0.0) c.in_err-next.field-0.0 (fields_read (Of c.args.names.now c.args.shapes.now) (members_view c.args.members.now.entries))
+    (place_missing c.requires.long c.in-Some.ensures.steps c.loop-name.invariant c.as_slice-count.ensures.rise
+    c.in-Some-index_from.place (rw c.as_str.ensures.value at c.in-Some-index_from.ensures) c.in_err-next.field-0.0 c.in_err-next.ensures))
+
+pub fields_under-nth_under-requires : goal.fields_under-nth_under-requires
+fields_under-nth_under-requires t c =
+    let inside = place_inside c.requires.long c.in-Some.ensures.steps c.loop-name.invariant c.as_slice-count.ensures.rise
+    c.in-Some-index_from.place (rw c.as_str.ensures.value at c.in-Some-index_from.ensures) in
+    (search rules, needs_at c.args.names.now c.args.shapes.now c.inner-inner.result.now c.in-Some-index_from.place c.requires.long inside (c.inner-inner.ensures ∙ ap needs_inside c.requires.needs))
+
+pub fields_under-returns-in_err-value : goal.fields_under-returns-in_err-value
+fields_under-returns-in_err-value t c =
+    let p = err_from_is_err_and c.from_residual-in_err-value.result c.from_residual-in_err-value.ensures.1 in
+    rw (p.1, p.2)
+    (place_fails c.requires.long c.in-Some.ensures.steps c.loop-name.invariant c.as_slice-count.ensures.rise
+    c.in-Some-index_from.place (rw c.as_str.ensures.value at c.in-Some-index_from.ensures) c.in_ok-next.next c.in_ok-next.ensures c.in_err-value.field-0.0 c.in_err-value.ensures)
+
+pub fields_under-overflow_add-from : goal.fields_under-overflow_add-from
+fields_under-overflow_add-from t c =
+    let inside = place_inside c.requires.long c.in-Some.ensures.steps c.loop-name.invariant c.as_slice-count.ensures.rise
+    c.in-Some-index_from.place (rw c.as_str.ensures.value at c.in-Some-index_from.ensures) in
+    search (rules, inside)
+
+pub fields_under-loop-name-preserved-in-Some-index_from : goal.fields_under-loop-name-preserved-in-Some-index_from
+fields_under-loop-name-preserved-in-Some-index_from t c =
+    rw (c.in_ok-add.ensures.places, c.in_ok-add.ensures.values)
+    (place_read c.requires.long c.in-Some.ensures.steps c.loop-name.invariant c.as_slice-count.ensures.rise
+    c.in-Some-index_from.place (rw c.as_str.ensures.value at c.in-Some-index_from.ensures) c.in_ok-next.next c.in_ok-next.ensures c.in_ok-value.value c.in_ok-value.ensures)
+
+pub fields_under-loop-name-preserved : goal.fields_under-loop-name-preserved
+fields_under-loop-name-preserved t c =
+    other_member c.requires.long c.in-Some.ensures.steps c.loop-name.invariant
+    (rw c.as_str.ensures.value at c.in_default.ensures)
+
+pub fields_under-returns-in_err-passed : goal.fields_under-returns-in_err-passed
+fields_under-returns-in_err-passed t c =
+    let p = err_from_is_err_and c.from_residual-in_err-passed.result c.from_residual-in_err-passed.ensures.1 in
+    rw (p.1, p.2)
+    (refuses_same (is_memory c.in_err-passed.field-0.0) c.in_err-passed.field-0.0 (fields_read (Of c.args.names.now c.args.shapes.now) (members_view c.args.members.now.entries))
+    (ends_missing c.requires.long c.in-None.ensures.steps.0 c.loop-name.invariant c.in_err-passed.field-0.0 (rw c.as_slice-count.ensures.names at c.in_err-passed.ensures)))
+
+pub fields_under-returns : goal.fields_under-returns
+fields_under-returns t c =
+    ends c.requires.long c.in-None.ensures.steps.0 c.loop-name.invariant c.in_ok-passed.field-0 (rw c.as_slice-count.ensures.names at c.in_ok-passed.ensures)
+
+pub record_under-fields_under-requires : goal.record_under-fields_under-requires
+record_under-fields_under-requires t c =
+    (search rules, (not_longer c.in_ok-names.names c.args.of.now c.args.shapes.now c.in_ok-names.ensures, first_need c.in_ok-names.names c.args.of.now c.args.shapes.now (needs_view c.args.needs.now) c.in_ok-names.ensures c.requires))
 
 pub record_under-returns : goal.record_under-returns
 record_under-returns t c =
-    record_read c.args.of.now c.as_slice.result.now c.args.shapes.now (members_view c.args.members.now.entries) _ c.in_ok-new.field-0 c.in_ok-new.ensures.ok c.in_ok-names.ensures c.as_slice.ensures.names c.in_ok-present.ensures
+    record_read c.args.of.now c.args.shapes.now (members_view c.args.members.now.entries) _ c.in_ok-new.field-0 c.in_ok-new.ensures.ok c.in_ok-names.ensures c.in_ok-present.ensures
+
+pub record_under-returns-in_err-present : goal.record_under-returns-in_err-present
+record_under-returns-in_err-present t c =
+    let p = err_from_is_err_and c.from_residual-in_err-present.result c.from_residual-in_err-present.ensures.1 in
+    rw (p.1, p.2)
+    (record_fails c.args.of.now c.in_ok-names.names c.args.shapes.now (members_view c.args.members.now.entries) c.in_err-present.field-0.0 c.in_ok-names.ensures c.in_err-present.ensures)
