@@ -34,7 +34,7 @@ escaped character =
 unfoldable pub quoted : (text : List ℕ) → List ℕ
 quoted text = codes "\"" ++ (flat_map escaped (chars text) ++ codes "\"")
 
--- what stands before each item of a list but the first
+-- what comes before each item of a list but the first
 abbrev pub between : (first : Bool) → (text : List ℕ) → List ℕ
 between first text = if first then [] else text
 

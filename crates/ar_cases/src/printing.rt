@@ -82,7 +82,7 @@ pub fn put_or_none<D: Display + Drop>(out: &mut Output, found: Option<D>)
     }
 }
 
-/// What stands before each item of a list but the first.
+/// What comes before each item of a list but the first.
 pub fn put_between(out: &mut Output, first: bool, separator: &str)
     ensures { Writes out.old out.new (between first separator.now) }
 {

@@ -7,7 +7,7 @@
 //!
 //! - `typing`: from a tree to its typed tree, by recursion no deeper than the tree; `build` makes
 //!   the nodes
-//! - `operand`: a tree with its kind, whose shape is lent where it is a part of a declared one
+//! - `operand`: a tree with its kind, whose shape is borrowed where it is a part of a declared one
 //! - `operators`, `list`: operators, and list literals, whose operands have kinds
 //! - [`error`]: why a condition has no kinds
 //! - [`laws`]: what holds of all checked conditions

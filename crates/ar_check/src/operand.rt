@@ -22,7 +22,7 @@ use ar_value::sameness::are_same_shapes;
 use ar_value::shape::Shape;
 use std::alloc::{AllocError, Global};
 
-/// The kind of an operand: that of the literal `nil`, or a shape, which is lent where it is a part
+/// The kind of an operand: that of the literal `nil`, or a shape, which is borrowed where it is a part
 /// of a declared one.
 #[derive(Drop)]
 pub(crate) enum Kind<'s> {
@@ -266,7 +266,7 @@ fn again<'s>(alloc: Global, kind: &Kind<'s>) -> Result<Kind<'s>, AllocError>
     }
 }
 
-/// The kind of two that are the same, of which one may be lent.
+/// The kind of two that are the same, of which one may be borrowed.
 fn either<'s>(alloc: Global, left: &Kind<'s>, right: &Kind<'s>) -> Result<Kind<'s>, AllocError>
     requires { kind_view left.now ≡ kind_view right.now }
     ensures { IfOk result (λ kind. kind_view kind ≡ kind_view left.now) }
@@ -300,7 +300,7 @@ fn shape_of<'a>(kind: &'a Kind<'_>) -> Option<&'a Shape>
     }
 }
 
-/// The kind that two have in common. Of two that are the same no shape is copied that is lent.
+/// The kind that two have in common. Of two that are the same no shape is copied that is borrowed.
 pub(crate) fn common<'s>(
     alloc: Global,
     left: &Kind<'s>,

@@ -172,7 +172,7 @@ source_fields (sources.Decimal millionths) = number (zigzag millionths)
 source_fields (sources.Text text) = number text
 source_fields source = []
 
--- what stands after an operation's code
+-- what comes after an operation's code
 abbrev pub fields_of : Op → List ℕ
 fields_of (ops.Push source) = source_fields source
 fields_of (ops.MakeList scalar count) = number (scalar_number scalar) ++ number count

@@ -155,7 +155,7 @@ source_text code (sources.Decimal millionths) = space ∷ signed_decimal million
 source_text code (sources.Text number) = numbered code.texts number
 source_text code source = []
 
--- what stands after an operation's name
+-- what comes after an operation's name
 abbrev pub fields_text : Code → Op → List ℕ
 fields_text code (ops.Push source) = source_text code source
 fields_text code (ops.MakeList scalar count) = space ∷ (scalar_name scalar ++ (space ∷ decimal count))

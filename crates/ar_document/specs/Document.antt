@@ -22,7 +22,7 @@ pub record IsBundleOf (document : Data) (bundle : Bundle) : Type 0 where
 
 -- this is the first fault of a document
 pub data IsFaultOf (document : Data) (error : BundleError) : Type 0 where
-  -- of what stands before its runs are looked at one by one
+  -- of what comes before its runs are looked at one by one
   of_opening : opened_of document ≡ Err error → IsFaultOf document error
   -- of a run
   of_run : (opened : Opened) → opened_of document ≡ Ok opened → RefusesRuns opened error → IsFaultOf document error

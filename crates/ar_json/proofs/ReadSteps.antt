@@ -96,7 +96,7 @@ module _ (given later : json.Members) (name : List ℕ) (d : Data) where
       by false None is is_found none rest = (known.0 ∙ unread of name d later (is_eq-slice_cmp of name ∙ is), rest is_found)
       by false (Some i) is is_found none rest = absurd (cc)
 
-  -- those behind its name are not its own
+  -- those after its name are not its own
   known_behind : (names : List (List ℕ)) → AllByRecursion (λ of. slice_cmp nat_cmp name of ≡ Less) names → AllByRecursion (Known given now) names → AllByRecursion (Known given later) names
   known_behind [] below known = tt
   known_behind (of ∷ names) below known = (known.0 ∙ unread of name d later (behind name of below.0), known_behind names below.1 known.1)
@@ -112,7 +112,7 @@ module _ (given later : json.Members) (name : List ℕ) (d : Data) where
       by false None same is_found is rest = absurd (cc)
       by false (Some j) same is_found is rest = rest j is_found
 
-  -- what is known of the names before the one that is found, of that name and of those behind it
+  -- what is known of the names before the one that is found, of that name and of those after it
   pub record Found (names : List (List ℕ)) (i : ℕ) : Type 0 where
     pub before : AllByRecursion (Absent given) (take i names)
     pub here : (of : List ℕ) → of ≡ slice_index_or names i of → get_member of given ≡ Some d
@@ -192,7 +192,7 @@ stops next place e (first ∷ later) is = by (nat_lt first place) (first == plac
 abbrev same_answer : ℕ → ℕ → Type 0
 same_answer a b = ◌≡◌ {A = Result ℕ ShapeFault} (Ok a) (Ok b)
 
--- the field at the place may be absent: the next that has to be there is behind it
+-- the field at the place may be absent: the next that has to be there is after it
 stays : (next place after : ℕ) (places : List ℕ) → passed_to next place (first_of places) ≡ Ok after → NoneBefore (suc place) places → after ≡ next
 stays next place after [] is none = cc
 stays next place after (first ∷ later) is none =
@@ -433,7 +433,7 @@ module _ {names : List (List ℕ)} {of : List ShapeCode} {given : json.Members} 
   absent_end : AllByRecursion (Absent given) (take (length names - from) (drop from names))
   absent_end = rw (take_all (length names - from) (drop from names) (omega (arith, length-drop from names))) known_end
 
-  -- no field behind the last member has to be there
+  -- no field after the last member has to be there
   pub ends : (after : ℕ) → Ok after ≡ passed required next (length names) → fields_read (Of names of) given ≡ Ok (fields_from 0 names places (map value_view vs))
   ends after met =
       let met_from = sym (met ∙ passed_from required _ next (length names) so_far.wanted) in

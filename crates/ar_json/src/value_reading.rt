@@ -242,7 +242,7 @@ impl Present {
         Ok(Present { places, values })
     }
 
-    /// Adds the value of a field behind the others.
+    /// Adds the value of a field after the others.
     fn add(&mut self, place: usize, value: Value) -> Result<(), AllocError>
         requires { All (λ earlier. earlier < place) self.old.places }
         ensures places { OnOk result (self.new.places ≡ self.old.places ++ place ∷ []) }
@@ -255,7 +255,7 @@ impl Present {
 }
 
 /// The fields of an object's members, of as many names as there are shapes. Members and names both come by rising
-/// names, so each member is looked for among the names behind the one before.
+/// names, so each member is looked for among the names after the one before.
 #[cycle(value_under)]
 fn fields_under(
     alloc: Global,

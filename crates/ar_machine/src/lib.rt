@@ -7,7 +7,7 @@
 //! no state of the run stands at one (`specs/Filter`).
 //!
 //! Verified code is never stuck, so each step finds the operands that it takes, of their kinds: what else
-//! there might be is `unreachable!()`, by proof. Values are lent by the measured value and the code; the
+//! there might be is `unreachable!()`, by proof. Values are borrowed from the measured value and the code; the
 //! stacks and the list literals lie in the run's own frame. A loop of a `filter` takes memory once, at its
 //! begin, for as many items as it goes over: so none of its steps takes memory (`specs/Private/Room`).
 //!

@@ -81,7 +81,7 @@ module _ (sign : List ℕ) where
   CutsAtFirst-cut_at [] cut made = absurd (cc)
   CutsAtFirst-cut_at (byte ∷ text) cut made = cut_at_by_front byte text (starts_with nat_eq (byte ∷ text) sign) (cut_at sign text) cut refl made (CutsAtFirst-cut_at text)
 
-  -- what stands after the sign is shorter than the text
+  -- what comes after the sign is shorter than the text
   pub cut_at-shorter : (text : List ℕ) (cut : List ℕ × List ℕ) → cut_at sign text ≡ Some cut → length cut.0 + length sign + length cut.1 ≡ length text
   cut_at-shorter text cut made =
       let whole = ap length (CutsAtFirst-cut_at text cut made).parts in

@@ -4,7 +4,7 @@ use Rattle.std.specs.Prelude.{codes}
 use Rattle.ar_manifest.specs.Cut.{whole, unclosed, reference, closed_parts, cut_at, opened_parts, parts_of, parts_within}
 use Rattle.ar_manifest.proofs.Cuts.{cut_at-shorter}
 
--- what stands after both braces is shorter than the text
+-- what comes after both braces is shorter than the text
 pub shorter : (text : List ℕ) (opened closed : List ℕ × List ℕ) → cut_at (codes "{{") text ≡ Some opened → cut_at (codes "}}") opened.1 ≡ Some closed → length closed.1 + 4 ≤ length text
 shorter text opened closed opens closes =
     omega (arith, cut_at-shorter (codes "{{") text opened opens, cut_at-shorter (codes "}}") opened.1 closed closes)

@@ -8,7 +8,7 @@ pub data Parts : Type 0 where
   whole : List ℕ → Parts
   -- what comes before a `{{` that no `}}` follows
   unclosed : List ℕ → Parts
-  -- what stands before `{{`, what between it and `}}`, and the parts of the rest
+  -- what comes before `{{`, what between it and `}}`, and the parts of the rest
   reference : List ℕ → List ℕ → Parts → Parts
 
 -- ---- as a relation
@@ -17,7 +17,7 @@ pub data Parts : Type 0 where
 abbrev pub Lacks : List ℕ → List ℕ → Type 0
 Lacks sign text = (before behind : List ℕ) → text ≢ before ++ (sign ++ behind)
 
--- what stands before the first place of a sign in a text, and what after it
+-- what comes before the first place of a sign in a text, and what after it
 pub record CutsAtFirst (sign text before behind : List ℕ) : Type 0 where
   pub parts : text ≡ before ++ (sign ++ behind)
   pub first : (earlier later : List ℕ) → text ≡ earlier ++ (sign ++ later) → length before ≤ length earlier
@@ -31,7 +31,7 @@ AreParts text (reference before between parts) =
 
 -- ---- computed
 
--- what stands before the first place of a sign, and what after it, if it stands anywhere
+-- what comes before the first place of a sign, and what after it, if it stands anywhere
 unfoldable pub cut_at : List ℕ → List ℕ → Option (List ℕ × List ℕ)
 cut_at sign [] = None
 cut_at sign (byte ∷ text) =

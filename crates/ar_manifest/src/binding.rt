@@ -25,7 +25,7 @@ pub(crate) struct Scope<'a> {
     pub(crate) shortens: bool,
 }
 
-/// What stands before the first place of a sign, and what after it.
+/// What comes before the first place of a sign, and what after it.
 fn cut_at<'a>(text: &'a str, sign: &str) -> Option<(&'a str, &'a str)>
     requires { 0 < length sign.now }
     ensures { option_map (λ cut. (cut.0.now, cut.1.now)) result ≡ cut_at sign.now text.now }

@@ -109,7 +109,7 @@ impl ManifestError {
             ManifestError::UnknownDryRun(_) =>
                 "].metricName: UnknownDryRun: expected a metric's whole name, or `.*` for all, \
                  and no other regular expression; no metric has the name",
-            ManifestError::OpenBraces(_) => ": OpenBraces: expected }} behind {{",
+            ManifestError::OpenBraces(_) => ": OpenBraces: expected }} after {{",
             ManifestError::UnknownArg(_) =>
                 ": UnknownArg: expected {{args.NAME}} with a name of `spec.args`",
             ManifestError::NoValue(_) =>

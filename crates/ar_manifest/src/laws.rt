@@ -22,7 +22,7 @@ pub fn plain_text_stays()
         → Lacks (codes "{{") text → bound_text arguments own i text ≡ Ok text }
 {}
 
-/// A text with one reference is bound to what stands before it, its value, and what stands after.
+/// A text with one reference is bound to what comes before it, its value, and what comes after.
 pub fn one_reference_gives_way()
     ensures { (arguments : TemplateArguments) (own : RunArguments) (i : ℕ)
         (text before behind between after value : List ℕ)

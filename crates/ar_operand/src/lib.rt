@@ -1,4 +1,4 @@
-//! What runs of code in memory stand on: values as operands, lent by the measured value and the code, and
+//! What runs of code in memory stand on: values as operands, borrowed from the measured value and the code, and
 //! the machine of `ar_op/specs/Machine` as memory keeps its states.
 //!
 //! `ar_machine` runs verified code without operand tests, `ar_tested` any code with them. Both stand on what
@@ -6,7 +6,7 @@
 //! None takes memory.
 //!
 //! - [`outcome`]: what a run answers and costs
-//! - [`lent`]: values that are lent; [`list`]: lists, lent or made; [`compare`]: orders and equality of values
+//! - [`lent`]: values that are borrowed; [`list`]: lists, borrowed or made; [`compare`]: orders and equality of values
 //! - [`operand`]: operands; [`operators`]: operators on operands of the kinds that they take (`specs/Kinded`).
 //!   `ar_machine` alone uses them, but they need no verified code
 //! - [`predicate`]: what an item comes to that a loop has looked at

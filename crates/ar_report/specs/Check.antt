@@ -10,7 +10,7 @@ use Rattle.ar_bundle.specs.declared.bundle.MetricPart.{MetricPart}
 use Rattle.ar_bundle.specs.declared.bundle.RunPart.{RunPart}
 use Rattle.ar_report.specs.Report.{counted}
 
--- what stands before the text of each condition: its run, its metric, and which of the two it is
+-- what comes before the text of each condition: its run, its metric, and which of the two it is
 unfoldable pub condition_name : (run metric which : List ℕ) → List ℕ
 condition_name run metric which = codes "run " ++ (run ++ (codes " metric " ++ (metric ++ (codes " " ++ which))))
 

@@ -15,7 +15,7 @@ pub data Frame : Type 0 where
   RightOf : (at : ℕ) (operator : Binary) (first : Expression) → Frame
   -- the operand of a sign before it
   Prefixed : (at : ℕ) (operator : Unary) → Frame
-  -- what stands after `?`, and after `:`
+  -- what comes after `?`, and after `:`
   Yes : (at : ℕ) (condition : Expression) → Frame
   No : (at : ℕ) (condition met : Expression) → Frame
   -- what stands in `(`, in the `[` of a list and in that of an index

@@ -81,7 +81,7 @@ impl SyntaxError {
                 "Unexpected: no condition goes on so, as `result >= 0.95` does; a {{args.name}} \
                  gives way to its value before a condition is read",
             SyntaxError::UnknownName(_) =>
-                "UnknownName: no word of the language, as `result` is, and no name behind a point",
+                "UnknownName: no word of the language, as `result` is, and no name after a point",
             SyntaxError::WrongCount(_) =>
                 "WrongCount: len and isNil take one argument, default, all, any, none, one, count and filter two",
             SyntaxError::ItemOutside(_) =>

@@ -17,12 +17,12 @@ pub(crate) enum Frame {
         at: usize,
         operator: Unary,
     },
-    /// What stands after `?`.
+    /// What comes after `?`.
     Yes {
         at: usize,
         condition: Box<Tree>,
     },
-    /// What stands after `:`.
+    /// What comes after `:`.
     No {
         at: usize,
         condition: Box<Tree>,

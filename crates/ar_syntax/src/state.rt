@@ -20,7 +20,7 @@ pub(crate) enum State {
         at: usize,
         owner: Box<Tree>,
     },
-    /// What stands after the `[` of an index or field is wanted.
+    /// What comes after the `[` of an index or field is wanted.
     WantIndex {
         at: usize,
         owner: Box<Tree>,

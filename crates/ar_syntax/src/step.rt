@@ -341,7 +341,7 @@ fn end_braces(
     }
 }
 
-/// What stands after `?` ends.
+/// What comes after `?` ends.
 #[tactic(auto, using(crate::proofs::Climbs::pops))]
 fn end_yes(
     stack: &mut Vec<Frame>,

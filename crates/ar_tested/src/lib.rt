@@ -5,7 +5,7 @@
 //! a place or that the next operation costs more than is left. That is how the run of the machine in
 //! `ar_op/specs/Machine` ends, by the definitions in `specs/Run`; [`laws`] says that a run ends in one way
 //! only. Only out of memory can keep it from that, which operands, loops and the lists that code makes
-//! take. Texts and values are lent by the measured value and by the code.
+//! take. Texts and values are borrowed from the measured value and from the code.
 //!
 //! Nothing that the program runs stands on it: judges run verified code by `ar_machine`.
 //!
@@ -13,7 +13,7 @@
 //! - `runs`: runs, loops over states; `state`: those
 //! - `machine`: operations on states; `effect`: those that take operands and give one; `loops`: the
 //!   begin and the step of a loop
-//! - `stack`, `operand`, `list`: operands, lent where the measured value or the code has them;
+//! - `stack`, `operand`, `list`: operands, borrowed where the measured value or the code has them;
 //!   `operators`: signs, arithmetic, orders and equality of operands
 //! - [`laws`]: what holds of all runs
 //!

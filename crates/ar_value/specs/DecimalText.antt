@@ -56,7 +56,7 @@ abbrev pub exponent_of : List ℕ → Option Scale
 exponent_of text =
     if is_exponent (without_leading_sign text) then Some (scale_by (starts_with_minus text) (digits_value 10 (without_leading_sign text))) else None
 
--- the scale of a text: that of what stands after its exponent's mark, or none where there is no mark
+-- the scale of a text: that of what comes after its exponent's mark, or none where there is no mark
 abbrev pub scale_of : List ℕ → Option Scale
 scale_of text = if list_any marks_exponent text then exponent_of (after_first marks_exponent text) else Some (record { up = 0; down = 0 })
 
@@ -64,7 +64,7 @@ abbrev pub of_unsigned : Bool → List ℕ → Result ℤ NumberFault
 of_unsigned is_negative text =
     of_mantissa is_negative (before_first is_point (before_first marks_exponent text)) (after_first is_point (before_first marks_exponent text)) (scale_of text)
 
--- The decimal that a text stands for, or what is wrong with it: the mantissa is what stands after the sign and before
+-- The decimal that a text stands for, or what is wrong with it: the mantissa is what comes after the sign and before
 -- the exponent's mark, and has digits before its first point and after it.
 unfoldable pub decimal_of : List ℕ → Result ℤ NumberFault
 decimal_of text = if is_not_finite text then Err NotFinite else of_unsigned (starts_with_minus text) (without_leading_sign text)

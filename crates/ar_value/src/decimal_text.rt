@@ -97,7 +97,7 @@ fn scale_of(text: &[u8]) -> Option<Scale>
     }
 }
 
-/// What stands after a byte.
+/// What comes after a byte.
 fn behind(text: &[u8], at: usize) -> &[u8]
     requires { at < length text.now }
     ensures { result.now ≡ drop (at + 1) text.now }
@@ -163,7 +163,7 @@ fn split_sign(text: &[u8]) -> (bool, &[u8])
     }
 }
 
-/// What stands before the first point, and what stands after it.
+/// What comes before the first point, and what comes after it.
 fn split_point(mantissa: &[u8]) -> (&[u8], &[u8])
     ensures before { result.0.now ≡ before_first is_point mantissa.now }
     ensures behind { result.1.now ≡ after_first is_point mantissa.now }

@@ -1,4 +1,4 @@
--- From each place of code in which the verifier found nothing there is a dearest way forward.
+-- From each place of code in which the verifier found nothing there is a most expensive way forward.
 use Rattle.std.proofs.Common.{◌≡◌, ◌<◌, ◌≤◌, ℕ, zero, suc, ◌+◌, ◌*◌, List, length, Some, refl, sym, subst, inl, inr, arith}
 use Rattle.std.specs.Prelude.{◌⊎◌}
 use Rattle.std.proofs.lemmas.Bool.Decides.{leb_tells}
@@ -83,7 +83,7 @@ module _ (code : Code) (shape : Shape) (sents : List Sent) (is : Clean code shap
   way_by place op cost there (loops {step = step} {body = body} {cost = rest} {predicate = predicate} at inner way) =
       subst (λ op. WayBy place op (suc (most_here place * body + rest))) (same_op place (Enter predicate step) op at there) (body, rest, inner, way, refl)
 
-  -- ---- the dearest of them
+  -- ---- the most expensive of them
 
   abbrev Dear : ℕ → Type 0
   Dear place = (cost : ℕ) × IsDearest code.ops sents place cost
@@ -117,7 +117,7 @@ module _ (code : Code) (shape : Shape) (sents : List Sent) (is : Clean code shap
     },
   )
 
-  -- of two ways on, the dearer one
+  -- of two ways on, the more expensive one
   either_dear : (place target : ℕ) (op : Op) → At place op → GoesOn op → JumpsTo op target → ((cost : ℕ) → WayBy place op cost → NextWay place op cost ⊎ JumpWay target cost) → Dear (suc place) → Dear target → Dear place
   either_dear place target op there on jump only next far = elim (leb_tells (suc far.0) (price op (most_here place) + next.0)) [
     | inl w ↦ (price op (most_here place) + next.0, record { way = goes_on there on next.1.way; dearest = λ other way. below next far (price op (most_here place) + next.0) (omega arith) (omega (arith, w.1)) other (only other (way_by place op other there way)) })
@@ -169,7 +169,7 @@ module _ (code : Code) (shape : Shape) (sents : List Sent) (is : Clean code shap
       let op = nth_there code.ops place below in
       dear_by place op.0 op.1 (λ other ahead inside. dear_from left other (omega arith) inside)
 
-  -- what is due from a place: what the dearest way costs
+  -- what is due from a place: what the most expensive way costs
   dear_at : (place : ℕ) → (cost : ℕ) × (place < length code.ops → IsDearest code.ops sents place cost)
   dear_at place = elim (leb_tells (length code.ops) place) [
     | inl w ↦ (0, λ below. absurd (omega (arith, w.1, below)))

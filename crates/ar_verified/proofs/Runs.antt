@@ -54,7 +54,7 @@ module _ (code : Code) (shape : Shape) (sents : List Sent) (is : Clean code shap
   ends_from zero s good few = let some = some_due s good in absurd (omega arith)
   ends_from (suc k) s good few = ends_by k s few (ends_from k) (step code value s) (sound.steps code shape sents is tables value fit_value due prices s good)
 
-  -- ---- what stands after so many steps
+  -- ---- what comes after so many steps
 
   abbrev Safe : Next → Type 0
   Safe (goes t) = Good t

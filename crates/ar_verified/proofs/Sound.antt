@@ -476,7 +476,7 @@ module _ (code : Code) (shape : Shape) (sents : List Sent) (is : Clean code shap
     begins_it : (loop.enter == enter && begins_loop predicate place (nth code.ops enter)) ≡ true
     begins_it = both (loop.enter == enter) (begins_loop predicate place (nth code.ops enter)) (rw s.in_loop.of (itself enter)) (rw s.the_enter (both (is_same predicate predicate) (place == place) (same_as_itself predicate) (itself place)))
 
-  -- what stands after a Step, and at the begin of its loop's body
+  -- what comes after a Step, and at the begin of its loop's body
   at_step : (place enter : ℕ) (predicate : Predicate) (there : At place (Step predicate enter)) (loop : Loop) (outer : List Loop) (base lower : List Value) → InLoop loop enter base lower → InLoops outer (held code.ops enter) lower
       → (taken : List Kind) → ended predicate place taken (Here_at place (Step predicate enter) there).had.loops ≡ Ok (Here_at place (Step predicate enter) there).more → AtStep place enter predicate loop outer base lower
   at_step place enter predicate there loop outer base lower in_loop around_it taken h_ended =

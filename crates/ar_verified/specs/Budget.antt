@@ -65,11 +65,11 @@ module _ (ops : List Op) (sents : List Sent) where
     loops : {place step body cost : ℕ} {predicate : Predicate} → At place (Enter predicate step) → Way (suc place) body → Way (suc step) cost
         → Way place (suc (most_at place * body + cost))
 
-  -- what the dearest way from a place costs
+  -- what the most expensive way from a place costs
   pub record IsDearest (place cost : ℕ) : Type 0 where
     pub way : Way place cost
     pub dearest : (other : ℕ) → Way place other → other ≤ cost
 
-  -- the budget is what the dearest way from the first place costs
+  -- the budget is what the most expensive way from the first place costs
   abbrev pub IsBudget : (cost : ℕ) → Type 0
   IsBudget cost = IsDearest 0 cost

@@ -1,4 +1,4 @@
--- What the dearest ways cost, place by place from the code's end, where costs above the greatest budget count as one more than it.
+-- What the most expensive ways cost, place by place from the code's end, where costs above the greatest budget count as one more than it.
 use Rattle.std.proofs.Common.{◌≡◌, ◌<◌, ℕ, zero, suc, ◌+◌, ◌-◌, ◌*◌, min, max, List, length, get_or, get_or-set_other, get_or-set_same, Some, refl, sym, ap, subst, inl, inr, ◌∙◌, arith}
 use Rattle.std.specs.Prelude.{◌⊎◌, ◌≢◌, false, slice_set}
 use Rattle.std.proofs.lemmas.Bool.Decides.{leb_tells}

@@ -12,7 +12,7 @@ use std::alloc::{AllocError, Global};
 /// The greatest budget that code is accepted with.
 const GREATEST_BUDGET: u64 = 1_000_000_000;
 
-/// What all costs above the greatest budget count as. Where a part of code is too dear, so is the
+/// What all costs above the greatest budget count as. Where a part of code is too expensive, so is the
 /// code, unless the part is in a loop over no items, which then costs nothing of it. So this changes
 /// no budget that is accepted.
 const TOO_DEAR: u64 = GREATEST_BUDGET + 1;
@@ -52,7 +52,7 @@ fn cost_by_loop(most: u64, body: u64, behind: u64) -> u64
         .min(TOO_DEAR)
 }
 
-/// The cost of the dearest way from a place, by those of the places after it.
+/// The cost of the most expensive way from a place, by those of the places after it.
 fn cost_by(costs: &[u64], place: usize, most: u64, op: Op) -> u64
     requires { LeadsInside (length costs.now) place op }
     ensures { result ≡ cost_by costs.now place most op }
@@ -70,7 +70,7 @@ fn cost_by(costs: &[u64], place: usize, most: u64, op: Op) -> u64
     }
 }
 
-/// The cost of the dearest way from each place. Ways lead on to places after alone, so the costs
+/// The cost of the most expensive way from each place. Ways lead on to later places alone, so the costs
 /// are found from the code's end.
 fn costs(alloc: Global, code: &Code, most: &[usize]) -> Result<Vec<u64>, AllocError>
     requires passed { HasPassed code.now }

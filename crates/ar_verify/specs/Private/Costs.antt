@@ -1,4 +1,4 @@
--- Pass 6 as the code makes it: what the dearest way from each place costs, from what those from the places after it do. What
+-- Pass 6 as the code makes it: what the most expensive way from each place costs, from what those from the places after it do. What
 -- costs more than the greatest budget counts as one more than that.
 use Rattle.std.specs.Prelude.{◌≡◌, ℕ, suc, ◌+◌, ◌*◌, ◌<◌, ◌≤◌, min, max, List, length, Ok, slice_index_or}
 use Rattle.ar_value.specs.Shape.{Shape}
@@ -18,7 +18,7 @@ too_dear = 1000000001
 abbrev pub number_at : List ℕ → (place : ℕ) → ℕ
 number_at numbers place = slice_index_or numbers place 0
 
--- ---- what the dearest way costs, where the list on top has at most so many items, by what is after
+-- ---- what the most expensive way costs, where the list on top has at most so many items, by what is after
 
 abbrev pub cost_by_next : Op → (most next : ℕ) → ℕ
 cost_by_next op most next = min too_dear (price op most + next)
@@ -59,13 +59,13 @@ HasPassed code = (shape : Shape) × ((sents : List Sent) × (passed code shape �
 abbrev pub AreMost : Code → List Sent → (most : List ℕ) → Type 0
 AreMost code sents most = (place : ℕ) → place < length code.ops → number_at most place ≡ most_at code.ops sents place
 
--- a number that stands for what the dearest way from a place costs
+-- a number that stands for what the most expensive way from a place costs
 pub record IsCapped (code : Code) (sents : List Sent) (place number : ℕ) : Type 0 where
   pub cost : ℕ
   pub dearest : IsDearest code.ops sents place cost
   pub is : number ≡ min too_dear cost
 
--- a number stands for what the dearest way from a place costs, whatever the passes found to arrive there
+-- a number stands for what the most expensive way from a place costs, whatever the passes found to arrive there
 abbrev pub IsCost : Code → (most : List ℕ) → (place number : ℕ) → Type 0
 IsCost code most place number = (shape : Shape) (sents : List Sent) → passed code shape ≡ Ok sents → AreMost code sents most → IsCapped code sents place number
 
