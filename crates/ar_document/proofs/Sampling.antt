@@ -1,13 +1,15 @@
 -- Samples of what was measured.
-use Rattle.std.proofs.Common.{◌≡◌, ◌≢◌, ◌<◌, ◌≤◌, ℕ, Bool, true, false, List, length, get_or, Option, Some, None, Ok, Err, Bor, refl, subst}
-use Rattle.std.specs.Prelude.{slice_get, IfSome}
+use Rattle.std.proofs.Common.{◌≡◌, ◌≢◌, ◌<◌, ◌≤◌, ◌∙◌, ℕ, Bool, true, false, List, length, map, get_or, Option, Some, None, Ok, Err, Bor, refl, sym, ap, arith}
+use Rattle.std.specs.Prelude.{slice_get, option_map, IfSome}
 use Rattle.std.specs.List.{HoldsAt}
 use Rattle.std.specs.Option.{MatchOption, ok_or}
-use Rattle.std.proofs.lemmas.Option.{slice_get_read}
+use Rattle.std.proofs.lemmas.List.{length-map}
+use Rattle.std.proofs.lemmas.Option.{slice_get-map, slice_get_past, slice_get_read}
 use Rattle.serde_json.specs.Data.{Data}
 use Rattle.ar_value.specs.Answer.{Unless}
 use Rattle.ar_json.specs.Reading.{is_memory, is_memory_under, read}
 use Rattle.ar_value.specs.Shape.{Shape}
+use Rattle.ar_value.specs.declared.shape.Shape.{Shape as Declared}
 use Rattle.ar_json.specs.declared.value_reading.ShapeFault.{ShapeFault}
 use Rattle.ar_json.specs.declared.value_reading.ShapeFault.TheVariants.{OutOfMemory}
 use Rattle.ar_json.proofs.ReadLemmas.{under_is_memory}
@@ -27,10 +29,26 @@ misfit_told shape json fault none told = rw (by_memory (is_memory fault) (is_mem
 pub misfit_suits : (fault : ShapeFault) → is_memory fault ≡ false → fault ≢ OutOfMemory
 misfit_suits fault none same = absurd (let is : is_memory OutOfMemory ≡ false = rw same at none in cc)
 
--- a metric that was found at a number
-pub found_at : (metrics : List MetricPart) (i : ℕ) (found : Option (Bor MetricPart)) (part : Bor MetricPart) (refusal : BundleError) → Ok part ≡ ok_or found refusal → IfSome found (λ x. x.now ≡ get_or metrics i x.now)
-    → MatchOption found (length metrics ≤ i) (λ x. (i < length metrics) × HoldsAt (λ y. x.now ≡ y) metrics i) → slice_get metrics i ≡ Some part.now
-found_at metrics i (Some x) part refusal is at holds =
-    let same : x ≡ part = cc in
-    slice_get_read metrics (length metrics) i part.now refl holds.0 (subst (λ (x : Bor MetricPart). x.now ≡ get_or metrics i x.now) same at)
-found_at metrics i None part refusal is at holds = absurd cc
+-- the reader that was found at a number
+pub found_at : {X : Type 0} (readers : List X) (i : ℕ) (found : Option (Bor X)) (reader : Bor X) (refusal : BundleError) → Ok reader ≡ ok_or found refusal → IfSome found (λ x. x.now ≡ get_or readers i x.now)
+    → MatchOption found (length readers ≤ i) (λ x. (i < length readers) × HoldsAt (λ y. x.now ≡ y) readers i) → slice_get readers i ≡ Some reader.now
+found_at readers i (Some x) reader refusal is at holds =
+    let same : x ≡ reader = cc in
+    slice_get_read readers (length readers) i reader.now refl holds.0 (rw (← same) at)
+found_at readers i None reader refusal is at holds = absurd cc
+
+some_metric : (found : Option MetricPart) (shape : Declared) → option_map (λ metric. metric.shape) found ≡ Some shape → (metric : MetricPart) × (found ≡ Some metric) × (metric.shape ≡ shape)
+some_metric (Some metric) shape is = (metric, refl, cc)
+some_metric None shape is = absurd cc
+
+-- metrics whose readers are these have one at the number of a reader, with its shape
+pub metric_at : (metrics : List MetricPart) (readers : List Declared) (i : ℕ) (shape : Declared) → readers ≡ map (λ metric. metric.shape) metrics → slice_get readers i ≡ Some shape
+    → (metric : MetricPart) × (slice_get metrics i ≡ Some metric) × (metric.shape ≡ shape)
+metric_at metrics readers i shape are at =
+    some_metric (slice_get metrics i) shape (sym (slice_get-map (λ (metric : MetricPart). metric.shape) metrics i) ∙ ap (λ list. slice_get list i) (sym are) ∙ at)
+
+-- and none where there is no reader
+pub no_metric_at : (metrics : List MetricPart) (readers : List Declared) (i : ℕ) → readers ≡ map (λ metric. metric.shape) metrics → length readers ≤ i → slice_get metrics i ≡ None
+no_metric_at metrics readers i are past =
+    let many : length readers ≡ length metrics = ap length are ∙ length-map metrics (λ metric. metric.shape) in
+    slice_get_past metrics i (omega (arith, many, past))

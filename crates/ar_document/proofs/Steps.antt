@@ -1,5 +1,5 @@
 -- One item of a document after another: items are seen by a view, and so is what is made of them.
-use Rattle.std.proofs.Common.{◌≡◌, ℕ, ◌+◌, ◌≤◌, ◌<◌, List, [], ◌∷◌, ◌++◌, length, drop, map, get_or, refl, sym, ◌∙◌, ap, Result, Ok, Err}
+use Rattle.std.proofs.Common.{◌≡◌, ℕ, ◌+◌, ◌≤◌, ◌<◌, List, [], ◌∷◌, ◌++◌, length, drop, map, get_or, refl, sym, ◌∙◌, ap, arith, Result, Ok, Err}
 use Rattle.std.proofs.lemmas.List.{map-append, map-id}
 use Rattle.ar_value.specs.Answer.{◌>>=◌, Unless, each_behind}
 use Rattle.ar_value.proofs.Steps as steps
@@ -22,6 +22,10 @@ module _ {J A C B : Type 0} (view : J → A) (made_view : C → B) (step : List 
   pub step_end : length list ≤ i → each_behind step (map made_view earlier) (map view (drop i list)) ≡ all → all ≡ Ok (map made_view earlier)
   step_end past = steps.step_end view step list i (map made_view earlier) all (map made_view earlier) past refl
 
+nothing_in : {A : Type 0} (items : List A) → length items ≡ 0 → items ≡ []
+nothing_in [] none = refl
+nothing_in (item ∷ items) none = absurd (omega (arith, none))
+
 -- Of a list of which each item is dropped after its step, what is left.
 module _ {J A C B : Type 0} (view : J → A) (made_view : C → B) (step : List B → A → Result B BundleError) (left : List J) (earlier : List C) (all : Result (List B) BundleError) where
   -- the first becomes what the step makes of it
@@ -42,9 +46,9 @@ module _ {J A C B : Type 0} (view : J → A) (made_view : C → B) (step : List 
       (sym (ap (λ rest. each_behind step (map made_view earlier) (map view rest)) is) ∙ so_far)
 
   -- where nothing is left all are made
-  pub none_left : left ≡ [] → each_behind step (map made_view earlier) (map view left) ≡ all → all ≡ Ok (map made_view earlier)
+  pub none_left : length left ≡ 0 → each_behind step (map made_view earlier) (map view left) ≡ all → all ≡ Ok (map made_view earlier)
   unfolding each_behind
-  none_left is so_far = sym so_far ∙ ap (λ rest. each_behind step (map made_view earlier) (map view rest)) is
+  none_left none so_far = sym so_far ∙ ap (λ rest. each_behind step (map made_view earlier) (map view rest)) (nothing_in left none)
 
 -- what is made is seen as it is
 pub as_it_is : {B : Type 0} (all : Result (List B) BundleError) (made : List B) → all ≡ Ok (map (λ x. x) made) → all ≡ Ok made

@@ -21,12 +21,13 @@ use crate::error::BundleError;
 use crate::names::Numbers;
 use crate::opening::Opened;
 use ar_bundle::{EventPart, What};
-use ar_json::value_reading::{ShapeFault, read_value};
+use ar_json::Reader;
+use ar_json::value_reading::ShapeFault;
 use ar_judge::Sample;
 use ar_value::holding::add;
-use ar_value::shape::Shape;
 use serde_json::Value as Json;
 use std::alloc::Global;
+use std::mem;
 
 /// How many entries a document may have.
 const MOST_ENTRIES: usize = 100_000;
@@ -77,19 +78,19 @@ fn misfit_of(fault: ShapeFault) -> Result<Sample, BundleError>
     }
 }
 
-/// The sample of what was given, under the shape of its metric.
+/// The sample of what was given, read under the shape of its metric.
 #[tactic(auto, using(crate::proofs::Sampling::misfit_told, crate::proofs::Sampling::misfit_suits))]
-fn sample_of(alloc: Global, shape: &Shape, found: Option<&Json>) -> Result<Sample, BundleError>
+fn sample_of(alloc: Global, reader: &Reader, found: Option<&Json>) -> Result<Sample, BundleError>
     ensures exact { IfOk result
-        (λ sample. sample_view sample ≡ sample_of (shape_view shape.now)
+        (λ sample. sample_view sample ≡ sample_of (shape_view reader.now)
         (option_map (λ json. view json.now) found.entry)) }
-    ensures suits { IfOk result (λ sample. SampleSuits (shape_view shape.now) (sample_view sample)) }
+    ensures suits { IfOk result (λ sample. SampleSuits (shape_view reader.now) (sample_view sample)) }
     ensures memory { IfErr result (λ e. e ≡ OutOfMemory) }
 {
     let Some(json) = found else {
         return Ok(Sample::Provider);
     };
-    match read_value(alloc, json, shape) {
+    match reader.read(alloc, json) {
         Ok(value) => Ok(Sample::Measured(value)),
         Err(fault) => misfit_of(fault),
     }
@@ -135,11 +136,11 @@ fn measured_of(
     ensures entry { IfOk result (IsEntry opened.now.metrics.items (length opened.now.runs.items)) }
 {
     let metric = number_of(&opened.metric_numbers, name).ok_or(BundleError::UnknownMetric(number))?;
-    let part = opened
-        .metrics
+    let reader = opened
+        .readers
         .get(metric)
         .ok_or(BundleError::UnknownMetric(number))?;
-    let sample = sample_of(alloc, part.shape.get(), found)?;
+    let sample = sample_of(alloc, reader, found)?;
     Ok(EventPart {
         run,
         what: What::Measure(metric, sample),
@@ -237,7 +238,9 @@ fn entries_of(
 {
     let mut entries = Vec::with_capacity(alloc, items.len())?;
     for item in items {
-        let entry = entry_of(alloc, opened, entries.len(), &item)?;
+        let read = entry_of(alloc, opened, entries.len(), &item);
+        mem::drop(item);
+        let entry = read?;
         add(&mut entries, entry)?;
     }
     Ok(entries)

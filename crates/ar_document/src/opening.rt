@@ -17,6 +17,7 @@ use crate::error::BundleError;
 use crate::names::{Numbers, add_name};
 use crate::runs::{Run, read_runs};
 use ar_bundle::MetricPart;
+use ar_json::Reader;
 use ar_json::shape_reading::{ShapeError, read_shape};
 use ar_manifest::{ManifestError, Metric, Template};
 use ar_value::holding::{add, beside};
@@ -26,12 +27,14 @@ use serde_json::Value as Json;
 use std::alloc::{AllocError, Global};
 use std::mem;
 
-/// A document's template, its metrics with their shapes, its runs as they are written, and the
-/// numbers of metrics and runs by their names.
+/// A document's template, its metrics with their shapes and what reads their values, its runs as they
+/// are written, and the numbers of metrics and runs by their names.
 #[derive(Drop)]
 pub(crate) struct Opened {
     pub template: Template,
     pub metrics: Vec<MetricPart>,
+    /// One for each metric.
+    pub readers: Vec<Reader>,
     pub runs: Vec<Run>,
     pub run_numbers: Numbers,
     pub metric_numbers: Numbers,
@@ -42,8 +45,8 @@ impl Opened {
     pub(crate) fn into_metrics(self) -> Vec<MetricPart>
         ensures { result ≡ self.metrics }
     {
-        let held = (self.template, self.runs, self.run_numbers);
-        mem::drop((held, self.metric_numbers));
+        let held = (self.template, self.readers, self.runs);
+        mem::drop((held, self.run_numbers, self.metric_numbers));
         self.metrics
     }
 }
@@ -128,20 +131,46 @@ fn numbers_of(alloc: Global, metrics: &[MetricPart]) -> Result<Numbers, AllocErr
     Ok(numbers)
 }
 
-/// The metrics of a template with their shapes, and their numbers by their names.
+/// What reads the values of each metric.
+fn readers_of(alloc: Global, metrics: &[MetricPart]) -> Result<Vec<Reader>, AllocError>
+    ensures { IfOk result (λ readers. readers.items ≡ map (λ metric. metric.shape) metrics.now) }
+{
+    let mut readers = Vec::with_capacity(alloc, metrics.len())?;
+    for metric in metrics {
+        let shape = metric.shape.share()?;
+        let reader = Reader::new(alloc, shape)?;
+        add(&mut readers, reader)?;
+    }
+    Ok(readers)
+}
+
+/// The numbers of metrics by their names, and what reads their values.
+fn numbers_and_readers(
+    alloc: Global,
+    metrics: &[MetricPart],
+) -> Result<(Numbers, Vec<Reader>), AllocError>
+    ensures numbers { IfOk result (λ made. AreNumbers (metric_names (map metric_view metrics.now)) made.0) }
+    ensures readers { IfOk result (λ made. made.1.items ≡ map (λ metric. metric.shape) metrics.now) }
+{
+    let numbers = numbers_of(alloc, metrics)?;
+    beside(numbers, readers_of(alloc, metrics))
+}
+
+/// The metrics of a template with their shapes, their numbers by their names, and what reads their values.
 fn numbered_metrics(
     alloc: Global,
     shapes: Option<&Json>,
     metrics: &[Metric],
-) -> Result<(Vec<MetricPart>, Numbers), BundleError>
+) -> Result<(Vec<MetricPart>, (Numbers, Vec<Reader>)), BundleError>
     ensures exact { Gives is_memory (λ made. map metric_view made.0.items) result
         (metrics_in (option_map (λ json. view json.now) shapes.entry) metrics.now) }
     ensures each { IfOk result (λ made. length made.0.items ≡ length metrics.now) }
-    ensures numbers { IfOk result (λ made. AreNumbers (metric_names (map metric_view made.0.items)) made.1) }
+    ensures numbers { IfOk result (λ made. AreNumbers (metric_names (map metric_view made.0.items)) made.1.0) }
+    ensures readers { IfOk result (λ made. made.1.1.items ≡ map (λ metric. metric.shape) made.0.items) }
 {
     let parts = metrics_of(alloc, shapes, metrics)?;
-    let numbers = numbers_of(alloc, &parts);
-    Ok(beside(parts, numbers)?)
+    let found = numbers_and_readers(alloc, &parts);
+    Ok(beside(parts, found)?)
 }
 
 /// A document's template, metrics and runs.
@@ -154,11 +183,12 @@ pub(crate) fn open(alloc: Global, document: &Json) -> Result<Opened, BundleError
     let metrics = numbered_metrics(alloc, document.get("shapes"), template.metrics.as_slice());
     let held = beside(template, metrics)?;
     let (held, runs) = beside(held, read_runs(alloc, document))?;
-    let (template, (metrics, metric_numbers)) = held;
+    let (template, (metrics, (metric_numbers, readers))) = held;
     let (runs, run_numbers) = runs;
     Ok(Opened {
         template,
         metrics,
+        readers,
         runs,
         run_numbers,
         metric_numbers,

@@ -10,7 +10,7 @@ pub returns-in_err-opened-2 : goal.returns-in_err-opened-2
 returns-in_err-opened-2 c =
     let error = err_from_is_err_and c.from_residual-in_err-opened-2.result c.from_residual-in_err-opened-2.ensures.1 in
     let refused = rw c.in_err-opened-2.ensures.err at c.parts_and_entries-made.ensures.refused in
-    let document = view c.args.document.now in
+    let document = view c.args.document in
     rw (error.1, error.2)
     (refuses document c.in_err-opened-2.field-0.0
     (leads (is_memory c.in_err-opened-2.field-0.0) (made_refused (opened_view c.in_ok-opened.opened) document c.in_ok-opened.ensures.exact c.in_err-opened-2.field-0.0) refused))

@@ -5,4 +5,5 @@ use Rattle.ar_document.proofs.bundle.parts_and_entries.Goals as goal
 
 pub returns-clause-refused : goal.returns-clause-refused
 returns-clause-refused c =
-    entries_refused (opened_view c.args.opened.now) (view c.args.document.now) c.in_ok-parts.parts.items c.in_ok-parts.ensures.parts _ c.read_entries.result c.read_entries.ensures.exact c.beside.result c.beside.ensures.err
+    let parts = rw c.in_ok-document.ensures.ok.0 at c.parts_of.ensures.parts in
+    entries_refused (opened_view c.args.opened.now) (view c.args.document) c.in_ok-document.parts.items parts _ c.read_entries.result (rw c.in_ok-document.ensures.ok.1 at c.read_entries.ensures.exact) c.beside-2.result c.beside-2.ensures.err

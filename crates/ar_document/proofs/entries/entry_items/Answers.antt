@@ -2,9 +2,5 @@ use Rattle.std.proofs.Common.{rules}
 use Rattle.ar_document.proofs.Counting.{few_entries_are, many_entries}
 use Rattle.ar_document.proofs.entries.entry_items.Goals as goal
 
-pub returns-then-items-gt-MOST_ENTRIES-clause-exact :
-    goal.returns-then-items-gt-MOST_ENTRIES-clause-exact
-returns-then-items-gt-MOST_ENTRIES-clause-exact c = search (rules, many_entries, few_entries_are)
-
 pub returns-clause-exact : goal.returns-clause-exact
 returns-clause-exact c = search (rules, many_entries, few_entries_are)
