@@ -2,7 +2,7 @@
 
 ghost use Rattle.std.specs.Prelude.{◌≡◌, map, option_map};
 ghost use Rattle.serde_json.specs.View.{view};
-ghost use Rattle.ar_words.specs.Words.{entry_text, item_at, list_in, metrics, runs, template_list, text_at};
+ghost use Rattle.ar_words.specs.Lists.{entry_text, item_at, list_in, metrics, runs, template_list, text_at};
 
 use ar_json::members::{list_of, member, member_of_member, text_member};
 use serde_json::Value as Json;

@@ -3,15 +3,24 @@
 ghost use Rattle.std.specs.Prelude.{◌≡◌, ◌<◌, ◌++◌, IfOk, OnOk, codes, length, map, option_map, string_bytes};
 ghost use Rattle.serde_json.specs.View.{view};
 ghost use Rattle.ar_manifest.specs.Cut.{cut_at};
-ghost use Rattle.ar_words.specs.Names.{item_text, quoted};
-ghost use Rattle.ar_words.specs.Words.{beside_item, beside_metric, beside_run, bundle_words, eval_words, has_braces, in_place, item_at, manifest_words, template_words, those_there, with_argument, with_arguments, with_double_name, with_names};
+ghost use Rattle.ar_words.specs.Bindings.{bound_condition};
+ghost use Rattle.ar_words.specs.Conditions.{build_words};
+ghost use Rattle.ar_words.specs.Lists.{item_at};
+ghost use Rattle.ar_quote.specs.Shown.{quoted};
+ghost use Rattle.ar_words.specs.Names.{item_text};
+ghost use Rattle.ar_words.specs.Words.{beside_item, beside_metric, beside_run, built_words, bundle_words, eval_words, has_braces, in_place, manifest_words, template_words, those_there, with_advice, with_argument, with_arguments, with_double_name, with_names};
 
+use crate::bindings::{bound_of, refused_condition};
+use crate::conditions::{build_text, condition_text};
+use crate::cuts::cut_at;
 use crate::lists::{entry_text, item_at, metrics, runs, template_list, text_at};
-use crate::names::{item_text, push_names, push_quoted};
+use crate::names::{item_text, push_names};
 use ar_document::BundleError;
 use ar_eval::EvalError;
 use ar_json::members::text_member;
+use ar_judge::{BuildCause, BuildError};
 use ar_manifest::ManifestError;
+use ar_quote::push_quoted;
 use serde_json::Value as Json;
 use std::alloc::{AllocError, Global};
 use std::fmt::Write;
@@ -22,14 +31,6 @@ const ARGUMENTS_HINT: &str =
 const MANIFEST_HINT: &str = "; the document has no member `manifest`, into which the template goes";
 
 // ---- names in a text
-
-/// What stands before the first place of some words, and what behind it.
-fn cut_at<'a>(text: &'a str, words: &str) -> Option<(&'a str, &'a str)>
-    requires { 0 < length words.now }
-    ensures { option_map (λ cut. (cut.0.now, cut.1.now)) result ≡ cut_at words.now text.now }
-{
-    text.split_once(words)
-}
 
 /// The text with what is shown, if anything is, in the place of the first of some words.
 #[tactic(auto, unfolding(crate::specs::Words::in_place))]
@@ -244,6 +245,41 @@ fn manifest_text(
 
 // ---- refusals
 
+/// The text of a refusal of a metric's condition, with the condition.
+#[tactic(auto, unfolding(crate::specs::Bindings::bound_condition))]
+fn with_condition(
+    alloc: Global,
+    document: &Json,
+    text: String,
+    run: usize,
+    metric: usize,
+    error: BuildError,
+) -> Result<String, AllocError>
+    ensures { IfOk result (λ said. string_bytes said
+        ≡ build_words (bound_condition (view document.now) run metric error) error (string_bytes text)) }
+{
+    let bound = bound_of(alloc, document, run)?;
+    build_text(alloc, text, refused_condition(&bound, metric, error), error)
+}
+
+/// The text of a refusal of a metric's condition, with the names of the run and the metric.
+#[tactic(auto, unfolding(crate::specs::Words::built_words))]
+fn built_text(
+    alloc: Global,
+    document: &Json,
+    text: String,
+    run: usize,
+    metric: usize,
+    error: BuildError,
+) -> Result<String, AllocError>
+    ensures { IfOk result (λ said. string_bytes said
+        ≡ built_words (view document.now) run metric error (string_bytes text)) }
+{
+    let text = with_condition(alloc, document, text, run, metric, error)?;
+    let text = beside_metric(alloc, document, text, metric)?;
+    beside_run(alloc, document, text, run)
+}
+
 /// The text of a refusal of a bundle's document: its own text, with names of the document beside its
 /// numbers.
 ///
@@ -269,9 +305,8 @@ pub fn bundle_text(
             let text = template_text(alloc, document, text, cause)?;
             beside_run(alloc, document, text, run)
         }
-        BundleError::Build(run, metric, _) => {
-            let text = beside_metric(alloc, document, text, metric)?;
-            beside_run(alloc, document, text, run)
+        BundleError::Build(run, metric, error) => {
+            built_text(alloc, document, text, run, metric, error)
         }
         BundleError::UnknownRun(entry) => {
             let name = entry_text(document, entry, "run");
@@ -295,20 +330,38 @@ fn has_braces(condition: Option<&str>) -> bool
     }
 }
 
-/// The text of a refusal of what `eval` reads: its own text, and where arguments are bound, if the
-/// condition has braces.
+/// The text with where arguments are bound, if the condition has braces.
+fn with_advice(condition: Option<&str>, mut text: String) -> Result<String, AllocError>
+    ensures { IfOk result (λ said. string_bytes said
+        ≡ with_advice (option_map (λ text. text.now) condition.entry) (string_bytes text)) }
+{
+    if has_braces(condition) {
+        text.push_str(ARGUMENTS_HINT)?;
+    }
+    Ok(text)
+}
+
+/// The text of a refusal of what `eval` reads: its own text with the condition, and where arguments are
+/// bound, if the condition has braces.
 ///
 /// # Errors
 ///
-/// Want of memory alone.
-pub fn eval_text(document: &Json, error: EvalError, mut text: String) -> Result<String, AllocError>
+/// Out of memory alone.
+pub fn eval_text(
+    alloc: Global,
+    document: &Json,
+    error: EvalError,
+    text: String,
+) -> Result<String, AllocError>
     ensures { IfOk result (λ said. string_bytes said ≡ eval_words (view document.now) error (string_bytes text)) }
 {
+    let condition = text_member(document, "condition");
     match error {
-        EvalError::Grammar(_) if has_braces(text_member(document, "condition")) => {
-            text.push_str(ARGUMENTS_HINT)?;
-            Ok(text)
+        EvalError::Grammar(error) => {
+            let text = condition_text(alloc, text, condition, BuildCause::Grammar(error))?;
+            with_advice(condition, text)
         }
+        EvalError::Kinds(error) => condition_text(alloc, text, condition, BuildCause::Kinds(error)),
         _ => Ok(text),
     }
 }

@@ -9,7 +9,7 @@ use Rattle.std.proofs.lemmas.List.{append-nil}
 use Rattle.std.proofs.lemmas.List.Elements.{All-from_recursion}
 use Rattle.std.proofs.lemmas.Str.{chars-encodes, encode_ascii, encodes-append, scalars-chars}
 use lib.Utf8.{encodes, low_scalar, scalar, scalars}
-use Rattle.ar_words.specs.Names.{code_escape, escaped, moves, name_end, quoted}
+use Rattle.ar_quote.specs.Shown.{code_escape, escaped, moves, name_end, quoted}
 
 abbrev Stays : ℕ → Type 0
 Stays character = moves character ≡ false

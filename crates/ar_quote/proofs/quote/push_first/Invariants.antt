@@ -1,6 +1,6 @@
 use Rattle.std.proofs.Common.{◌≡◌, ◌++◌, flat_map, string_bytes}
-use Rattle.ar_words.specs.Names.{escaped}
-use Rattle.ar_words.proofs.names.push_shown.Given as goal
+use Rattle.ar_quote.specs.Shown.{escaped}
+use Rattle.ar_quote.proofs.quote.push_first.Given as goal
 
 -- the characters so far are written
 abbrev pub invariant-loop-character : goal.invariant-loop-character

@@ -4,7 +4,7 @@ use Rattle.std.specs.Prelude.{if◌then◌else◌, nat_lt, codes}
 use Rattle.std.specs.Char.{digit_char}
 use Rattle.std.specs.Fmt.{digit_glyph, digits, format_spec, padded_integral}
 use Rattle.std.proofs.lemmas.Fmt.{hex_byte}
-use Rattle.ar_words.specs.Names.{byte_digits, code_escape}
+use Rattle.ar_quote.specs.Shown.{byte_digits, code_escape}
 
 glyph_is : (d : ℕ) → digit_glyph false d ≡ digit_char d
 glyph_is d = by (nat_lt d 10) where

@@ -2,7 +2,7 @@
 
 ghost use Rattle.std.specs.Prelude.{◌≡◌, ◌≤◌, ◌++◌, ℕ, All, List, false, length};
 ghost use Rattle.std.specs.Str.{IsUtf8, chars};
-ghost use Rattle.ar_words.specs.Names.{most_characters, moves, quoted};
+ghost use Rattle.ar_quote.specs.Shown.{most_characters, moves, quoted};
 
 /// A name stays in its line: of no character that is shown of it does a terminal make anything else.
 #[tactic(auto, using(crate::proofs::Still::names_stay))]

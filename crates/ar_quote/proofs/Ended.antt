@@ -7,8 +7,8 @@ use Rattle.std.proofs.lemmas.Bool.Decides.{Decides-eqb, nat_tests}
 use Rattle.std.proofs.lemmas.List.{append_assoc, take_all}
 use Rattle.std.proofs.lemmas.Str.{char_from_byte, digit_value-digit_char, encode_same, encodes-chars}
 use lib.Utf8.{encodes}
-use Rattle.ar_words.specs.Names.{code_escape, escaped, moves, name_end, quoted}
-use Rattle.ar_words.proofs.Still.{code_below}
+use Rattle.ar_quote.specs.Shown.{code_escape, escaped, moves, name_end, quoted}
+use Rattle.ar_quote.proofs.Still.{code_below}
 
 -- the character that a letter behind a backslash stands for
 abbrev meant : (letter : ℕ) → ℕ
