@@ -1,6 +1,7 @@
 -- The words of refusals: a refusal's own text, with names of the document that was read beside its numbers. The document
 -- is as it was written, and may be any JSON value: what isn't there isn't named.
-use Rattle.std.specs.Prelude.{ℕ, Bool, false, if◌then◌else◌, List, [], ◌∷◌, ◌++◌, codes, Option, Some, None, is_none, is_some, option_map, unwrap_or}
+use Rattle.std.specs.Prelude.{ℕ, Bool, false, ◌||◌, if◌then◌else◌, List, [], ◌∷◌, ◌++◌, codes, Option, Some, None, is_none, is_some, option_and_then, option_map, unwrap_or}
+use Rattle.std.specs.Str.{bytes_eq}
 use Rattle.serde_json.specs.Data.{Data}
 use Rattle.serde_json.specs.Find.{get}
 use Rattle.ar_json.specs.Members.{text_member}
@@ -14,8 +15,8 @@ use Rattle.ar_eval.specs.declared.eval.EvalError.TheVariants.{Grammar, Kinds}
 use Rattle.ar_judge.specs.declared.error.BuildCause.TheVariants as build
 use Rattle.ar_judge.specs.declared.error.BuildError.{BuildError}
 use Rattle.ar_words.specs.Bindings.{bound_condition}
-use Rattle.ar_words.specs.Conditions.{build_words, condition_words}
-use Rattle.ar_words.specs.Lists.{entry_text, item_at, metrics, runs, template_list, text_at}
+use Rattle.ar_words.specs.Conditions.{behind_name, build_words, condition_words}
+use Rattle.ar_words.specs.Lists.{entry_text, item_at, list_in, metrics, runs, template_list, text_at}
 use Rattle.ar_quote.specs.Shown.{quoted}
 use Rattle.ar_words.specs.Names.{item_text, names_text, numbered}
 
@@ -74,10 +75,35 @@ template_words document (causes.IntervalMissing number) text = beside_metric doc
 template_words document cause text = text
 
 -- a template that is the whole document is told by its place
+abbrev pub with_place : Data → (text : List ℕ) → List ℕ
+with_place document text = if is_none (get (codes "manifest") document) then text ++ codes "; the document has no member `manifest`, into which the template goes" else text
+
+abbrev pub is_list_kind : (kind : List ℕ) → Bool
+is_list_kind kind = bytes_eq kind (codes "List") || bytes_eq kind (codes "AnalysisTemplateList") || bytes_eq kind (codes "ClusterAnalysisTemplateList")
+
+abbrev pub kind_of_list : (kind : Option (List ℕ)) → Option (List ℕ)
+kind_of_list None = None
+kind_of_list (Some kind) = if is_list_kind kind then Some kind else None
+
+-- the kind of what has `items`, if it is one of lists
+abbrev pub list_kind : Data → Option (List ℕ)
+list_kind d = option_and_then (λ items. kind_of_list (text_member (codes "kind") d)) (list_in (codes "items") d)
+
+abbrev pub list_words : (kind : List ℕ) → List ℕ
+list_words kind = quoted kind ++ codes " is a list of templates; one of its `items` goes into `manifest`"
+
+-- what stands in the place of a template, or is the whole document, may be a list of templates
+abbrev pub head_words : Data → (name : List ℕ) → (kind : Option (List ℕ)) → (text : List ℕ) → List ℕ
+head_words document name None text = with_place document text
+head_words document name (Some kind) text = behind_name name (list_words kind) text
+
+abbrev pub given_kind : Data → Option (List ℕ)
+given_kind document = list_kind (unwrap_or (get (codes "manifest") document) document)
+
 abbrev pub manifest_words : Data → ManifestError → (text : List ℕ) → List ℕ
-manifest_words document cause text =
-    if is_none (get (codes "manifest") document) then text ++ codes "; the document has no member `manifest`, into which the template goes"
-    else template_words document cause text
+manifest_words document causes.WrongVersion text = head_words document (codes "WrongVersion: ") (given_kind document) text
+manifest_words document causes.WrongKind text = head_words document (codes "WrongKind: ") (given_kind document) text
+manifest_words document cause text = with_place document (template_words document cause text)
 
 -- ---- refusals of bundles
 

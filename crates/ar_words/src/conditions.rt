@@ -135,7 +135,12 @@ fn taken(here: Found<'_>) -> &'static str
 
 /// The text with other words behind the name of its refusal.
 #[tactic(auto, unfolding(crate::specs::Conditions::behind_name))]
-fn behind_name(alloc: Global, text: String, name: &str, words: &str) -> Result<String, AllocError>
+pub(crate) fn behind_name(
+    alloc: Global,
+    text: String,
+    name: &str,
+    words: &str,
+) -> Result<String, AllocError>
     requires { 0 < length name.now }
     ensures { IfOk result (λ said. string_bytes said ≡ behind_name name.now words.now (string_bytes text)) }
 {

@@ -8,7 +8,7 @@ use ar_json::members::{list_of, member, member_of_member, text_member};
 use serde_json::Value as Json;
 
 /// A list of an object.
-fn list_in<'a>(json: &'a Json, name: &str) -> Option<&'a [Json]>
+pub(crate) fn list_in<'a>(json: &'a Json, name: &str) -> Option<&'a [Json]>
     ensures { option_map (λ list. map (λ item. view item) list.now) result ≡ list_in name.now (view json.now) }
 {
     list_of(member(json, name)?)

@@ -8,12 +8,12 @@ ghost use Rattle.ar_words.specs.Conditions.{build_words};
 ghost use Rattle.ar_words.specs.Lists.{item_at};
 ghost use Rattle.ar_quote.specs.Shown.{quoted};
 ghost use Rattle.ar_words.specs.Names.{item_text};
-ghost use Rattle.ar_words.specs.Words.{beside_item, beside_metric, beside_run, built_words, bundle_words, eval_words, has_braces, in_place, manifest_words, template_words, those_there, with_advice, with_argument, with_arguments, with_double_name, with_names};
+ghost use Rattle.ar_words.specs.Words.{beside_item, beside_metric, beside_run, built_words, bundle_words, eval_words, given_kind, has_braces, head_words, in_place, is_list_kind, kind_of_list, list_kind, list_words, manifest_words, template_words, those_there, with_advice, with_argument, with_arguments, with_double_name, with_names, with_place};
 
 use crate::bindings::{bound_of, refused_condition};
-use crate::conditions::{build_text, condition_text};
+use crate::conditions::{behind_name, build_text, condition_text};
 use crate::cuts::cut_at;
-use crate::lists::{entry_text, item_at, metrics, runs, template_list, text_at};
+use crate::lists::{entry_text, item_at, list_in, metrics, runs, template_list, text_at};
 use crate::names::{item_text, push_names};
 use ar_document::BundleError;
 use ar_eval::EvalError;
@@ -226,21 +226,99 @@ fn template_text(
     }
 }
 
-/// The text of a manifest's refusal. A template that is the whole document is told by its place.
+/// The text with the place of the template, where that is the whole document.
+fn with_place(document: &Json, mut text: String) -> Result<String, AllocError>
+    ensures { IfOk result (λ said. string_bytes said ≡ with_place (view document.now) (string_bytes text)) }
+{
+    if document.get("manifest").is_none() {
+        text.push_str(MANIFEST_HINT)?;
+    }
+    Ok(text)
+}
+
+fn is_list_kind(kind: &str) -> bool
+    ensures { result ≡ is_list_kind kind.now }
+{
+    matches!(
+        kind,
+        "List" | "AnalysisTemplateList" | "ClusterAnalysisTemplateList"
+    )
+}
+
+/// A kind, if it is one of lists.
+fn kind_of_list(kind: Option<&str>) -> Option<&str>
+    ensures { option_map (λ kind. kind.now) result ≡ kind_of_list (option_map (λ kind. kind.now) kind.entry) }
+{
+    match kind {
+        Some(kind) if is_list_kind(kind) => Some(kind),
+        _ => None,
+    }
+}
+
+/// The kind of what has `items`, if it is one of lists.
+fn list_kind(json: &Json) -> Option<&str>
+    ensures { option_map (λ kind. kind.now) result ≡ list_kind (view json.now) }
+{
+    match list_in(json, "items") {
+        Some(_) => kind_of_list(text_member(json, "kind")),
+        None => None,
+    }
+}
+
+/// The kind of a list of templates that stands in the place of a template, or is the whole document.
+fn given_kind(document: &Json) -> Option<&str>
+    ensures { option_map (λ kind. kind.now) result ≡ given_kind (view document.now) }
+{
+    match document.get("manifest") {
+        Some(manifest) => list_kind(manifest),
+        None => list_kind(document),
+    }
+}
+
+/// What is said of a list of templates.
+fn list_words(alloc: Global, kind: &str) -> Result<String, AllocError>
+    ensures { IfOk result (λ words. string_bytes words ≡ list_words kind.now) }
+{
+    let mut words = String::new(alloc);
+    push_quoted(&mut words, kind)?;
+    words.push_str(" is a list of templates; one of its `items` goes into `manifest`")?;
+    Ok(words)
+}
+
+/// The text of the refusal of a template's version or kind.
+fn head_text(alloc: Global, document: &Json, text: String, name: &str) -> Result<String, AllocError>
+    requires { 0 < length name.now }
+    ensures { IfOk result (λ said. string_bytes said
+        ≡ head_words (view document.now) name.now (given_kind (view document.now)) (string_bytes text)) }
+{
+    match given_kind(document) {
+        Some(kind) => {
+            let words = list_words(alloc, kind)?;
+            behind_name(alloc, text, name, words.as_str())
+        }
+        None => with_place(document, text),
+    }
+}
+
+/// The text of a manifest's refusal. A template that is the whole document is told by its place, and so is
+/// a list of templates.
 fn manifest_text(
     alloc: Global,
     document: &Json,
-    mut text: String,
+    text: String,
     cause: ManifestError,
 ) -> Result<String, AllocError>
     ensures { IfOk result
         (λ said. string_bytes said ≡ manifest_words (view document.now) cause (string_bytes text)) }
 {
-    if document.get("manifest").is_some() {
-        return template_text(alloc, document, text, cause);
+    match cause {
+        ManifestError::WrongVersion => head_text(alloc, document, text, "WrongVersion: "),
+        ManifestError::WrongKind => head_text(alloc, document, text, "WrongKind: "),
+        _ => {
+            let text = template_text(alloc, document, text, cause)?;
+            with_place(document, text)
+        }
     }
-    text.push_str(MANIFEST_HINT)?;
-    Ok(text)
 }
 
 // ---- refusals
