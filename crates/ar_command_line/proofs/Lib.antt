@@ -3,3 +3,4 @@ pub mod Building
 pub mod Facts
 pub mod Faults
 pub mod Parsing
+pub mod Refused

@@ -10,9 +10,13 @@
 //!
 //! - `command_line`: the calls, and the command line as `clap` builds it
 //! - `help`: the texts of `--help`
+//! - `usage`: what is said of words that are refused: the first that isn't taken, and why
+//!   ([`words_text`], `specs/Usage`, which reads the words without `clap`)
 #![tactic(auto)]
 
 mod command_line;
 mod help;
+pub mod usage;
 
 pub use command_line::{Command, DEFAULT_WORKERS, UsageError, command_of, shown};
+pub use usage::words_text;

@@ -7,7 +7,8 @@ use Rattle.std.proofs.lemmas.List.{append-nil, append_assoc}
 use Rattle.serde_json.specs.Data.{Data}
 use Rattle.serde_json.specs.View.{view}
 use Rattle.serde_json.specs.declared.value.Value.{Value}
-use Rattle.ar_words.specs.Names.{name_of, names_listed, quoted}
+use Rattle.ar_quote.specs.Shown.{quoted}
+use Rattle.ar_words.specs.Names.{name_of, names_listed}
 use Rattle.ar_words.specs.Private.Listed.{name_listed, names_behind}
 
 abbrev behind_comma : (name : List ℕ) → List ℕ

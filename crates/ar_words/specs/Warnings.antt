@@ -4,7 +4,7 @@ use Rattle.std.specs.Prelude.{ℕ, suc, Bool, true, false, ◌&&◌, if◌then�
 use Rattle.serde_json.specs.Data.{Data}
 use Rattle.ar_json.specs.Members.{member, member_of_member, text_member}
 use Rattle.ar_words.specs.Names.{item_text}
-use Rattle.ar_words.specs.Words.{metrics}
+use Rattle.ar_words.specs.Lists.{metrics}
 
 -- ---- names that are close to others
 

@@ -1,40 +1,24 @@
 -- The words of refusals: a refusal's own text, with names of the document that was read beside its numbers. The document
 -- is as it was written, and may be any JSON value: what isn't there isn't named.
-use Rattle.std.specs.Prelude.{ℕ, Bool, false, if◌then◌else◌, List, [], ◌∷◌, ◌++◌, codes, Option, Some, None, is_none, is_some, option_and_then, option_map, slice_get, unwrap_or}
+use Rattle.std.specs.Prelude.{ℕ, Bool, false, ◌||◌, if◌then◌else◌, List, [], ◌∷◌, ◌++◌, codes, Option, Some, None, is_none, is_some, option_and_then, option_map, unwrap_or}
+use Rattle.std.specs.Str.{bytes_eq}
 use Rattle.serde_json.specs.Data.{Data}
 use Rattle.serde_json.specs.Find.{get}
-use Rattle.ar_json.specs.Members.{list_of, member, member_of_member, text_member}
+use Rattle.ar_json.specs.Members.{text_member}
 use Rattle.ar_manifest.specs.Cut.{cut_at}
 use Rattle.ar_manifest.specs.declared.error.ManifestError.{ManifestError}
 use Rattle.ar_manifest.specs.declared.error.ManifestError.TheVariants as causes
 use Rattle.ar_document.specs.declared.error.BundleError.{BundleError}
 use Rattle.ar_document.specs.declared.error.BundleError.TheVariants as errors
 use Rattle.ar_eval.specs.declared.eval.EvalError.{EvalError}
-use Rattle.ar_eval.specs.declared.eval.EvalError.TheVariants.{Grammar}
-use Rattle.ar_words.specs.Names.{item_text, names_text, numbered, quoted}
-
--- ---- where the document has names
-
--- a member that is a list
-abbrev pub list_in : (name : List ℕ) → Data → Option (List Data)
-list_in name d = option_and_then list_of (member name d)
-
--- a list of the template's `spec`
-abbrev pub template_list : (name : List ℕ) → Data → Option (List Data)
-template_list name document = option_and_then (list_in name) (member_of_member (codes "manifest") (codes "spec") document)
-
-abbrev pub metrics : Data → Option (List Data)
-metrics document = template_list (codes "metrics") document
-
-abbrev pub runs : Data → Option (List Data)
-runs document = list_in (codes "runs") document
-
-abbrev pub item_at : (number : ℕ) → Option (List Data) → Option Data
-item_at number items = option_and_then (λ items. slice_get items number) items
-
--- a text of an item of a list
-abbrev pub text_at : (name : List ℕ) → (number : ℕ) → Option (List Data) → Option (List ℕ)
-text_at name number items = option_and_then (text_member name) (item_at number items)
+use Rattle.ar_eval.specs.declared.eval.EvalError.TheVariants.{Grammar, Kinds}
+use Rattle.ar_judge.specs.declared.error.BuildCause.TheVariants as build
+use Rattle.ar_judge.specs.declared.error.BuildError.{BuildError}
+use Rattle.ar_words.specs.Bindings.{bound_condition}
+use Rattle.ar_words.specs.Conditions.{behind_name, build_words, condition_words}
+use Rattle.ar_words.specs.Lists.{entry_text, item_at, list_in, metrics, runs, template_list, text_at}
+use Rattle.ar_quote.specs.Shown.{quoted}
+use Rattle.ar_words.specs.Names.{item_text, names_text, numbered}
 
 -- ---- names in a text
 
@@ -91,16 +75,41 @@ template_words document (causes.IntervalMissing number) text = beside_metric doc
 template_words document cause text = text
 
 -- a template that is the whole document is told by its place
+abbrev pub with_place : Data → (text : List ℕ) → List ℕ
+with_place document text = if is_none (get (codes "manifest") document) then text ++ codes "; the document has no member `manifest`, into which the template goes" else text
+
+abbrev pub is_list_kind : (kind : List ℕ) → Bool
+is_list_kind kind = bytes_eq kind (codes "List") || bytes_eq kind (codes "AnalysisTemplateList") || bytes_eq kind (codes "ClusterAnalysisTemplateList")
+
+abbrev pub kind_of_list : (kind : Option (List ℕ)) → Option (List ℕ)
+kind_of_list None = None
+kind_of_list (Some kind) = if is_list_kind kind then Some kind else None
+
+-- the kind of what has `items`, if it is one of lists
+abbrev pub list_kind : Data → Option (List ℕ)
+list_kind d = option_and_then (λ items. kind_of_list (text_member (codes "kind") d)) (list_in (codes "items") d)
+
+abbrev pub list_words : (kind : List ℕ) → List ℕ
+list_words kind = quoted kind ++ codes " is a list of templates; one of its `items` goes into `manifest`"
+
+-- what stands in the place of a template, or is the whole document, may be a list of templates
+abbrev pub head_words : Data → (name : List ℕ) → (kind : Option (List ℕ)) → (text : List ℕ) → List ℕ
+head_words document name None text = with_place document text
+head_words document name (Some kind) text = behind_name name (list_words kind) text
+
+abbrev pub given_kind : Data → Option (List ℕ)
+given_kind document = list_kind (unwrap_or (get (codes "manifest") document) document)
+
 abbrev pub manifest_words : Data → ManifestError → (text : List ℕ) → List ℕ
-manifest_words document cause text =
-    if is_none (get (codes "manifest") document) then text ++ codes "; the document has no member `manifest`, into which the template goes"
-    else template_words document cause text
+manifest_words document causes.WrongVersion text = head_words document (codes "WrongVersion: ") (given_kind document) text
+manifest_words document causes.WrongKind text = head_words document (codes "WrongKind: ") (given_kind document) text
+manifest_words document cause text = with_place document (template_words document cause text)
 
 -- ---- refusals of bundles
 
--- the text that an entry has by a name
-abbrev pub entry_text : (name : List ℕ) → (entry : ℕ) → Data → Option (List ℕ)
-entry_text name entry document = text_at name entry (list_in (codes "measurements") document)
+-- a condition that can't be run is told by its run and metric, and quoted
+unfoldable pub built_words : Data → (run metric : ℕ) → BuildError → (text : List ℕ) → List ℕ
+built_words document run metric error text = beside_run document run (beside_metric document metric (build_words (bound_condition document run metric error) error text))
 
 abbrev pub bundle_words : Data → BundleError → (text : List ℕ) → List ℕ
 bundle_words document (errors.Manifest cause) text = manifest_words document cause text
@@ -108,7 +117,7 @@ bundle_words document (errors.ShapeMissing metric) text = beside_metric document
 bundle_words document (errors.Shapes metric error) text = beside_metric document metric text
 bundle_words document (errors.DoubleRun run) text = with_double_name document run text
 bundle_words document (errors.Bind run cause) text = beside_run document run (template_words document cause text)
-bundle_words document (errors.Build run metric error) text = beside_run document run (beside_metric document metric text)
+bundle_words document (errors.Build run metric error) text = built_words document run metric error text
 bundle_words document (errors.UnknownRun entry) text = with_names (entry_text (codes "run") entry document) (codes "runs") (runs document) text
 bundle_words document (errors.UnknownMetric entry) text = with_names (entry_text (codes "metric") entry document) (codes "metrics") (metrics document) text
 bundle_words document error text = text
@@ -121,8 +130,10 @@ has_braces None = false
 has_braces (Some text) = is_some (cut_at (codes "{{") text)
 
 -- arguments in braces are bound in templates alone
+abbrev pub with_advice : (condition : Option (List ℕ)) → (text : List ℕ) → List ℕ
+with_advice condition text = if has_braces condition then text ++ codes "; arguments as {{args.NAME}} are bound in a template, by check, list and run" else text
+
 abbrev pub eval_words : Data → EvalError → (text : List ℕ) → List ℕ
-eval_words document (Grammar error) text =
-    if has_braces (text_member (codes "condition") document) then text ++ codes "; arguments as {{args.NAME}} are bound in a template, by check, list and run"
-    else text
+eval_words document (Grammar error) text = with_advice (text_member (codes "condition") document) (condition_words (text_member (codes "condition") document) (build.Grammar error) text)
+eval_words document (Kinds error) text = condition_words (text_member (codes "condition") document) (build.Kinds error) text
 eval_words document error text = text

@@ -2,15 +2,18 @@
 //!
 //! [`bundle_text`] and [`eval_text`] take a refusal with its own text, which the caller writes, and the
 //! document that was read, and answer the text that `specs/Words` defines: which name stands behind
-//! which words. How names are shown, so that each stays in its line, is defined in `specs/Names`.
+//! which words. How names and conditions are shown, so that each stays in its line, `ar_quote` says.
 //!
-//! - `texts`: the texts, by the refusals
+//! - `texts`: the texts, by the refusals; `conditions`: those of refusals of conditions
+//! - `bindings`: the conditions of a run, with its arguments bound
+//! - `cuts`: where words stand in a text
 //! - `lists`: lists of a document, whose items have names; `names`: names as they are shown
 //! - `warnings`: what a document has that is probably not meant
-//! - [`laws`]: what holds of each name that is shown
 #![tactic(auto)]
 
-pub mod laws;
+mod bindings;
+mod conditions;
+mod cuts;
 mod lists;
 mod names;
 mod texts;

@@ -2,13 +2,13 @@
 
 ghost use Rattle.std.specs.Prelude.{◌≡◌, map, option_map};
 ghost use Rattle.serde_json.specs.View.{view};
-ghost use Rattle.ar_words.specs.Words.{entry_text, item_at, list_in, metrics, runs, template_list, text_at};
+ghost use Rattle.ar_words.specs.Lists.{entry_text, item_at, list_in, metrics, runs, template_list, text_at};
 
 use ar_json::members::{list_of, member, member_of_member, text_member};
 use serde_json::Value as Json;
 
 /// A list of an object.
-fn list_in<'a>(json: &'a Json, name: &str) -> Option<&'a [Json]>
+pub(crate) fn list_in<'a>(json: &'a Json, name: &str) -> Option<&'a [Json]>
     ensures { option_map (λ list. map (λ item. view item) list.now) result ≡ list_in name.now (view json.now) }
 {
     list_of(member(json, name)?)

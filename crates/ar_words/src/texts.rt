@@ -3,15 +3,24 @@
 ghost use Rattle.std.specs.Prelude.{◌≡◌, ◌<◌, ◌++◌, IfOk, OnOk, codes, length, map, option_map, string_bytes};
 ghost use Rattle.serde_json.specs.View.{view};
 ghost use Rattle.ar_manifest.specs.Cut.{cut_at};
-ghost use Rattle.ar_words.specs.Names.{item_text, quoted};
-ghost use Rattle.ar_words.specs.Words.{beside_item, beside_metric, beside_run, bundle_words, eval_words, has_braces, in_place, item_at, manifest_words, template_words, those_there, with_argument, with_arguments, with_double_name, with_names};
+ghost use Rattle.ar_words.specs.Bindings.{bound_condition};
+ghost use Rattle.ar_words.specs.Conditions.{build_words};
+ghost use Rattle.ar_words.specs.Lists.{item_at};
+ghost use Rattle.ar_quote.specs.Shown.{quoted};
+ghost use Rattle.ar_words.specs.Names.{item_text};
+ghost use Rattle.ar_words.specs.Words.{beside_item, beside_metric, beside_run, built_words, bundle_words, eval_words, given_kind, has_braces, head_words, in_place, is_list_kind, kind_of_list, list_kind, list_words, manifest_words, template_words, those_there, with_advice, with_argument, with_arguments, with_double_name, with_names, with_place};
 
-use crate::lists::{entry_text, item_at, metrics, runs, template_list, text_at};
-use crate::names::{item_text, push_names, push_quoted};
+use crate::bindings::{bound_of, refused_condition};
+use crate::conditions::{behind_name, build_text, condition_text};
+use crate::cuts::cut_at;
+use crate::lists::{entry_text, item_at, list_in, metrics, runs, template_list, text_at};
+use crate::names::{item_text, push_names};
 use ar_document::BundleError;
 use ar_eval::EvalError;
 use ar_json::members::text_member;
+use ar_judge::{BuildCause, BuildError};
 use ar_manifest::ManifestError;
+use ar_quote::push_quoted;
 use serde_json::Value as Json;
 use std::alloc::{AllocError, Global};
 use std::fmt::Write;
@@ -22,14 +31,6 @@ const ARGUMENTS_HINT: &str =
 const MANIFEST_HINT: &str = "; the document has no member `manifest`, into which the template goes";
 
 // ---- names in a text
-
-/// What stands before the first place of some words, and what behind it.
-fn cut_at<'a>(text: &'a str, words: &str) -> Option<(&'a str, &'a str)>
-    requires { 0 < length words.now }
-    ensures { option_map (λ cut. (cut.0.now, cut.1.now)) result ≡ cut_at words.now text.now }
-{
-    text.split_once(words)
-}
 
 /// The text with what is shown, if anything is, in the place of the first of some words.
 #[tactic(auto, unfolding(crate::specs::Words::in_place))]
@@ -225,24 +226,137 @@ fn template_text(
     }
 }
 
-/// The text of a manifest's refusal. A template that is the whole document is told by its place.
+/// The text with the place of the template, where that is the whole document.
+fn with_place(document: &Json, mut text: String) -> Result<String, AllocError>
+    ensures { IfOk result (λ said. string_bytes said ≡ with_place (view document.now) (string_bytes text)) }
+{
+    if document.get("manifest").is_none() {
+        text.push_str(MANIFEST_HINT)?;
+    }
+    Ok(text)
+}
+
+fn is_list_kind(kind: &str) -> bool
+    ensures { result ≡ is_list_kind kind.now }
+{
+    matches!(
+        kind,
+        "List" | "AnalysisTemplateList" | "ClusterAnalysisTemplateList"
+    )
+}
+
+/// A kind, if it is one of lists.
+fn kind_of_list(kind: Option<&str>) -> Option<&str>
+    ensures { option_map (λ kind. kind.now) result ≡ kind_of_list (option_map (λ kind. kind.now) kind.entry) }
+{
+    match kind {
+        Some(kind) if is_list_kind(kind) => Some(kind),
+        _ => None,
+    }
+}
+
+/// The kind of what has `items`, if it is one of lists.
+fn list_kind(json: &Json) -> Option<&str>
+    ensures { option_map (λ kind. kind.now) result ≡ list_kind (view json.now) }
+{
+    match list_in(json, "items") {
+        Some(_) => kind_of_list(text_member(json, "kind")),
+        None => None,
+    }
+}
+
+/// The kind of a list of templates that stands in the place of a template, or is the whole document.
+fn given_kind(document: &Json) -> Option<&str>
+    ensures { option_map (λ kind. kind.now) result ≡ given_kind (view document.now) }
+{
+    match document.get("manifest") {
+        Some(manifest) => list_kind(manifest),
+        None => list_kind(document),
+    }
+}
+
+/// What is said of a list of templates.
+fn list_words(alloc: Global, kind: &str) -> Result<String, AllocError>
+    ensures { IfOk result (λ words. string_bytes words ≡ list_words kind.now) }
+{
+    let mut words = String::new(alloc);
+    push_quoted(&mut words, kind)?;
+    words.push_str(" is a list of templates; one of its `items` goes into `manifest`")?;
+    Ok(words)
+}
+
+/// The text of the refusal of a template's version or kind.
+fn head_text(alloc: Global, document: &Json, text: String, name: &str) -> Result<String, AllocError>
+    requires { 0 < length name.now }
+    ensures { IfOk result (λ said. string_bytes said
+        ≡ head_words (view document.now) name.now (given_kind (view document.now)) (string_bytes text)) }
+{
+    match given_kind(document) {
+        Some(kind) => {
+            let words = list_words(alloc, kind)?;
+            behind_name(alloc, text, name, words.as_str())
+        }
+        None => with_place(document, text),
+    }
+}
+
+/// The text of a manifest's refusal. A template that is the whole document is told by its place, and so is
+/// a list of templates.
 fn manifest_text(
     alloc: Global,
     document: &Json,
-    mut text: String,
+    text: String,
     cause: ManifestError,
 ) -> Result<String, AllocError>
     ensures { IfOk result
         (λ said. string_bytes said ≡ manifest_words (view document.now) cause (string_bytes text)) }
 {
-    if document.get("manifest").is_some() {
-        return template_text(alloc, document, text, cause);
+    match cause {
+        ManifestError::WrongVersion => head_text(alloc, document, text, "WrongVersion: "),
+        ManifestError::WrongKind => head_text(alloc, document, text, "WrongKind: "),
+        _ => {
+            let text = template_text(alloc, document, text, cause)?;
+            with_place(document, text)
+        }
     }
-    text.push_str(MANIFEST_HINT)?;
-    Ok(text)
 }
 
 // ---- refusals
+
+/// The text of a refusal of a metric's condition, with the condition.
+#[tactic(auto, unfolding(crate::specs::Bindings::bound_condition))]
+fn with_condition(
+    alloc: Global,
+    document: &Json,
+    text: String,
+    run: usize,
+    metric: usize,
+    error: BuildError,
+) -> Result<String, AllocError>
+    ensures { IfOk result (λ said. string_bytes said
+        ≡ build_words (bound_condition (view document.now) run metric error) error (string_bytes text)) }
+{
+    let bound = bound_of(alloc, document, run)?;
+    build_text(alloc, text, refused_condition(&bound, metric, error), error)
+}
+
+/// The text of a refusal of a metric's condition, with the names of the run and the metric.
+#[tactic(auto, unfolding(crate::specs::Words::built_words))]
+fn built_text(
+    alloc: Global,
+    document: &Json,
+    text: String,
+    run: usize,
+    metric: usize,
+    error: BuildError,
+) -> Result<String, AllocError>
+    ensures { IfOk result (λ said. string_bytes said
+        ≡ built_words (view document.now) run metric error (string_bytes text)) }
+{
+    let text = with_condition(alloc, document, text, run, metric, error)?;
+    let text = beside_metric(alloc, document, text, metric)?;
+    beside_run(alloc, document, text, run)
+}
 
 /// The text of a refusal of a bundle's document: its own text, with names of the document beside its
 /// numbers.
@@ -269,9 +383,8 @@ pub fn bundle_text(
             let text = template_text(alloc, document, text, cause)?;
             beside_run(alloc, document, text, run)
         }
-        BundleError::Build(run, metric, _) => {
-            let text = beside_metric(alloc, document, text, metric)?;
-            beside_run(alloc, document, text, run)
+        BundleError::Build(run, metric, error) => {
+            built_text(alloc, document, text, run, metric, error)
         }
         BundleError::UnknownRun(entry) => {
             let name = entry_text(document, entry, "run");
@@ -295,20 +408,38 @@ fn has_braces(condition: Option<&str>) -> bool
     }
 }
 
-/// The text of a refusal of what `eval` reads: its own text, and where arguments are bound, if the
-/// condition has braces.
+/// The text with where arguments are bound, if the condition has braces.
+fn with_advice(condition: Option<&str>, mut text: String) -> Result<String, AllocError>
+    ensures { IfOk result (λ said. string_bytes said
+        ≡ with_advice (option_map (λ text. text.now) condition.entry) (string_bytes text)) }
+{
+    if has_braces(condition) {
+        text.push_str(ARGUMENTS_HINT)?;
+    }
+    Ok(text)
+}
+
+/// The text of a refusal of what `eval` reads: its own text with the condition, and where arguments are
+/// bound, if the condition has braces.
 ///
 /// # Errors
 ///
-/// Want of memory alone.
-pub fn eval_text(document: &Json, error: EvalError, mut text: String) -> Result<String, AllocError>
+/// Out of memory alone.
+pub fn eval_text(
+    alloc: Global,
+    document: &Json,
+    error: EvalError,
+    text: String,
+) -> Result<String, AllocError>
     ensures { IfOk result (λ said. string_bytes said ≡ eval_words (view document.now) error (string_bytes text)) }
 {
+    let condition = text_member(document, "condition");
     match error {
-        EvalError::Grammar(_) if has_braces(text_member(document, "condition")) => {
-            text.push_str(ARGUMENTS_HINT)?;
-            Ok(text)
+        EvalError::Grammar(error) => {
+            let text = condition_text(alloc, text, condition, BuildCause::Grammar(error))?;
+            with_advice(condition, text)
         }
+        EvalError::Kinds(error) => condition_text(alloc, text, condition, BuildCause::Kinds(error)),
         _ => Ok(text),
     }
 }

@@ -19,7 +19,7 @@ use ar_command::{
     Closing, Command, Device, Kept, Refusal, ServeError, Sink, Source, serve, serve_plain, status,
     write_output,
 };
-use ar_command_line::{UsageError, command_of, shown};
+use ar_command_line::{UsageError, command_of, shown, words_text};
 use ar_workers::{FreeGate, WorkError};
 use std::alloc::AllocError;
 use std::process::ExitCode;
@@ -46,6 +46,7 @@ fn run<R: Env + AllocGlobal + Input + Print + Eprint + Threads + Wait + Sync>(rt
     match requested(rt) {
         Ok(Request::CarryOut(command)) => carry_out(rt, command),
         Ok(Request::Show(text)) => show(rt, text.as_str()),
+        Err(UsageError::Words) => refuse_words(rt),
         Err(error) => {
             let _ = eprintln!(rt; "argo_judge: {error}");
             match error {
@@ -54,6 +55,27 @@ fn run<R: Env + AllocGlobal + Input + Print + Eprint + Threads + Wait + Sync>(rt
             }
         }
     }
+}
+
+/// Tells of words that are no command line in one line, by the first that isn't taken.
+fn refuse_words<R: Env + AllocGlobal + Eprint>(rt: &R) -> u8 {
+    match refused_words(rt) {
+        Ok(text) => {
+            let _ = eprintln!(rt; "argo_judge: {text}");
+            status::REFUSED
+        }
+        Err(UsageError::OutOfMemory) => out_of_memory(rt),
+        Err(error) => {
+            let _ = eprintln!(rt; "argo_judge: {error}");
+            status::REFUSED
+        }
+    }
+}
+
+/// What is said of words that are no command line.
+fn refused_words<R: Env + AllocGlobal>(rt: &R) -> Result<String, UsageError> {
+    let words = arguments(rt)?;
+    Ok(words_text(rt.alloc(), &words)?)
 }
 
 /// Writes a text, and answers the exit status.

@@ -35,7 +35,7 @@ pub(crate) fn warning_lines(alloc: Global, input: &[u8]) -> Result<String, Alloc
 fn named_text(alloc: Global, document: &Json, refusal: &Refusal) -> Result<String, AllocError> {
     let text = format!(in alloc; "{refusal}")?;
     match refusal {
-        Refusal::Eval(error) => eval_text(document, *error, text),
+        Refusal::Eval(error) => eval_text(alloc, document, *error, text),
         Refusal::Bundle(error) => bundle_text(alloc, document, *error, text),
     }
 }

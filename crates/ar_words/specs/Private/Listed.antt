@@ -1,7 +1,8 @@
 -- Names, while they are listed.
 use Rattle.std.specs.Prelude.{ℕ, Bool, ◌||◌, if◌then◌else◌, List, [], ◌∷◌, ◌++◌, codes, is_some, Option, Some, None}
 use Rattle.serde_json.specs.Data.{Data}
-use Rattle.ar_words.specs.Names.{name_of, quoted}
+use Rattle.ar_quote.specs.Shown.{quoted}
+use Rattle.ar_words.specs.Names.{name_of}
 
 -- `listed`: a name stands before it
 abbrev pub name_listed : (listed : Bool) → Option (List ℕ) → List ℕ

@@ -1,0 +1,29 @@
+-- Words of a command line, one after another.
+use Rattle.std.proofs.Common.{◌≡◌, ◌<◌, ◌≤◌, ℕ, suc, ◌+◌, List, [], ◌∷◌, length, map, drop, Option, Some, None, refl, sym, ◌∙◌, ap, add-one, drop-cons}
+use Rattle.std.specs.Prelude.{slice_index_or}
+use Rattle.std.proofs.Math.ListN.{drop_of_length-le}
+use Rattle.ar_command_line.specs.Usage.{after, first_refused}
+use Rattle.ar_command_line.specs.declared.usage.Next.{Next}
+
+module _ {B : Type 0} (text : B → List ℕ) (words : List B) (place : ℕ) (word : B) (within : place < length words) (is : word ≡ slice_index_or words place word) where
+  left : drop place words ≡ word ∷ drop (suc place) words
+  left = drop-cons words place word within ∙ ap (λ first. first ∷ drop (suc place) words) (sym is)
+
+  pub taken : (next following : Next) (total : Option (Next × List ℕ)) → after next (text word) ≡ Some following
+      → first_refused next (map text (drop place words)) ≡ total → first_refused following (map text (drop (place + 1) words)) ≡ total
+  unfolding first_refused
+  taken next following total goes so_far =
+      let first : first_refused next (text word ∷ map text (drop (suc place) words)) ≡ first_refused following (map text (drop (suc place) words)) = rw goes refl in
+      rw (add-one place) (sym first ∙ ap (λ rest. first_refused next (map text rest)) (sym left) ∙ so_far)
+
+  pub refused : (next : Next) (total : Option (Next × List ℕ)) → after next (text word) ≡ None
+      → first_refused next (map text (drop place words)) ≡ total → Some (next, text word) ≡ total
+  unfolding first_refused
+  refused next total stops so_far =
+      let first : first_refused next (text word ∷ map text (drop (suc place) words)) ≡ Some (next, text word) = rw stops refl in
+      sym first ∙ ap (λ rest. first_refused next (map text rest)) (sym left) ∙ so_far
+
+pub none_left : {B : Type 0} (text : B → List ℕ) (words : List B) (place : ℕ) (next : Next) (total : Option (Next × List ℕ)) → length words ≤ place
+    → first_refused next (map text (drop place words)) ≡ total → None ≡ total
+unfolding first_refused
+none_left text words place next total past so_far = ap (λ rest. first_refused next (map text rest)) (sym (drop_of_length-le words past)) ∙ so_far

@@ -1,0 +1,15 @@
+use Rattle.std.proofs.Common.{◌∙◌, ap, string_bytes, sym}
+use Rattle.ar_command_line.specs.Usage.{after}
+use Rattle.ar_command_line.proofs.Refused.{refused, taken}
+use Rattle.ar_command_line.proofs.usage.first_refused.Goals as goal
+
+pub returns-in-None : goal.returns-in-None
+returns-in-None c =
+    rw (c.as_str-in-None.ensures.value)
+    (refused string_bytes c.args.words.now c.loop-word.word-index c.word-item.result c.loop-word-test.true c.word-item.is c.loop-word.next _
+    (ap (after c.loop-word.next) (sym c.as_str.ensures.value) ∙ (sym c.after.ensures ∙ c.in-None.is)) c.loop-word.invariant)
+
+pub loop-word-preserved : goal.loop-word-preserved
+loop-word-preserved c =
+    taken string_bytes c.args.words.now c.loop-word.word-index c.word-item.result c.loop-word-test.true c.word-item.is c.loop-word.next c.in-Some.following _
+    (ap (after c.loop-word.next) (sym c.as_str.ensures.value) ∙ (sym c.after.ensures ∙ c.in-Some.is)) c.loop-word.invariant

@@ -1,0 +1,65 @@
+-- The first word of a command line that isn't taken, and what is said of it.
+use Rattle.std.specs.Prelude.{ℕ, Bool, true, false, not, ◌&&◌, ◌||◌, nat_eq, if◌then◌else◌, List, [], ◌∷◌, ◌++◌, codes, drop, Option, Some, None}
+use Rattle.std.specs.List.{starts_with}
+use Rattle.std.specs.Str.{bytes_eq}
+use Rattle.ar_command_line.specs.declared.usage.Next.{Next}
+use Rattle.ar_command_line.specs.declared.usage.Next.TheVariants.{Command, Nothing, Options, Number}
+use Rattle.ar_quote.specs.Shown.{quoted}
+
+-- ---- what may come next
+
+abbrev pub is_new : (name word : List ℕ) → (given : Bool) → Bool
+is_new name word given = bytes_eq word name && not given
+
+abbrev pub has_number : (word : List ℕ) → (given : Bool) → Bool
+has_number word given = starts_with nat_eq word (codes "--workers=") && not given
+
+-- `run` takes each of its options once
+abbrev pub after_option : (workers plain ordered : Bool) → (word : List ℕ) → Option Next
+after_option workers plain ordered word =
+    if is_new (codes "--workers") word workers then Some (Number plain ordered)
+    else (if has_number word workers then Some (Options true plain ordered)
+    else (if is_new (codes "--plain") word plain then Some (Options workers true ordered)
+    else (if is_new (codes "--ordered") word ordered then Some (Options workers plain true)
+    else None)))
+
+abbrev pub is_alone : (word : List ℕ) → Bool
+is_alone word = bytes_eq word (codes "eval") || bytes_eq word (codes "check") || bytes_eq word (codes "list")
+
+abbrev pub is_option : (word : List ℕ) → Bool
+is_option word = starts_with nat_eq word (codes "-")
+
+-- what may come behind a word, if it is taken
+abbrev pub after : Next → (word : List ℕ) → Option Next
+after Command word = if bytes_eq word (codes "run") then Some (Options false false false) else (if is_alone word then Some Nothing else None)
+after Nothing word = None
+after (Options workers plain ordered) word = after_option workers plain ordered word
+after (Number plain ordered) word = if is_option word then None else Some (Options true plain ordered)
+
+abbrev pub following_or : {A B : Type 0} → (refused : B) → (rest : A → Option B) → Option A → Option B
+following_or refused rest None = Some refused
+following_or refused rest (Some following) = rest following
+
+-- the first word that isn't taken, with what could have come in its place
+unfoldable pub first_refused : Next → (words : List (List ℕ)) → Option (Next × List ℕ)
+first_refused next [] = None
+first_refused next (word ∷ words) = following_or (next, word) (λ following. first_refused following words) (after next word)
+
+-- ---- what is said of it
+
+abbrev pub reason : Next → (word : List ℕ) → List ℕ
+reason Command word = codes " is no command; expected `eval`, `check`, `list` or `run`, or --help"
+reason (Number plain ordered) word = codes " is no number; expected --workers and a whole number from 1 to 16"
+reason Nothing word =
+    if is_option word then codes " isn't taken; options are for `run`" else codes " isn't taken; the document is read from standard input, as by: argo_judge run < document.json"
+reason (Options workers plain ordered) word =
+    if is_option word then codes " isn't taken; `run` takes --workers N, --plain and --ordered, each once"
+    else codes " isn't taken; the document is read from standard input, as by: argo_judge run < document.json"
+
+abbrev pub said : Option (Next × List ℕ) → List ℕ
+said None = codes "expected `eval`, `check`, `list` or `run`, with the document on standard input, or --help"
+said (Some refused) = quoted refused.1 ++ reason refused.0 refused.1
+
+-- of words of which the first is the program's name
+abbrev pub words_text : (words : List (List ℕ)) → List ℕ
+words_text words = codes "command line: Words: " ++ said (first_refused Command (drop 1 words))

@@ -1,0 +1,5 @@
+pub mod Appended
+pub mod Ended
+pub mod Escapes
+pub mod Still
+pub mod TokenBytes

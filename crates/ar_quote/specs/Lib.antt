@@ -1,0 +1,4 @@
+pub mod Private
+pub mod Shown
+pub mod Tokens
+pub mod Quote

@@ -1,7 +1,0 @@
-use Rattle.std.proofs.Common.{◌≡◌, ◌++◌, flat_map, string_bytes}
-use Rattle.ar_words.specs.Names.{escaped}
-use Rattle.ar_words.proofs.names.push_shown.Given as goal
-
--- the characters so far are written
-abbrev pub invariant-loop-character : goal.invariant-loop-character
-invariant-loop-character l = string_bytes l.out ≡ string_bytes l.initial.out ++ flat_map escaped l.yielded

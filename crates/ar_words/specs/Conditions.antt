@@ -1,0 +1,132 @@
+-- The words of refusals of conditions: what stands at the byte of the refusal, and the condition round it.
+use Rattle.std.specs.Prelude.{ℕ, Bool, ◌&&◌, ◌||◌, nat_eq, if◌then◌else◌, List, [], ◌∷◌, ◌++◌, codes, Option, Some, None, option_map, unwrap_or}
+use Rattle.std.specs.List.{starts_with}
+use Rattle.std.specs.Str.{bytes_eq}
+use Rattle.ar_manifest.specs.Binding.{without_leading_spaces}
+use Rattle.ar_manifest.specs.Cut.{cut_at}
+use Rattle.ar_check.specs.declared.error.TypeError.{TypeError}
+use Rattle.ar_check.specs.declared.error.TypeError.TheVariants as kinds
+use Rattle.ar_judge.specs.declared.error.BuildCause.{BuildCause}
+use Rattle.ar_judge.specs.declared.error.BuildCause.TheVariants.{Grammar, Kinds}
+use Rattle.ar_judge.specs.declared.error.BuildError.{BuildError}
+use Rattle.ar_judge.specs.declared.error.BuildError.TheVariants.{Success, Failure, OutOfMemory}
+use Rattle.ar_syntax.specs.declared.error.SyntaxError.{SyntaxError}
+use Rattle.ar_syntax.specs.declared.error.SyntaxError.TheVariants as syntax
+use Rattle.ar_quote.specs.Shown.{quoted}
+use Rattle.ar_quote.specs.Quote.{quoted_round}
+use Rattle.ar_quote.specs.Tokens.{Found, token_at}
+
+-- ---- places
+
+-- the byte of a condition at which its text is refused; one that is too long isn't quoted
+abbrev pub place_of_syntax : SyntaxError → Option ℕ
+place_of_syntax (syntax.BadCharacter at) = Some at
+place_of_syntax (syntax.OpenText at) = Some at
+place_of_syntax (syntax.OpenComment at) = Some at
+place_of_syntax (syntax.BadEscape at) = Some at
+place_of_syntax (syntax.LiteralTooFine at) = Some at
+place_of_syntax (syntax.NumberTooLarge at) = Some at
+place_of_syntax (syntax.Unexpected at) = Some at
+place_of_syntax (syntax.UnknownName at) = Some at
+place_of_syntax (syntax.WrongCount at) = Some at
+place_of_syntax (syntax.ItemOutside at) = Some at
+place_of_syntax (syntax.TooManyItems at) = Some at
+place_of_syntax (syntax.TooDeep at) = Some at
+place_of_syntax error = None
+
+abbrev pub place_of_kinds : TypeError → Option ℕ
+place_of_kinds (kinds.WrongOperand at) = Some at
+place_of_kinds (kinds.NoSuchField at) = Some at
+place_of_kinds (kinds.NotAList at) = Some at
+place_of_kinds (kinds.NoCommonKind at) = Some at
+place_of_kinds (kinds.NotScalar at) = Some at
+place_of_kinds (kinds.NotTruth at) = Some at
+place_of_kinds (kinds.PredicatesTooDeep at) = Some at
+place_of_kinds kinds.OutOfMemory = None
+
+abbrev pub place_of : BuildCause → Option ℕ
+place_of (Grammar error) = place_of_syntax error
+place_of (Kinds error) = place_of_kinds error
+place_of cause = None
+
+abbrev pub found_in : Option (List ℕ) → Option ℕ → Option Found
+found_in (Some condition) (Some place) = token_at place condition
+found_in condition place = None
+
+-- ---- what operators take
+
+abbrev pub takes_numbers : (token : List ℕ) → Bool
+takes_numbers token =
+    bytes_eq token (codes "+") || bytes_eq token (codes "-") || bytes_eq token (codes "*") || bytes_eq token (codes "/")
+    || bytes_eq token (codes "<") || bytes_eq token (codes "<=") || bytes_eq token (codes ">") || bytes_eq token (codes ">=")
+
+abbrev pub takes_texts : (token : List ℕ) → Bool
+takes_texts token = bytes_eq token (codes "contains") || bytes_eq token (codes "startsWith") || bytes_eq token (codes "endsWith")
+
+-- `not` is a part of `not in`
+abbrev pub goes_on_in : (behind : List ℕ) → Bool
+goes_on_in behind = starts_with nat_eq (without_leading_spaces behind) (codes "in")
+
+abbrev pub takes_alike : Found → Bool
+takes_alike found =
+    bytes_eq found.token (codes "==") || bytes_eq found.token (codes "!=") || bytes_eq found.token (codes "in")
+    || bytes_eq found.token (codes "not") && goes_on_in found.behind
+
+abbrev pub is_field : (token : List ℕ) → Bool
+is_field token = starts_with nat_eq token (codes ".")
+
+abbrev pub taken : Found → List ℕ
+taken found =
+    if takes_numbers found.token then codes "\"whole\" or \"decimal\" alone"
+    else (if takes_alike found then codes "numbers, \"bool\" or \"text\" alone, on both sides"
+    else (if takes_texts found.token then codes "\"text\" alone"
+    else (if bytes_eq found.token (codes "%") then codes "\"whole\" alone"
+    else (if bytes_eq found.token (codes "[") then codes "a \"whole\" behind a list, or a name behind a record"
+    else (if is_field found.token then codes "a record before it"
+    else codes "\"bool\" alone")))))
+
+-- ---- words of the causes
+
+-- a text, with other words behind the name of its refusal
+unfoldable pub behind_name : (name words text : List ℕ) → List ℕ
+behind_name name words text = unwrap_or (option_map (λ cut. cut.0 ++ (name ++ words)) (cut_at name text)) text
+
+abbrev pub unexpected : (token : List ℕ) → List ℕ
+unexpected [] = codes "the condition ends too early"
+unexpected (byte ∷ token) = codes "no condition goes on so"
+
+abbrev pub wrong_operand : Found → List ℕ
+wrong_operand found = quoted found.token ++ (codes " takes " ++ taken found)
+
+abbrev pub cause_words : BuildCause → Found → (text : List ℕ) → List ℕ
+cause_words (Grammar (syntax.Unexpected at)) found text = behind_name (codes "Unexpected: ") (unexpected found.token) text
+cause_words (Kinds (kinds.WrongOperand at)) found text = behind_name (codes "WrongOperand: ") (wrong_operand found) text
+cause_words (Kinds (kinds.NotAList at)) found text = behind_name (codes "NotAList: ") (codes "expected a list, as {\"list\":shape,\"max\":number} declares") text
+cause_words (Kinds (kinds.NoCommonKind at)) found text = behind_name (codes "NoCommonKind: ") (codes "expected one shape for all; \"whole\" goes beside \"decimal\"") text
+cause_words cause found text = text
+
+-- Argo Rollouts' conversions
+abbrev pub is_conversion : (token : List ℕ) → Bool
+is_conversion token = bytes_eq token (codes "asFloat") || bytes_eq token (codes "asInt") || bytes_eq token (codes "isNaN") || bytes_eq token (codes "isInf")
+
+abbrev pub conversion_advice : (token : List ℕ) → List ℕ
+conversion_advice token = if is_conversion token then codes "; leave \"" ++ (token ++ codes "\" out: the shape says the kind") else []
+
+abbrev pub advice : BuildCause → Found → List ℕ
+advice (Grammar (syntax.UnknownName at)) found = conversion_advice found.token
+advice cause found = []
+
+-- ---- with the condition
+
+unfoldable pub with_quote : BuildCause → (text : List ℕ) → Option Found → List ℕ
+with_quote cause text None = text
+with_quote cause text (Some found) = cause_words cause found text ++ (codes "; in " ++ (quoted_round found ++ advice cause found))
+
+unfoldable pub condition_words : (condition : Option (List ℕ)) → BuildCause → (text : List ℕ) → List ℕ
+condition_words condition cause text = with_quote cause text (found_in condition (place_of cause))
+
+-- of a metric's condition, which is bound already
+unfoldable pub build_words : (condition : Option (List ℕ)) → BuildError → (text : List ℕ) → List ℕ
+build_words condition (Success cause) text = condition_words condition cause text
+build_words condition (Failure cause) text = condition_words condition cause text
+build_words condition OutOfMemory text = text

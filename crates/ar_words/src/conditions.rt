@@ -1,0 +1,289 @@
+//! The texts of refusals of conditions.
+
+ghost use Rattle.std.specs.Prelude.{◌≡◌, ◌<◌, ◌++◌, IfOk, OnOk, length, option_map, string_bytes};
+ghost use Rattle.ar_manifest.specs.Binding.{without_leading_spaces};
+ghost use Rattle.ar_words.specs.Conditions.{advice, behind_name, build_words, cause_words, condition_words, conversion_advice, found_in, goes_on_in, is_conversion, is_field, place_of, place_of_kinds, place_of_syntax, taken, takes_alike, takes_numbers, takes_texts, unexpected, with_quote, wrong_operand};
+ghost use Rattle.ar_quote.specs.Tokens.{found};
+
+use crate::cuts::cut_at;
+use ar_check::TypeError;
+use ar_judge::{BuildCause, BuildError};
+use ar_quote::{Found, push_quoted, push_round, token_at};
+use ar_syntax::SyntaxError;
+use std::alloc::{AllocError, Global};
+use std::fmt::Write;
+
+// ---- places
+
+/// The byte of a condition at which its text is refused.
+fn place_of_syntax(error: SyntaxError) -> Option<usize>
+    ensures { result ≡ place_of_syntax error }
+{
+    match error {
+        SyntaxError::BadCharacter(at)
+        | SyntaxError::OpenText(at)
+        | SyntaxError::OpenComment(at)
+        | SyntaxError::BadEscape(at)
+        | SyntaxError::LiteralTooFine(at)
+        | SyntaxError::NumberTooLarge(at)
+        | SyntaxError::Unexpected(at)
+        | SyntaxError::UnknownName(at)
+        | SyntaxError::WrongCount(at)
+        | SyntaxError::ItemOutside(at)
+        | SyntaxError::TooManyItems(at)
+        | SyntaxError::TooDeep(at) => Some(at),
+        SyntaxError::TooLong | SyntaxError::OutOfMemory => None,
+    }
+}
+
+/// The byte of a condition at which its kinds are refused.
+fn place_of_kinds(error: TypeError) -> Option<usize>
+    ensures { result ≡ place_of_kinds error }
+{
+    match error {
+        TypeError::WrongOperand(at)
+        | TypeError::NoSuchField(at)
+        | TypeError::NotAList(at)
+        | TypeError::NoCommonKind(at)
+        | TypeError::NotScalar(at)
+        | TypeError::NotTruth(at)
+        | TypeError::PredicatesTooDeep(at) => Some(at),
+        TypeError::OutOfMemory => None,
+    }
+}
+
+/// The byte of a condition at which it is refused.
+fn place_of(cause: BuildCause) -> Option<usize>
+    ensures { result ≡ place_of cause }
+{
+    match cause {
+        BuildCause::Grammar(error) => place_of_syntax(error),
+        BuildCause::Kinds(error) => place_of_kinds(error),
+        BuildCause::Compiler(_) | BuildCause::Verifier(_, _) | BuildCause::OutOfMemory => None,
+    }
+}
+
+/// The token at which a condition is refused.
+fn found_in(condition: Option<&str>, place: Option<usize>) -> Option<Found<'_>>
+    ensures { option_map (λ here. found here.before.now here.token.now here.behind.now) result
+        ≡ found_in (option_map (λ text. text.now) condition.entry) place }
+{
+    token_at(condition?, place?)
+}
+
+// ---- what operators take
+
+fn takes_numbers(token: &str) -> bool
+    ensures { result ≡ takes_numbers token.now }
+{
+    matches!(token, "+" | "-" | "*" | "/" | "<" | "<=" | ">" | ">=")
+}
+
+fn takes_texts(token: &str) -> bool
+    ensures { result ≡ takes_texts token.now }
+{
+    matches!(token, "contains" | "startsWith" | "endsWith")
+}
+
+fn without_leading_spaces(text: &str) -> &str
+    ensures { result.now ≡ without_leading_spaces text.now }
+{
+    text.trim_start_matches(' ')
+}
+
+/// Whether `not` is a part of `not in`.
+fn goes_on_in(behind: &str) -> bool
+    ensures { result ≡ goes_on_in behind.now }
+{
+    without_leading_spaces(behind).starts_with("in")
+}
+
+fn takes_alike(here: Found<'_>) -> bool
+    ensures { result ≡ takes_alike (found here.entry.before.now here.entry.token.now here.entry.behind.now) }
+{
+    matches!(here.token, "==" | "!=" | "in") || here.token == "not" && goes_on_in(here.behind)
+}
+
+fn is_field(token: &str) -> bool
+    ensures { result ≡ is_field token.now }
+{
+    token.starts_with(".")
+}
+
+/// What an operator takes.
+fn taken(here: Found<'_>) -> &'static str
+    ensures { result.now ≡ taken (found here.entry.before.now here.entry.token.now here.entry.behind.now) }
+{
+    if takes_numbers(here.token) {
+        "\"whole\" or \"decimal\" alone"
+    } else if takes_alike(here) {
+        "numbers, \"bool\" or \"text\" alone, on both sides"
+    } else if takes_texts(here.token) {
+        "\"text\" alone"
+    } else if here.token == "%" {
+        "\"whole\" alone"
+    } else if here.token == "[" {
+        "a \"whole\" behind a list, or a name behind a record"
+    } else if is_field(here.token) {
+        "a record before it"
+    } else {
+        "\"bool\" alone"
+    }
+}
+
+// ---- words of the causes
+
+/// The text with other words behind the name of its refusal.
+#[tactic(auto, unfolding(crate::specs::Conditions::behind_name))]
+pub(crate) fn behind_name(
+    alloc: Global,
+    text: String,
+    name: &str,
+    words: &str,
+) -> Result<String, AllocError>
+    requires { 0 < length name.now }
+    ensures { IfOk result (λ said. string_bytes said ≡ behind_name name.now words.now (string_bytes text)) }
+{
+    match cut_at(text.as_str(), name) {
+        Some((before, _)) => format!(in alloc; "{before}{name}{words}"),
+        None => Ok(text),
+    }
+}
+
+fn unexpected(token: &str) -> &'static str
+    ensures { result.now ≡ unexpected token.now }
+{
+    if token.is_empty() {
+        "the condition ends too early"
+    } else {
+        "no condition goes on so"
+    }
+}
+
+/// What is said of an operator whose operand isn't of a kind that it takes.
+fn wrong_operand(alloc: Global, here: Found<'_>) -> Result<String, AllocError>
+    ensures { IfOk result (λ words. string_bytes words
+        ≡ wrong_operand (found here.entry.before.now here.entry.token.now here.entry.behind.now)) }
+{
+    let mut words = String::new(alloc);
+    push_quoted(&mut words, here.token)?;
+    words.push_str(" takes ")?;
+    words.push_str(taken(here))?;
+    Ok(words)
+}
+
+/// The text with other words where those of the refusal are too many.
+fn cause_text(
+    alloc: Global,
+    text: String,
+    cause: BuildCause,
+    here: Found<'_>,
+) -> Result<String, AllocError>
+    ensures { IfOk result (λ said. string_bytes said ≡ cause_words cause
+        (found here.entry.before.now here.entry.token.now here.entry.behind.now) (string_bytes text)) }
+{
+    match cause {
+        BuildCause::Grammar(SyntaxError::Unexpected(_)) => {
+            behind_name(alloc, text, "Unexpected: ", unexpected(here.token))
+        }
+        BuildCause::Kinds(TypeError::WrongOperand(_)) => {
+            let words = wrong_operand(alloc, here)?;
+            behind_name(alloc, text, "WrongOperand: ", words.as_str())
+        }
+        BuildCause::Kinds(TypeError::NotAList(_)) => behind_name(
+            alloc,
+            text,
+            "NotAList: ",
+            "expected a list, as {\"list\":shape,\"max\":number} declares",
+        ),
+        BuildCause::Kinds(TypeError::NoCommonKind(_)) => behind_name(
+            alloc,
+            text,
+            "NoCommonKind: ",
+            "expected one shape for all; \"whole\" goes beside \"decimal\"",
+        ),
+        _ => Ok(text),
+    }
+}
+
+/// Whether a word is one of Argo Rollouts' conversions.
+fn is_conversion(token: &str) -> bool
+    ensures { result ≡ is_conversion token.now }
+{
+    matches!(token, "asFloat" | "asInt" | "isNaN" | "isInf")
+}
+
+fn push_conversion_advice(out: &mut String, token: &str) -> Result<(), AllocError>
+    ensures { OnOk result (string_bytes out.new ≡ string_bytes out.old ++ conversion_advice token.now) }
+{
+    if !is_conversion(token) {
+        return Ok(());
+    }
+    write!(out, "; leave \"{token}\" out: the shape says the kind")
+}
+
+fn push_advice(out: &mut String, cause: BuildCause, here: Found<'_>) -> Result<(), AllocError>
+    ensures { OnOk result (string_bytes out.new ≡ string_bytes out.old
+        ++ advice cause (found here.entry.before.now here.entry.token.now here.entry.behind.now)) }
+{
+    match cause {
+        BuildCause::Grammar(SyntaxError::UnknownName(_)) => push_conversion_advice(out, here.token),
+        _ => Ok(()),
+    }
+}
+
+// ---- with the condition
+
+/// The text with the condition round a token.
+#[tactic(auto, unfolding(crate::specs::Conditions::with_quote))]
+fn with_quote(
+    alloc: Global,
+    text: String,
+    cause: BuildCause,
+    here: Option<Found<'_>>,
+) -> Result<String, AllocError>
+    ensures { IfOk result (λ said. string_bytes said ≡ with_quote cause (string_bytes text)
+        (option_map (λ here. found here.before.now here.token.now here.behind.now) here.entry)) }
+{
+    let Some(here) = here else {
+        return Ok(text);
+    };
+    let mut text = cause_text(alloc, text, cause, here)?;
+    text.push_str("; in ")?;
+    push_round(&mut text, here)?;
+    push_advice(&mut text, cause, here)?;
+    Ok(text)
+}
+
+/// The text of a refusal of a condition, with the condition.
+#[tactic(auto, unfolding(crate::specs::Conditions::condition_words))]
+pub(crate) fn condition_text(
+    alloc: Global,
+    text: String,
+    condition: Option<&str>,
+    cause: BuildCause,
+) -> Result<String, AllocError>
+    ensures { IfOk result (λ said. string_bytes said ≡ condition_words
+        (option_map (λ text. text.now) condition.entry) cause (string_bytes text)) }
+{
+    with_quote(alloc, text, cause, found_in(condition, place_of(cause)))
+}
+
+/// The text of a refusal of a metric's condition, with the condition.
+#[tactic(auto, unfolding(crate::specs::Conditions::build_words))]
+pub(crate) fn build_text(
+    alloc: Global,
+    text: String,
+    condition: Option<&str>,
+    error: BuildError,
+) -> Result<String, AllocError>
+    ensures { IfOk result (λ said. string_bytes said ≡ build_words
+        (option_map (λ text. text.now) condition.entry) error (string_bytes text)) }
+{
+    match error {
+        BuildError::Success(cause) | BuildError::Failure(cause) => {
+            condition_text(alloc, text, condition, cause)
+        }
+        BuildError::OutOfMemory => Ok(text),
+    }
+}
