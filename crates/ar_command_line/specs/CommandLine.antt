@@ -96,7 +96,7 @@ command_named (Some subcommand) = named subcommand.0 subcommand.1
 abbrev pub texts_of : List (String Global) → List Text
 texts_of = map string_bytes
 
--- an error of `clap`, as it is answered: want of memory, or else that it refuses the words
+-- an error of `clap`, as it is answered: out of memory, or else that it refuses the words
 abbrev pub of_kind : ErrorKind → UsageError
 of_kind kind.OutOfMemory = OutOfMemory
 of_kind _ = Words

@@ -29,7 +29,7 @@ is_alone word = bytes_eq word (codes "eval") || bytes_eq word (codes "check") ||
 abbrev pub is_option : (word : List ℕ) → Bool
 is_option word = starts_with nat_eq word (codes "-")
 
--- what may come behind a word, if it is taken
+-- what may come after a word, if it is taken
 abbrev pub after : Next → (word : List ℕ) → Option Next
 after Command word = if bytes_eq word (codes "run") then Some (Options false false false) else (if is_alone word then Some Nothing else None)
 after Nothing word = None

@@ -80,7 +80,7 @@ impl From<clap::Error> for UsageError {
 ///
 /// `Words` where they are no command line of the program's, or ask for a text by `--help` or
 /// `--version`; then `Workers` where `--workers` names no number from 1 to 16; then `Conflict` where both
-/// `--ordered` and `--plain` are given; `OutOfMemory` for want of memory.
+/// `--ordered` and `--plain` are given; `OutOfMemory` for out of memory.
 pub fn command_of(alloc: Global, words: Vec<String>) -> Result<Command, UsageError>
     // The command is the one that the words name, and `clap` finds no fault in them.
     ensures named { IfOk result (λ command. (fault_of application (texts_of words.items) ≡ [])
@@ -109,7 +109,7 @@ pub fn command_of(alloc: Global, words: Vec<String>) -> Result<Command, UsageErr
 ///
 /// # Errors
 ///
-/// Want of memory.
+/// Out of memory.
 pub fn shown(alloc: Global, words: &[String]) -> Result<Option<String>, AllocError>
     // `clap` tells of such a request as of a fault, by its kind.
     ensures { IfOk result (λ text. AsksForText (fault_of application (texts_of words.now)) (is_some text)) }

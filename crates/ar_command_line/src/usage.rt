@@ -13,7 +13,7 @@ pub enum Next {
     Nothing,
     /// Options of `run`, but those that it was given: the number of workers, `--plain`, `--ordered`.
     Options(bool, bool, bool),
-    /// The number behind `--workers`, and then options.
+    /// The number after `--workers`, and then options.
     Number(bool, bool),
 }
 
@@ -31,7 +31,7 @@ fn has_number(word: &str, given: bool) -> bool
     word.starts_with("--workers=") && !given
 }
 
-/// What may come behind an option of `run`, if it is taken.
+/// What may come after an option of `run`, if it is taken.
 fn after_option(workers: bool, plain: bool, ordered: bool, word: &str) -> Option<Next>
     ensures { result ≡ after_option workers plain ordered word.now }
 {
@@ -60,7 +60,7 @@ fn is_option(word: &str) -> bool
     word.starts_with("-")
 }
 
-/// What may come behind a word, if it is taken.
+/// What may come after a word, if it is taken.
 fn after(next: Next, word: &str) -> Option<Next>
     ensures { result ≡ after next word.now }
 {

@@ -1,4 +1,4 @@
--- Texts, one behind another.
+-- Texts, one after another.
 use Rattle.std.proofs.Common.{◌≡◌, ℕ, List, ◌++◌}
 use Rattle.std.specs.Prelude.{if◌then◌else◌, is_ok, Result, Ok, Err, OnOk}
 use Rattle.std.proofs.lemmas.List.{append_assoc}

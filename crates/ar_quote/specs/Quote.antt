@@ -7,7 +7,7 @@ use Rattle.ar_quote.specs.Tokens.{Found}
 
 -- a quote has marks round its token, « (0xAB) and » (0xBB)
 
--- how many characters of a condition are shown before the token, of it, and behind it
+-- how many characters of a condition are shown before the token, of it, and after it
 abbrev pub most_around : ℕ
 most_around = 40
 

@@ -10,7 +10,7 @@ use Rattle.std.specs.Str.{chars}
 abbrev pub is_mark : (character : ℕ) → Bool
 is_mark character = character == 0x061C || (is_in_range 0x200B 0x200F character || (is_in_range 0x2028 0x202E character || (is_in_range 0x2060 0x2069 character || character == 0xFEFF)))
 
--- a terminal may do something else at the character than show it behind the one before
+-- a terminal may do something else at the character than show it after the one before
 abbrev pub moves : (character : ℕ) → Bool
 moves character = is_control character || is_mark character
 

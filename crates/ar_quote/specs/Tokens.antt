@@ -1,5 +1,5 @@
 -- The token at a byte of a condition (docs/LANGUAGE.md), as far as it is marked in a quote: a word, a number, a text literal, a
--- sign, a point with the name behind it, or else one character. The end of the text has none.
+-- sign, a point with the name after it, or else one character. The end of the text has none.
 use Rattle.std.specs.Prelude.{ℕ, suc, Bool, false, not, ◌&&◌, ◌||◌, ◌==◌, nat_lt, if◌then◌else◌, List, [], ◌∷◌, drop, length, slice_index, take, Option, Some, None, option_and_then, option_map}
 use Rattle.std.specs.Char.{is_ascii_alphanumeric, is_ascii_digit}
 use Rattle.std.specs.Int.{is_in_range}
@@ -14,7 +14,7 @@ is_of_word byte = is_ascii_alphanumeric byte || byte == 95
 abbrev pub is_of_number : (byte : ℕ) → Bool
 is_of_number byte = is_of_word byte || byte == 46
 
--- a byte of a character behind its first
+-- a byte of a character after its first
 abbrev pub is_inner : (byte : ℕ) → Bool
 is_inner byte = is_in_range 0x80 0xBF byte
 
@@ -31,12 +31,12 @@ is_pair first (second ∷ rest) =
 abbrev pub is_plain : (escaped : Bool) → (byte sign : ℕ) → Bool
 is_plain escaped byte sign = not escaped && byte == sign
 
--- how many bytes of a text literal stand behind its first quote, up to the next that no backslash escapes
+-- how many bytes of a text literal stand after its first quote, up to the next that no backslash escapes
 unfoldable pub literal_length : (quote : ℕ) → (escaped : Bool) → List ℕ → ℕ
 literal_length quote escaped [] = 0
 literal_length quote escaped (byte ∷ bytes) = if is_plain escaped byte quote then 1 else suc (literal_length quote (is_plain escaped byte 92) bytes)
 
--- how many bytes of the token stand behind its first
+-- how many bytes of the token stand after its first
 abbrev pub others : (first : ℕ) → (rest : List ℕ) → ℕ
 others first rest =
     if is_quote first then literal_length first false rest
@@ -59,7 +59,7 @@ is_place place text = place == length text || nat_lt place (length text) && not 
 abbrev pub cut : (place : ℕ) → (text : List ℕ) → Option (List ℕ × List ℕ)
 cut place text = if is_place place text then Some (take place text, drop place text) else None
 
--- the token at a byte of a text, with what stands before it and what behind it
+-- the token at a byte of a text, with what comes before it and what after it
 pub record Found : Type 0 where
   pub before : List ℕ
   pub token : List ℕ

@@ -10,7 +10,7 @@ use crate::shown::{character_count, push_character};
 use crate::tokens::Found;
 use std::alloc::AllocError;
 
-/// How many characters of a condition are shown before a token, of it, and behind it.
+/// How many characters of a condition are shown before a token, of it, and after it.
 const MOST_AROUND: usize = 40;
 
 /// The first characters of a text.
@@ -23,7 +23,7 @@ fn push_first(out: &mut String, text: &str) -> Result<(), AllocError>
     Ok(())
 }
 
-/// The characters of a text behind some.
+/// The characters of a text after some.
 fn push_behind(out: &mut String, text: &str, count: usize) -> Result<(), AllocError>
     ensures { OnOk result (string_bytes out.new ≡ string_bytes out.old
         ++ flat_map escaped (drop count (chars text.now))) }
@@ -34,7 +34,7 @@ fn push_behind(out: &mut String, text: &str, count: usize) -> Result<(), AllocEr
     Ok(())
 }
 
-/// The last characters of a text behind a quote.
+/// The last characters of a text after a quote.
 fn push_last(out: &mut String, text: &str) -> Result<(), AllocError>
     ensures { OnOk result (string_bytes out.new ≡ string_bytes out.old ++ shown_before (chars text.now)) }
 {

@@ -11,7 +11,7 @@ use std::fmt::Write;
 /// How many characters of a name are shown.
 const MOST_CHARACTERS: usize = 64;
 
-/// Whether a terminal may do something else at a character than show it behind the one before: at
+/// Whether a terminal may do something else at a character than show it after the one before: at
 /// controls, separators of lines, marks of direction and characters without width.
 fn moves(character: char) -> bool
     ensures { result ≡ moves character }

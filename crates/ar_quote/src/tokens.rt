@@ -19,7 +19,7 @@ fn is_of_number(byte: u8) -> bool
     is_of_word(byte) || byte == b'.'
 }
 
-/// Whether a byte is one of a character behind its first.
+/// Whether a byte is one of a character after its first.
 fn is_inner(byte: u8) -> bool
     ensures { result ≡ is_inner byte }
 {
@@ -72,7 +72,7 @@ fn is_plain(escaped: bool, byte: u8, sign: u8) -> bool
     !escaped && byte == sign
 }
 
-/// How many bytes of a text literal stand behind its first quote.
+/// How many bytes of a text literal stand after its first quote.
 #[tactic(auto, using(crate::proofs::TokenBytes::next_letter, crate::proofs::TokenBytes::last_letter, crate::proofs::TokenBytes::no_letter))]
 fn literal_length(quote: u8, bytes: &[u8]) -> usize
     ensures exact { result ≡ literal_length quote false bytes.now }
@@ -103,7 +103,7 @@ fn is_pair(first: u8, rest: &[u8]) -> bool
     }
 }
 
-/// How many bytes of a token stand behind its first.
+/// How many bytes of a token stand after its first.
 fn others(first: u8, rest: &[u8]) -> usize
     ensures exact { result ≡ others first rest.now }
     ensures bound { result ≤ length rest.now }
@@ -133,7 +133,7 @@ fn token_length(text: &str) -> usize
 
 // ---- places
 
-/// A token of a condition, with what stands before it and what behind it.
+/// A token of a condition, with what comes before it and what after it.
 #[derive(Clone, Copy)]
 pub struct Found<'t> {
     pub before: &'t str,

@@ -1,4 +1,4 @@
--- Names, one behind another.
+-- Names, one after another.
 use Rattle.std.proofs.Common.{◌≡◌, ◌<◌, ◌≤◌, ℕ, suc, ◌+◌, Bool, true, false, List, [], ◌∷◌, ◌++◌, length, map, drop, Option, Some, None, refl, sym, ◌∙◌, ap, add-one, drop-cons}
 use Rattle.std.specs.Prelude.{◌||◌, codes, flat_map, is_some, slice_index_or}
 use Rattle.std.specs.List.{cons_option, filter_map, join_by}
@@ -14,7 +14,7 @@ use Rattle.ar_words.specs.Private.Listed.{name_listed, names_behind}
 abbrev behind_comma : (name : List ℕ) → List ℕ
 behind_comma name = codes ", " ++ quoted name
 
--- each name behind others
+-- each name after others
 behind_others : (items : List Data) → names_behind true items ≡ flat_map behind_comma (filter_map name_of items)
 behind_others [] = refl
 behind_others (item ∷ items) = by (name_of item) (behind_others items) where
@@ -32,7 +32,7 @@ from_first (item ∷ items) = by (name_of item) (from_first items) where
   by None rest = rest
   by (Some name) rest = ap (λ rest. quoted name ++ rest) (behind_others items)
 
--- one more name stands behind those that were written
+-- one more name stands after those that were written
 pub next_name : (items : List Value) (place : ℕ) (item : Value) (listed : Bool) (written total : List ℕ) → place < length items → item ≡ slice_index_or items place item
     → written ++ names_behind listed (map (λ item. view item) (drop place items)) ≡ total
     → (written ++ name_listed listed (name_of (view item))) ++ names_behind (listed || is_some (name_of (view item))) (map (λ item. view item) (drop (place + 1) items)) ≡ total

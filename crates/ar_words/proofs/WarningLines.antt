@@ -9,7 +9,7 @@ use Rattle.serde_json.specs.Data.{Data}
 use Rattle.ar_words.specs.Names.{item_text}
 use Rattle.ar_words.specs.Warnings.{Close, close_lines, close_to_metric, condition_line, lines_from, metric_lines, read_over, warning}
 
--- ---- texts, one behind another
+-- ---- texts, one after another
 
 pub on_ok : {A E P Q : Type 0} (result : Result A E) → (P → Q) → OnOk result P → OnOk result Q
 on_ok (Ok x) f p = f p

@@ -81,15 +81,15 @@ taken found =
     else (if takes_alike found then codes "numbers, \"bool\" or \"text\" alone, on both sides"
     else (if takes_texts found.token then codes "\"text\" alone"
     else (if bytes_eq found.token (codes "%") then codes "\"whole\" alone"
-    else (if bytes_eq found.token (codes "[") then codes "a \"whole\" behind a list, or a name behind a record"
+    else (if bytes_eq found.token (codes "[") then codes "a \"whole\" after a list, or a name after a record"
     else (if is_field found.token then codes "a record before it"
     else codes "\"bool\" alone")))))
 
 -- ---- words of the causes
 
--- a text, with other words behind the name of its refusal
-unfoldable pub behind_name : (name words text : List ℕ) → List ℕ
-behind_name name words text = unwrap_or (option_map (λ cut. cut.0 ++ (name ++ words)) (cut_at name text)) text
+-- a text, with other words after the name of its refusal
+unfoldable pub after_name : (name words text : List ℕ) → List ℕ
+after_name name words text = unwrap_or (option_map (λ cut. cut.0 ++ (name ++ words)) (cut_at name text)) text
 
 abbrev pub unexpected : (token : List ℕ) → List ℕ
 unexpected [] = codes "the condition ends too early"
@@ -99,10 +99,10 @@ abbrev pub wrong_operand : Found → List ℕ
 wrong_operand found = quoted found.token ++ (codes " takes " ++ taken found)
 
 abbrev pub cause_words : BuildCause → Found → (text : List ℕ) → List ℕ
-cause_words (Grammar (syntax.Unexpected at)) found text = behind_name (codes "Unexpected: ") (unexpected found.token) text
-cause_words (Kinds (kinds.WrongOperand at)) found text = behind_name (codes "WrongOperand: ") (wrong_operand found) text
-cause_words (Kinds (kinds.NotAList at)) found text = behind_name (codes "NotAList: ") (codes "expected a list, as {\"list\":shape,\"max\":number} declares") text
-cause_words (Kinds (kinds.NoCommonKind at)) found text = behind_name (codes "NoCommonKind: ") (codes "expected one shape for all; \"whole\" goes beside \"decimal\"") text
+cause_words (Grammar (syntax.Unexpected at)) found text = after_name (codes "Unexpected: ") (unexpected found.token) text
+cause_words (Kinds (kinds.WrongOperand at)) found text = after_name (codes "WrongOperand: ") (wrong_operand found) text
+cause_words (Kinds (kinds.NotAList at)) found text = after_name (codes "NotAList: ") (codes "expected a list, as {\"list\":shape,\"max\":number} declares") text
+cause_words (Kinds (kinds.NoCommonKind at)) found text = after_name (codes "NoCommonKind: ") (codes "expected one shape for all; \"whole\" goes beside \"decimal\"") text
 cause_words cause found text = text
 
 -- Argo Rollouts' conversions

@@ -15,7 +15,7 @@ name_of item = text_member (codes "name") item
 abbrev pub numbered : (kind : List ℕ) → (number : ℕ) → List ℕ
 numbered kind number = kind ++ (codes " " ++ decimal number)
 
--- a name behind a blank, if there is one
+-- a name after a blank, if there is one
 abbrev pub behind_blank : Option (List ℕ) → List ℕ
 behind_blank None = []
 behind_blank (Some name) = codes " " ++ quoted name
@@ -30,11 +30,11 @@ item_text kind number item = numbered kind number ++ behind_blank (name_of item)
 abbrev pub most_items : ℕ
 most_items = 8
 
--- the names of the items that have one, each but the first behind a comma
+-- the names of the items that have one, each but the first after a comma
 abbrev pub names_listed : List Data → List ℕ
 names_listed items = join_by quoted (codes ", ") (filter_map name_of items)
 
--- how many items stand behind those that are listed
+-- how many items stand after those that are listed
 abbrev pub others_counted : (count : ℕ) → List ℕ
 others_counted count = if nat_lt most_items count then codes " and " ++ (decimal (count - most_items) ++ codes " more") else []
 

@@ -15,7 +15,7 @@ use Rattle.ar_eval.specs.declared.eval.EvalError.TheVariants.{Grammar, Kinds}
 use Rattle.ar_judge.specs.declared.error.BuildCause.TheVariants as build
 use Rattle.ar_judge.specs.declared.error.BuildError.{BuildError}
 use Rattle.ar_words.specs.Bindings.{bound_condition}
-use Rattle.ar_words.specs.Conditions.{behind_name, build_words, condition_words}
+use Rattle.ar_words.specs.Conditions.{after_name, build_words, condition_words}
 use Rattle.ar_words.specs.Lists.{entry_text, item_at, list_in, metrics, runs, template_list, text_at}
 use Rattle.ar_quote.specs.Shown.{quoted}
 use Rattle.ar_words.specs.Names.{item_text, names_text, numbered}
@@ -27,7 +27,7 @@ unfoldable pub in_place : (words : List ℕ) → (shown : Option (List ℕ)) →
 in_place words None text = text
 in_place words (Some shown) text = unwrap_or (option_map (λ cut. cut.0 ++ (shown ++ cut.1)) (cut_at words text)) text
 
--- behind an item's kind and number stands its name
+-- after an item's kind and number stands its name
 abbrev pub beside_item : (kind : List ℕ) → (number : ℕ) → Option (List Data) → (text : List ℕ) → List ℕ
 beside_item kind number items text = in_place (numbered kind number) (option_map (item_text kind number) (item_at number items)) text
 
@@ -41,7 +41,7 @@ beside_run document number text = beside_item (codes "run") number (runs documen
 abbrev pub with_argument : Data → (number : ℕ) → (text : List ℕ) → List ℕ
 with_argument document number text = in_place (codes "spec.args") (option_map (item_text (codes "argument") number) (item_at number (template_list (codes "args") document))) text
 
--- behind `the name` stands the name that two runs have
+-- after `the name` stands the name that two runs have
 abbrev pub with_double_name : Data → (number : ℕ) → (text : List ℕ) → List ℕ
 with_double_name document number text = in_place (codes "the name") (option_map (λ name. codes "the name " ++ quoted name) (text_at (codes "name") number (runs document))) text
 
@@ -50,12 +50,12 @@ abbrev pub those_there : (kinds : List ℕ) → List Data → List ℕ
 those_there kinds [] = codes "; there are no " ++ kinds
 those_there kinds (item ∷ items) = codes "; " ++ (kinds ++ (codes " are " ++ names_text (item ∷ items)))
 
--- behind the text stand the name that isn't there and those that are
+-- after the text stand the name that isn't there and those that are
 abbrev pub with_names : (name : Option (List ℕ)) → (kinds : List ℕ) → Option (List Data) → (text : List ℕ) → List ℕ
 with_names (Some name) kinds (Some items) text = text ++ (codes " " ++ (quoted name ++ those_there kinds items))
 with_names name kinds items text = text
 
--- behind the text stand the arguments that the template declares
+-- after the text stand the arguments that the template declares
 abbrev pub with_arguments : Data → (text : List ℕ) → List ℕ
 with_arguments document text = text ++ those_there (codes "arguments") (unwrap_or (template_list (codes "args") document) [])
 
@@ -95,7 +95,7 @@ list_words kind = quoted kind ++ codes " is a list of templates; one of its `ite
 -- what stands in the place of a template, or is the whole document, may be a list of templates
 abbrev pub head_words : Data → (name : List ℕ) → (kind : Option (List ℕ)) → (text : List ℕ) → List ℕ
 head_words document name None text = with_place document text
-head_words document name (Some kind) text = behind_name name (list_words kind) text
+head_words document name (Some kind) text = after_name name (list_words kind) text
 
 abbrev pub given_kind : Data → Option (List ℕ)
 given_kind document = list_kind (unwrap_or (get (codes "manifest") document) document)

@@ -2,7 +2,7 @@
 
 ghost use Rattle.std.specs.Prelude.{◌≡◌, ◌<◌, ◌++◌, IfOk, OnOk, length, option_map, string_bytes};
 ghost use Rattle.ar_manifest.specs.Binding.{without_leading_spaces};
-ghost use Rattle.ar_words.specs.Conditions.{advice, behind_name, build_words, cause_words, condition_words, conversion_advice, found_in, goes_on_in, is_conversion, is_field, place_of, place_of_kinds, place_of_syntax, taken, takes_alike, takes_numbers, takes_texts, unexpected, with_quote, wrong_operand};
+ghost use Rattle.ar_words.specs.Conditions.{advice, after_name, build_words, cause_words, condition_words, conversion_advice, found_in, goes_on_in, is_conversion, is_field, place_of, place_of_kinds, place_of_syntax, taken, takes_alike, takes_numbers, takes_texts, unexpected, with_quote, wrong_operand};
 ghost use Rattle.ar_quote.specs.Tokens.{found};
 
 use crate::cuts::cut_at;
@@ -123,7 +123,7 @@ fn taken(here: Found<'_>) -> &'static str
     } else if here.token == "%" {
         "\"whole\" alone"
     } else if here.token == "[" {
-        "a \"whole\" behind a list, or a name behind a record"
+        "a \"whole\" after a list, or a name after a record"
     } else if is_field(here.token) {
         "a record before it"
     } else {
@@ -133,16 +133,16 @@ fn taken(here: Found<'_>) -> &'static str
 
 // ---- words of the causes
 
-/// The text with other words behind the name of its refusal.
-#[tactic(auto, unfolding(crate::specs::Conditions::behind_name))]
-pub(crate) fn behind_name(
+/// The text with other words after the name of its refusal.
+#[tactic(auto, unfolding(crate::specs::Conditions::after_name))]
+pub(crate) fn after_name(
     alloc: Global,
     text: String,
     name: &str,
     words: &str,
 ) -> Result<String, AllocError>
     requires { 0 < length name.now }
-    ensures { IfOk result (λ said. string_bytes said ≡ behind_name name.now words.now (string_bytes text)) }
+    ensures { IfOk result (λ said. string_bytes said ≡ after_name name.now words.now (string_bytes text)) }
 {
     match cut_at(text.as_str(), name) {
         Some((before, _)) => format!(in alloc; "{before}{name}{words}"),
@@ -184,19 +184,19 @@ fn cause_text(
 {
     match cause {
         BuildCause::Grammar(SyntaxError::Unexpected(_)) => {
-            behind_name(alloc, text, "Unexpected: ", unexpected(here.token))
+            after_name(alloc, text, "Unexpected: ", unexpected(here.token))
         }
         BuildCause::Kinds(TypeError::WrongOperand(_)) => {
             let words = wrong_operand(alloc, here)?;
-            behind_name(alloc, text, "WrongOperand: ", words.as_str())
+            after_name(alloc, text, "WrongOperand: ", words.as_str())
         }
-        BuildCause::Kinds(TypeError::NotAList(_)) => behind_name(
+        BuildCause::Kinds(TypeError::NotAList(_)) => after_name(
             alloc,
             text,
             "NotAList: ",
             "expected a list, as {\"list\":shape,\"max\":number} declares",
         ),
-        BuildCause::Kinds(TypeError::NoCommonKind(_)) => behind_name(
+        BuildCause::Kinds(TypeError::NoCommonKind(_)) => after_name(
             alloc,
             text,
             "NoCommonKind: ",

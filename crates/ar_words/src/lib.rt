@@ -1,7 +1,7 @@
 //! The words of refusals: a refusal's own text, with names of the document beside its numbers.
 //!
 //! [`bundle_text`] and [`eval_text`] take a refusal with its own text, which the caller writes, and the
-//! document that was read, and answer the text that `specs/Words` defines: which name stands behind
+//! document that was read, and answer the text that `specs/Words` defines: which name stands after
 //! which words. How names and conditions are shown, so that each stays in its line, `ar_quote` says.
 //!
 //! - `texts`: the texts, by the refusals; `conditions`: those of refusals of conditions

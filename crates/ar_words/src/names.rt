@@ -20,7 +20,7 @@ pub(crate) fn name_of(item: &Json) -> Option<&str>
     text_member(item, "name")
 }
 
-/// A name behind a blank, if there is one.
+/// A name after a blank, if there is one.
 fn push_behind_blank(out: &mut String, name: Option<&str>) -> Result<(), AllocError>
     ensures { OnOk result (string_bytes out.new ≡ string_bytes out.old
         ++ behind_blank (option_map (λ name. name.now) name.entry)) }
@@ -46,7 +46,7 @@ pub(crate) fn item_text(
     Ok(text)
 }
 
-/// A name in a list, if there is one: behind others, or the first.
+/// A name in a list, if there is one: after others, or the first.
 fn push_listed(out: &mut String, listed: bool, name: Option<&str>) -> Result<(), AllocError>
     ensures { OnOk result (string_bytes out.new ≡ string_bytes out.old
         ++ name_listed listed (option_map (λ name. name.now) name.entry)) }
@@ -82,7 +82,7 @@ fn first(items: &[Json]) -> &[Json]
     items.get(..MOST_ITEMS).unwrap_or(items)
 }
 
-/// How many items there are behind the first.
+/// How many items there are after the first.
 fn push_others(out: &mut String, count: usize) -> Result<(), AllocError>
     ensures { OnOk result (string_bytes out.new ≡ string_bytes out.old ++ others_counted count) }
 {

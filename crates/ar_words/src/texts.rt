@@ -11,7 +11,7 @@ ghost use Rattle.ar_words.specs.Names.{item_text};
 ghost use Rattle.ar_words.specs.Words.{beside_item, beside_metric, beside_run, built_words, bundle_words, eval_words, given_kind, has_braces, head_words, in_place, is_list_kind, kind_of_list, list_kind, list_words, manifest_words, template_words, those_there, with_advice, with_argument, with_arguments, with_double_name, with_names, with_place};
 
 use crate::bindings::{bound_of, refused_condition};
-use crate::conditions::{behind_name, build_text, condition_text};
+use crate::conditions::{after_name, build_text, condition_text};
 use crate::cuts::cut_at;
 use crate::lists::{entry_text, item_at, list_in, metrics, runs, template_list, text_at};
 use crate::names::{item_text, push_names};
@@ -70,7 +70,7 @@ fn shown_item(
     }
 }
 
-/// The text with the item's name behind its kind and number.
+/// The text with the item's name after its kind and number.
 #[tactic(auto, using(crate::proofs::Found::numbered_some))]
 fn beside_item(
     alloc: Global,
@@ -294,7 +294,7 @@ fn head_text(alloc: Global, document: &Json, text: String, name: &str) -> Result
     match given_kind(document) {
         Some(kind) => {
             let words = list_words(alloc, kind)?;
-            behind_name(alloc, text, name, words.as_str())
+            after_name(alloc, text, name, words.as_str())
         }
         None => with_place(document, text),
     }
@@ -363,7 +363,7 @@ fn built_text(
 ///
 /// # Errors
 ///
-/// Want of memory alone.
+/// Out of memory alone.
 pub fn bundle_text(
     alloc: Global,
     document: &Json,
