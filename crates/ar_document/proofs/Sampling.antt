@@ -1,10 +1,9 @@
 -- Samples of what was measured.
-use Rattle.std.proofs.Common.{◌≡◌, ◌≢◌, ◌<◌, ◌≤◌, ◌∙◌, ℕ, Bool, true, false, List, length, map, get_or, Option, Some, None, Ok, Err, Bor, refl, sym, ap, arith}
+use Rattle.std.proofs.Common.{◌≡◌, ◌≢◌, ◌<◌, ◌≤◌, ◌∙◌, ℕ, Bool, true, false, List, length, map, get_or, Option, Some, None, Ok, Err, Bor, refl, sym, ap}
 use Rattle.std.specs.Prelude.{slice_get, option_map, IfSome}
 use Rattle.std.specs.List.{HoldsAt}
 use Rattle.std.specs.Option.{MatchOption, ok_or}
-use Rattle.std.proofs.lemmas.List.{length-map}
-use Rattle.std.proofs.lemmas.Option.{slice_get-map, slice_get_past, slice_get_read}
+use Rattle.std.proofs.lemmas.Option.{slice_get-map, slice_get_read}
 use Rattle.serde_json.specs.Data.{Data}
 use Rattle.ar_value.specs.Answer.{Unless}
 use Rattle.ar_json.specs.Reading.{is_memory, is_memory_under, read}
@@ -13,10 +12,12 @@ use Rattle.ar_value.specs.declared.shape.Shape.{Shape as Declared}
 use Rattle.ar_json.specs.declared.value_reading.ShapeFault.{ShapeFault}
 use Rattle.ar_json.specs.declared.value_reading.ShapeFault.TheVariants.{OutOfMemory}
 use Rattle.ar_json.proofs.ReadLemmas.{under_is_memory}
-use Rattle.ar_judge.specs.Verdict.{misfit}
+use Rattle.ar_judge.specs.Verdict.{Sample, misfit}
 use Rattle.ar_bundle.specs.declared.bundle.MetricPart.{MetricPart}
-use Rattle.ar_document.specs.Entries.{sample_by}
+use Rattle.ar_document.specs.Entries.{entry_of, measure, measured_of, sample_by, sample_of}
+use Rattle.ar_document.specs.Opening.{Metric, Opened, number_of}
 use Rattle.ar_document.specs.declared.error.BundleError.{BundleError}
+use Rattle.ar_document.specs.declared.error.BundleError.TheVariants.{UnknownMetric}
 
 by_memory : (memory under : Bool) (P : Type 0) → (under ≡ true → memory ≡ true) → memory ≡ false → Unless under P → P
 by_memory memory true P more none told = absurd (let is = more refl in cc)
@@ -47,8 +48,11 @@ pub metric_at : (metrics : List MetricPart) (readers : List Declared) (i : ℕ) 
 metric_at metrics readers i shape are at =
     some_metric (slice_get metrics i) shape (sym (slice_get-map (λ (metric : MetricPart). metric.shape) metrics i) ∙ ap (λ list. slice_get list i) (sym are) ∙ at)
 
--- and none where there is no reader
-pub no_metric_at : (metrics : List MetricPart) (readers : List Declared) (i : ℕ) → readers ≡ map (λ metric. metric.shape) metrics → length readers ≤ i → slice_get metrics i ≡ None
-no_metric_at metrics readers i are past =
-    let many : length readers ≡ length metrics = ap length are ∙ length-map metrics (λ metric. metric.shape) in
-    slice_get_past metrics i (omega (arith, many, past))
+-- a measurement of a metric that has its number by its name is one with the sample that its shape gives
+pub measured_by : (opened : Opened) (number run : ℕ) (name : List ℕ) (found : Option Data) (named : Option ℕ) (metric : ℕ) (part : Metric) (sample : Sample)
+    → named ≡ number_of name (map (λ metric. metric.name) opened.metrics) → Ok metric ≡ ok_or named (UnknownMetric number) → slice_get opened.metrics metric ≡ Some part → sample ≡ sample_of part.shape found
+    → measured_of opened number run name found ≡ Ok (entry_of run (measure metric sample))
+measured_by opened number run name found (Some other) metric part sample named is at reads =
+    let same : other ≡ metric = cc in
+    rw (← named, same, at, reads) refl
+measured_by opened number run name found None metric part sample named is at reads = absurd cc

@@ -1,4 +1,4 @@
-use Rattle.std.proofs.Common.{List, Ok, ap, sym}
+use Rattle.std.proofs.Common.{List, Ok, ap}
 use Rattle.serde_json.specs.Data.{Data}
 use Rattle.serde_json.proofs.Views.{view-Array}
 use Rattle.ar_json.proofs.Lists.{listed_items}

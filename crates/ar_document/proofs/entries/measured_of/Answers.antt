@@ -1,16 +1,37 @@
-use Rattle.std.proofs.Common.{◌≡◌, Some, subst}
-use Rattle.std.specs.Prelude.{slice_get}
+use Rattle.std.proofs.Common.{◌≡◌, ◌∙◌, Some, ap, map, subst, sym}
+use Rattle.std.specs.Prelude.{option_map, slice_get}
+use Rattle.std.proofs.lemmas.Option.{slice_get-map}
+use Rattle.serde_json.specs.View.{view}
 use Rattle.ar_value.specs.View.{shape_view}
 use Rattle.ar_value.specs.declared.shape.Shape.{Shape as Declared}
 use Rattle.ar_judge.specs.Verdict.{sample_view}
 use Rattle.ar_bundle.specs.Bundle.{SampleSuits}
+use Rattle.ar_document.specs.Entries.{sample_of}
+use Rattle.ar_document.specs.Opening.{metric_view}
+use Rattle.ar_document.specs.Private.Opened.{metric_names, opened_view}
 use Rattle.ar_document.specs.declared.error.BundleError.TheVariants.{UnknownMetric}
-use Rattle.ar_document.proofs.Sampling.{found_at}
+use Rattle.ar_document.proofs.Sampling.{found_at, measured_by, metric_at}
 use Rattle.ar_document.proofs.entries.measured_of.Goals as goal
+
+pub returns-clause-exact : goal.returns-clause-exact
+returns-clause-exact c =
+    let opened = c.args.opened.now in
+    let at = c.in_ok-metric.metric in
+    let found = found_at c.deref.result.now at c.get.result c.in_ok-reader.reader (UnknownMetric c.args.number) c.in_ok-reader.ensures.value c.get.ensures.lookup.1 c.get.ensures.lookup.3 in
+    let there : slice_get opened.readers.items at ≡ Some c.in_ok-reader.reader.now = rw c.deref.ensures.value at found in
+    let metric = metric_at opened.metrics.items opened.readers.items at c.in_ok-reader.reader.now c.requires.opened.readers there in
+    let value = option_map (λ json. view json.now) c.args.found in
+    measured_by (opened_view opened) c.args.number c.args.run c.args.name.now value c.number_of.result at (metric_view metric.0) (sample_view c.in_ok-sample.sample)
+    (c.number_of.ensures (metric_names (map metric_view opened.metrics.items)) c.requires.opened.metric_numbers) c.in_ok-metric.ensures.value
+    (slice_get-map metric_view opened.metrics.items at ∙ ap (option_map metric_view) metric.1)
+    (c.in_ok-sample.ensures.exact ∙ ap (λ (shape : Declared). sample_of (shape_view shape) value) (sym metric.2))
 
 pub returns-clause-entry : goal.returns-clause-entry
 returns-clause-entry c =
-    let found = found_at c.deref.result.now c.in_ok-metric.metric c.get.result c.in_ok-part.part (UnknownMetric c.args.number) c.in_ok-part.ensures.value c.get.ensures.lookup.1 c.get.ensures.lookup.3 in
-    let there : slice_get c.args.opened.now.metrics.items c.in_ok-metric.metric ≡ Some c.in_ok-part.part.now = rw c.deref.ensures.value at found in
-    let suits = subst (λ (shape : Declared). SampleSuits (shape_view shape) (sample_view c.in_ok-sample.sample)) c.get-2.ensures c.in_ok-sample.ensures.suits in
-    record { run = c.requires.run; what = record { part = c.in_ok-part.part.now; there = there; suits = suits } }
+    let opened = c.args.opened.now in
+    let at = c.in_ok-metric.metric in
+    let found = found_at c.deref.result.now at c.get.result c.in_ok-reader.reader (UnknownMetric c.args.number) c.in_ok-reader.ensures.value c.get.ensures.lookup.1 c.get.ensures.lookup.3 in
+    let there : slice_get opened.readers.items at ≡ Some c.in_ok-reader.reader.now = rw c.deref.ensures.value at found in
+    let metric = metric_at opened.metrics.items opened.readers.items at c.in_ok-reader.reader.now c.requires.opened.readers there in
+    let suits = subst (λ (shape : Declared). SampleSuits (shape_view shape) (sample_view c.in_ok-sample.sample)) (sym metric.2) c.in_ok-sample.ensures.suits in
+    record { run = c.requires.run; what = record { part = metric.0; there = metric.1; suits = suits } }
