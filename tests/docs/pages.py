@@ -70,9 +70,10 @@ def broken_links(path):
 
 
 def unordered_runs():
-    """The lines of pages, recipes and examples that start `run` without --plain or --ordered."""
+    """The lines of pages, recipes and examples that start `run` without --plain or --ordered. What the program itself
+    writes starts nothing."""
     scripts = [path for pattern in SCRIPTS for path in sorted(ROOT.glob(pattern)) if path.is_file()]
     for path in [*PAGES, *scripts]:
         for number, line in enumerate(path.read_text(encoding="utf-8").splitlines(), 1):
-            if UNORDERED.search(line):
+            if UNORDERED.search(line) and not line.startswith("argo_judge: "):
                 yield f"{path.relative_to(ROOT)}:{number}: expected `run --plain` or `run --ordered`"
