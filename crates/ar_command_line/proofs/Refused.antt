@@ -1,8 +1,8 @@
 -- Words of a command line, one after another.
-use Rattle.std.proofs.Common.{◌≡◌, ◌<◌, ◌≤◌, ℕ, suc, ◌+◌, List, ◌∷◌, length, map, drop, Option, Some, None, refl, sym, ◌∙◌, ap, add-one, drop-cons}
+use Rattle.std.proofs.Common.{◌≡◌, ◌<◌, ◌≤◌, ℕ, suc, ◌+◌, arith, List, [], ◌∷◌, length, map, drop, Option, Some, None, refl, sym, ◌∙◌, ap, add-one, drop-cons}
 use Rattle.std.specs.Prelude.{slice_index_or}
 use Rattle.std.proofs.Math.ListN.{drop_of_length-le}
-use Rattle.ar_command_line.specs.Usage.{after, first_refused}
+use Rattle.ar_command_line.specs.Usage.{after, first_refused, number_of, workers_given}
 use Rattle.ar_command_line.specs.declared.usage.Next.{Next}
 
 module _ {B : Type 0} (text : B → List ℕ) (words : List B) (place : ℕ) (word : B) (within : place < length words) (is : word ≡ slice_index_or words place word) where
@@ -27,3 +27,23 @@ pub none_left : {B : Type 0} (text : B → List ℕ) (words : List B) (place : �
     → first_refused next (map text (drop place words)) ≡ total → None ≡ total
 unfolding first_refused
 none_left text words place next total past so_far = ap (λ rest. first_refused next (map text rest)) (sym (drop_of_length-le words past)) ∙ so_far
+
+-- ---- the number of workers
+
+module _ {B : Type 0} (text : B → List ℕ) (words following : List B) (word : B) (first : words ≡ word ∷ following) (name : List ℕ) (is : name ≡ text word) (total : Option (List ℕ)) (so_far : workers_given (map text words) ≡ total) where
+  pub number_found : (number : List ℕ) → Some number ≡ number_of name (map text following) → Some number ≡ total
+  unfolding workers_given
+  number_found number found =
+      let now : workers_given (text word ∷ map text following) ≡ Some number = rw (sym (found ∙ ap (λ name. number_of name (map text following)) is)) refl in
+      sym now ∙ ap (λ words. workers_given (map text words)) (sym first) ∙ so_far
+
+  pub no_number_yet : None ≡ number_of name (map text following) → workers_given (map text following) ≡ total
+  unfolding workers_given
+  no_number_yet missing =
+      let now : workers_given (text word ∷ map text following) ≡ workers_given (map text following) = rw (sym (missing ∙ ap (λ name. number_of name (map text following)) is)) refl in
+      sym now ∙ ap (λ words. workers_given (map text words)) (sym first) ∙ so_far
+
+pub no_number : {B : Type 0} (text : B → List ℕ) (words : List B) (total : Option (List ℕ)) → length words ≡ 0 → workers_given (map text words) ≡ total → None ≡ total
+unfolding workers_given
+no_number text [] total past so_far = so_far
+no_number text (word ∷ words) total past so_far = absurd (omega arith)

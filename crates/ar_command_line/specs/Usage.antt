@@ -1,7 +1,9 @@
 -- The first word of a command line that isn't taken, and what is said of it.
 use Rattle.std.specs.Prelude.{ℕ, Bool, true, false, not, ◌&&◌, ◌||◌, nat_eq, if◌then◌else◌, List, [], ◌∷◌, ◌++◌, codes, drop, Option, Some, None}
 use Rattle.std.specs.List.{starts_with}
+use Rattle.std.specs.Option.{option_or}
 use Rattle.std.specs.Str.{bytes_eq}
+use Rattle.ar_command_line.specs.declared.usage.Given.{Given}
 use Rattle.ar_command_line.specs.declared.usage.Next.{Next}
 use Rattle.ar_command_line.specs.declared.usage.Next.TheVariants.{Command, Nothing, Options, Number}
 use Rattle.ar_quote.specs.Shown.{quoted}
@@ -15,12 +17,12 @@ abbrev pub has_number : (word : List ℕ) → (given : Bool) → Bool
 has_number word given = starts_with nat_eq word (codes "--workers=") && not given
 
 -- `run` takes each of its options once
-abbrev pub after_option : (workers plain ordered : Bool) → (word : List ℕ) → Option Next
-after_option workers plain ordered word =
-    if is_new (codes "--workers") word workers then Some (Number plain ordered)
-    else (if has_number word workers then Some (Options true plain ordered)
-    else (if is_new (codes "--plain") word plain then Some (Options workers true ordered)
-    else (if is_new (codes "--ordered") word ordered then Some (Options workers plain true)
+abbrev pub after_option : Given → (word : List ℕ) → Option Next
+after_option given word =
+    if is_new (codes "--workers") word given.workers then Some (Number (record given { workers = true; }))
+    else (if has_number word given.workers then Some (Options (record given { workers = true; }))
+    else (if is_new (codes "--plain") word given.plain then Some (Options (record given { plain = true; }))
+    else (if is_new (codes "--ordered") word given.ordered then Some (Options (record given { ordered = true; }))
     else None)))
 
 abbrev pub is_alone : (word : List ℕ) → Bool
@@ -31,10 +33,12 @@ is_option word = starts_with nat_eq word (codes "-")
 
 -- what may come after a word, if it is taken
 abbrev pub after : Next → (word : List ℕ) → Option Next
-after Command word = if bytes_eq word (codes "run") then Some (Options false false false) else (if is_alone word then Some Nothing else None)
+after Command word =
+    if bytes_eq word (codes "run") then Some (Options (record { workers = false; plain = false; ordered = false }))
+    else (if is_alone word then Some Nothing else None)
 after Nothing word = None
-after (Options workers plain ordered) word = after_option workers plain ordered word
-after (Number plain ordered) word = if is_option word then None else Some (Options true plain ordered)
+after (Options given) word = after_option given word
+after (Number given) word = if is_option word then None else Some (Options given)
 
 abbrev pub following_or : {A B : Type 0} → (refused : B) → (rest : A → Option B) → Option A → Option B
 following_or refused rest None = Some refused
@@ -49,12 +53,12 @@ first_refused next (word ∷ words) = following_or (next, word) (λ following. f
 
 abbrev pub reason : Next → (word : List ℕ) → List ℕ
 reason Command word = codes " is no command; expected `eval`, `check`, `list` or `run`, or --help"
-reason (Number plain ordered) word = codes " is no number; expected --workers and a whole number from 1 to 16"
+reason (Number given) word = codes " is no number; expected --workers and a whole number from 1 to 16"
 reason Nothing word =
-    if is_option word then codes " isn't taken; options are for `run`" else codes " isn't taken; the document is read from standard input, as by: argo_judge run < document.json"
-reason (Options workers plain ordered) word =
+    if is_option word then codes " isn't taken; options are for `run`" else codes " isn't taken; the document is read from standard input, as by: argo_judge run --plain < document.json"
+reason (Options given) word =
     if is_option word then codes " isn't taken; `run` takes --workers N, --plain and --ordered, each once"
-    else codes " isn't taken; the document is read from standard input, as by: argo_judge run < document.json"
+    else codes " isn't taken; the document is read from standard input, as by: argo_judge run --plain < document.json"
 
 abbrev pub said : Option (Next × List ℕ) → List ℕ
 said None = codes "expected `eval`, `check`, `list` or `run`, with the document on standard input, or --help"
@@ -63,3 +67,27 @@ said (Some refused) = quoted refused.1 ++ reason refused.0 refused.1
 -- of words of which the first is the program's name
 abbrev pub words_text : (words : List (List ℕ)) → List ℕ
 words_text words = codes "command line: Words: " ++ said (first_refused Command (drop 1 words))
+
+-- ---- the number of workers
+
+abbrev pub first_of : (words : List (List ℕ)) → Option (List ℕ)
+first_of [] = None
+first_of (word ∷ words) = Some word
+
+-- the number that a word is, or the word after it
+abbrev pub number_of : (word : List ℕ) → (rest : List (List ℕ)) → Option (List ℕ)
+number_of word rest =
+    if bytes_eq word (codes "--workers") then first_of rest
+    else (if starts_with nat_eq word (codes "--workers=") then Some (drop 10 word) else None)
+
+-- the number of workers as it is written
+unfoldable pub workers_given : (words : List (List ℕ)) → Option (List ℕ)
+workers_given [] = None
+workers_given (word ∷ words) = option_or (number_of word words) (workers_given words)
+
+abbrev pub number_said : Option (List ℕ) → List ℕ
+number_said None = []
+number_said (Some number) = quoted number ++ codes " is none; "
+
+abbrev pub workers_text : (words : List (List ℕ)) → List ℕ
+workers_text words = codes "command line, --workers: Workers: " ++ (number_said (workers_given words) ++ codes "expected a whole number from 1 to 16")

@@ -10,8 +10,9 @@
 //!
 //! - `command_line`: the calls, and the command line as `clap` builds it
 //! - `help`: the texts of `--help`
-//! - `usage`: what is said of words that are refused: the first that isn't taken, and why
-//!   ([`words_text`], `specs/Usage`, which reads the words without `clap`)
+//! - `usage`: what is said of words that are refused (`specs/Usage`, which reads the words without
+//!   `clap`): the first that isn't taken, and why ([`words_text`]), or the number of workers
+//!   ([`workers_text`])
 #![tactic(auto)]
 
 mod command_line;
@@ -19,4 +20,4 @@ mod help;
 pub mod usage;
 
 pub use command_line::{Command, DEFAULT_WORKERS, UsageError, command_of, shown};
-pub use usage::words_text;
+pub use usage::{words_text, workers_text};

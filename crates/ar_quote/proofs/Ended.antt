@@ -113,14 +113,14 @@ short_end characters short = by (nat_lt 64 (length characters)) refl where
   by true is = absurd (grind (arith, nat_tests))
   by false is = rw is refl
 
-shown_whole : (name behind : List ℕ) → length (chars name) ≤ 64 → quoted name ++ behind ≡ 34 ∷ (flat_map escaped (chars name) ++ (34 ∷ behind))
+shown_whole : (name after : List ℕ) → length (chars name) ≤ 64 → quoted name ++ after ≡ 34 ∷ (flat_map escaped (chars name) ++ (34 ∷ after))
 unfolding quoted
-shown_whole name behind short =
+shown_whole name after short =
     let all : take 64 (chars name) ≡ chars name = take_all 64 (chars name) short in
-    rw (all, short_end (chars name) short) (ap (λ text. 34 ∷ text) (append_assoc (flat_map escaped (chars name)) (34 ∷ []) behind))
+    rw (all, short_end (chars name) short) (ap (λ text. 34 ∷ text) (append_assoc (flat_map escaped (chars name)) (34 ∷ []) after))
 
-pub names_end : (name other behind more : List ℕ) → IsUtf8 name → IsUtf8 other → length (chars name) ≤ 64 → length (chars other) ≤ 64 → quoted name ++ behind ≡ quoted other ++ more → (name ≡ other) × (behind ≡ more)
-names_end name other behind more is other_is short other_short e =
-    let texts : 34 ∷ (flat_map escaped (chars name) ++ (34 ∷ behind)) ≡ 34 ∷ (flat_map escaped (chars other) ++ (34 ∷ more)) = sym (shown_whole name behind short) ∙ e ∙ shown_whole other more other_short in
-    let same = same_shown (chars name) (chars other) behind more cc in
+pub names_end : (name other after more : List ℕ) → IsUtf8 name → IsUtf8 other → length (chars name) ≤ 64 → length (chars other) ≤ 64 → quoted name ++ after ≡ quoted other ++ more → (name ≡ other) × (after ≡ more)
+names_end name other after more is other_is short other_short e =
+    let texts : 34 ∷ (flat_map escaped (chars name) ++ (34 ∷ after)) ≡ 34 ∷ (flat_map escaped (chars other) ++ (34 ∷ more)) = sym (shown_whole name after short) ∙ e ∙ shown_whole other more other_short in
+    let same = same_shown (chars name) (chars other) after more cc in
     (sym (encodes-chars name is) ∙ ap encodes same.0 ∙ encodes-chars other other_is, same.1)

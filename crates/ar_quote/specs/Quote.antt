@@ -25,4 +25,4 @@ quote_end characters = if nat_lt most_around (length characters) then codes "\".
 
 -- a condition as a JSON string, with marks round a token
 unfoldable pub quoted_round : Found → List ℕ
-quoted_round found = shown_before (chars found.before) ++ (encode_utf8 0xAB ++ (shown_first (chars found.token) ++ (token_end (chars found.token) ++ (encode_utf8 0xBB ++ (shown_first (chars found.behind) ++ quote_end (chars found.behind))))))
+quoted_round found = shown_before (chars found.before) ++ (encode_utf8 0xAB ++ (shown_first (chars found.token) ++ (token_end (chars found.token) ++ (encode_utf8 0xBB ++ (shown_first (chars found.after) ++ quote_end (chars found.after))))))

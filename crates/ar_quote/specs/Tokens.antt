@@ -63,10 +63,10 @@ cut place text = if is_place place text then Some (take place text, drop place t
 pub record Found : Type 0 where
   pub before : List ℕ
   pub token : List ℕ
-  pub behind : List ℕ
+  pub after : List ℕ
 
-abbrev pub found : (before token behind : List ℕ) → Found
-found before token behind = record { before = before; token = token; behind = behind }
+abbrev pub found : (before token after : List ℕ) → Found
+found before token after = record { before = before; token = token; after = after }
 
 unfoldable pub token_at : (place : ℕ) → (text : List ℕ) → Option Found
 token_at place text = option_and_then (λ parts. option_map (λ rest. found parts.0 rest.0 rest.1) (cut (token_length parts.1) parts.1)) (cut place text)

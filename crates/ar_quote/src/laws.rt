@@ -14,7 +14,7 @@ pub fn names_stay_in_their_line()
 /// nothing else is shown so.
 #[tactic(auto, using(crate::proofs::Ended::names_end))]
 pub fn names_end_where_they_seem_to()
-    ensures { (name other behind more : List ℕ) → IsUtf8 name → IsUtf8 other
+    ensures { (name other after more : List ℕ) → IsUtf8 name → IsUtf8 other
         → length (chars name) ≤ most_characters → length (chars other) ≤ most_characters
-        → quoted name ++ behind ≡ quoted other ++ more → (name ≡ other) × (behind ≡ more) }
+        → quoted name ++ after ≡ quoted other ++ more → (name ≡ other) × (after ≡ more) }
 {}

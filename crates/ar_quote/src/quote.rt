@@ -24,7 +24,7 @@ fn push_first(out: &mut String, text: &str) -> Result<(), AllocError>
 }
 
 /// The characters of a text after some.
-fn push_behind(out: &mut String, text: &str, count: usize) -> Result<(), AllocError>
+fn push_after(out: &mut String, text: &str, count: usize) -> Result<(), AllocError>
     ensures { OnOk result (string_bytes out.new ≡ string_bytes out.old
         ++ flat_map escaped (drop count (chars text.now))) }
 {
@@ -41,10 +41,10 @@ fn push_last(out: &mut String, text: &str) -> Result<(), AllocError>
     let count = character_count(text);
     if count > MOST_AROUND {
         out.push_str("..\"")?;
-        push_behind(out, text, count - MOST_AROUND)
+        push_after(out, text, count - MOST_AROUND)
     } else {
         out.push_str("\"")?;
-        push_behind(out, text, 0)
+        push_after(out, text, 0)
     }
 }
 
@@ -60,10 +60,10 @@ fn token_end(token: &str) -> &'static str
 }
 
 /// The end of a quote.
-fn quote_end(behind: &str) -> &'static str
-    ensures { result.now ≡ quote_end (chars behind.now) }
+fn quote_end(after: &str) -> &'static str
+    ensures { result.now ≡ quote_end (chars after.now) }
 {
-    if character_count(behind) > MOST_AROUND {
+    if character_count(after) > MOST_AROUND {
         "\".."
     } else {
         "\""
@@ -74,13 +74,13 @@ fn quote_end(behind: &str) -> &'static str
 #[tactic(auto, unfolding(crate::specs::Quote::quoted_round))]
 pub fn push_round(out: &mut String, here: Found<'_>) -> Result<(), AllocError>
     ensures { OnOk result (string_bytes out.new ≡ string_bytes out.old
-        ++ quoted_round (found here.entry.before.now here.entry.token.now here.entry.behind.now)) }
+        ++ quoted_round (found here.entry.before.now here.entry.token.now here.entry.after.now)) }
 {
     push_last(out, here.before)?;
     out.push('«')?;
     push_first(out, here.token)?;
     out.push_str(token_end(here.token))?;
     out.push('»')?;
-    push_first(out, here.behind)?;
-    out.push_str(quote_end(here.behind))
+    push_first(out, here.after)?;
+    out.push_str(quote_end(here.after))
 }

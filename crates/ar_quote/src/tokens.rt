@@ -138,7 +138,7 @@ fn token_length(text: &str) -> usize
 pub struct Found<'t> {
     pub before: &'t str,
     pub token: &'t str,
-    pub behind: &'t str,
+    pub after: &'t str,
 }
 
 /// The text on both sides of a place.
@@ -152,14 +152,14 @@ fn cut(text: &str, place: usize) -> Option<(&str, &str)>
 /// The token at a byte of a text.
 #[tactic(auto, unfolding(crate::specs::Tokens::token_at))]
 pub fn token_at(text: &str, place: usize) -> Option<Found<'_>>
-    ensures { option_map (λ found_here. found found_here.before.now found_here.token.now found_here.behind.now) result
+    ensures { option_map (λ found_here. found found_here.before.now found_here.token.now found_here.after.now) result
         ≡ token_at place text.now }
 {
     let (before, rest) = cut(text, place)?;
-    let (token, behind) = cut(rest, token_length(rest))?;
+    let (token, after) = cut(rest, token_length(rest))?;
     Some(Found {
         before,
         token,
-        behind,
+        after,
     })
 }

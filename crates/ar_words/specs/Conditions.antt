@@ -64,13 +64,13 @@ abbrev pub takes_texts : (token : List ℕ) → Bool
 takes_texts token = bytes_eq token (codes "contains") || bytes_eq token (codes "startsWith") || bytes_eq token (codes "endsWith")
 
 -- `not` is a part of `not in`
-abbrev pub goes_on_in : (behind : List ℕ) → Bool
-goes_on_in behind = starts_with nat_eq (without_leading_spaces behind) (codes "in")
+abbrev pub goes_on_in : (after : List ℕ) → Bool
+goes_on_in after = starts_with nat_eq (without_leading_spaces after) (codes "in")
 
 abbrev pub takes_alike : Found → Bool
 takes_alike found =
     bytes_eq found.token (codes "==") || bytes_eq found.token (codes "!=") || bytes_eq found.token (codes "in")
-    || bytes_eq found.token (codes "not") && goes_on_in found.behind
+    || bytes_eq found.token (codes "not") && goes_on_in found.after
 
 abbrev pub is_field : (token : List ℕ) → Bool
 is_field token = starts_with nat_eq token (codes ".")

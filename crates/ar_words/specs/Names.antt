@@ -16,13 +16,13 @@ abbrev pub numbered : (kind : List ℕ) → (number : ℕ) → List ℕ
 numbered kind number = kind ++ (codes " " ++ decimal number)
 
 -- a name after a blank, if there is one
-abbrev pub behind_blank : Option (List ℕ) → List ℕ
-behind_blank None = []
-behind_blank (Some name) = codes " " ++ quoted name
+abbrev pub after_blank : Option (List ℕ) → List ℕ
+after_blank None = []
+after_blank (Some name) = codes " " ++ quoted name
 
 -- an item by its kind, its number and its name
 abbrev pub item_text : (kind : List ℕ) → (number : ℕ) → Data → List ℕ
-item_text kind number item = numbered kind number ++ behind_blank (name_of item)
+item_text kind number item = numbered kind number ++ after_blank (name_of item)
 
 -- ---- lists
 

@@ -65,7 +65,7 @@ fn place_of(cause: BuildCause) -> Option<usize>
 
 /// The token at which a condition is refused.
 fn found_in(condition: Option<&str>, place: Option<usize>) -> Option<Found<'_>>
-    ensures { option_map (λ here. found here.before.now here.token.now here.behind.now) result
+    ensures { option_map (λ here. found here.before.now here.token.now here.after.now) result
         ≡ found_in (option_map (λ text. text.now) condition.entry) place }
 {
     token_at(condition?, place?)
@@ -92,16 +92,16 @@ fn without_leading_spaces(text: &str) -> &str
 }
 
 /// Whether `not` is a part of `not in`.
-fn goes_on_in(behind: &str) -> bool
-    ensures { result ≡ goes_on_in behind.now }
+fn goes_on_in(after: &str) -> bool
+    ensures { result ≡ goes_on_in after.now }
 {
-    without_leading_spaces(behind).starts_with("in")
+    without_leading_spaces(after).starts_with("in")
 }
 
 fn takes_alike(here: Found<'_>) -> bool
-    ensures { result ≡ takes_alike (found here.entry.before.now here.entry.token.now here.entry.behind.now) }
+    ensures { result ≡ takes_alike (found here.entry.before.now here.entry.token.now here.entry.after.now) }
 {
-    matches!(here.token, "==" | "!=" | "in") || here.token == "not" && goes_on_in(here.behind)
+    matches!(here.token, "==" | "!=" | "in") || here.token == "not" && goes_on_in(here.after)
 }
 
 fn is_field(token: &str) -> bool
@@ -112,7 +112,7 @@ fn is_field(token: &str) -> bool
 
 /// What an operator takes.
 fn taken(here: Found<'_>) -> &'static str
-    ensures { result.now ≡ taken (found here.entry.before.now here.entry.token.now here.entry.behind.now) }
+    ensures { result.now ≡ taken (found here.entry.before.now here.entry.token.now here.entry.after.now) }
 {
     if takes_numbers(here.token) {
         "\"whole\" or \"decimal\" alone"
@@ -163,7 +163,7 @@ fn unexpected(token: &str) -> &'static str
 /// What is said of an operator whose operand isn't of a kind that it takes.
 fn wrong_operand(alloc: Global, here: Found<'_>) -> Result<String, AllocError>
     ensures { IfOk result (λ words. string_bytes words
-        ≡ wrong_operand (found here.entry.before.now here.entry.token.now here.entry.behind.now)) }
+        ≡ wrong_operand (found here.entry.before.now here.entry.token.now here.entry.after.now)) }
 {
     let mut words = String::new(alloc);
     push_quoted(&mut words, here.token)?;
@@ -180,7 +180,7 @@ fn cause_text(
     here: Found<'_>,
 ) -> Result<String, AllocError>
     ensures { IfOk result (λ said. string_bytes said ≡ cause_words cause
-        (found here.entry.before.now here.entry.token.now here.entry.behind.now) (string_bytes text)) }
+        (found here.entry.before.now here.entry.token.now here.entry.after.now) (string_bytes text)) }
 {
     match cause {
         BuildCause::Grammar(SyntaxError::Unexpected(_)) => {
@@ -224,7 +224,7 @@ fn push_conversion_advice(out: &mut String, token: &str) -> Result<(), AllocErro
 
 fn push_advice(out: &mut String, cause: BuildCause, here: Found<'_>) -> Result<(), AllocError>
     ensures { OnOk result (string_bytes out.new ≡ string_bytes out.old
-        ++ advice cause (found here.entry.before.now here.entry.token.now here.entry.behind.now)) }
+        ++ advice cause (found here.entry.before.now here.entry.token.now here.entry.after.now)) }
 {
     match cause {
         BuildCause::Grammar(SyntaxError::UnknownName(_)) => push_conversion_advice(out, here.token),
@@ -243,7 +243,7 @@ fn with_quote(
     here: Option<Found<'_>>,
 ) -> Result<String, AllocError>
     ensures { IfOk result (λ said. string_bytes said ≡ with_quote cause (string_bytes text)
-        (option_map (λ here. found here.before.now here.token.now here.behind.now) here.entry)) }
+        (option_map (λ here. found here.before.now here.token.now here.after.now) here.entry)) }
 {
     let Some(here) = here else {
         return Ok(text);

@@ -2,7 +2,7 @@
 
 ghost use Rattle.std.specs.Prelude.{◌≡◌, ◌++◌, IfOk, OnOk, map, option_map, string_bytes, take};
 ghost use Rattle.serde_json.specs.View.{view};
-ghost use Rattle.ar_words.specs.Names.{behind_blank, item_text, most_items, name_of, names_listed, names_text, others_counted};
+ghost use Rattle.ar_words.specs.Names.{after_blank, item_text, most_items, name_of, names_listed, names_text, others_counted};
 ghost use Rattle.ar_words.specs.Private.Listed.{name_listed};
 
 use ar_json::members::text_member;
@@ -21,9 +21,9 @@ pub(crate) fn name_of(item: &Json) -> Option<&str>
 }
 
 /// A name after a blank, if there is one.
-fn push_behind_blank(out: &mut String, name: Option<&str>) -> Result<(), AllocError>
+fn push_after_blank(out: &mut String, name: Option<&str>) -> Result<(), AllocError>
     ensures { OnOk result (string_bytes out.new ≡ string_bytes out.old
-        ++ behind_blank (option_map (λ name. name.now) name.entry)) }
+        ++ after_blank (option_map (λ name. name.now) name.entry)) }
 {
     let Some(name) = name else {
         return Ok(());
@@ -42,7 +42,7 @@ pub(crate) fn item_text(
     ensures { IfOk result (λ text. string_bytes text ≡ item_text kind.now number (view item.now)) }
 {
     let mut text = format!(in alloc; "{kind} {number}")?;
-    push_behind_blank(&mut text, name_of(item))?;
+    push_after_blank(&mut text, name_of(item))?;
     Ok(text)
 }
 

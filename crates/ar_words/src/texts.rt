@@ -48,7 +48,7 @@ fn in_place(
         return Ok(text);
     };
     match cut_at(text.as_str(), words) {
-        Some((before, behind)) => format!(in alloc; "{before}{shown}{behind}"),
+        Some((before, after)) => format!(in alloc; "{before}{shown}{after}"),
         None => Ok(text),
     }
 }

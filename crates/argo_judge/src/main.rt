@@ -19,7 +19,7 @@ use ar_command::{
     Closing, Command, Device, Kept, Refusal, ServeError, Sink, Source, serve, serve_plain, status,
     write_output,
 };
-use ar_command_line::{UsageError, command_of, shown, words_text};
+use ar_command_line::{UsageError, command_of, shown, words_text, workers_text};
 use ar_workers::{FreeGate, WorkError};
 use std::alloc::AllocError;
 use std::process::ExitCode;
@@ -46,20 +46,13 @@ fn run<R: Env + AllocGlobal + Input + Print + Eprint + Threads + Wait + Sync>(rt
     match requested(rt) {
         Ok(Request::CarryOut(command)) => carry_out(rt, command),
         Ok(Request::Show(text)) => show(rt, text.as_str()),
-        Err(UsageError::Words) => refuse_words(rt),
-        Err(error) => {
-            let _ = eprintln!(rt; "argo_judge: {error}");
-            match error {
-                UsageError::Words | UsageError::Workers | UsageError::Conflict => status::REFUSED,
-                UsageError::OutOfMemory => status::OUT_OF_MEMORY,
-            }
-        }
+        Err(error) => refuse(rt, error),
     }
 }
 
-/// Tells of words that are no command line in one line, by the first that isn't taken.
-fn refuse_words<R: Env + AllocGlobal + Eprint>(rt: &R) -> u8 {
-    match refused_words(rt) {
+/// Tells of a command line that asks for nothing in one line, and answers the exit status.
+fn refuse<R: Env + AllocGlobal + Eprint>(rt: &R, error: UsageError) -> u8 {
+    match usage_text(rt, error) {
         Ok(text) => {
             let _ = eprintln!(rt; "argo_judge: {text}");
             status::REFUSED
@@ -72,10 +65,14 @@ fn refuse_words<R: Env + AllocGlobal + Eprint>(rt: &R) -> u8 {
     }
 }
 
-/// What is said of words that are no command line.
-fn refused_words<R: Env + AllocGlobal>(rt: &R) -> Result<String, UsageError> {
+/// What is said of a command line that asks for nothing, with the word at fault.
+fn usage_text<R: Env + AllocGlobal>(rt: &R, error: UsageError) -> Result<String, UsageError> {
     let words = arguments(rt)?;
-    Ok(words_text(rt.alloc(), &words)?)
+    match error {
+        UsageError::Words => Ok(words_text(rt.alloc(), &words)?),
+        UsageError::Workers => Ok(workers_text(rt.alloc(), &words)?),
+        UsageError::Conflict | UsageError::OutOfMemory => Err(error),
+    }
 }
 
 /// Writes a text, and answers the exit status.

@@ -10,6 +10,6 @@ name_listed listed None = []
 name_listed listed (Some name) = (if listed then codes ", " else []) ++ quoted name
 
 -- likewise
-abbrev pub names_behind : (listed : Bool) → List Data → List ℕ
-names_behind listed [] = []
-names_behind listed (item ∷ items) = name_listed listed (name_of item) ++ names_behind (listed || is_some (name_of item)) items
+abbrev pub names_after : (listed : Bool) → List Data → List ℕ
+names_after listed [] = []
+names_after listed (item ∷ items) = name_listed listed (name_of item) ++ names_after (listed || is_some (name_of item)) items

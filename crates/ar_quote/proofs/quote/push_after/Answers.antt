@@ -3,7 +3,7 @@ use Rattle.std.proofs.lemmas.Iterator.{YieldsList-from_chars}
 use Rattle.std.proofs.lemmas.Iterator.Adapters.{YieldsList-from_skip}
 use Rattle.std.proofs.lemmas.Iterator.Consumers.{YieldsList-end}
 use Rattle.ar_quote.specs.Shown.{escaped}
-use Rattle.ar_quote.proofs.quote.push_behind.Goals as goal
+use Rattle.ar_quote.proofs.quote.push_after.Goals as goal
 
 pub returns : goal.returns
 returns c =

@@ -1,6 +1,6 @@
 use Rattle.std.proofs.Common.{◌≡◌, ◌++◌, flat_map, string_bytes}
 use Rattle.ar_quote.specs.Shown.{escaped}
-use Rattle.ar_quote.proofs.quote.push_behind.Given as goal
+use Rattle.ar_quote.proofs.quote.push_after.Given as goal
 
 -- the characters so far are written
 abbrev pub invariant-loop-character : goal.invariant-loop-character
