@@ -70,10 +70,9 @@ def broken_links(path):
 
 
 def unordered_runs():
-    """The lines of pages, recipes and examples that start `run` without --plain or --ordered. What the program itself
-    writes starts nothing."""
+    """The lines of pages, recipes and examples that start `run` without --plain or --ordered."""
     scripts = [path for pattern in SCRIPTS for path in sorted(ROOT.glob(pattern)) if path.is_file()]
     for path in [*PAGES, *scripts]:
         for number, line in enumerate(path.read_text(encoding="utf-8").splitlines(), 1):
-            if UNORDERED.search(line) and not line.startswith("argo_judge: "):
+            if UNORDERED.search(line):
                 yield f"{path.relative_to(ROOT)}:{number}: expected `run --plain` or `run --ordered`"

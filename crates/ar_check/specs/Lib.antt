@@ -7,3 +7,4 @@ pub mod Operand
 pub mod Check
 pub mod Typing
 pub mod Private
+pub mod Refused

@@ -1,6 +1,7 @@
 //! Why a condition has no kinds.
 
 ghost use Rattle.std.specs.Prelude.{◌≡◌};
+ghost use Rattle.ar_check.specs.Refused.{refused_at};
 ghost use Rattle.ar_check.specs.declared.error.TypeError.TheVariants.{OutOfMemory};
 
 use std::alloc::{AllocError, AllocFailed};
@@ -31,7 +32,9 @@ pub enum TypeError {
 
 impl TypeError {
     /// The byte at which the tree begins that wants something else.
-    fn place(self) -> Option<usize> {
+    pub fn place(self) -> Option<usize>
+        ensures { result ≡ refused_at self }
+    {
         match self {
             TypeError::WrongOperand(at)
             | TypeError::NoSuchField(at)

@@ -87,7 +87,7 @@ workers_given (word ∷ words) = option_or (number_of word words) (workers_given
 
 abbrev pub number_said : Option (List ℕ) → List ℕ
 number_said None = []
-number_said (Some number) = quoted number ++ codes " is none; "
+number_said (Some number) = quoted number ++ codes " isn't taken; "
 
 abbrev pub workers_text : (words : List (List ℕ)) → List ℕ
 workers_text words = codes "command line, --workers: Workers: " ++ (number_said (workers_given words) ++ codes "expected a whole number from 1 to 16")

@@ -194,7 +194,7 @@ fn push_number(out: &mut String, number: Option<&str>) -> Result<(), AllocError>
         return Ok(());
     };
     push_quoted(out, number)?;
-    out.push_str(" is none; ")
+    out.push_str(" isn't taken; ")
 }
 
 /// What is said of a number of workers that isn't taken: the number, and what was expected.

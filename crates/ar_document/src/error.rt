@@ -91,8 +91,8 @@ impl BundleError {
             BundleError::TooManyMeasurements =>
                 "measurements: TooManyMeasurements: expected at most 100000 entries",
             BundleError::BadEntry(_) =>
-                "]: BadEntry: expected a list of entries, each with a text `run`, and \
-                 `\"stop\":true` or a text `metric` and just one of `value` and `error`",
+                "]: BadEntry: expected a list of entries with a text `run`, and `\"stop\":true` \
+                 or a text `metric` and one of `value` and `error`",
             BundleError::UnknownRun(_) => "].run: UnknownRun: no run has the name",
             BundleError::UnknownMetric(_) => "].metric: UnknownMetric: no metric has the name",
             BundleError::OutOfMemory => "out of memory",

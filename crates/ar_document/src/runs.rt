@@ -52,8 +52,12 @@ fn texts_by_name(alloc: Global, members: &Map<String, Json>) -> Result<Args, Bun
     Ok(own)
 }
 
-/// A run's own arguments.
-fn own_arguments(alloc: Global, found: Option<&Json>) -> Result<Args, BundleError>
+/// A run's own arguments, at its `args`, which may be missing or null.
+///
+/// # Errors
+///
+/// `Runs` where they are no texts by name; `OutOfMemory` where a growth was refused.
+pub fn own_arguments(alloc: Global, found: Option<&Json>) -> Result<Args, BundleError>
     ensures { Gives is_memory (λ own. own) result (own_arguments (option_map (λ json. view json.now) found.entry)) }
 {
     match found {

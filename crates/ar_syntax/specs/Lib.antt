@@ -12,3 +12,4 @@ pub mod Parse
 pub mod Examples
 pub mod RefusalExamples
 pub mod Private
+pub mod Refused

@@ -1,6 +1,7 @@
 //! Why a text is no condition.
 
 ghost use Rattle.std.specs.Prelude.{◌≡◌};
+ghost use Rattle.ar_syntax.specs.Refused.{refused_at};
 ghost use Rattle.ar_syntax.specs.declared.error.SyntaxError.TheVariants.{OutOfMemory};
 
 use std::alloc::{AllocError, AllocFailed};
@@ -44,7 +45,9 @@ pub enum SyntaxError {
 
 impl SyntaxError {
     /// The byte at which the text stops being a condition.
-    fn place(self) -> Option<usize> {
+    pub fn place(self) -> Option<usize>
+        ensures { result ≡ refused_at self }
+    {
         match self {
             SyntaxError::TooLong => Some(4096),
             SyntaxError::BadCharacter(at)

@@ -1,15 +1,17 @@
--- The conditions of a run: those of the template's metrics, with the run's arguments bound.
-use Rattle.std.specs.Prelude.{ℕ, List, codes, Option, Some, None, option_and_then, slice_get, Result, Ok, Err}
+-- The template and the arguments of a run, the conditions of its metrics, bound, and what binding finds where it is refused.
+use Rattle.std.specs.Prelude.{ℕ, List, codes, Option, Some, None, option_and_then, option_map, slice_get, Result, Ok, Err}
 use Rattle.serde_json.specs.Data.{Data}
 use Rattle.serde_json.specs.Find.{get}
-use Rattle.ar_value.specs.Answer.{◌>>=◌}
 use Rattle.ar_document.specs.Opening.{own_arguments}
 use Rattle.ar_judge.specs.declared.error.BuildError.{BuildError}
 use Rattle.ar_judge.specs.declared.error.BuildError.TheVariants.{Success, Failure, OutOfMemory}
 use Rattle.ar_manifest.specs.Binding.{RunArguments}
+use Rattle.ar_manifest.specs.Found.{refused_limit, unbound_reference}
 use Rattle.ar_manifest.specs.Shortened.{shortened_of}
 use Rattle.ar_manifest.specs.Template.{template_of}
 use Rattle.ar_manifest.specs.declared.bound.BoundMetric.{BoundMetric}
+use Rattle.ar_manifest.specs.declared.found.RefusedLimit.{RefusedLimit}
+use Rattle.ar_manifest.specs.declared.template.Template.{Template}
 use Rattle.ar_words.specs.Lists.{item_at, runs}
 
 -- what was made, unless it was refused
@@ -21,12 +23,17 @@ made (Err e) = None
 abbrev pub own_of : Data → (run : ℕ) → Option RunArguments
 own_of document run = option_and_then (λ item. made (own_arguments (get (codes "args") item))) (item_at run (runs document))
 
--- the metrics of a template, bound to arguments
-abbrev pub bound_to : (manifest : Data) → RunArguments → Option (List BoundMetric)
-bound_to manifest own = made (template_of manifest >>= λ template. shortened_of template own)
+abbrev pub template_in : Data → Option Template
+template_in document = option_and_then (λ manifest. made (template_of manifest)) (get (codes "manifest") document)
+
+-- the template, and the arguments that a run gives it
+abbrev pub binding_of : Data → (run : ℕ) → Option (Template × RunArguments)
+binding_of document run = option_and_then (λ own. option_map (λ template. (template, own)) (template_in document)) (own_of document run)
+
+-- ---- conditions
 
 abbrev pub bound_metrics : Data → (run : ℕ) → Option (List BoundMetric)
-bound_metrics document run = option_and_then (λ own. option_and_then (λ manifest. bound_to manifest own) (get (codes "manifest") document)) (own_of document run)
+bound_metrics document run = option_and_then (λ binding. made (shortened_of binding.0 binding.1)) (binding_of document run)
 
 -- the condition of a metric that is refused
 abbrev pub refused_condition : BuildError → BoundMetric → Option (List ℕ)
@@ -39,3 +46,13 @@ condition_in metrics metric error = option_and_then (refused_condition error) (o
 
 unfoldable pub bound_condition : Data → (run metric : ℕ) → BuildError → Option (List ℕ)
 bound_condition document run metric error = condition_in (bound_metrics document run) metric error
+
+-- ---- refusals of binding
+
+-- what stands in braces in a text of a metric, and has no value
+abbrev pub unbound_in : Data → (run metric : ℕ) → Option (List ℕ)
+unbound_in document run metric = option_and_then (λ binding. unbound_reference binding.0 binding.1 metric) (binding_of document run)
+
+-- the limit of a metric that is none
+abbrev pub limit_in : Data → (run metric : ℕ) → Option RefusedLimit
+limit_in document run metric = option_and_then (λ binding. refused_limit binding.0 binding.1 metric) (binding_of document run)

@@ -4,49 +4,28 @@ use Rattle.std.specs.List.{starts_with}
 use Rattle.std.specs.Str.{bytes_eq}
 use Rattle.ar_manifest.specs.Binding.{without_leading_spaces}
 use Rattle.ar_manifest.specs.Cut.{cut_at}
-use Rattle.ar_check.specs.declared.error.TypeError.{TypeError}
+use Rattle.ar_check.specs.Refused.{refused_at as kinds_refused_at}
 use Rattle.ar_check.specs.declared.error.TypeError.TheVariants as kinds
+use Rattle.ar_check.specs.declared.found.Operands.{Operands}
 use Rattle.ar_judge.specs.declared.error.BuildCause.{BuildCause}
 use Rattle.ar_judge.specs.declared.error.BuildCause.TheVariants.{Grammar, Kinds}
 use Rattle.ar_judge.specs.declared.error.BuildError.{BuildError}
 use Rattle.ar_judge.specs.declared.error.BuildError.TheVariants.{Success, Failure, OutOfMemory}
-use Rattle.ar_syntax.specs.declared.error.SyntaxError.{SyntaxError}
+use Rattle.ar_syntax.specs.Refused.{refused_at as syntax_refused_at}
 use Rattle.ar_syntax.specs.declared.error.SyntaxError.TheVariants as syntax
 use Rattle.ar_quote.specs.Shown.{quoted}
 use Rattle.ar_quote.specs.Quote.{quoted_round}
 use Rattle.ar_quote.specs.Tokens.{Found, token_at}
+use Rattle.ar_value.specs.Shape.{Shape}
+use Rattle.ar_words.specs.Operands.{operands_said, refused_operands}
 
 -- ---- places
 
--- the byte of a condition at which its text is refused; one that is too long isn't quoted
-abbrev pub place_of_syntax : SyntaxError → Option ℕ
-place_of_syntax (syntax.BadCharacter at) = Some at
-place_of_syntax (syntax.OpenText at) = Some at
-place_of_syntax (syntax.OpenComment at) = Some at
-place_of_syntax (syntax.BadEscape at) = Some at
-place_of_syntax (syntax.LiteralTooFine at) = Some at
-place_of_syntax (syntax.NumberTooLarge at) = Some at
-place_of_syntax (syntax.Unexpected at) = Some at
-place_of_syntax (syntax.UnknownName at) = Some at
-place_of_syntax (syntax.WrongCount at) = Some at
-place_of_syntax (syntax.ItemOutside at) = Some at
-place_of_syntax (syntax.TooManyItems at) = Some at
-place_of_syntax (syntax.TooDeep at) = Some at
-place_of_syntax error = None
-
-abbrev pub place_of_kinds : TypeError → Option ℕ
-place_of_kinds (kinds.WrongOperand at) = Some at
-place_of_kinds (kinds.NoSuchField at) = Some at
-place_of_kinds (kinds.NotAList at) = Some at
-place_of_kinds (kinds.NoCommonKind at) = Some at
-place_of_kinds (kinds.NotScalar at) = Some at
-place_of_kinds (kinds.NotTruth at) = Some at
-place_of_kinds (kinds.PredicatesTooDeep at) = Some at
-place_of_kinds kinds.OutOfMemory = None
-
+-- the byte of a condition at which it is refused; one that is too long isn't quoted
 abbrev pub place_of : BuildCause → Option ℕ
-place_of (Grammar error) = place_of_syntax error
-place_of (Kinds error) = place_of_kinds error
+place_of (Grammar syntax.TooLong) = None
+place_of (Grammar error) = syntax_refused_at error
+place_of (Kinds error) = kinds_refused_at error
 place_of cause = None
 
 abbrev pub found_in : Option (List ℕ) → Option ℕ → Option Found
@@ -95,15 +74,15 @@ abbrev pub unexpected : (token : List ℕ) → List ℕ
 unexpected [] = codes "the condition ends too early"
 unexpected (byte ∷ token) = codes "no condition goes on so"
 
-abbrev pub wrong_operand : Found → List ℕ
-wrong_operand found = quoted found.token ++ (codes " takes " ++ taken found)
+abbrev pub wrong_operand : Found → Option Operands → List ℕ
+wrong_operand found operands = quoted found.token ++ (codes " takes " ++ (taken found ++ operands_said operands))
 
-abbrev pub cause_words : BuildCause → Found → (text : List ℕ) → List ℕ
-cause_words (Grammar (syntax.Unexpected at)) found text = after_name (codes "Unexpected: ") (unexpected found.token) text
-cause_words (Kinds (kinds.WrongOperand at)) found text = after_name (codes "WrongOperand: ") (wrong_operand found) text
-cause_words (Kinds (kinds.NotAList at)) found text = after_name (codes "NotAList: ") (codes "expected a list, as {\"list\":shape,\"max\":number} declares") text
-cause_words (Kinds (kinds.NoCommonKind at)) found text = after_name (codes "NoCommonKind: ") (codes "expected one shape for all; \"whole\" goes beside \"decimal\"") text
-cause_words cause found text = text
+abbrev pub cause_words : BuildCause → Found → Option Operands → (text : List ℕ) → List ℕ
+cause_words (Grammar (syntax.Unexpected at)) found operands text = after_name (codes "Unexpected: ") (unexpected found.token) text
+cause_words (Kinds (kinds.WrongOperand at)) found operands text = after_name (codes "WrongOperand: ") (wrong_operand found operands) text
+cause_words (Kinds (kinds.NotAList at)) found operands text = after_name (codes "NotAList: ") (codes "expected a list, as {\"list\":shape,\"max\":number} declares") text
+cause_words (Kinds (kinds.NoCommonKind at)) found operands text = after_name (codes "NoCommonKind: ") (codes "expected one shape for all; \"whole\" goes beside \"decimal\"") text
+cause_words cause found operands text = text
 
 -- Argo Rollouts' conversions
 abbrev pub is_conversion : (token : List ℕ) → Bool
@@ -118,15 +97,16 @@ advice cause found = []
 
 -- ---- with the condition
 
-unfoldable pub with_quote : BuildCause → (text : List ℕ) → Option Found → List ℕ
-with_quote cause text None = text
-with_quote cause text (Some found) = cause_words cause found text ++ (codes "; in " ++ (quoted_round found ++ advice cause found))
+unfoldable pub with_quote : BuildCause → Option Operands → (text : List ℕ) → Option Found → List ℕ
+with_quote cause operands text None = text
+with_quote cause operands text (Some found) = cause_words cause found operands text ++ (codes "; in " ++ (quoted_round found ++ advice cause found))
 
-unfoldable pub condition_words : (condition : Option (List ℕ)) → BuildCause → (text : List ℕ) → List ℕ
-condition_words condition cause text = with_quote cause text (found_in condition (place_of cause))
+-- a condition where `result` has a shape
+unfoldable pub condition_words : Option Shape → (condition : Option (List ℕ)) → BuildCause → (text : List ℕ) → List ℕ
+condition_words shape condition cause text = with_quote cause (refused_operands shape condition cause) text (found_in condition (place_of cause))
 
 -- of a metric's condition, which is bound already
-unfoldable pub build_words : (condition : Option (List ℕ)) → BuildError → (text : List ℕ) → List ℕ
-build_words condition (Success cause) text = condition_words condition cause text
-build_words condition (Failure cause) text = condition_words condition cause text
-build_words condition OutOfMemory text = text
+unfoldable pub build_words : Option Shape → (condition : Option (List ℕ)) → BuildError → (text : List ℕ) → List ℕ
+build_words shape condition (Success cause) text = condition_words shape condition cause text
+build_words shape condition (Failure cause) text = condition_words shape condition cause text
+build_words shape condition OutOfMemory text = text

@@ -1,7 +1,10 @@
 pub mod Private
 pub mod Lists
 pub mod Names
-pub mod Conditions
+pub mod Fields
 pub mod Bindings
+pub mod Operands
+pub mod Conditions
+pub mod Found
 pub mod Words
 pub mod Warnings

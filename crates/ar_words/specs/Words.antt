@@ -14,11 +14,14 @@ use Rattle.ar_eval.specs.declared.eval.EvalError.{EvalError}
 use Rattle.ar_eval.specs.declared.eval.EvalError.TheVariants.{Grammar, Kinds}
 use Rattle.ar_judge.specs.declared.error.BuildCause.TheVariants as build
 use Rattle.ar_judge.specs.declared.error.BuildError.{BuildError}
-use Rattle.ar_words.specs.Bindings.{bound_condition}
+use Rattle.ar_words.specs.Bindings.{bound_condition, limit_in, unbound_in}
 use Rattle.ar_words.specs.Conditions.{after_name, build_words, condition_words}
+use Rattle.ar_words.specs.Fields.{misfit}
+use Rattle.ar_words.specs.Found.{found_after, limit_said, no_value_said, unknown_said}
 use Rattle.ar_words.specs.Lists.{entry_text, item_at, list_in, metrics, runs, template_list, text_at}
 use Rattle.ar_quote.specs.Shown.{quoted}
 use Rattle.ar_words.specs.Names.{item_text, names_text, numbered}
+use Rattle.ar_words.specs.Operands.{declaration_in, declared_shape}
 
 -- ---- names in a text
 
@@ -66,13 +69,17 @@ template_words document (causes.BadArgs number) text = with_argument document nu
 template_words document (causes.UnknownDryRun number) text = with_names (text_at (codes "metricName") number (template_list (codes "dryRun") document)) (codes "metrics") (metrics document) text
 template_words document (causes.Unsupported number) text = beside_metric document number text
 template_words document (causes.DoubleMetric number) text = beside_metric document number text
-template_words document (causes.BadField number) text = beside_metric document number text
+template_words document (causes.BadField number) text = beside_metric document number (found_after (codes "BadField: ") (option_and_then misfit (item_at number (metrics document))) text)
 template_words document (causes.OpenBraces number) text = beside_metric document number text
-template_words document (causes.UnknownArg number) text = with_arguments document (beside_metric document number text)
-template_words document (causes.NoValue number) text = beside_metric document number text
-template_words document (causes.BadLimit number) text = beside_metric document number text
 template_words document (causes.IntervalMissing number) text = beside_metric document number text
 template_words document cause text = text
+
+-- where the arguments of a run are bound
+abbrev pub bind_words : Data → (run : ℕ) → ManifestError → (text : List ℕ) → List ℕ
+bind_words document run (causes.UnknownArg metric) text = with_arguments document (beside_metric document metric (found_after (codes "UnknownArg: ") (option_map unknown_said (unbound_in document run metric)) text))
+bind_words document run (causes.NoValue metric) text = beside_metric document metric (found_after (codes "NoValue: ") (option_map no_value_said (unbound_in document run metric)) text)
+bind_words document run (causes.BadLimit metric) text = beside_metric document metric (found_after (codes "BadLimit: ") (option_map limit_said (limit_in document run metric)) text)
+bind_words document run cause text = template_words document cause text
 
 -- a template that is the whole document is told by its place
 abbrev pub with_place : Data → (text : List ℕ) → List ℕ
@@ -109,14 +116,16 @@ manifest_words document cause text = with_place document (template_words documen
 
 -- a condition that can't be run is told by its run and metric, and quoted
 unfoldable pub built_words : Data → (run metric : ℕ) → BuildError → (text : List ℕ) → List ℕ
-built_words document run metric error text = beside_run document run (beside_metric document metric (build_words (bound_condition document run metric error) error text))
+built_words document run metric error text =
+    beside_run document run (beside_metric document metric
+    (build_words (declared_shape (declaration_in document metric)) (bound_condition document run metric error) error text))
 
 abbrev pub bundle_words : Data → BundleError → (text : List ℕ) → List ℕ
 bundle_words document (errors.Manifest cause) text = manifest_words document cause text
 bundle_words document (errors.ShapeMissing metric) text = beside_metric document metric text
 bundle_words document (errors.Shapes metric error) text = beside_metric document metric text
 bundle_words document (errors.DoubleRun run) text = with_double_name document run text
-bundle_words document (errors.Bind run cause) text = beside_run document run (template_words document cause text)
+bundle_words document (errors.Bind run cause) text = beside_run document run (bind_words document run cause text)
 bundle_words document (errors.Build run metric error) text = built_words document run metric error text
 bundle_words document (errors.UnknownRun entry) text = with_names (entry_text (codes "run") entry document) (codes "runs") (runs document) text
 bundle_words document (errors.UnknownMetric entry) text = with_names (entry_text (codes "metric") entry document) (codes "metrics") (metrics document) text
@@ -134,6 +143,6 @@ abbrev pub with_advice : (condition : Option (List ℕ)) → (text : List ℕ) �
 with_advice condition text = if has_braces condition then text ++ codes "; arguments as {{args.NAME}} are bound in a template, by check, list and run" else text
 
 abbrev pub eval_words : Data → EvalError → (text : List ℕ) → List ℕ
-eval_words document (Grammar error) text = with_advice (text_member (codes "condition") document) (condition_words (text_member (codes "condition") document) (build.Grammar error) text)
-eval_words document (Kinds error) text = condition_words (text_member (codes "condition") document) (build.Kinds error) text
+eval_words document (Grammar error) text = with_advice (text_member (codes "condition") document) (condition_words None (text_member (codes "condition") document) (build.Grammar error) text)
+eval_words document (Kinds error) text = condition_words (declared_shape (get (codes "shape") document)) (text_member (codes "condition") document) (build.Kinds error) text
 eval_words document error text = text

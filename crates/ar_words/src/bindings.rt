@@ -1,54 +1,21 @@
-//! The conditions of a run, with its arguments bound.
+//! The template and the arguments of a run: the conditions of its metrics, bound, and what binding finds
+//! where it is refused.
 
-ghost use Rattle.std.specs.Prelude.{◌≡◌, [], IfOk, IsErr, Err, map, option_map};
-ghost use Rattle.serde_json.specs.View.{members_view, view};
-ghost use Rattle.ar_value.specs.Answer.{Gives};
-ghost use Rattle.ar_document.specs.Document.{is_memory};
-ghost use Rattle.ar_document.specs.Opening.{own_arguments, texts_by_name};
+ghost use Rattle.std.specs.Prelude.{◌≡◌, IfOk, IsErr, Err, option_map};
+ghost use Rattle.serde_json.specs.View.{view};
 ghost use Rattle.ar_manifest.specs.declared.error.ManifestError.TheVariants.{OutOfMemory};
-ghost use Rattle.ar_words.specs.Private.Texts.{with_text};
-ghost use Rattle.ar_words.specs.Bindings.{bound_metrics, bound_to, condition_in, made, own_of, refused_condition};
+ghost use Rattle.ar_words.specs.Bindings.{binding_of, bound_metrics, condition_in, limit_in, made, own_of, refused_condition, template_in, unbound_in};
 
 use crate::lists::{item_at, runs};
 use ar_document::BundleError;
+use ar_document::runs::own_arguments;
 use ar_judge::BuildError;
-use ar_manifest::{Args, Bound, BoundMetric, ManifestError, Template};
+use ar_manifest::{Args, Bound, BoundMetric, ManifestError, RefusedLimit, Template};
 use ar_value::text::Text;
-use serde_json::{Map, Value as Json};
+use serde_json::Value as Json;
 use std::alloc::{AllocError, Global};
 
-/// Adds a text by its name.
-fn add_text(alloc: Global, own: &mut Args, name: &str, json: &Json) -> Result<(), BundleError>
-    ensures { Gives is_memory (λ _. own.new) result (with_text own.old name.now (view json.now)) }
-{
-    let Json::String(text) = json else {
-        return Err(BundleError::Runs);
-    };
-    let text = Text::of(alloc, text)?;
-    Ok(own.insert(alloc, name, text)?)
-}
-
-/// Texts by name.
-fn texts_by_name(alloc: Global, members: &Map<String, Json>) -> Result<Args, BundleError>
-    ensures { Gives is_memory (λ own. own) result (texts_by_name [] (members_view members.now.entries)) }
-{
-    let mut own = Args::new(alloc);
-    for (name, json) in members.iter() {
-        add_text(alloc, &mut own, name.as_str(), json)?;
-    }
-    Ok(own)
-}
-
-/// A run's own arguments.
-fn own_arguments(alloc: Global, found: Option<&Json>) -> Result<Args, BundleError>
-    ensures { Gives is_memory (λ own. own) result (own_arguments (option_map (λ json. view json.now) found.entry)) }
-{
-    match found {
-        None | Some(Json::Null) => Ok(Args::new(alloc)),
-        Some(Json::Object(members)) => texts_by_name(alloc, members),
-        Some(_) => Err(BundleError::Runs),
-    }
-}
+// ---- templates and arguments
 
 /// The arguments of the run with a number.
 fn own_of(alloc: Global, document: &Json, run: usize) -> Result<Option<Args>, AllocError>
@@ -76,15 +43,34 @@ fn made<T: Drop>(answer: Result<T, ManifestError>) -> Result<Option<T>, AllocErr
     }
 }
 
-/// The metrics of a template, bound to arguments.
-fn bound_to(alloc: Global, manifest: &Json, own: &Args) -> Result<Option<Bound>, AllocError>
-    ensures { IfOk result (λ bound. bound ≡ bound_to (view manifest.now) own.now) }
+/// The template of a document, unless it is refused.
+fn template_in(alloc: Global, document: &Json) -> Result<Option<Template>, AllocError>
+    ensures { IfOk result (λ template. template ≡ template_in (view document.now)) }
 {
-    match made(Template::read(alloc, manifest))? {
-        Some(template) => made(template.bind_shortened(alloc, own)),
+    match document.get("manifest") {
+        Some(manifest) => made(Template::read(alloc, manifest)),
         None => Ok(None),
     }
 }
+
+/// The template, and the arguments that the run with a number gives it.
+fn binding_of(
+    alloc: Global,
+    document: &Json,
+    run: usize,
+) -> Result<Option<(Template, Args)>, AllocError>
+    ensures { IfOk result (λ binding. binding ≡ binding_of (view document.now) run) }
+{
+    let Some(own) = own_of(alloc, document, run)? else {
+        return Ok(None);
+    };
+    match template_in(alloc, document)? {
+        Some(template) => Ok(Some((template, own))),
+        None => Ok(None),
+    }
+}
+
+// ---- conditions
 
 /// The metrics of the template, bound to the arguments of the run with a number.
 pub(crate) fn bound_of(
@@ -94,11 +80,8 @@ pub(crate) fn bound_of(
 ) -> Result<Option<Bound>, AllocError>
     ensures { IfOk result (λ bound. bound ≡ bound_metrics (view document.now) run) }
 {
-    let Some(own) = own_of(alloc, document, run)? else {
-        return Ok(None);
-    };
-    match document.get("manifest") {
-        Some(manifest) => bound_to(alloc, manifest, &own),
+    match binding_of(alloc, document, run)? {
+        Some((template, own)) => made(template.bind_shortened(alloc, &own)),
         None => Ok(None),
     }
 }
@@ -130,4 +113,39 @@ pub(crate) fn refused_condition(
         return None;
     };
     chosen(bound.metrics().get(metric)?, error)
+}
+
+// ---- refusals of binding
+
+/// A copy of what stands in braces in a text of a metric, and has no value.
+pub(crate) fn unbound_in(
+    alloc: Global,
+    document: &Json,
+    run: usize,
+    metric: usize,
+) -> Result<Option<Text>, AllocError>
+    ensures { IfOk result (λ reference. reference ≡ unbound_in (view document.now) run metric) }
+{
+    let Some((template, own)) = binding_of(alloc, document, run)? else {
+        return Ok(None);
+    };
+    match template.unbound_reference(&own, metric) {
+        Some(reference) => Ok(Some(Text::of(alloc, reference)?)),
+        None => Ok(None),
+    }
+}
+
+/// The limit of a metric that is none.
+pub(crate) fn limit_in(
+    alloc: Global,
+    document: &Json,
+    run: usize,
+    metric: usize,
+) -> Result<Option<RefusedLimit>, AllocError>
+    ensures { IfOk result (λ limit. limit ≡ limit_in (view document.now) run metric) }
+{
+    match binding_of(alloc, document, run)? {
+        Some((template, own)) => template.refused_limit(alloc, &own, metric),
+        None => Ok(None),
+    }
 }

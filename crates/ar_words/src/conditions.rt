@@ -2,63 +2,30 @@
 
 ghost use Rattle.std.specs.Prelude.{◌≡◌, ◌<◌, ◌++◌, IfOk, OnOk, length, option_map, string_bytes};
 ghost use Rattle.ar_manifest.specs.Binding.{without_leading_spaces};
-ghost use Rattle.ar_words.specs.Conditions.{advice, after_name, build_words, cause_words, condition_words, conversion_advice, found_in, goes_on_in, is_conversion, is_field, place_of, place_of_kinds, place_of_syntax, taken, takes_alike, takes_numbers, takes_texts, unexpected, with_quote, wrong_operand};
+ghost use Rattle.ar_value.specs.View.{shape_view};
+ghost use Rattle.ar_words.specs.Conditions.{advice, after_name, build_words, cause_words, condition_words, conversion_advice, found_in, goes_on_in, is_conversion, is_field, place_of, taken, takes_alike, takes_numbers, takes_texts, unexpected, with_quote, wrong_operand};
 ghost use Rattle.ar_quote.specs.Tokens.{found};
 
 use crate::cuts::cut_at;
-use ar_check::TypeError;
+use crate::operands::{push_operands, refused_operands};
+use ar_check::{Operands, TypeError};
 use ar_judge::{BuildCause, BuildError};
 use ar_quote::{Found, push_quoted, push_round, token_at};
 use ar_syntax::SyntaxError;
+use ar_value::shape::Shape;
 use std::alloc::{AllocError, Global};
 use std::fmt::Write;
 
 // ---- places
-
-/// The byte of a condition at which its text is refused.
-fn place_of_syntax(error: SyntaxError) -> Option<usize>
-    ensures { result ≡ place_of_syntax error }
-{
-    match error {
-        SyntaxError::BadCharacter(at)
-        | SyntaxError::OpenText(at)
-        | SyntaxError::OpenComment(at)
-        | SyntaxError::BadEscape(at)
-        | SyntaxError::LiteralTooFine(at)
-        | SyntaxError::NumberTooLarge(at)
-        | SyntaxError::Unexpected(at)
-        | SyntaxError::UnknownName(at)
-        | SyntaxError::WrongCount(at)
-        | SyntaxError::ItemOutside(at)
-        | SyntaxError::TooManyItems(at)
-        | SyntaxError::TooDeep(at) => Some(at),
-        SyntaxError::TooLong | SyntaxError::OutOfMemory => None,
-    }
-}
-
-/// The byte of a condition at which its kinds are refused.
-fn place_of_kinds(error: TypeError) -> Option<usize>
-    ensures { result ≡ place_of_kinds error }
-{
-    match error {
-        TypeError::WrongOperand(at)
-        | TypeError::NoSuchField(at)
-        | TypeError::NotAList(at)
-        | TypeError::NoCommonKind(at)
-        | TypeError::NotScalar(at)
-        | TypeError::NotTruth(at)
-        | TypeError::PredicatesTooDeep(at) => Some(at),
-        TypeError::OutOfMemory => None,
-    }
-}
 
 /// The byte of a condition at which it is refused.
 fn place_of(cause: BuildCause) -> Option<usize>
     ensures { result ≡ place_of cause }
 {
     match cause {
-        BuildCause::Grammar(error) => place_of_syntax(error),
-        BuildCause::Kinds(error) => place_of_kinds(error),
+        BuildCause::Grammar(SyntaxError::TooLong) => None,
+        BuildCause::Grammar(error) => error.place(),
+        BuildCause::Kinds(error) => error.place(),
         BuildCause::Compiler(_) | BuildCause::Verifier(_, _) | BuildCause::OutOfMemory => None,
     }
 }
@@ -161,14 +128,19 @@ fn unexpected(token: &str) -> &'static str
 }
 
 /// What is said of an operator whose operand isn't of a kind that it takes.
-fn wrong_operand(alloc: Global, here: Found<'_>) -> Result<String, AllocError>
+fn wrong_operand(
+    alloc: Global,
+    here: Found<'_>,
+    operands: Option<Operands>,
+) -> Result<String, AllocError>
     ensures { IfOk result (λ words. string_bytes words
-        ≡ wrong_operand (found here.entry.before.now here.entry.token.now here.entry.after.now)) }
+        ≡ wrong_operand (found here.entry.before.now here.entry.token.now here.entry.after.now) operands) }
 {
     let mut words = String::new(alloc);
     push_quoted(&mut words, here.token)?;
     words.push_str(" takes ")?;
     words.push_str(taken(here))?;
+    push_operands(&mut words, operands)?;
     Ok(words)
 }
 
@@ -178,16 +150,17 @@ fn cause_text(
     text: String,
     cause: BuildCause,
     here: Found<'_>,
+    operands: Option<Operands>,
 ) -> Result<String, AllocError>
     ensures { IfOk result (λ said. string_bytes said ≡ cause_words cause
-        (found here.entry.before.now here.entry.token.now here.entry.after.now) (string_bytes text)) }
+        (found here.entry.before.now here.entry.token.now here.entry.after.now) operands (string_bytes text)) }
 {
     match cause {
         BuildCause::Grammar(SyntaxError::Unexpected(_)) => {
             after_name(alloc, text, "Unexpected: ", unexpected(here.token))
         }
         BuildCause::Kinds(TypeError::WrongOperand(_)) => {
-            let words = wrong_operand(alloc, here)?;
+            let words = wrong_operand(alloc, here, operands)?;
             after_name(alloc, text, "WrongOperand: ", words.as_str())
         }
         BuildCause::Kinds(TypeError::NotAList(_)) => after_name(
@@ -241,14 +214,15 @@ fn with_quote(
     text: String,
     cause: BuildCause,
     here: Option<Found<'_>>,
+    operands: Option<Operands>,
 ) -> Result<String, AllocError>
-    ensures { IfOk result (λ said. string_bytes said ≡ with_quote cause (string_bytes text)
+    ensures { IfOk result (λ said. string_bytes said ≡ with_quote cause operands (string_bytes text)
         (option_map (λ here. found here.before.now here.token.now here.after.now) here.entry)) }
 {
     let Some(here) = here else {
         return Ok(text);
     };
-    let mut text = cause_text(alloc, text, cause, here)?;
+    let mut text = cause_text(alloc, text, cause, here, operands)?;
     text.push_str("; in ")?;
     push_round(&mut text, here)?;
     push_advice(&mut text, cause, here)?;
@@ -260,13 +234,16 @@ fn with_quote(
 pub(crate) fn condition_text(
     alloc: Global,
     text: String,
+    shape: &Option<Shape>,
     condition: Option<&str>,
     cause: BuildCause,
 ) -> Result<String, AllocError>
-    ensures { IfOk result (λ said. string_bytes said ≡ condition_words
+    ensures { IfOk result (λ said. string_bytes said ≡ condition_words (option_map shape_view shape.now)
         (option_map (λ text. text.now) condition.entry) cause (string_bytes text)) }
 {
-    with_quote(alloc, text, cause, found_in(condition, place_of(cause)))
+    let operands = refused_operands(alloc, shape, condition, cause)?;
+    let here = found_in(condition, place_of(cause));
+    with_quote(alloc, text, cause, here, operands)
 }
 
 /// The text of a refusal of a metric's condition, with the condition.
@@ -274,15 +251,16 @@ pub(crate) fn condition_text(
 pub(crate) fn build_text(
     alloc: Global,
     text: String,
+    shape: &Option<Shape>,
     condition: Option<&str>,
     error: BuildError,
 ) -> Result<String, AllocError>
-    ensures { IfOk result (λ said. string_bytes said ≡ build_words
+    ensures { IfOk result (λ said. string_bytes said ≡ build_words (option_map shape_view shape.now)
         (option_map (λ text. text.now) condition.entry) error (string_bytes text)) }
 {
     match error {
         BuildError::Success(cause) | BuildError::Failure(cause) => {
-            condition_text(alloc, text, condition, cause)
+            condition_text(alloc, text, shape, condition, cause)
         }
         BuildError::OutOfMemory => Ok(text),
     }

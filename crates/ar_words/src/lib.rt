@@ -5,7 +5,8 @@
 //! which words. How names and conditions are shown, so that each stays in its line, `ar_quote` says.
 //!
 //! - `texts`: the texts, by the refusals; `conditions`: those of refusals of conditions
-//! - `bindings`: the conditions of a run, with its arguments bound
+//! - `found`, `fields`, `operands`: what is said of what was found
+//! - `bindings`: what a run's arguments are bound to, or where they can't be
 //! - `cuts`: where words stand in a text
 //! - `lists`: lists of a document, whose items have names; `names`: names as they are shown
 //! - `warnings`: what a document has that is probably not meant
@@ -14,8 +15,11 @@
 mod bindings;
 mod conditions;
 mod cuts;
+mod fields;
+mod found;
 mod lists;
 mod names;
+mod operands;
 mod texts;
 mod warnings;
 

@@ -8,13 +8,16 @@ ghost use Rattle.ar_words.specs.Conditions.{build_words};
 ghost use Rattle.ar_words.specs.Lists.{item_at};
 ghost use Rattle.ar_quote.specs.Shown.{quoted};
 ghost use Rattle.ar_words.specs.Names.{item_text};
-ghost use Rattle.ar_words.specs.Words.{beside_item, beside_metric, beside_run, built_words, bundle_words, eval_words, given_kind, has_braces, head_words, in_place, is_list_kind, kind_of_list, list_kind, list_words, manifest_words, template_words, those_there, with_advice, with_argument, with_arguments, with_double_name, with_names, with_place};
+ghost use Rattle.ar_words.specs.Words.{beside_item, beside_metric, beside_run, bind_words, built_words, bundle_words, eval_words, given_kind, has_braces, head_words, in_place, is_list_kind, kind_of_list, list_kind, list_words, manifest_words, template_words, those_there, with_advice, with_argument, with_arguments, with_double_name, with_names, with_place};
 
-use crate::bindings::{bound_of, refused_condition};
+use crate::bindings::{bound_of, limit_in, refused_condition, unbound_in};
 use crate::conditions::{after_name, build_text, condition_text};
 use crate::cuts::cut_at;
+use crate::fields::misfit;
+use crate::found::{found_after, limit_said, no_value_said, unknown_said};
 use crate::lists::{entry_text, item_at, list_in, metrics, runs, template_list, text_at};
 use crate::names::{item_text, push_names};
+use crate::operands::{declaration_in, declared_shape};
 use ar_document::BundleError;
 use ar_eval::EvalError;
 use ar_json::members::text_member;
@@ -211,18 +214,48 @@ fn template_text(
             let name = text_at(template_list(document, "dryRun"), number, "metricName");
             with_names(text, name, "metrics", metrics(document))
         }
-        ManifestError::UnknownArg(number) => {
-            let text = beside_metric(alloc, document, text, number)?;
-            with_arguments(document, text)
+        ManifestError::BadField(number) => {
+            let said = misfit(alloc, item_at(metrics(document), number))?;
+            let text = found_after(alloc, text, "BadField: ", said)?;
+            beside_metric(alloc, document, text, number)
         }
         ManifestError::Unsupported(number)
         | ManifestError::DoubleMetric(number)
-        | ManifestError::BadField(number)
         | ManifestError::OpenBraces(number)
-        | ManifestError::NoValue(number)
-        | ManifestError::BadLimit(number)
         | ManifestError::IntervalMissing(number) => beside_metric(alloc, document, text, number),
         _ => Ok(text),
+    }
+}
+
+/// The text of a refusal of a template's binding to the arguments of the run with a number.
+fn bind_text(
+    alloc: Global,
+    document: &Json,
+    text: String,
+    run: usize,
+    cause: ManifestError,
+) -> Result<String, AllocError>
+    ensures { IfOk result
+        (λ said. string_bytes said ≡ bind_words (view document.now) run cause (string_bytes text)) }
+{
+    match cause {
+        ManifestError::UnknownArg(metric) => {
+            let said = unknown_said(alloc, unbound_in(alloc, document, run, metric)?)?;
+            let text = found_after(alloc, text, "UnknownArg: ", said)?;
+            let text = beside_metric(alloc, document, text, metric)?;
+            with_arguments(document, text)
+        }
+        ManifestError::NoValue(metric) => {
+            let said = no_value_said(alloc, unbound_in(alloc, document, run, metric)?)?;
+            let text = found_after(alloc, text, "NoValue: ", said)?;
+            beside_metric(alloc, document, text, metric)
+        }
+        ManifestError::BadLimit(metric) => {
+            let said = limit_said(alloc, limit_in(alloc, document, run, metric)?)?;
+            let text = found_after(alloc, text, "BadLimit: ", said)?;
+            beside_metric(alloc, document, text, metric)
+        }
+        _ => template_text(alloc, document, text, cause),
     }
 }
 
@@ -323,25 +356,8 @@ fn manifest_text(
 
 // ---- refusals
 
-/// The text of a refusal of a metric's condition, with the condition.
-#[tactic(auto, unfolding(crate::specs::Bindings::bound_condition))]
-fn with_condition(
-    alloc: Global,
-    document: &Json,
-    text: String,
-    run: usize,
-    metric: usize,
-    error: BuildError,
-) -> Result<String, AllocError>
-    ensures { IfOk result (λ said. string_bytes said
-        ≡ build_words (bound_condition (view document.now) run metric error) error (string_bytes text)) }
-{
-    let bound = bound_of(alloc, document, run)?;
-    build_text(alloc, text, refused_condition(&bound, metric, error), error)
-}
-
-/// The text of a refusal of a metric's condition, with the names of the run and the metric.
-#[tactic(auto, unfolding(crate::specs::Words::built_words))]
+/// The text of a refusal of a metric's condition, with the condition and the names of the run and the metric.
+#[tactic(auto, unfolding(crate::specs::Bindings::bound_condition, crate::specs::Words::built_words))]
 fn built_text(
     alloc: Global,
     document: &Json,
@@ -353,7 +369,10 @@ fn built_text(
     ensures { IfOk result (λ said. string_bytes said
         ≡ built_words (view document.now) run metric error (string_bytes text)) }
 {
-    let text = with_condition(alloc, document, text, run, metric, error)?;
+    let bound = bound_of(alloc, document, run)?;
+    let condition = refused_condition(&bound, metric, error);
+    let shape = declared_shape(alloc, declaration_in(document, metric))?;
+    let text = build_text(alloc, text, &shape, condition, error)?;
     let text = beside_metric(alloc, document, text, metric)?;
     beside_run(alloc, document, text, run)
 }
@@ -380,7 +399,7 @@ pub fn bundle_text(
         }
         BundleError::DoubleRun(run) => with_double_name(alloc, document, text, run),
         BundleError::Bind(run, cause) => {
-            let text = template_text(alloc, document, text, cause)?;
+            let text = bind_text(alloc, document, text, run, cause)?;
             beside_run(alloc, document, text, run)
         }
         BundleError::Build(run, metric, error) => {
@@ -436,10 +455,14 @@ pub fn eval_text(
     let condition = text_member(document, "condition");
     match error {
         EvalError::Grammar(error) => {
-            let text = condition_text(alloc, text, condition, BuildCause::Grammar(error))?;
+            let cause = BuildCause::Grammar(error);
+            let text = condition_text(alloc, text, &None, condition, cause)?;
             with_advice(condition, text)
         }
-        EvalError::Kinds(error) => condition_text(alloc, text, condition, BuildCause::Kinds(error)),
+        EvalError::Kinds(error) => {
+            let shape = declared_shape(alloc, document.get("shape"))?;
+            condition_text(alloc, text, &shape, condition, BuildCause::Kinds(error))
+        }
         _ => Ok(text),
     }
 }

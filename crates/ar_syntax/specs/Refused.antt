@@ -1,0 +1,21 @@
+-- The byte of a text at which it stops being a condition.
+use Rattle.std.specs.Prelude.{ℕ, Option, Some, None}
+use Rattle.ar_syntax.specs.declared.error.SyntaxError.{SyntaxError}
+use Rattle.ar_syntax.specs.declared.error.SyntaxError.TheVariants.{TooLong, BadCharacter, OpenText, OpenComment, BadEscape, LiteralTooFine, NumberTooLarge, Unexpected, UnknownName, WrongCount, ItemOutside, TooManyItems, TooDeep, OutOfMemory}
+
+-- a text that is too long is so at the first byte that is too many
+abbrev pub refused_at : SyntaxError → Option ℕ
+refused_at TooLong = Some 4096
+refused_at (BadCharacter at) = Some at
+refused_at (OpenText at) = Some at
+refused_at (OpenComment at) = Some at
+refused_at (BadEscape at) = Some at
+refused_at (LiteralTooFine at) = Some at
+refused_at (NumberTooLarge at) = Some at
+refused_at (Unexpected at) = Some at
+refused_at (UnknownName at) = Some at
+refused_at (WrongCount at) = Some at
+refused_at (ItemOutside at) = Some at
+refused_at (TooManyItems at) = Some at
+refused_at (TooDeep at) = Some at
+refused_at OutOfMemory = None

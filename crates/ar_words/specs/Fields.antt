@@ -1,0 +1,44 @@
+-- The field of a metric that holds a value of another kind than it takes.
+use Rattle.std.specs.Prelude.{ℕ, Bool, true, false, if◌then◌else◌, List, ◌++◌, codes, Option, Some, None, option_and_then}
+use Rattle.std.specs.Option.{option_or}
+use Rattle.serde_json.specs.Data.{Data, null, boolean, number, string, array, object}
+use Rattle.ar_json.specs.Members.{member}
+
+abbrev pub kind_said : Data → List ℕ
+kind_said null = codes "null"
+kind_said (boolean b) = codes "a boolean"
+kind_said (number n) = codes "a number"
+kind_said (string text) = codes "a text"
+kind_said (array items) = codes "a list"
+kind_said (object members) = codes "an object"
+
+-- what is said of a field with a value
+abbrev pub misfit_said : (field : List ℕ) → (value : Data) → (expected : List ℕ) → List ℕ
+misfit_said field value expected = codes "`" ++ (field ++ (codes "` is " ++ (kind_said value ++ (codes "; expected " ++ expected))))
+
+abbrev pub unless_text : (field : List ℕ) → (value : Data) → Option (List ℕ)
+unless_text field (string text) = None
+unless_text field value = Some (misfit_said field value (codes "a text"))
+
+abbrev pub unless_limit : (field : List ℕ) → (value : Data) → Option (List ℕ)
+unless_limit field (number n) = None
+unless_limit field (string text) = None
+unless_limit field value = Some (misfit_said field value (codes "a number or a text"))
+
+abbrev pub text_misfit : (field : List ℕ) → (metric : Data) → Option (List ℕ)
+text_misfit field metric = option_and_then (unless_text field) (member field metric)
+
+abbrev pub limit_misfit : (field : List ℕ) → (metric : Data) → Option (List ℕ)
+limit_misfit field metric = option_and_then (unless_limit field) (member field metric)
+
+abbrev pub texts_misfit : (metric : Data) → Option (List ℕ)
+texts_misfit metric = option_or (text_misfit (codes "successCondition") metric) (option_or (text_misfit (codes "failureCondition") metric) (text_misfit (codes "interval") metric))
+
+abbrev pub limits_misfit : (metric : Data) → Option (List ℕ)
+limits_misfit metric =
+    option_or (limit_misfit (codes "count") metric) (option_or (limit_misfit (codes "failureLimit") metric)
+    (option_or (limit_misfit (codes "inconclusiveLimit") metric) (limit_misfit (codes "consecutiveErrorLimit") metric)))
+
+-- what is said of the first such field, in the order in which a template is read
+abbrev pub misfit : (metric : Data) → Option (List ℕ)
+misfit metric = option_or (texts_misfit metric) (limits_misfit metric)

@@ -1,0 +1,29 @@
+-- What is said of what was found where a template or its binding is refused.
+use Rattle.std.specs.Prelude.{ℕ, List, ◌++◌, codes, decimal, Option, Some, None}
+use Rattle.ar_manifest.specs.Found.{field_name}
+use Rattle.ar_manifest.specs.declared.found.LimitValue.{LimitValue}
+use Rattle.ar_manifest.specs.declared.found.LimitValue.TheVariants as values
+use Rattle.ar_manifest.specs.declared.found.RefusedLimit.{RefusedLimit}
+use Rattle.ar_quote.specs.Shown.{quoted}
+use Rattle.ar_words.specs.Conditions.{after_name}
+
+-- a text with what is said of what was found, if anything was, after the name of its refusal
+abbrev pub found_after : (name : List ℕ) → (said : Option (List ℕ)) → (text : List ℕ) → List ℕ
+found_after name None text = text
+found_after name (Some said) text = after_name name said text
+
+-- what is said of what stands in braces and isn't an argument, or has no value
+abbrev pub unknown_said : (reference : List ℕ) → List ℕ
+unknown_said reference = quoted reference ++ codes " in braces; expected args.NAME with a name of `spec.args`"
+
+abbrev pub no_value_said : (reference : List ℕ) → List ℕ
+no_value_said reference = quoted reference ++ codes " in braces has no value; expected one from the run or the template"
+
+abbrev pub value_said : LimitValue → List ℕ
+value_said (values.Whole n) = decimal n
+value_said values.OtherNumber = codes "a number with a sign, a fraction or an exponent"
+value_said (values.Text text) = quoted text
+value_said values.LongText = codes "a text of more than 256 bytes"
+
+abbrev pub limit_said : RefusedLimit → List ℕ
+limit_said limit = codes "`" ++ (field_name limit.field ++ (codes "` is " ++ (value_said limit.value ++ codes "; expected 0 to 1000000000 in one to ten digits")))

@@ -1,0 +1,53 @@
+-- What the operands of a condition are where one isn't of a kind that is taken.
+use Rattle.std.specs.Prelude.{ℕ, List, [], ◌++◌, codes, Option, Some, None, option_and_then}
+use Rattle.serde_json.specs.Data.{Data}
+use Rattle.serde_json.specs.Find.{get}
+use Rattle.ar_check.specs.Found.{operands_at}
+use Rattle.ar_check.specs.declared.error.TypeError.TheVariants as kinds
+use Rattle.ar_check.specs.declared.found.Found.{Found}
+use Rattle.ar_check.specs.declared.found.Found.TheVariants.{Nil, Bool, Whole, Decimal, Text, List as IsList, Object}
+use Rattle.ar_check.specs.declared.found.Operands.{Operands}
+use Rattle.ar_check.specs.declared.found.Operands.TheVariants.{One, Two}
+use Rattle.ar_json.specs.Declaration.{shape_of}
+use Rattle.ar_judge.specs.declared.error.BuildCause.{BuildCause}
+use Rattle.ar_judge.specs.declared.error.BuildCause.TheVariants.{Kinds}
+use Rattle.ar_syntax.specs.Parse.{parse_of}
+use Rattle.ar_value.specs.Shape.{Shape}
+use Rattle.ar_words.specs.Bindings.{made}
+use Rattle.ar_words.specs.Lists.{metrics, text_at}
+
+-- ---- shapes
+
+abbrev pub declared_shape : Option Data → Option Shape
+declared_shape json = option_and_then (λ json. made (shape_of json)) json
+
+-- the declaration of a metric's shape, by the metric's name
+abbrev pub declaration_in : Data → (metric : ℕ) → Option Data
+declaration_in document metric = option_and_then (λ name. option_and_then (get name) (get (codes "shapes") document)) (text_at (codes "name") metric (metrics document))
+
+-- ---- operands
+
+abbrev pub operands_in : Option Shape → (condition : Option (List ℕ)) → (place : ℕ) → Option Operands
+operands_in (Some shape) (Some condition) place = option_and_then (λ tree. operands_at shape tree place) (made (parse_of condition))
+operands_in shape condition place = None
+
+-- those of the operator at which a condition is refused
+abbrev pub refused_operands : Option Shape → (condition : Option (List ℕ)) → BuildCause → Option Operands
+refused_operands shape condition (Kinds (kinds.WrongOperand at)) = operands_in shape condition at
+refused_operands shape condition cause = None
+
+-- ---- what is said of them
+
+abbrev pub kind_said : Found → List ℕ
+kind_said Nil = codes "nil"
+kind_said Bool = codes "\"bool\""
+kind_said Whole = codes "\"whole\""
+kind_said Decimal = codes "\"decimal\""
+kind_said Text = codes "\"text\""
+kind_said IsList = codes "a list"
+kind_said Object = codes "a record"
+
+abbrev pub operands_said : Option Operands → List ℕ
+operands_said None = []
+operands_said (Some (One operand)) = codes "; found " ++ kind_said operand
+operands_said (Some (Two left right)) = codes "; found " ++ (kind_said left ++ (codes " and " ++ kind_said right))

@@ -1,0 +1,95 @@
+//! The field of a metric that holds a value of another kind than it takes.
+
+ghost use Rattle.std.specs.Prelude.{◌≡◌, IfOk, option_map, string_bytes};
+ghost use Rattle.serde_json.specs.View.{view};
+ghost use Rattle.ar_words.specs.Fields.{kind_said, limit_misfit, limits_misfit, misfit, misfit_said, text_misfit, texts_misfit};
+
+use ar_json::members::member;
+use serde_json::Value as Json;
+use std::alloc::{AllocError, Global};
+
+/// A field of a metric, with a value of another kind than it takes.
+#[derive(Clone, Copy)]
+struct Misfit<'a> {
+    field: &'static str,
+    value: &'a Json,
+    expected: &'static str,
+}
+
+fn kind_said(json: &Json) -> &'static str
+    ensures { result.now ≡ kind_said (view json.now) }
+{
+    match json {
+        Json::Null => "null",
+        Json::Bool(_) => "a boolean",
+        Json::Number(_) => "a number",
+        Json::String(_) => "a text",
+        Json::Array(_) => "a list",
+        Json::Object(_) => "an object",
+    }
+}
+
+fn text_misfit<'a>(metric: &'a Json, field: &'static str) -> Option<Misfit<'a>>
+    ensures { option_map (λ found. misfit_said found.field.now (view found.value.now) found.expected.now) result
+        ≡ text_misfit field.now (view metric.now) }
+{
+    match member(metric, field)? {
+        Json::String(_) => None,
+        value => Some(Misfit {
+            field,
+            value,
+            expected: "a text",
+        }),
+    }
+}
+
+fn limit_misfit<'a>(metric: &'a Json, field: &'static str) -> Option<Misfit<'a>>
+    ensures { option_map (λ found. misfit_said found.field.now (view found.value.now) found.expected.now) result
+        ≡ limit_misfit field.now (view metric.now) }
+{
+    match member(metric, field)? {
+        Json::Number(_) | Json::String(_) => None,
+        value => Some(Misfit {
+            field,
+            value,
+            expected: "a number or a text",
+        }),
+    }
+}
+
+/// The first misfit among conditions and `interval`.
+fn texts_misfit(metric: &Json) -> Option<Misfit<'_>>
+    ensures { option_map (λ found. misfit_said found.field.now (view found.value.now) found.expected.now) result
+        ≡ texts_misfit (view metric.now) }
+{
+    text_misfit(metric, "successCondition")
+        .or(text_misfit(metric, "failureCondition"))
+        .or(text_misfit(metric, "interval"))
+}
+
+/// The first misfit among limits.
+fn limits_misfit(metric: &Json) -> Option<Misfit<'_>>
+    ensures { option_map (λ found. misfit_said found.field.now (view found.value.now) found.expected.now) result
+        ≡ limits_misfit (view metric.now) }
+{
+    limit_misfit(metric, "count")
+        .or(limit_misfit(metric, "failureLimit"))
+        .or(limit_misfit(metric, "inconclusiveLimit"))
+        .or(limit_misfit(metric, "consecutiveErrorLimit"))
+}
+
+/// What is said of a metric's first field that holds a value of another kind than it takes.
+pub(crate) fn misfit(alloc: Global, metric: Option<&Json>) -> Result<Option<String>, AllocError>
+    ensures { IfOk result (λ said. option_map (λ said. string_bytes said) said
+        ≡ option_and_then misfit (option_map (λ json. view json.now) metric.entry)) }
+{
+    let Some(metric) = metric else {
+        return Ok(None);
+    };
+    let Some(found) = texts_misfit(metric).or(limits_misfit(metric)) else {
+        return Ok(None);
+    };
+    let kind = kind_said(found.value);
+    let said = format!(in alloc; "`{}` is {kind}; expected {}", found.field, found.expected)?;
+    Ok(Some(said))
+}

@@ -1,0 +1,111 @@
+//! What the operands of a condition are where one isn't of a kind that is taken.
+
+ghost use Rattle.std.specs.Prelude.{◌≡◌, ◌++◌, IfOk, OnOk, option_map, string_bytes};
+ghost use Rattle.serde_json.specs.View.{view};
+ghost use Rattle.ar_value.specs.View.{shape_view};
+ghost use Rattle.ar_words.specs.Operands.{declaration_in, declared_shape, kind_said, operands_in, operands_said, refused_operands};
+
+use crate::lists::{metrics, text_at};
+use ar_check::{Found, Operands, TypeError, operands_at};
+use ar_json::shape_reading::{ShapeError, read_shape};
+use ar_judge::BuildCause;
+use ar_syntax::{SyntaxError, parse};
+use ar_value::shape::Shape;
+use serde_json::Value as Json;
+use std::alloc::{AllocError, Global};
+
+// ---- shapes
+
+/// The shape that is declared, if one is.
+pub(crate) fn declared_shape(alloc: Global, json: Option<&Json>) -> Result<Option<Shape>, AllocError>
+    ensures { IfOk result (λ shape. option_map shape_view shape
+        ≡ declared_shape (option_map (λ json. view json.now) json.entry)) }
+{
+    let Some(json) = json else {
+        return Ok(None);
+    };
+    match read_shape(alloc, json) {
+        Ok(shape) => Ok(Some(shape)),
+        Err(ShapeError::OutOfMemory) => Err(AllocError),
+        Err(_) => Ok(None),
+    }
+}
+
+/// The declaration of a metric's shape.
+pub(crate) fn declaration_in(document: &Json, metric: usize) -> Option<&Json>
+    ensures { option_map (λ json. view json.now) result ≡ declaration_in (view document.now) metric }
+{
+    let name = text_at(metrics(document), metric, "name")?;
+    document.get("shapes")?.get(name)
+}
+
+// ---- operands
+
+fn operands_in(
+    alloc: Global,
+    shape: &Option<Shape>,
+    condition: Option<&str>,
+    place: usize,
+) -> Result<Option<Operands>, AllocError>
+    ensures { IfOk result (λ operands. operands ≡ operands_in (option_map shape_view shape.now)
+        (option_map (λ text. text.now) condition.entry) place) }
+{
+    let (Some(shape), Some(condition)) = (shape, condition) else {
+        return Ok(None);
+    };
+    match parse(alloc, condition) {
+        Ok(tree) => operands_at(alloc, tree, shape, place),
+        Err(SyntaxError::OutOfMemory) => Err(AllocError),
+        Err(_) => Ok(None),
+    }
+}
+
+/// The operands at which a condition is refused.
+pub(crate) fn refused_operands(
+    alloc: Global,
+    shape: &Option<Shape>,
+    condition: Option<&str>,
+    cause: BuildCause,
+) -> Result<Option<Operands>, AllocError>
+    ensures { IfOk result (λ operands. operands ≡ refused_operands (option_map shape_view shape.now)
+        (option_map (λ text. text.now) condition.entry) cause) }
+{
+    match cause {
+        BuildCause::Kinds(TypeError::WrongOperand(at)) => operands_in(alloc, shape, condition, at),
+        _ => Ok(None),
+    }
+}
+
+// ---- what is said of them
+
+fn kind_said(found: Found) -> &'static str
+    ensures { result.now ≡ kind_said found }
+{
+    match found {
+        Found::Nil => "nil",
+        Found::Bool => "\"bool\"",
+        Found::Whole => "\"whole\"",
+        Found::Decimal => "\"decimal\"",
+        Found::Text => "\"text\"",
+        Found::List => "a list",
+        Found::Object => "a record",
+    }
+}
+
+/// What is said of operands, if there are any.
+pub(crate) fn push_operands(out: &mut String, operands: Option<Operands>) -> Result<(), AllocError>
+    ensures { OnOk result (string_bytes out.new ≡ string_bytes out.old ++ operands_said operands) }
+{
+    let Some(operands) = operands else {
+        return Ok(());
+    };
+    out.push_str("; found ")?;
+    match operands {
+        Operands::One(operand) => out.push_str(kind_said(operand)),
+        Operands::Two(left, right) => {
+            out.push_str(kind_said(left))?;
+            out.push_str(" and ")?;
+            out.push_str(kind_said(right))
+        }
+    }
+}
