@@ -19,10 +19,10 @@ has_number word given = starts_with nat_eq word (codes "--workers=") && not give
 -- `run` takes each of its options once
 abbrev pub after_option : Given → (word : List ℕ) → Option Next
 after_option given word =
-    if is_new (codes "--workers") word given.workers then Some (Number (record given { workers = true; }))
-    else (if has_number word given.workers then Some (Options (record given { workers = true; }))
-    else (if is_new (codes "--plain") word given.plain then Some (Options (record given { plain = true; }))
-    else (if is_new (codes "--ordered") word given.ordered then Some (Options (record given { ordered = true; }))
+    if is_new (codes "--workers") word given.workers then Some (Number (record given { workers = true }))
+    else (if has_number word given.workers then Some (Options (record given { workers = true }))
+    else (if is_new (codes "--plain") word given.plain then Some (Options (record given { plain = true }))
+    else (if is_new (codes "--ordered") word given.ordered then Some (Options (record given { ordered = true }))
     else None)))
 
 abbrev pub is_alone : (word : List ℕ) → Bool

@@ -115,7 +115,7 @@ fn join_all<M: BundleName, D: Desk<M>, T: QueueName, R: Threads>(
                 join(queue, &mut pass, done.ended.pass);
                 desks.push_reserved(done.desk);
             }
-            Outcome::Short(_) => return Err(Unfinished::OutOfMemory),
+            Outcome::OutOfMemory(_) => return Err(Unfinished::OutOfMemory),
         }
     }
     Ok(Gathered { pass, desks })

@@ -51,7 +51,7 @@ pub(crate) enum Outcome<M: BundleName, D: Desk<M>, T: QueueName> {
     /// It settled all numbers that it took.
     All(Completed<M, D, T>),
     /// Memory was refused to it: after that it took numbers without judging them.
-    Short(Ended<T>),
+    OutOfMemory(Ended<T>),
 }
 
 /// Takes items up to the end mark.
@@ -104,7 +104,7 @@ pub(crate) fn work<M: BundleName, D: Desk<M>, T: QueueName, G: Gate, R: Wait>(
                     Ok(()) => {}
                     Err(AllocError) => {
                         drain(rt, queue, &mut pass);
-                        return Outcome::Short(Ended {
+                        return Outcome::OutOfMemory(Ended {
                             pass,
                             name: PhantomData,
                         });

@@ -21,7 +21,7 @@ use Rattle.ar_syntax.specs.declared.state.State as rust
 use Rattle.ar_syntax.specs.declared.token.Token.{Token}
 use Rattle.ar_condition.specs.declared.tree.Literal.TheVariants.{Text}
 use Rattle.ar_condition.specs.declared.tree.Tree.{Tree}
-use Rattle.ar_syntax.specs.declared.state.Refusal.TheVariants.{Arguments, Depth, Items, Memory, Other}
+use Rattle.ar_syntax.specs.declared.state.Refusal.TheVariants.{Arguments, Depth, Items, OutOfMemory, Other}
 
 pub length_of_map : (xs : List Tree) → length (map expression_of xs) ≡ length xs
 length_of_map [] = refl
@@ -81,7 +81,7 @@ text_gives_field stack at whole text_at text token role r h is = absurd cc
 
 gives_operand : (steps : Rules → Option State) (stack : List Frame) (tree : Expression) (r : Result rust.State Refusal) → steps strict ≡ Some (Have stack tree) → IsOperand tree r → Steps steps stack r
 gives_operand steps stack tree (Ok state) leads is = leads ∙ is stack
-gives_operand steps stack tree (Err Memory) leads is = tt
+gives_operand steps stack tree (Err OutOfMemory) leads is = tt
 gives_operand steps stack tree (Err refusal) leads is = let none : Some (Have stack tree) ≡ None = (is stack).0 in absurd cc
 
 pub one_argument : (arguments rest : List Tree) (last : Tree) → arguments ≡ rest ++ last ∷ [] → length arguments ≡ 1 → map expression_of arguments ≡ expression_of last ∷ []
@@ -154,7 +154,7 @@ refused state token refusal wants inside h is_wants is_in_predicate =
 -- a step that is refused is refused by its name
 pub stepped_refused : (state : State) (token : Token) (refusal : Refusal) (wants inside : Bool) (stack : List Frame) → Steps (λ rules. step rules state token) stack (Err refusal) → wants ≡ wants_operand state → inside ≡ is_inside state
     → Unless (is_memory (fault_by refusal wants inside token)) (stepped state token (step strict state token) ≡ Err (fault_by refusal wants inside token))
-stepped_refused state token Memory wants inside stack h is_wants is_in_predicate = tt
+stepped_refused state token OutOfMemory wants inside stack h is_wants is_in_predicate = tt
 stepped_refused state token Arguments wants inside stack h is_wants is_in_predicate = refused state token Arguments wants inside h is_wants is_in_predicate
 stepped_refused state token Items wants inside stack h is_wants is_in_predicate = refused state token Items wants inside h is_wants is_in_predicate
 stepped_refused state token Depth wants inside stack h is_wants is_in_predicate = refused state token Depth wants inside h is_wants is_in_predicate

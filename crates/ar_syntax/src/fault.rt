@@ -58,7 +58,7 @@ pub(crate) fn fault_by(
         Refusal::Items => SyntaxError::TooManyItems(at),
         Refusal::Depth => SyntaxError::TooDeep(at),
         Refusal::Other => kind_fault(wants_operand, is_inside, &token.kind, at),
-        Refusal::Memory => SyntaxError::OutOfMemory,
+        Refusal::OutOfMemory => SyntaxError::OutOfMemory,
     }
 }
 

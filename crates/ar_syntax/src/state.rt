@@ -1,7 +1,7 @@
 //! What may come next while tokens are read.
 
 ghost use Rattle.std.specs.Prelude.{◌≡◌};
-ghost use Rattle.ar_syntax.specs.declared.state.Refusal.TheVariants.{Memory};
+ghost use Rattle.ar_syntax.specs.declared.state.Refusal.TheVariants.{OutOfMemory};
 
 use crate::role::Call;
 use ar_condition::tree::Tree;
@@ -63,21 +63,21 @@ pub(crate) enum Refusal {
     Items,
     Depth,
     Other,
-    Memory,
+    OutOfMemory,
 }
 
 impl From<AllocError> for Refusal {
-    ghost from_gives = { λ _ e. e ≡ Memory };
+    ghost from_gives = { λ _ e. e ≡ OutOfMemory };
 
     fn from(_error: AllocError) -> Refusal {
-        Refusal::Memory
+        Refusal::OutOfMemory
     }
 }
 
 impl<T: Drop> From<AllocFailed<T>> for Refusal {
-    ghost from_gives = { λ _ e. e ≡ Memory };
+    ghost from_gives = { λ _ e. e ≡ OutOfMemory };
 
     fn from(_error: AllocFailed<T>) -> Refusal {
-        Refusal::Memory
+        Refusal::OutOfMemory
     }
 }

@@ -17,7 +17,10 @@ use std::alloc::{AllocError, Global};
 // ---- shapes
 
 /// The shape that is declared, if one is.
-pub(crate) fn declared_shape(alloc: Global, json: Option<&Json>) -> Result<Option<Shape>, AllocError>
+pub(crate) fn declared_shape(
+    alloc: Global,
+    json: Option<&Json>,
+) -> Result<Option<Shape>, AllocError>
     ensures { IfOk result (λ shape. option_map shape_view shape
         ≡ declared_shape (option_map (λ json. view json.now) json.entry)) }
 {

@@ -57,7 +57,7 @@ fn refuse<R: Env + AllocGlobal + Eprint>(rt: &R, error: UsageError) -> u8 {
             let _ = eprintln!(rt; "argo_judge: {text}");
             status::REFUSED
         }
-        Err(UsageError::OutOfMemory) => out_of_memory(rt),
+        Err(UsageError::OutOfMemory) => out_of_memory(rt, ServeError::OutOfMemory),
         Err(error) => {
             let _ = eprintln!(rt; "argo_judge: {error}");
             status::REFUSED
@@ -178,7 +178,9 @@ fn close<R: AllocGlobal + Eprint, I, O>(
     match outcome {
         Ok(_) => status::status_of(outcome),
         Err(ServeError::Refused(refusal)) => refuse(rt, reader.bytes(), refusal),
-        Err(ServeError::Read) if reader.wants_memory() => out_of_memory(rt),
+        Err(ServeError::Read) if reader.wants_memory() => {
+            out_of_memory(rt, ServeError::OutOfMemory)
+        }
         Err(error) => {
             tell(rt, error, cause(reader, writer, error));
             status::status_of(outcome)
@@ -206,12 +208,12 @@ fn refuse<R: AllocGlobal + Eprint>(rt: &R, input: &[u8], refusal: &Refusal) -> u
             let _ = eprintln!(rt; "argo_judge: {text}");
             status::REFUSED
         }
-        Err(_) => out_of_memory(rt),
+        Err(error) => out_of_memory(rt, ServeError::from(error)),
     }
 }
 
-fn out_of_memory<R: Eprint>(rt: &R) -> u8 {
-    tell(rt, &ServeError::OutOfMemory, None);
+fn out_of_memory<R: Eprint>(rt: &R, error: ServeError) -> u8 {
+    tell(rt, &error, None);
     status::OUT_OF_MEMORY
 }
 

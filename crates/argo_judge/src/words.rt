@@ -27,7 +27,8 @@ pub(crate) fn refusal_text(
 pub(crate) fn warning_lines(alloc: Global, input: &[u8]) -> Result<String, AllocError> {
     match Json::from_slice(alloc, input) {
         Ok(document) => warnings_text(alloc, &document),
-        Err(_) => Err(AllocError),
+        Err(error) if error.is_memory() => Err(AllocError),
+        Err(_) => Ok(String::new(alloc)),
     }
 }
 

@@ -10,14 +10,15 @@ use Rattle.ar_condition.specs.Views.{expression_of}
 use Rattle.ar_syntax.specs.Private.Frames.{frames_of}
 use Rattle.ar_syntax.specs.declared.machine.Frame as rust_frames
 use Rattle.ar_syntax.specs.declared.error.SyntaxError.{SyntaxError}
-use Rattle.ar_syntax.specs.declared.error.SyntaxError.TheVariants.{OutOfMemory, TooDeep, TooManyItems, WrongCount}
+use Rattle.ar_syntax.specs.declared.error.SyntaxError.TheVariants as errors
+use Rattle.ar_syntax.specs.declared.error.SyntaxError.TheVariants.{TooDeep, TooManyItems, WrongCount}
 use Rattle.ar_syntax.specs.declared.token.Token.{Token}
 use Rattle.ar_syntax.specs.declared.start.Begin as begins
 use Rattle.ar_syntax.specs.declared.start.Begin.TheVariants as begin
 use Rattle.ar_syntax.specs.declared.state.State as rust
 use Rattle.ar_syntax.specs.declared.state.State.TheVariants as states
 use Rattle.ar_syntax.specs.declared.state.Refusal.{Refusal}
-use Rattle.ar_syntax.specs.declared.state.Refusal.TheVariants.{Arguments, Items, Depth, Other, Memory}
+use Rattle.ar_syntax.specs.declared.state.Refusal.TheVariants.{Arguments, Items, Depth, Other, OutOfMemory}
 
 -- what a state in memory says
 abbrev pub state_of : List Frame → rust.State → State
@@ -60,7 +61,7 @@ forbids steps =
 -- a step leads to the machine's state, or is refused where the machine refuses it, by the same limit
 abbrev pub Steps : (Rules → Option State) → List Frame → Result rust.State Refusal → Type 0
 Steps steps stack (Ok state) = steps strict ≡ Some (state_of stack state)
-Steps steps stack (Err Memory) = Unit {0}
+Steps steps stack (Err OutOfMemory) = Unit {0}
 Steps steps stack (Err refusal) = (steps strict ≡ None) × (forbids steps ≡ refusal)
 
 -- an operand is there, unless memory ran out
@@ -68,7 +69,7 @@ abbrev pub IsOperand : Expression → Result rust.State Refusal → Type 0
 IsOperand tree result = (stack : List Frame) → Steps (λ rules. Some (Have stack tree)) stack result
 
 abbrev pub is_want : Refusal → Bool
-is_want Memory = true
+is_want OutOfMemory = true
 is_want refusal = false
 
 -- a step that takes no memory
@@ -81,4 +82,4 @@ fault_by Arguments wants inside token = WrongCount token.span.start
 fault_by Items wants inside token = TooManyItems token.span.start
 fault_by Depth wants inside token = TooDeep token.span.start
 fault_by Other wants inside token = kind_fault wants inside token.kind token.span.start
-fault_by Memory wants inside token = OutOfMemory
+fault_by OutOfMemory wants inside token = errors.OutOfMemory
