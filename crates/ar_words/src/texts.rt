@@ -242,8 +242,7 @@ fn bind_text(
         ManifestError::UnknownArg(metric) => {
             let said = unknown_said(alloc, unbound_in(alloc, document, run, metric)?)?;
             let text = found_after(alloc, text, "UnknownArg: ", said)?;
-            let text = beside_metric(alloc, document, text, metric)?;
-            with_arguments(document, text)
+            with_arguments(document, beside_metric(alloc, document, text, metric)?)
         }
         ManifestError::NoValue(metric) => {
             let said = no_value_said(alloc, unbound_in(alloc, document, run, metric)?)?;
