@@ -5,5 +5,6 @@ pub mod Memory
 pub mod Basics
 pub mod Operand
 pub mod Check
+pub mod Found
 pub mod Typing
 pub mod Private
