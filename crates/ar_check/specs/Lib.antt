@@ -5,6 +5,7 @@ pub mod Memory
 pub mod Basics
 pub mod Operand
 pub mod Check
+pub mod Found
 pub mod Typing
 pub mod Private
 pub mod Refused

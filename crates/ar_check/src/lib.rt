@@ -10,17 +10,19 @@
 //! - `operand`: a tree with its kind, whose shape is borrowed where it is a part of a declared one
 //! - `operators`, `list`: operators, and list literals, whose operands have kinds
 //! - [`error`]: why a condition has no kinds
+//! - [`found`]: what the operands at a place are, to be told beside such a fault
 //! - [`laws`]: what holds of all checked conditions
 //!
 //! In `specs`, `Operand` says what is made of operands where a plain kind or a decimal is wanted, and
 //! `Check` goes through the constructs one by one: what each wants and gives, and its faults.
 //! `Typing` is the table of kinds as a relation, which laws say is the same; `Basics` has what both
-//! begin with. `Private` has what only private contracts speak of. Trees, and what a typed one means
-//! on a value, are `ar_condition`'s.
+//! begin with. `Found` says what the operands at a place are. `Private` has what only private
+//! contracts speak of. Trees, and what a typed one means on a value, are `ar_condition`'s.
 #![tactic(auto)]
 
 mod build;
 pub mod error;
+pub mod found;
 pub mod laws;
 mod list;
 mod operand;
@@ -29,4 +31,5 @@ mod typing;
 
 pub use ar_condition::Typed;
 pub use error::TypeError;
+pub use found::operands_at;
 pub use typing::check;

@@ -36,7 +36,7 @@ use ar_value::text::Text;
 use std::alloc::{AllocError, Global};
 
 /// How many predicates may stand in one another.
-const MOST_PREDICATES: usize = 4;
+pub(crate) const MOST_PREDICATES: usize = 4;
 
 /// The typed tree of a condition where `result` has a shape. Children come first, from left to
 /// right.
@@ -75,13 +75,13 @@ pub fn check(alloc: Global, tree: Tree, shape: &Shape) -> Result<Typed, TypeErro
 
 /// What the names of a condition stand for at a place.
 #[derive(Clone, Copy)]
-struct Scope<'s> {
+pub(crate) struct Scope<'s> {
     /// The shape of `result`.
-    measured: &'s Shape,
+    pub measured: &'s Shape,
     /// The shape of the innermost item.
-    item: Option<&'s Shape>,
+    pub item: Option<&'s Shape>,
     /// How many predicates stand around the place.
-    around: usize,
+    pub around: usize,
 }
 
 /// A tree where `result` has a shape, and so has the innermost item, inside so many predicates.
@@ -131,7 +131,7 @@ fn typed<'s>(alloc: Global, tree: Tree, scope: &Scope<'s>) -> Result<Box<Operand
 
 /// A tree below another.
 #[cycle(typed)]
-fn child<'s>(
+pub(crate) fn child<'s>(
     alloc: Global,
     tree: Box<Tree>,
     scope: &Scope<'s>,
@@ -358,7 +358,7 @@ fn typed_body(
 }
 
 /// What names stand for where a predicate speaks of an item, inside so many predicates.
-fn in_predicate<'s>(scope: &Scope<'s>, item: &'s Shape, around: usize) -> Scope<'s>
+pub(crate) fn in_predicate<'s>(scope: &Scope<'s>, item: &'s Shape, around: usize) -> Scope<'s>
     ensures measured { shape_view result.measured.now ≡ shape_view scope.now.measured.now }
     ensures item { option_map (λ shape. shape_view shape.now) result.item ≡ Some (shape_view item.now) }
     ensures around { result.around ≡ around }

@@ -1,0 +1,137 @@
+-- What the operands at a place of a condition are: to be told where one isn't of a kind that is taken there.
+use Rattle.std.specs.Prelude.{ℕ, suc, Bool, false, ◌||◌, ◌==◌, if◌then◌else◌, nat_lt, Option, Some, None, option_and_then, option_map, unwrap_or, Ok, Err}
+use Rattle.std.specs.Option.{option_or}
+use Rattle.ar_value.specs.Kind.{Kind, nil, shaped}
+use Rattle.ar_value.specs.Shape.{Shape}
+use Rattle.ar_value.specs.Shape as shapes
+use Rattle.ar_condition.specs.Expression.{Expression, Expressions}
+use Rattle.ar_condition.specs.Expression as trees
+use Rattle.ar_condition.specs.declared.tree.Binary.{Binary}
+use Rattle.ar_condition.specs.declared.tree.Binary.TheVariants as binaries
+use Rattle.ar_check.specs.Basics.{most_predicates}
+use Rattle.ar_check.specs.Check.{Answer, typed_of}
+use Rattle.ar_check.specs.Operand.{plain_of}
+use Rattle.ar_check.specs.declared.found.Found.{Found}
+use Rattle.ar_check.specs.declared.found.Found.TheVariants as found
+use Rattle.ar_check.specs.declared.found.Operands.{Operands}
+use Rattle.ar_check.specs.declared.found.Operands.TheVariants.{One, Two}
+
+-- ---- kinds
+
+-- what a shape is, whether or not it may be nil as well
+abbrev pub found_shape : Shape → Found
+found_shape shapes.bool = found.Bool
+found_shape shapes.whole = found.Whole
+found_shape shapes.decimal = found.Decimal
+found_shape shapes.text = found.Text
+found_shape (shapes.list item max) = found.List
+found_shape (shapes.object inner) = found.Object
+found_shape (shapes.optional shape) = found_shape shape
+
+abbrev pub found_kind : Kind → Found
+found_kind nil = found.Nil
+found_kind (shaped shape) = found_shape shape
+
+-- the shape of a list's items
+abbrev pub shape_of_items : Option Shape → Option Shape
+shape_of_items (Some (shapes.list item max)) = Some item
+shape_of_items shape = None
+
+abbrev pub items_of : Kind → Option Shape
+items_of kind = shape_of_items (plain_of kind)
+
+-- ---- the operands of one tree
+
+abbrev pub kind_in : Answer → Option Kind
+kind_in (Ok operand) = Some operand.kind
+kind_in (Err error) = None
+
+-- the kind of a tree, if it has one
+abbrev pub kind_of : Shape → Option Shape → ℕ → Expression → Option Kind
+kind_of result item around tree = kind_in (typed_of result item around tree)
+
+-- the shape of a list's items, where one more predicate may speak of them
+abbrev pub entered_item : ℕ → Kind → Option Shape
+entered_item around list = if nat_lt around most_predicates then items_of list else None
+
+abbrev pub entered_list : ℕ → Option Kind → Option Shape
+entered_list around list = option_and_then (entered_item around) list
+
+abbrev pub one : Option Kind → Option Operands
+one kind = option_map (λ kind. One (found_kind kind)) kind
+
+-- `in` and `not in` take a list for its items
+abbrev pub member_found : Kind → Found
+member_found kind = unwrap_or (option_map found_shape (items_of kind)) (found_kind kind)
+
+abbrev pub right_found : Binary → Kind → Found
+right_found binaries.In kind = member_found kind
+right_found binaries.NotIn kind = member_found kind
+right_found operator kind = found_kind kind
+
+abbrev pub two : Binary → Option Kind → Option Kind → Option Operands
+two operator (Some left) (Some right) = Some (Two (found_kind left) (right_found operator right))
+two operator left right = None
+
+-- ---- the tree at a place
+
+abbrev mutual
+  -- whether a tree, or one inside it, is at a place
+  pub has_place : ℕ → Expression → Bool
+  has_place place (trees.ResultAt at) = at == place
+  has_place place (trees.ItemAt at) = at == place
+  has_place place (trees.LiteralAt at literal) = at == place
+  has_place place (trees.FieldAt at owner name) = at == place || has_place place owner
+  has_place place (trees.IndexAt at list index) = at == place || (has_place place list || has_place place index)
+  has_place place (trees.UnaryAt at operator operand) = at == place || has_place place operand
+  has_place place (trees.BinaryAt at operator left right) = at == place || (has_place place left || has_place place right)
+  has_place place (trees.ChoiceAt at condition met unmet) = at == place || (has_place place condition || (has_place place met || has_place place unmet))
+  has_place place (trees.ListAt at items) = at == place || any_has_place place items
+  has_place place (trees.LenAt at list) = at == place || has_place place list
+  has_place place (trees.IsNilAt at operand) = at == place || has_place place operand
+  has_place place (trees.DefaultAt at operand otherwise) = at == place || (has_place place operand || has_place place otherwise)
+  has_place place (trees.PredicateAt at predicate list body) = at == place || (has_place place list || has_place place body)
+
+  pub any_has_place : ℕ → Expressions → Bool
+  any_has_place place trees.none = false
+  any_has_place place (trees.more first others) = has_place place first || any_has_place place others
+
+abbrev mutual
+  -- At the first tree at a place that takes operands, where `result` has a shape, and so does the innermost item, inside so
+  -- many predicates: both operands of an operator between two; else the one that is wanted of another kind. Children
+  -- are searched from left to right; the body of a predicate if the place is there, else its list.
+  pub found_in : ℕ → Shape → Option Shape → ℕ → Expression → Option Operands
+  found_in place result item around (trees.ResultAt at) = None
+  found_in place result item around (trees.ItemAt at) = None
+  found_in place result item around (trees.LiteralAt at literal) = None
+  found_in place result item around (trees.FieldAt at owner name) =
+      if at == place then one (kind_of result item around owner)
+      else found_in place result item around owner
+  found_in place result item around (trees.IndexAt at list index) =
+      if at == place then one (kind_of result item around index)
+      else option_or (found_in place result item around list) (found_in place result item around index)
+  found_in place result item around (trees.UnaryAt at operator operand) =
+      if at == place then one (kind_of result item around operand)
+      else found_in place result item around operand
+  found_in place result item around (trees.BinaryAt at operator left right) =
+      if at == place then two operator (kind_of result item around left) (kind_of result item around right)
+      else option_or (found_in place result item around left) (found_in place result item around right)
+  found_in place result item around (trees.ChoiceAt at condition met unmet) =
+      if at == place then one (kind_of result item around condition)
+      else option_or (found_in place result item around condition) (option_or (found_in place result item around met) (found_in place result item around unmet))
+  found_in place result item around (trees.ListAt at items) = found_among place result item around items
+  found_in place result item around (trees.LenAt at list) = found_in place result item around list
+  found_in place result item around (trees.IsNilAt at operand) = found_in place result item around operand
+  found_in place result item around (trees.DefaultAt at operand otherwise) = option_or (found_in place result item around operand) (found_in place result item around otherwise)
+  found_in place result item around (trees.PredicateAt at predicate list body) =
+      if at == place then option_and_then (λ shape. one (kind_of result (Some shape) (suc around) body)) (entered_list around (kind_of result item around list))
+      else (if has_place place body then option_and_then (λ shape. found_in place result (Some shape) (suc around) body) (entered_list around (kind_of result item around list))
+      else found_in place result item around list)
+
+  pub found_among : ℕ → Shape → Option Shape → ℕ → Expressions → Option Operands
+  found_among place result item around trees.none = None
+  found_among place result item around (trees.more first others) = option_or (found_in place result item around first) (found_among place result item around others)
+
+-- what the operands at a place of a condition are, where these have kinds
+abbrev pub operands_at : Shape → Expression → ℕ → Option Operands
+operands_at result tree place = found_in place result None 0 tree

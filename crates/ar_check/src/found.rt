@@ -1,0 +1,509 @@
+//! What the operands at a place of a condition were found to be.
+
+ghost use Rattle.std.specs.Prelude.{◌≡◌, ◌<◌, ◌==◌, if◌then◌else◌, IfOk, IfSome, map, option_map};
+ghost use Rattle.std.specs.Option.{option_or};
+ghost use Rattle.ar_value.specs.View.{shape_view};
+ghost use Rattle.ar_condition.specs.Expression.{expressions, BinaryAt, ChoiceAt, IndexAt};
+ghost use Rattle.ar_condition.specs.Views.{expression_of};
+ghost use Rattle.ar_check.specs.Basics.{most_predicates};
+ghost use Rattle.ar_check.specs.Found.{any_has_place, entered_item, found_kind, found_shape, has_place, entered_list, items_of, member_found, one, operands_at, right_found, two};
+ghost use Rattle.ar_check.specs.Private.Inside.{kind_view};
+ghost use Rattle.ar_check.specs.Private.Search.{body_over, kind_at, place_among, place_in, place_in_predicate, place_over};
+
+use crate::error::TypeError;
+use crate::operand::{Kind, plain_shape};
+use crate::typing::{MOST_PREDICATES, Scope, child, in_predicate};
+use ar_condition::tree::{Binary, Tree};
+use ar_value::shape::Shape;
+use std::alloc::{AllocError, Global};
+
+/// What an operand was found to be, whether or not it may be nil as well.
+#[derive(Clone, Copy, Debug)]
+pub enum Found {
+    Nil,
+    Bool,
+    Whole,
+    Decimal,
+    Text,
+    List,
+    Object,
+}
+
+/// What was found where an operand isn't of a kind that is taken: at an operator between two
+/// operands both of them, else the one that is wanted of another kind.
+#[derive(Clone, Copy, Debug)]
+pub enum Operands {
+    One(Found),
+    Two(Found, Found),
+}
+
+/// What the operands of the tree at a place are: None where no tree that takes operands of some kinds
+/// is there, or where one of them has no kind. Right of `in` and `not in` a list is told by its items.
+///
+/// # Errors
+///
+/// Out of memory alone.
+pub fn operands_at(
+    alloc: Global,
+    tree: Tree,
+    shape: &Shape,
+    place: usize,
+) -> Result<Option<Operands>, AllocError>
+    ensures { IfOk result (λ found. found ≡ operands_at (shape_view shape.now) (expression_of tree) place) }
+{
+    let scope = Scope {
+        measured: shape,
+        item: None,
+        around: 0,
+    };
+    found_in(alloc, tree, &scope, place)
+}
+
+/// What is found at a place in a tree.
+#[cycle(found_in)]
+fn found_in(
+    alloc: Global,
+    tree: Tree,
+    scope: &Scope<'_>,
+    place: usize,
+) -> Result<Option<Operands>, AllocError>
+    ensures { IfOk result (λ found. found ≡ place_in scope.now place (expression_of tree)) }
+{
+    match tree {
+        Tree::Result { .. } | Tree::Item { .. } | Tree::Literal { .. } => Ok(None),
+        Tree::Field { at, owner, .. } => in_operand(alloc, at, owner, scope, place),
+        Tree::Index { at, list, index } => in_index(alloc, at, list, index, scope, place),
+        Tree::Unary { at, operand, .. } => in_operand(alloc, at, operand, scope, place),
+        Tree::Binary {
+            at,
+            operator,
+            left,
+            right,
+        } => in_binary(alloc, at, operator, left, right, scope, place),
+        Tree::Choice {
+            at,
+            condition,
+            yes,
+            no,
+        } => in_choice(alloc, at, condition, yes, no, scope, place),
+        Tree::List { items, .. } => found_among(alloc, items.items, scope, place),
+        Tree::Len { list, .. } => in_child(alloc, list, scope, place),
+        Tree::IsNil { operand, .. } => in_child(alloc, operand, scope, place),
+        Tree::Default {
+            operand,
+            otherwise,
+            ..
+        } => in_either(alloc, operand, otherwise, scope, place),
+        Tree::Predicate { at, list, body, .. } => in_list_or_body(
+            alloc, at, list, body, scope, place,
+        ),
+    }
+}
+
+/// What is found in a tree below another.
+#[cycle(found_in)]
+fn in_child(
+    alloc: Global,
+    tree: Box<Tree>,
+    scope: &Scope<'_>,
+    place: usize,
+) -> Result<Option<Operands>, AllocError>
+    ensures { IfOk result (λ found. found ≡ place_in scope.now place (expression_of tree.value)) }
+{
+    found_in(alloc, Box::into_inner(tree), scope, place)
+}
+
+/// What is found in the first of two trees, else in the other.
+#[cycle(found_in)]
+fn in_either(
+    alloc: Global,
+    first: Box<Tree>,
+    other: Box<Tree>,
+    scope: &Scope<'_>,
+    place: usize,
+) -> Result<Option<Operands>, AllocError>
+    ensures { IfOk result (λ found. found ≡ option_or (place_in scope.now place (expression_of first.value))
+        (place_in scope.now place (expression_of other.value))) }
+{
+    match in_child(alloc, first, scope, place)? {
+        Some(found) => Ok(Some(found)),
+        None => in_child(alloc, other, scope, place),
+    }
+}
+
+/// What is found at a tree of one operand, or in this.
+#[cycle(found_in)]
+fn in_operand(
+    alloc: Global,
+    at: usize,
+    operand: Box<Tree>,
+    scope: &Scope<'_>,
+    place: usize,
+) -> Result<Option<Operands>, AllocError>
+    ensures { IfOk result (λ found. found
+        ≡ (if at == place then one (kind_at scope.now (expression_of operand.value))
+        else place_in scope.now place (expression_of operand.value))) }
+{
+    if at == place {
+        one(alloc, operand, scope)
+    } else {
+        in_child(alloc, operand, scope, place)
+    }
+}
+
+/// What is found at an item of a list, at an index, or in one of the two.
+#[cycle(found_in)]
+fn in_index(
+    alloc: Global,
+    at: usize,
+    list: Box<Tree>,
+    index: Box<Tree>,
+    scope: &Scope<'_>,
+    place: usize,
+) -> Result<Option<Operands>, AllocError>
+    ensures { IfOk result (λ found. found ≡ place_in scope.now place
+        (IndexAt at (expression_of list.value) (expression_of index.value))) }
+{
+    if at == place {
+        one(alloc, index, scope)
+    } else {
+        in_either(alloc, list, index, scope, place)
+    }
+}
+
+/// What is found at an operator between two operands, or in one of them.
+#[cycle(found_in)]
+fn in_binary(
+    alloc: Global,
+    at: usize,
+    operator: Binary,
+    left: Box<Tree>,
+    right: Box<Tree>,
+    scope: &Scope<'_>,
+    place: usize,
+) -> Result<Option<Operands>, AllocError>
+    ensures { IfOk result (λ found. found ≡ place_in scope.now place
+        (BinaryAt at operator (expression_of left.value) (expression_of right.value))) }
+{
+    if at == place {
+        two(alloc, operator, left, right, scope)
+    } else {
+        in_either(alloc, left, right, scope, place)
+    }
+}
+
+/// What is found at a choice, in its condition or in one of its branches.
+#[cycle(found_in)]
+fn in_choice(
+    alloc: Global,
+    at: usize,
+    condition: Box<Tree>,
+    yes: Box<Tree>,
+    no: Box<Tree>,
+    scope: &Scope<'_>,
+    place: usize,
+) -> Result<Option<Operands>, AllocError>
+    ensures { IfOk result (λ found. found ≡ place_in scope.now place
+        (ChoiceAt at (expression_of condition.value) (expression_of yes.value) (expression_of no.value))) }
+{
+    if at == place {
+        return one(alloc, condition, scope);
+    }
+    match in_child(alloc, condition, scope, place)? {
+        Some(found) => Ok(Some(found)),
+        None => in_either(alloc, yes, no, scope, place),
+    }
+}
+
+/// What is found in the first of some trees that has something.
+#[cycle(found_in)]
+fn found_among(
+    alloc: Global,
+    trees: Vec<Tree>,
+    scope: &Scope<'_>,
+    place: usize,
+) -> Result<Option<Operands>, AllocError>
+    ensures { IfOk result (λ found. found
+        ≡ place_among scope.now place (expressions (map expression_of trees.items))) }
+{
+    for tree in trees {
+        if let Some(found) = found_in(alloc, tree, scope, place)? {
+            return Ok(Some(found));
+        }
+    }
+    Ok(None)
+}
+
+/// What is found at a predicate, in its body if the place is there, or else in its list.
+#[cycle(found_in)]
+fn in_list_or_body(
+    alloc: Global,
+    at: usize,
+    list: Box<Tree>,
+    body: Box<Tree>,
+    scope: &Scope<'_>,
+    place: usize,
+) -> Result<Option<Operands>, AllocError>
+    ensures { IfOk result (λ found. found ≡ place_in_predicate scope.now place at (expression_of list.value)
+        (expression_of body.value)) }
+{
+    if at == place {
+        one_inside(alloc, list, body, scope)
+    } else if has_place(&body, place) {
+        in_body(alloc, list, body, scope, place)
+    } else {
+        in_child(alloc, list, scope, place)
+    }
+}
+
+/// What is found in the body of a predicate over a list.
+#[cycle(found_in)]
+fn in_body(
+    alloc: Global,
+    list: Box<Tree>,
+    body: Box<Tree>,
+    scope: &Scope<'_>,
+    place: usize,
+) -> Result<Option<Operands>, AllocError>
+    ensures { IfOk result (λ found. found ≡ place_over scope.now place
+        (entered_list scope.now.around (kind_at scope.now (expression_of list.value))) (expression_of body.value)) }
+{
+    match kind_of(alloc, list, scope)? {
+        Some(list) => in_body_over(alloc, &list, body, scope, place),
+        None => Ok(None),
+    }
+}
+
+/// What is found in the body of a predicate over a list of a kind.
+#[cycle(found_in)]
+fn in_body_over(
+    alloc: Global,
+    list: &Kind<'_>,
+    body: Box<Tree>,
+    scope: &Scope<'_>,
+    place: usize,
+) -> Result<Option<Operands>, AllocError>
+    ensures { IfOk result (λ found. found ≡ place_over scope.now place
+        (entered_item scope.now.around (kind_view list.now)) (expression_of body.value)) }
+{
+    let Some(item) = entered_item(scope.around, list) else {
+        return Ok(None);
+    };
+    let inside = in_predicate(&*scope, item, scope.around + 1);
+    in_child(alloc, body, &inside, place)
+}
+
+/// Whether a tree, or one inside it, is at a place.
+#[cycle(has_place)]
+fn has_place(tree: &Tree, place: usize) -> bool
+    ensures { result ≡ has_place place (expression_of tree.now) }
+{
+    match tree {
+        Tree::Result { at } | Tree::Item { at } | Tree::Literal { at, .. } => *at == place,
+        Tree::Field { at, owner, .. } => *at == place || has_place(owner, place),
+        Tree::Index { at, list, index } => *at == place
+            || (has_place(list, place) || has_place(index, place)),
+        Tree::Unary { at, operand, .. } => *at == place || has_place(operand, place),
+        Tree::Binary {
+            at,
+            left,
+            right,
+            ..
+        } => *at == place || (has_place(left, place) || has_place(right, place)),
+        Tree::Choice {
+            at,
+            condition,
+            yes,
+            no,
+        } => *at == place
+            || (has_place(condition, place) || (has_place(yes, place) || has_place(no, place))),
+        Tree::List { at, items } => *at == place || any_has_place(&items.items, place),
+        Tree::Len { at, list } => *at == place || has_place(list, place),
+        Tree::IsNil { at, operand } => *at == place || has_place(operand, place),
+        Tree::Default {
+            at,
+            operand,
+            otherwise,
+        } => *at == place || (has_place(operand, place) || has_place(otherwise, place)),
+        Tree::Predicate { at, list, body, .. } => *at == place
+            || (has_place(list, place) || has_place(body, place)),
+    }
+}
+
+#[cycle(has_place)]
+fn any_has_place(trees: &[Tree], place: usize) -> bool
+    ensures { result ≡ any_has_place place (expressions (map expression_of trees.now)) }
+{
+    for tree in trees {
+        if has_place(tree, place) {
+            return true;
+        }
+    }
+    false
+}
+
+/// What the one operand is that is wanted of a kind.
+fn one(alloc: Global, operand: Box<Tree>, scope: &Scope<'_>) -> Result<Option<Operands>, AllocError>
+    ensures { IfOk result (λ found. found ≡ one (kind_at scope.now (expression_of operand.value))) }
+{
+    match kind_of(alloc, operand, scope)? {
+        Some(kind) => Ok(Some(Operands::One(found_kind(&kind)))),
+        None => Ok(None),
+    }
+}
+
+/// What both operands of an operator are.
+fn two(
+    alloc: Global,
+    operator: Binary,
+    left: Box<Tree>,
+    right: Box<Tree>,
+    scope: &Scope<'_>,
+) -> Result<Option<Operands>, AllocError>
+    ensures { IfOk result (λ found. found ≡ two operator (kind_at scope.now (expression_of left.value))
+        (kind_at scope.now (expression_of right.value))) }
+{
+    let Some(left) = kind_of(alloc, left, scope)? else {
+        return Ok(None);
+    };
+    let Some(right) = kind_of(alloc, right, scope)? else {
+        return Ok(None);
+    };
+    let right = right_found(operator, &right);
+    Ok(Some(Operands::Two(found_kind(&left), right)))
+}
+
+/// What the body of a predicate over a list is.
+fn one_inside(
+    alloc: Global,
+    list: Box<Tree>,
+    body: Box<Tree>,
+    scope: &Scope<'_>,
+) -> Result<Option<Operands>, AllocError>
+    ensures { IfOk result (λ found. found ≡ body_over scope.now
+        (entered_list scope.now.around (kind_at scope.now (expression_of list.value))) (expression_of body.value)) }
+{
+    match kind_of(alloc, list, scope)? {
+        Some(list) => one_over(alloc, &list, body, scope),
+        None => Ok(None),
+    }
+}
+
+/// What the body of a predicate over a list of a kind is.
+fn one_over(
+    alloc: Global,
+    list: &Kind<'_>,
+    body: Box<Tree>,
+    scope: &Scope<'_>,
+) -> Result<Option<Operands>, AllocError>
+    ensures { IfOk result (λ found. found ≡ body_over scope.now
+        (entered_item scope.now.around (kind_view list.now)) (expression_of body.value)) }
+{
+    let Some(item) = entered_item(scope.around, list) else {
+        return Ok(None);
+    };
+    let inside = in_predicate(scope, item, scope.around + 1);
+    one(alloc, body, &inside)
+}
+
+/// The kind of a tree, if it has one.
+fn kind_of<'s>(
+    alloc: Global,
+    tree: Box<Tree>,
+    scope: &Scope<'s>,
+) -> Result<Option<Kind<'s>>, AllocError>
+    ensures { IfOk result (λ kind. option_map kind_view kind ≡ kind_at scope.now (expression_of tree.value)) }
+{
+    match child(alloc, tree, scope) {
+        Ok(operand) => Ok(Some(Box::into_inner(operand).kind)),
+        Err(TypeError::OutOfMemory) => Err(AllocError),
+        Err(
+            TypeError::WrongOperand(_)
+            | TypeError::NoSuchField(_)
+            | TypeError::NotAList(_)
+            | TypeError::NoCommonKind(_)
+            | TypeError::NotScalar(_)
+            | TypeError::NotTruth(_)
+            | TypeError::PredicatesTooDeep(_),
+        ) => Ok(None),
+    }
+}
+
+/// The shape of a list's items, where one more predicate may speak of them.
+fn entered_item<'a>(around: usize, list: &'a Kind<'_>) -> Option<&'a Shape>
+    ensures item { option_map (λ shape. shape_view shape.now) result ≡ entered_item around (kind_view list.now) }
+    ensures few { IfSome result (λ _. around < most_predicates) }
+{
+    if around < MOST_PREDICATES {
+        items_of(list)
+    } else {
+        None
+    }
+}
+
+/// The shape of a list's items.
+fn items_of<'a>(kind: &'a Kind<'_>) -> Option<&'a Shape>
+    ensures { option_map (λ shape. shape_view shape.now) result ≡ items_of (kind_view kind.now) }
+{
+    match plain_shape(kind)? {
+        Shape::List { item, .. } => Some(item),
+        Shape::Bool
+        | Shape::Whole
+        | Shape::Decimal
+        | Shape::Text
+        | Shape::Object(_)
+        | Shape::Optional(_) => None,
+    }
+}
+
+/// What the right operand of an operator is: that of `in` and `not in` is told by its items.
+fn right_found(operator: Binary, kind: &Kind<'_>) -> Found
+    ensures { result ≡ right_found operator (kind_view kind.now) }
+{
+    match operator {
+        Binary::In | Binary::NotIn => member_found(kind),
+        Binary::Or
+        | Binary::And
+        | Binary::Comparison(_)
+        | Binary::TextTest(_)
+        | Binary::Add
+        | Binary::Subtract
+        | Binary::Multiply
+        | Binary::Divide
+        | Binary::Remainder => found_kind(kind),
+    }
+}
+
+/// What the items of a list are; of no list, what it is itself.
+fn member_found(kind: &Kind<'_>) -> Found
+    ensures { result ≡ member_found (kind_view kind.now) }
+{
+    match items_of(kind) {
+        Some(item) => found_shape(item),
+        None => found_kind(kind),
+    }
+}
+
+fn found_kind(kind: &Kind<'_>) -> Found
+    ensures { result ≡ found_kind (kind_view kind.now) }
+{
+    match kind {
+        Kind::Nil => Found::Nil,
+        Kind::Declared(shape) => found_shape(shape),
+        Kind::Made(shape) => found_shape(shape),
+    }
+}
+
+fn found_shape(shape: &Shape) -> Found
+    ensures { result ≡ found_shape (shape_view shape.now) }
+{
+    match shape {
+        Shape::Bool => Found::Bool,
+        Shape::Whole => Found::Whole,
+        Shape::Decimal => Found::Decimal,
+        Shape::Text => Found::Text,
+        Shape::List { .. } => Found::List,
+        Shape::Object(_) => Found::Object,
+        Shape::Optional(plain) => found_shape(plain),
+    }
+}
