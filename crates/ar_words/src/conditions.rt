@@ -8,7 +8,8 @@ ghost use Rattle.ar_quote.specs.Tokens.{found};
 
 use crate::cuts::cut_at;
 use crate::operands::{push_operands, refused_operands};
-use ar_check::{Operands, TypeError};
+use ar_check::TypeError;
+use ar_check::found::Operands;
 use ar_judge::{BuildCause, BuildError};
 use ar_quote::{Found, push_quoted, push_round, token_at};
 use ar_syntax::SyntaxError;

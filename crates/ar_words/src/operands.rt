@@ -6,7 +6,8 @@ ghost use Rattle.ar_value.specs.View.{shape_view};
 ghost use Rattle.ar_words.specs.Operands.{declaration_in, declared_shape, kind_said, operands_in, operands_said, refused_operands};
 
 use crate::lists::{metrics, text_at};
-use ar_check::{Found, Operands, TypeError, operands_at};
+use ar_check::found::{Found, Operands};
+use ar_check::{TypeError, operands_at};
 use ar_json::shape_reading::{ShapeError, read_shape};
 use ar_judge::BuildCause;
 use ar_syntax::{SyntaxError, parse};
