@@ -10,6 +10,8 @@ pub mod LimitTexts
 pub mod Lists
 pub mod Memory
 pub mod Parts
+pub mod Refusing
 pub mod Spaces
 pub mod Steps
 pub mod TextParts
+pub mod Unbound
