@@ -1,4 +1,5 @@
 pub mod Bindings
+pub mod Causes
 pub mod Cuts
 pub mod DryRun
 pub mod Entries

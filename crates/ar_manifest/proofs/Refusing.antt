@@ -1,16 +1,14 @@
 -- Limits that are refused.
-use Rattle.std.proofs.Common.{◌≡◌, ◌≤◌, ◌<◌, ◌+◌, ℕ, Bool, true, false, List, ◌∷◌, length, drop, map, get_or, refl, sym, ◌∙◌, ap, arith, Option, Some, None, Result, Ok, Err}
-use Rattle.std.specs.Prelude.{is_ok, is_some, nat_le, option_map, if◌then◌else◌}
-use Rattle.std.specs.Option.{option_or}
+use Rattle.std.proofs.Common.{◌≡◌, ℕ, Bool, true, false, List, length, refl, sym, ◌∙◌, ap, arith, Option, Some, None, Result, Ok, Err}
+use Rattle.std.specs.Prelude.{is_ok, nat_le, option_map, if◌then◌else◌}
 use Rattle.std.specs.Result.{result_ok}
 use Rattle.std.specs.Str.Parse.{digits_value}
 use Rattle.std.proofs.lemmas.Bool.Decides.{nat_tests}
-use Rattle.std.proofs.lemmas.List.{drop_all, drop_more}
 use Rattle.ar_value.specs.Answer.{◌>>=◌}
 use Rattle.ar_manifest.specs.Binding.{RunArguments, bound_text}
 use Rattle.ar_manifest.specs.Bound.{bound_limit, is_limit_text, limit_of_number, limit_of_text, most}
-use Rattle.ar_manifest.specs.Found.{bound_value, first_some, is_bad_limit, most_shown, refuses_limit, refused_value, text_value}
-use Rattle.ar_manifest.specs.Private.Shown.{refused_answer, refused_bound, refused_number}
+use Rattle.ar_manifest.specs.Found.{bound_value, is_bad_limit, most_shown, refuses_limit, refused_value, text_value}
+use Rattle.ar_manifest.specs.Private.Shown.{refused_answer, refused_bound}
 use Rattle.ar_manifest.specs.Private.Within.{limit_within, text_within, within}
 use Rattle.ar_manifest.specs.Template.{TemplateArguments}
 use Rattle.ar_manifest.specs.declared.error.ManifestError.{ManifestError}
@@ -20,47 +18,24 @@ use Rattle.ar_manifest.specs.declared.found.LimitValue.TheVariants as values
 use Rattle.ar_manifest.specs.declared.template.Limit.TheVariants as limits
 use Rattle.ar_manifest.proofs.Keeping.{long_limit}
 
--- the first of some items of which something is found
-module _ {J A : Type 0} (found : J → Option A) (list : List J) (i : ℕ) (all : Option A) (so_far : first_some (map found (drop i list)) ≡ all) where
-  found_next : (item : J) → i < length list → item ≡ get_or list i item → all ≡ option_or (found item) (first_some (map found (drop (i + 1) list)))
-  found_next item below is =
-      sym so_far ∙ ap (λ rest. first_some (map found rest)) (drop_more list i item below ∙ ap (λ (first : J). first ∷ drop (i + 1) list) (sym is))
-
-  pub found_here : (item : J) → i < length list → item ≡ get_or list i item → is_some (found item) ≡ true → all ≡ found item
-  found_here item below is there = found_next item below is ∙ by (found item) there
-    where
-      by : (here : Option A) → is_some here ≡ true → option_or here (first_some (map found (drop (i + 1) list))) ≡ here
-      by None there = cc
-      by (Some x) there = refl
-
-  pub found_later : (item : J) → i < length list → item ≡ get_or list i item → is_some (found item) ≡ false → first_some (map found (drop (i + 1) list)) ≡ all
-  found_later item below is none = sym (found_next item below is ∙ by (found item) none)
-    where
-      by : (here : Option A) → is_some here ≡ false → option_or here (first_some (map found (drop (i + 1) list))) ≡ first_some (map found (drop (i + 1) list))
-      by None none = refl
-      by (Some x) none = cc
-
-  pub found_nowhere : length list ≤ i → all ≡ None
-  found_nowhere past = sym so_far ∙ ap (λ rest. first_some (map found rest)) (drop_all i list past)
-
--- a limit that is refused is told as a value
-abbrev Tells : Result ℕ ManifestError → Type 0
-Tells answer = (value : LimitValue) → (if is_ok answer then None else Some value) ≡ (if refuses_limit (answer >>= λ limit. Ok (Some limit)) then Some value else None)
+-- a limit that is no limit is refused as one
+abbrev Refuses : Result ℕ ManifestError → Type 0
+Refuses answer = (value : LimitValue) → (if is_ok answer then None else Some value) ≡ (if refuses_limit (answer >>= λ limit. Ok (Some limit)) then Some value else None)
 
 module _ (i : ℕ) where
-  number_tells : (n : ℕ) → Tells (limit_of_number i n)
-  number_tells n = by (nat_le n most)
+  number_refuses : (n : ℕ) → Refuses (limit_of_number i n)
+  number_refuses n = by (nat_le n most)
     where
-      by : (test : Bool) → Tells (if test then Ok n else Err (BadLimit i))
+      by : (test : Bool) → Refuses (if test then Ok n else Err (BadLimit i))
       by true value = refl
       by false value = refl
 
-  text_tells : (text : List ℕ) → Tells (limit_of_text i text)
+  text_refuses : (text : List ℕ) → Refuses (limit_of_text i text)
   unfolding limit_of_text
-  text_tells text = by (is_limit_text text)
+  text_refuses text = by (is_limit_text text)
     where
-      by : (test : Bool) → Tells (if test then limit_of_number i (digits_value 10 text) else Err (BadLimit i))
-      by true value = number_tells (digits_value 10 text) value
+      by : (test : Bool) → Refuses (if test then limit_of_number i (digits_value 10 text) else Err (BadLimit i))
+      by true value = number_refuses (digits_value 10 text) value
       by false value = refl
 
   -- a text of more than 256 bytes is no limit
@@ -73,7 +48,7 @@ module _ (i : ℕ) where
     where
       by : (short : Bool) → nat_le (length text) most_shown ≡ short
           → refused_bound i (if short then Some text else None) ≡ (if refuses_limit (limit_of_text i text >>= λ limit. Ok (Some limit)) then Some (if short then values.Text text else values.LongText) else None)
-      by true is = text_tells text (values.Text text)
+      by true is = text_refuses text (values.Text text)
       by false is = rw (long_refused text is) refl
 
 neither : (test : Bool) → None ≡ if◌then◌else◌ {A = Option LimitValue} test None None
@@ -81,12 +56,7 @@ neither true = refl
 neither false = refl
 
 module _ (arguments : TemplateArguments) (own : RunArguments) (i : ℕ) where
-  -- a number
-  pub number_refused : (n : ℕ) → refused_number i n ≡ refused_value arguments own i (Some (limits.Whole n))
-  unfolding refused_value bound_limit bound_value
-  number_refused n = number_tells i n (values.Whole n)
-
-  -- a text
+  -- a text that is refused is so by what is kept of it
   module _ (text : List ℕ) where
     text_refused : refused_answer i (text_within arguments own i (Some most_shown) text) ≡ refused_value arguments own i (Some (limits.Text text))
     unfolding text_within refused_value bound_limit bound_value

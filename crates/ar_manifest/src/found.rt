@@ -185,7 +185,7 @@ fn refused_text(alloc: Global, scope: &Scope, text: &str) -> Result<Option<Limit
 }
 
 /// What a limit is once it is bound, if that is no limit.
-#[tactic(auto, using(crate::proofs::Refusing::number_refused), unfolding(crate::specs::Found::refused_value, crate::specs::Bound::bound_limit, crate::specs::Found::bound_value))]
+#[tactic(auto, unfolding(crate::specs::Found::refused_value, crate::specs::Found::bound_value, crate::specs::Bound::bound_limit))]
 fn refused_value(
     alloc: Global,
     scope: &Scope,
