@@ -10,7 +10,7 @@ use Rattle.ar_manifest.specs.Arguments.{value_of}
 use Rattle.ar_manifest.specs.Binding.{RunArguments, argument_name, bound_text, filled, referred_value, trimmed}
 use Rattle.ar_manifest.specs.Bound.{bound_condition, bound_limit, bound_metric, bound_of, effective_count, is_limit_text, limit_of_number, limit_of_text, most, next_bound}
 use Rattle.ar_manifest.specs.Cut.{Parts, whole, unclosed, reference, parts_of}
-use Rattle.ar_manifest.specs.Found.{bound_value, fields, first_some, limit_at, limit_text, refused_at, refused_in_metric, refused_limit, refused_value, refuses_limit, text_value, texts_of, unbound_in, unbound_in_metric, unbound_in_text, unbound_reference}
+use Rattle.ar_manifest.specs.Found.{fields, first_some, limit_at, limit_text, refused_at, refused_in_metric, refused_limit, refused_value, refuses_limit, text_value, texts_of, unbound_in, unbound_in_metric, unbound_in_text, unbound_reference}
 use Rattle.ar_manifest.specs.Template.{TemplateArguments}
 use Rattle.ar_manifest.specs.declared.bound.BoundMetric.{BoundMetric}
 use Rattle.ar_manifest.specs.declared.error.ManifestError.{ManifestError}
@@ -64,8 +64,8 @@ module _ (arguments : TemplateArguments) (own : RunArguments) (i : ℕ) (unbound
       by : (answer : Result (List ℕ) ManifestError) → referred_value arguments own i between ≡ answer
           → ((is_some (unbound_in arguments own i parts) ≡ true → unbound ≡ true) → Explained unbound refused i (filled arguments own i parts))
           → (is_some (if is_ok answer then unbound_in arguments own i parts else Some (trimmed between)) ≡ true → unbound ≡ true)
-          → Explained unbound refused i (answer >>= λ value. filled arguments own i parts >>= λ behind. Ok (before ++ (value ++ behind)))
-      by (Ok value) is later found = explained_next unbound refused i (filled arguments own i parts) _ (later found) (λ behind. tt)
+          → Explained unbound refused i (answer >>= λ value. filled arguments own i parts >>= λ rest. Ok (before ++ (value ++ rest)))
+      by (Ok value) is later found = explained_next unbound refused i (filled arguments own i parts) _ (later found) (λ rest. tt)
       by (Err refusal) is later found = subst (Explained unbound refused i) is (value_explained between (found refl))
 
   condition_explained : (condition : Option (List ℕ)) → (is_some (unbound_in_text arguments own i condition) ≡ true → unbound ≡ true)
@@ -98,7 +98,7 @@ module _ (arguments : TemplateArguments) (own : RunArguments) (i : ℕ) (unbound
 
   limit_explained : (limit : Option Limit) → (is_some (unbound_in_text arguments own i (limit_text limit)) ≡ true → unbound ≡ true)
       → (is_some (refused_value arguments own i limit) ≡ true → refused ≡ true) → Explained unbound refused i (bound_limit arguments own i limit)
-  unfolding bound_limit refused_value bound_value bound_text
+  unfolding bound_limit refused_value bound_text
   limit_explained None without found = tt
   limit_explained (Some (limits.Whole n)) without found = number_explained n (values.Whole n) found
   limit_explained (Some limits.OtherNumber) without found = (refl, found refl)

@@ -7,7 +7,7 @@ use Rattle.std.proofs.lemmas.Bool.Decides.{nat_tests}
 use Rattle.ar_value.specs.Answer.{◌>>=◌}
 use Rattle.ar_manifest.specs.Binding.{RunArguments, bound_text}
 use Rattle.ar_manifest.specs.Bound.{bound_limit, is_limit_text, limit_of_number, limit_of_text, most}
-use Rattle.ar_manifest.specs.Found.{bound_value, is_bad_limit, most_shown, refuses_limit, refused_value, text_value}
+use Rattle.ar_manifest.specs.Found.{is_bad_limit, most_shown, refuses_limit, refused_value, text_value}
 use Rattle.ar_manifest.specs.Private.Shown.{refused_answer, refused_bound}
 use Rattle.ar_manifest.specs.Private.Within.{limit_within, text_within, within}
 use Rattle.ar_manifest.specs.Template.{TemplateArguments}
@@ -59,7 +59,7 @@ module _ (arguments : TemplateArguments) (own : RunArguments) (i : ℕ) where
   -- a text that is refused is so by what is kept of it
   module _ (text : List ℕ) where
     text_refused : refused_answer i (text_within arguments own i (Some most_shown) text) ≡ refused_value arguments own i (Some (limits.Text text))
-    unfolding text_within refused_value bound_limit bound_value
+    unfolding text_within refused_value bound_limit
     text_refused = by (bound_text arguments own i text)
       where
         by : (answer : Result (List ℕ) ManifestError)

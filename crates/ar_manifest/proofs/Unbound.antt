@@ -13,15 +13,15 @@ module _ (arguments : TemplateArguments) (own : RunArguments) (i : ℕ) (text : 
   unfolding unbound_in
   no_reference none = sym so_far ∙ ap (unbound_in arguments own i) (parts_of-whole text none)
 
-  module _ (before behind : List ℕ) (opens : cut_at (codes "{{") text ≡ Some (before, behind)) where
+  module _ (before opened : List ℕ) (opens : cut_at (codes "{{") text ≡ Some (before, opened)) where
     -- a reference without end
-    pub no_end : cut_at (codes "}}") behind ≡ None → all ≡ None
+    pub no_end : cut_at (codes "}}") opened ≡ None → all ≡ None
     unfolding unbound_in
-    no_end none = sym so_far ∙ ap (unbound_in arguments own i) (parts_of-unclosed text (before, behind) opens none)
+    no_end none = sym so_far ∙ ap (unbound_in arguments own i) (parts_of-unclosed text (before, opened) opens none)
 
-    module _ (between after : List ℕ) (closes : cut_at (codes "}}") behind ≡ Some (between, after)) where
+    module _ (between after : List ℕ) (closes : cut_at (codes "}}") opened ≡ Some (between, after)) where
       cut_reference : all ≡ unbound_in arguments own i (reference before between (parts_of after))
-      cut_reference = sym so_far ∙ ap (unbound_in arguments own i) (parts_of-reference text (before, behind) opens (between, after) closes)
+      cut_reference = sym so_far ∙ ap (unbound_in arguments own i) (parts_of-reference text (before, opened) opens (between, after) closes)
 
       -- a reference without a value
       pub without_value : is_ok (referred_value arguments own i between) ≡ false → all ≡ Some (trimmed between)

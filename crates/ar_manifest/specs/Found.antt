@@ -92,7 +92,7 @@ abbrev pub text_value : List ℕ → LimitValue
 text_value text = if nat_le (length text) most_shown then values.Text text else values.LongText
 
 -- what a limit is once it is bound, if its references have values
-unfoldable pub bound_value : TemplateArguments → RunArguments → ℕ → Limit → Option LimitValue
+abbrev pub bound_value : TemplateArguments → RunArguments → ℕ → Limit → Option LimitValue
 bound_value arguments own i (limits.Whole n) = Some (values.Whole n)
 bound_value arguments own i limits.OtherNumber = Some values.OtherNumber
 bound_value arguments own i (limits.Text text) = option_map text_value (result_ok (bound_text arguments own i text))

@@ -65,6 +65,20 @@ impl LimitField {
     }
 }
 
+/// What the texts of a metric are bound to.
+fn scope_of<'a>(template: &'a Template, own: &'a Args, metric: usize) -> Scope<'a>
+    ensures arguments { result.arguments.now ≡ template.now.arguments }
+    ensures own { result.own.now ≡ own.now }
+    ensures metric { result.metric ≡ metric }
+{
+    Scope {
+        arguments: &template.arguments,
+        own,
+        metric,
+        shortens: false,
+    }
+}
+
 /// What stands in the first braces of a text that have no value.
 fn unbound_in<'a>(scope: &Scope, text: &'a str) -> Option<&'a str>
     ensures { option_map (λ between. between.now) result
@@ -125,12 +139,7 @@ pub(crate) fn unbound_reference<'a>(
 ) -> Option<&'a str>
     ensures { option_map (λ text. text.now) result ≡ unbound_reference template.now own.now metric }
 {
-    let scope = Scope {
-        arguments: &template.arguments,
-        own,
-        metric,
-        shortens: false,
-    };
+    let scope = scope_of(template, own, metric);
     unbound_in_metric(&scope, template.metrics.as_slice().get(metric)?)
 }
 
@@ -185,7 +194,7 @@ fn refused_text(alloc: Global, scope: &Scope, text: &str) -> Result<Option<Limit
 }
 
 /// What a limit is once it is bound, if that is no limit.
-#[tactic(auto, unfolding(crate::specs::Found::refused_value, crate::specs::Found::bound_value, crate::specs::Bound::bound_limit))]
+#[tactic(auto, unfolding(crate::specs::Found::refused_value, crate::specs::Bound::bound_limit))]
 fn refused_value(
     alloc: Global,
     scope: &Scope,
@@ -246,12 +255,7 @@ pub(crate) fn refused_limit(
 ) -> Result<Option<RefusedLimit>, AllocError>
     ensures { IfOk result (λ found. found ≡ refused_limit template.now own.now metric) }
 {
-    let scope = Scope {
-        arguments: &template.arguments,
-        own,
-        metric,
-        shortens: false,
-    };
+    let scope = scope_of(template, own, metric);
     match template.metrics.as_slice().get(metric) {
         Some(metric) => refused_in_metric(alloc, &scope, metric),
         None => Ok(None),
