@@ -82,7 +82,7 @@ abbrev pub is_bad_limit : ManifestError → Bool
 is_bad_limit (BadLimit i) = true
 is_bad_limit refusal = false
 
--- whether a limit is refused as none
+-- whether a limit is refused by `BadLimit`
 abbrev pub refuses_limit : {A : Type 0} → Result A ManifestError → Bool
 refuses_limit (Ok x) = false
 refuses_limit (Err refusal) = is_bad_limit refusal

@@ -27,7 +27,8 @@
 //!
 //! In `specs`, `Template` and `DryRun` define reading, `Cut` where a text is cut at its braces,
 //! `Binding` what becomes of a text, `Bound` limits, counts and the order of refusals, `Shortened`
-//! what is given for conditions that are too long, `Found` what stands where binding is refused. `Private` has what only the proofs use.
+//! what is given for conditions that are too long, `Found` what stands where binding is refused.
+//! `Private` has what only the proofs use.
 #![tactic(auto)]
 
 mod arguments;

@@ -164,6 +164,7 @@ impl Template {
     {
         shortened(alloc, self, args)
     }
+
     /// What stands in the first braces, over the texts of a metric, that have no value: the run's
     /// arguments and the template's give none. The texts are gone through in the order of `bind`,
     /// each from left to right. Where `bind` refuses the metric by `UnknownArg` or `NoValue`, this
