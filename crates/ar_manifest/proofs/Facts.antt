@@ -7,8 +7,10 @@ use Rattle.ar_value.specs.Answer.{each_behind}
 use Rattle.ar_manifest.specs.Binding.{bound_text, filled, referred_value}
 use Rattle.ar_manifest.specs.Bound.{bound_limit, effective_count, limit_of_text}
 use Rattle.ar_manifest.specs.Cut.{cut_at, parts_of, parts_within, whole, reference}
+use Rattle.ar_manifest.specs.Found.{refused_value, unbound_in}
 use Rattle.ar_manifest.specs.Template.{TemplateArguments, argument_of, metric_limits, metric_of, named_metric, template_of}
 use Rattle.ar_manifest.specs.declared.error.ManifestError.TheVariants.{BadArgs, OpenBraces, UnknownArg, NoValue, BadLimit, IntervalMissing, WrongKind, Unsupported}
+use Rattle.ar_manifest.specs.declared.found.LimitValue.TheVariants as values
 use Rattle.ar_manifest.specs.declared.template.Limit.TheVariants as limits
 
 -- ---- texts
@@ -74,6 +76,20 @@ number_limit = refl
 number_below : bound_limit arguments [] 0 (Some limits.OtherNumber) ≡ Err (BadLimit 0)
 unfolding bound_limit
 number_below = refl
+
+-- ---- what is found
+
+first_unbound : unbound_in arguments [] 0 (parts_of (codes "{{args.threshold}} {{ args.service }}{{args.x}}")) ≡ Some (codes "args.service")
+unfolding unbound_in parts_of parts_within cut_at referred_value
+first_unbound = refl
+
+refused_text : refused_value arguments [] 0 (Some (limits.Text (codes "-{{args.threshold}}"))) ≡ Some (values.Text (codes "-0.95"))
+unfolding refused_value bound_limit limit_of_text bound_text filled parts_of parts_within cut_at referred_value
+refused_text = refl
+
+unbound_text : refused_value arguments [] 0 (Some (limits.Text (codes "{{args.service}}"))) ≡ None
+unfolding refused_value bound_limit limit_of_text bound_text filled parts_of parts_within cut_at referred_value
+unbound_text = refl
 
 -- ---- counts
 

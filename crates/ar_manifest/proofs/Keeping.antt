@@ -30,7 +30,7 @@ long_text text long = by_first (nat_le 1 (length text))
     by_first true = rw long refl
     by_first false = refl
 
-long_limit : (i : ℕ) (text : List ℕ) → nat_le (length text) 10 ≡ false → limit_of_text i text ≡ Err (BadLimit i)
+pub long_limit : (i : ℕ) (text : List ℕ) → nat_le (length text) 10 ≡ false → limit_of_text i text ≡ Err (BadLimit i)
 unfolding limit_of_text
 long_limit i text long = rw (long_text text long) refl
 

@@ -1,4 +1,5 @@
 pub mod Bindings
+pub mod Causes
 pub mod Cuts
 pub mod DryRun
 pub mod Entries
@@ -10,6 +11,8 @@ pub mod LimitTexts
 pub mod Lists
 pub mod Memory
 pub mod Parts
+pub mod Refusing
 pub mod Spaces
 pub mod Steps
 pub mod TextParts
+pub mod Unbound

@@ -6,4 +6,5 @@ pub mod Cut
 pub mod Binding
 pub mod Bound
 pub mod Shortened
+pub mod Found
 pub mod Private

@@ -4,3 +4,4 @@ pub mod Made
 pub mod Indices
 pub mod BoundParts
 pub mod Within
+pub mod Shown

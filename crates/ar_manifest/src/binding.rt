@@ -1,6 +1,6 @@
 //! Binding the arguments of a text: each `{{args.name}}` gives way to the argument's value.
 
-ghost use Rattle.std.specs.Prelude.{◌≡◌, ◌<◌, ◌++◌, IfOk, false, length, option_map};
+ghost use Rattle.std.specs.Prelude.{◌≡◌, ◌<◌, ◌++◌, IfOk, false, is_ok, length, option_map};
 ghost use Rattle.ar_value.specs.Answer.{Gives};
 ghost use Rattle.ar_manifest.specs.Refusals.{is_memory};
 ghost use Rattle.ar_manifest.specs.Binding.{argument_name, referred_value, trimmed, without_leading_spaces, without_trailing_spaces};
@@ -26,7 +26,7 @@ pub(crate) struct Scope<'a> {
 }
 
 /// What comes before the first place of a sign, and what after it.
-fn cut_at<'a>(text: &'a str, sign: &str) -> Option<(&'a str, &'a str)>
+pub(crate) fn cut_at<'a>(text: &'a str, sign: &str) -> Option<(&'a str, &'a str)>
     requires { 0 < length sign.now }
     ensures { option_map (λ cut. (cut.0.now, cut.1.now)) result ≡ cut_at sign.now text.now }
 {
@@ -46,7 +46,7 @@ fn without_trailing_spaces(text: &str) -> &str
 }
 
 /// What stands in braces, without the spaces next to them.
-fn trimmed(between: &str) -> &str
+pub(crate) fn trimmed(between: &str) -> &str
     ensures { result.now ≡ trimmed between.now }
 {
     without_trailing_spaces(without_leading_spaces(between))
@@ -103,6 +103,13 @@ impl Scope<'_> {
             (None, Some(value)) => Ok(value.as_str()),
             (None, None) => Err(ManifestError::NoValue(self.metric)),
         }
+    }
+
+    /// Whether what stands in braces has a value.
+    pub(crate) fn has_value(&self, between: &str) -> bool
+        ensures { result ≡ is_ok (referred_value self.now.arguments.now self.now.own.now self.now.metric between.now) }
+    {
+        self.value(between).is_ok()
     }
 
     /// A text of the metric, bound, or `None` if that has more than `most` bytes. It is read to its

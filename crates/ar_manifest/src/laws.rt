@@ -1,11 +1,12 @@
 //! What holds of binding, for all texts. A law is the contract of a function that does nothing.
 
-ghost use Rattle.std.specs.Prelude.{◌≡◌, ◌≢◌, ◌↔◌, ◌++◌, ℕ, List, Ok, Err, Some, None, codes};
+ghost use Rattle.std.specs.Prelude.{◌≡◌, ◌≢◌, ◌↔◌, ◌++◌, ℕ, List, IsSome, Ok, Err, Some, None, codes};
 ghost use Rattle.serde_json.specs.Data.{Data};
 ghost use Rattle.ar_manifest.specs.Arguments.{value_of};
 ghost use Rattle.ar_manifest.specs.Binding.{RunArguments, argument_name, bound_text, referred_value, trimmed};
 ghost use Rattle.ar_manifest.specs.Bound.{bound_of};
 ghost use Rattle.ar_manifest.specs.Cut.{AreParts, CutsAtFirst, Lacks, Parts, parts_of};
+ghost use Rattle.ar_manifest.specs.Found.{refused_limit, unbound_reference};
 ghost use Rattle.ar_manifest.specs.Template.{TemplateArguments, template_of};
 ghost use Rattle.ar_manifest.specs.declared.error.ManifestError.{ManifestError};
 ghost use Rattle.ar_manifest.specs.declared.template.Template.{Template};
@@ -43,4 +44,14 @@ pub fn own_value_goes_first()
 pub fn memory_is_no_refusal()
     ensures read { (document : Data) → template_of document ≢ Err ManifestError.OutOfMemory }
     ensures bound { (template : Template) (own : RunArguments) → bound_of template own ≢ Err ManifestError.OutOfMemory }
+{}
+
+/// Where a template is refused for a reference without a value, or for a limit, there is one that is found.
+pub fn refusals_are_found()
+    ensures unknown { (template : Template) (own : RunArguments) (i : ℕ)
+        → bound_of template own ≡ Err (ManifestError.UnknownArg i) → IsSome (unbound_reference template own i) }
+    ensures no_value { (template : Template) (own : RunArguments) (i : ℕ)
+        → bound_of template own ≡ Err (ManifestError.NoValue i) → IsSome (unbound_reference template own i) }
+    ensures bad_limit { (template : Template) (own : RunArguments) (i : ℕ)
+        → bound_of template own ≡ Err (ManifestError.BadLimit i) → IsSome (refused_limit template own i) }
 {}

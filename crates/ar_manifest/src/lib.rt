@@ -5,6 +5,7 @@
 //! measurements are judged, and names the first fault of one that it refuses. [`Template::bind`]
 //! puts a run's arguments in, and gives each metric's conditions, limits, effective count, and whether it is dry.
 //! [`Template::bind_shortened`] does so without making a condition whole that is too long.
+//! Where binding is refused, [`Template::unbound_reference`] and [`Template::refused_limit`] give what stands there.
 //!
 //! What is proved: a document is read as the template that `specs/Template` defines, and bound as
 //! `specs/Bound` defines, or it is refused by the one name that stands first in the stated order.
@@ -19,13 +20,15 @@
 //! | `arguments` | values by name: a template's arguments, and a run's own |
 //! | `bound` | metrics whose arguments are bound |
 //! | `error` | why a template is refused |
+//! | `found` | the reference or the limit that binding is refused for |
 //! | [`laws`] | what holds of binding, for all texts |
 //! | `reader`, `dry_run` | reading a JSON document as a template, and which metrics `dryRun` names |
 //! | `binding`, `limit`, `binder` | binding a text, a limit, and a template's metrics |
 //!
 //! In `specs`, `Template` and `DryRun` define reading, `Cut` where a text is cut at its braces,
 //! `Binding` what becomes of a text, `Bound` limits, counts and the order of refusals, `Shortened`
-//! what is given for conditions that are too long. `Private` has what only the proofs use.
+//! what is given for conditions that are too long, `Found` what stands where binding is refused.
+//! `Private` has what only the proofs use.
 #![tactic(auto)]
 
 mod arguments;
@@ -34,6 +37,7 @@ mod binding;
 mod bound;
 mod dry_run;
 mod error;
+mod found;
 pub mod laws;
 mod limit;
 mod reader;
@@ -42,4 +46,5 @@ mod template;
 pub use arguments::{Args, Arguments};
 pub use bound::{Bound, BoundMetric};
 pub use error::ManifestError;
+pub use found::{LimitField, LimitValue, RefusedLimit};
 pub use template::{Limit, Metric, MetricLimits, Metrics, Template};

@@ -1,10 +1,11 @@
 //! Templates as they are read, before their arguments are bound.
 
-ghost use Rattle.std.specs.Prelude.{◌≡◌, ◌↔◌, Err};
+ghost use Rattle.std.specs.Prelude.{◌≡◌, ◌↔◌, Err, IfOk, option_map};
 ghost use Rattle.serde_json.specs.View.{view};
 ghost use Rattle.ar_value.specs.Answer.{Gives};
 ghost use Rattle.ar_manifest.specs.Refusals.{is_memory};
 ghost use Rattle.ar_manifest.specs.Bound.{RefusesFirst, bound_of};
+ghost use Rattle.ar_manifest.specs.Found.{refused_limit, unbound_reference};
 ghost use Rattle.ar_manifest.specs.Shortened.{shortened_of};
 ghost use Rattle.ar_manifest.specs.Template.{HasNoArguments, template_of};
 ghost use Rattle.ar_manifest.specs.declared.error.ManifestError.TheVariants.{NameMissing, NoMetrics, TooManyMetrics, WrongKind, WrongVersion};
@@ -13,10 +14,11 @@ use crate::arguments::{Args, Arguments};
 use crate::binder::{bound, shortened};
 use crate::bound::Bound;
 use crate::error::ManifestError;
+use crate::found::{RefusedLimit, refused_limit, unbound_reference};
 use crate::reader::template;
 use ar_value::Text;
 use serde_json::Value as Json;
-use std::alloc::Global;
+use std::alloc::{AllocError, Global};
 use std::marker::Model;
 
 /// A limit as a template has it, in which arguments may stand.
@@ -161,5 +163,32 @@ impl Template {
         ensures first { RefusesFirst self.now.arguments args.now self.now.metrics result }
     {
         shortened(alloc, self, args)
+    }
+
+    /// What stands in the first braces, over the texts of a metric, that have no value: the run's
+    /// arguments and the template's give none. The texts are gone through in the order of `bind`,
+    /// each from left to right. Where `bind` refuses the metric by `UnknownArg` or `NoValue`, this
+    /// is what it refuses. It takes no memory.
+    pub fn unbound_reference(&self, args: &Args, metric: usize) -> Option<&str>
+        ensures { option_map (λ text. text.now) result ≡ unbound_reference self.now args.now metric }
+    {
+        unbound_reference(self, args, metric)
+    }
+
+    /// The first limit of a metric that isn't one once it is bound, in the order of `bind`, with
+    /// what it is then. Where `bind` refuses the metric by `BadLimit`, this is what it refuses.
+    ///
+    /// # Errors
+    ///
+    /// Out of memory alone. No text of more than 256 bytes is made.
+    pub fn refused_limit(
+        &self,
+        alloc: Global,
+        args: &Args,
+        metric: usize,
+    ) -> Result<Option<RefusedLimit>, AllocError>
+        ensures { IfOk result (λ found. found ≡ refused_limit self.now args.now metric) }
+    {
+        refused_limit(alloc, self, args, metric)
     }
 }
