@@ -107,8 +107,8 @@ impl ManifestError {
             ManifestError::Unsupported(_) => ": Unsupported: expected no `consecutiveSuccessLimit`",
             ManifestError::BadDryRun(_) => " a text `metricName` that isn't empty",
             ManifestError::UnknownDryRun(_) =>
-                "].metricName: UnknownDryRun: expected a metric's whole name or `.*` for all, \
-                 no other regular expression; no metric has the name",
+                "].metricName: UnknownDryRun: expected a metric's whole name, or `.*` alone; \
+                 no metric has the name",
             ManifestError::OpenBraces(_) => ": OpenBraces: expected }} after {{",
             ManifestError::UnknownArg(_) =>
                 ": UnknownArg: expected {{args.NAME}} with a name of `spec.args`",
