@@ -6,12 +6,12 @@ use crate::lists::{Item, number_in, read_all};
 use crate::parts::{Part, put_all};
 use crate::phases::put_effect;
 use ar_bundle::{Bundle, Entry};
-use ar_cases::fault::{CaseFault, Written};
-use ar_cases::members;
-use ar_cases::output::Output;
-use ar_cases::printing::put_or_none;
 use ar_core::{CoreState, CoreStep, Moved, core_run, core_run_ordered, core_step};
 use ar_report::phase_name;
+use cases_of_values::fault::{CaseFault, Written};
+use cases_of_values::members;
+use cases_of_values::output::Output;
+use cases_of_values::printing::put_or_none;
 use serde_json::Value as Json;
 use std::alloc::{AllocError, Global};
 

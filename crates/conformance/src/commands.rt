@@ -1,14 +1,14 @@
 //! Calls on command lines.
 
 ghost use Rattle.std.specs.Prelude.{◌≡◌, is_some};
-ghost use Rattle.ar_cases.specs.Calls.{is_one_of};
+ghost use Rattle.cases_of_values.specs.Calls.{is_one_of};
 ghost use Rattle.conformance.specs.Calls.{command_calls};
 
 use crate::lists::{Item, read_all};
-use ar_cases::fault::{CaseFault, Written};
-use ar_cases::members;
-use ar_cases::output::Output;
 use ar_command_line::{UsageError, command_of};
+use cases_of_values::fault::{CaseFault, Written};
+use cases_of_values::members;
+use cases_of_values::output::Output;
 use serde_json::Value as Json;
 use std::alloc::Global;
 

@@ -1,22 +1,22 @@
 //! Calls on documents, and on the bundles that they are read as; a core is made of such a bundle (`boards`).
 
 ghost use Rattle.std.specs.Prelude.{◌≡◌, is_some};
-ghost use Rattle.ar_cases.specs.Calls.{is_one_of};
+ghost use Rattle.cases_of_values.specs.Calls.{is_one_of};
 ghost use Rattle.conformance.specs.Calls.{document_calls};
 
 use crate::boards::put_core;
 use crate::inputs::input_of;
 use crate::parts::{Part, put_all};
 use ar_bundle::{Bundle, Finding, MetricPart, RunPart};
-use ar_cases::fault::Written;
-use ar_cases::output::Output;
-use ar_cases::printing::{put_lines, put_or_none, put_quoted, put_refusal, put_shape};
 use ar_document::read_bundle;
 use ar_json::read_json;
 use ar_judge::Verdict;
 use ar_limits::{Event, Limits, Mark, Phase};
 use ar_plain::run_plain;
 use ar_report::{check_text, list_text, phase_name, put_verdict, report, run_phases};
+use cases_of_values::fault::Written;
+use cases_of_values::output::Output;
+use cases_of_values::printing::{put_lines, put_or_none, put_quoted, put_refusal, put_shape};
 use serde_json::Value as Json;
 use std::alloc::{AllocError, Global};
 

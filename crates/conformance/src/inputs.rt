@@ -1,9 +1,9 @@
 //! The bytes of the documents of cases.
 
 use crate::lists::number_in;
-use ar_cases::fault::{CaseFault, Written};
-use ar_cases::members;
 use ar_json::members::list_of;
+use cases_of_values::fault::{CaseFault, Written};
+use cases_of_values::members;
 use serde_json::Value as Json;
 use std::alloc::Global;
 

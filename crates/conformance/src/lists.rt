@@ -1,6 +1,6 @@
 //! Lists of a case.
 
-use ar_cases::fault::CaseFault;
+use cases_of_values::fault::CaseFault;
 use serde_json::Value as Json;
 use std::alloc::Global;
 

@@ -6,7 +6,7 @@
 //! case is told on standard error with its number, from 1, and ends the program with status 2; so empty
 //! lines and remarks are left out before (`conformance/check` does it).
 //!
-//! `ar_cases` answers those on numbers, texts, shapes and values, and `ar_judge_cases` those on templates,
+//! `cases_of_values` answers those on numbers, texts, shapes and values, and `cases_of_conditions` those on templates,
 //! conditions, code and judges.
 //!
 //! - `phases`, `documents`, `boards`, `commands`: the other calls, by their subjects
@@ -29,9 +29,9 @@ mod lists;
 mod parts;
 mod phases;
 
-use ar_cases::fault::{CaseFault, LineFault, Written};
-use ar_cases::members;
-use ar_cases::output::Output;
+use cases_of_values::fault::{CaseFault, LineFault, Written};
+use cases_of_values::members;
+use cases_of_values::output::Output;
 use serde_json::Value as Json;
 use std::alloc::Global;
 use std::io;
@@ -100,10 +100,10 @@ fn answer_to_case(alloc: Global, case: &Json) -> Result<String, LineFault> {
 fn answer_to(alloc: Global, call: &str, case: &Json) -> Option<Result<String, CaseFault>>
     ensures { is_some result ≡ is_call call.now }
 {
-    if let Some(answered) = ar_cases::answer(alloc, call, case) {
+    if let Some(answered) = cases_of_values::answer(alloc, call, case) {
         return Some(answered);
     }
-    if let Some(answered) = ar_judge_cases::answer(alloc, call, case) {
+    if let Some(answered) = cases_of_conditions::answer(alloc, call, case) {
         return Some(answered);
     }
     own_answer(alloc, call, case)

@@ -1,7 +1,7 @@
 //! Parts of answers, printed one after another.
 
-use ar_cases::output::Output;
-use ar_cases::printing::put_between;
+use cases_of_values::output::Output;
+use cases_of_values::printing::put_between;
 
 /// What is printed in a row with others.
 pub(crate) trait Part {

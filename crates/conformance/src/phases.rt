@@ -1,15 +1,15 @@
 //! Calls on limits, events and phases.
 
 ghost use Rattle.std.specs.Prelude.{◌≡◌, is_some};
-ghost use Rattle.ar_cases.specs.Calls.{is_one_of};
+ghost use Rattle.cases_of_values.specs.Calls.{is_one_of};
 ghost use Rattle.conformance.specs.Calls.{phase_calls};
 
 use crate::lists::{Item, number_in, read_all};
-use ar_cases::fault::{CaseFault, Written};
-use ar_cases::members;
-use ar_cases::output::Output;
 use ar_limits::{Counts, Effect, Event, Limits, MOST_EVENTS, Mark, Phase, RunState};
 use ar_report::phase_name;
+use cases_of_values::fault::{CaseFault, Written};
+use cases_of_values::members;
+use cases_of_values::output::Output;
 use serde_json::Value as Json;
 use std::alloc::Global;
 

@@ -1,8 +1,0 @@
-use Rattle.ar_tests.proofs.boards.on_board.Given as goal
-
--- the board is of the bundle, for so many workers, and its ledgers are those of the blanks
-abbrev pub ghosts-put_board-M-BundleName : goal.ghosts-put_board-M-BundleName
-ghosts-put_board-M-BundleName g a = record { bundle = a.bundle.now; workers = a.workers }
-
-abbrev pub ghosts-put_board-L-LockNames : goal.ghosts-put_board-L-LockNames
-ghosts-put_board-L-LockNames g a = record { first = a.blanks.first.name; second = a.blanks.second.name; third = a.blanks.third.name; fourth = a.blanks.fourth.name; parts = a.blanks.first.parts }

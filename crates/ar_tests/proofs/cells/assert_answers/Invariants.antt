@@ -1,5 +1,0 @@
-use Rattle.std.specs.Prelude.{◌<◌}
-use Rattle.ar_tests.proofs.cells.assert_answers.Given as goal
-
-abbrev pub invariant-loop-call : goal.invariant-loop-call
-invariant-loop-call g l = 0 < l.mine.parts

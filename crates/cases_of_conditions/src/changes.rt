@@ -1,0 +1,178 @@
+//! What comes of an image when one of its bytes is changed.
+
+ghost use Rattle.std.specs.Prelude.{◌≡◌, ◌<◌, IfOk, length, true};
+ghost use Rattle.ar_value.specs.Fits.{fits};
+ghost use Rattle.ar_value.specs.View.{shape_view, value_view};
+
+use crate::endings::{put_code_fault, put_ended};
+use crate::judges::put_bounds_of;
+use ar_code::{Code, decode, encode};
+use ar_machine::{Outcome, run};
+use ar_tested::{Ended, run_tested};
+use ar_value::Value;
+use ar_value::holding::add;
+use ar_verified::Verified;
+use ar_verify::verify;
+use cases_of_values::fault::{CaseFault, Written};
+use cases_of_values::members;
+use cases_of_values::output::Output;
+use cases_of_values::printing::{put_between, put_refusal};
+use serde_json::Value as Json;
+use std::alloc::Global;
+
+/// Gives the byte of an image at a place each of its values: stretches of values with the same outcome.
+pub(crate) fn put_changes(alloc: Global, case: &Json, out: &mut Output) -> Written {
+    let image = members::bytes(alloc, case, "image")?;
+    let outcomes = outcomes_of(alloc, case, &image)?;
+    put_stretches(out, &outcomes);
+    Ok(())
+}
+
+fn put_stretches(out: &mut Output, outcomes: &[String]) {
+    let mut first = 0;
+    for (last, outcome) in outcomes.iter().enumerate() {
+        let next = last.saturating_add(1);
+        if !is_outcome(outcomes, next, outcome.as_str()) {
+            put_stretch(out, first, last, outcome.as_str());
+            first = next;
+        }
+    }
+}
+
+/// Whether a value of the byte has this outcome.
+fn is_outcome(outcomes: &[String], byte: usize, outcome: &str) -> bool {
+    match outcomes.get(byte) {
+        Some(other) => other.as_str() == outcome,
+        None => false,
+    }
+}
+
+fn put_stretch(out: &mut Output, first: usize, last: usize, outcome: &str) {
+    put_between(out, first == 0, " / ");
+    write!(out, "{first:02x}");
+    if first < last {
+        write!(out, "-{last:02x}");
+    }
+    out.put(" ");
+    out.put(outcome);
+}
+
+/// The outcome for each value of the byte.
+fn outcomes_of(alloc: Global, case: &Json, image: &[u8]) -> Result<Vec<String>, CaseFault> {
+    let place = place_of(case, image)?;
+    let mut outcomes = Vec::new(alloc);
+    for byte in 0..=u8::MAX {
+        let outcome = changed_outcome(alloc, case, image, place, byte)?;
+        add(&mut outcomes, outcome)?;
+    }
+    Ok(outcomes)
+}
+
+/// The place of a byte of the image.
+fn place_of(case: &Json, image: &[u8]) -> Result<usize, CaseFault>
+    ensures { IfOk result (λ place. place < length image.now) }
+{
+    match usize::try_from(members::number(case, "place")?) {
+        Ok(place) if place < image.len() => Ok(place),
+        _ => Err(CaseFault::Member),
+    }
+}
+
+/// What comes of the image with another byte at a place.
+fn changed_outcome(
+    alloc: Global,
+    case: &Json,
+    image: &[u8],
+    place: usize,
+    byte: u8,
+) -> Result<String, CaseFault>
+    requires { place < length image.now }
+{
+    let mut changed = image.to_vec(alloc)?;
+    changed[place] = byte;
+    let mut out = Output::new(alloc);
+    let written = put_outcome(alloc, case, &changed, &mut out);
+    out.finish(written)
+}
+
+/// The refusal of an image, or what comes of its code.
+fn put_outcome(alloc: Global, case: &Json, image: &[u8], out: &mut Output) -> Written {
+    match decode(alloc, image) {
+        Ok(code) => put_code(alloc, case, image, Box::new(alloc, code)?, out),
+        Err(refusal) => {
+            put_refusal(alloc, case, out, refusal);
+            Ok(())
+        }
+    }
+}
+
+/// The verdict on the code of an image. Other bytes that it is encoded as are told before it.
+fn put_code(
+    alloc: Global,
+    case: &Json,
+    image: &[u8],
+    code: Box<Code>,
+    out: &mut Output,
+) -> Written {
+    put_encoding(alloc, image, &code, out);
+    let shape = members::shape(alloc, case, "shape")?;
+    match verify(alloc, Box::into_inner(code), shape) {
+        Ok(verified) => put_accepted(alloc, case, &verified, out),
+        Err(refused) => {
+            put_code_fault(out, refused.cause);
+            Ok(())
+        }
+    }
+}
+
+fn put_encoding(alloc: Global, image: &[u8], code: &Code, out: &mut Output) {
+    match encode(alloc, code) {
+        Ok(bytes) => put_difference(image, &bytes, out),
+        Err(_) => out.lose(),
+    }
+}
+
+fn put_difference(image: &[u8], encoded: &[u8], out: &mut Output) {
+    if encoded != image {
+        out.put("encoded otherwise, ");
+    }
+}
+
+/// The bounds of accepted code, and how the runs of the values end.
+fn put_accepted(alloc: Global, case: &Json, verified: &Verified, out: &mut Output) -> Written {
+    write!(out, "accepted operations={}", verified.code().ops().len());
+    put_bounds_of(out, verified);
+    for json in members::list_or_none(case, "values")? {
+        let value = members::value_of(alloc, json, verified.shape())?;
+        put_run(alloc, verified, &value, out);
+    }
+    Ok(())
+}
+
+/// How a run on a value ends.
+fn put_run(alloc: Global, verified: &Verified, value: &Value, out: &mut Output)
+    requires { fits (value_view value.now) (shape_view verified.now.shape) ≡ true }
+{
+    out.put(", ");
+    match run(alloc, verified, value) {
+        Ok(outcome) => put_ending(alloc, verified, value, outcome, out),
+        Err(_) => out.lose(),
+    }
+}
+
+/// How a run ended, and whether the machine that is tested ends otherwise with the budget as its fuel.
+fn put_ending(
+    alloc: Global,
+    verified: &Verified,
+    value: &Value,
+    outcome: Outcome,
+    out: &mut Output,
+) {
+    let ended = Ended::Done(outcome);
+    put_ended(out, ended);
+    match run_tested(alloc, verified.code(), value, verified.budget()) {
+        Ok(tested) if tested == ended => {}
+        Ok(_) => out.put(" run otherwise"),
+        Err(_) => out.lose(),
+    }
+}

@@ -1,0 +1,56 @@
+//! The calls of the conformance suite on templates, conditions, code and judges.
+//!
+//! [`answer`] gives what such a call answers on a case; what all cases need, and the calls on numbers,
+//! texts, shapes and values, are in `cases_of_values`.
+//!
+//! - `templates`, `conditions`, `codes`, `judges`: the calls, by their subjects
+//! - `trees`, `typed`, `endings`: conditions as written, conditions as typed, and why code is refused and how its
+//!   runs end, printed
+//! - `changes`: what comes of an image when one of its bytes is changed
+//! - `made`: what a call made of a case, or why it refused it
+//!
+//! Which names are those of calls is proved of every case (`specs/Calls`), and how runs end is printed
+//! (`specs/Endings`). What these calls answer is only tested, by the suite.
+#![tactic(auto)]
+
+ghost use Rattle.std.specs.Prelude.{◌≡◌, is_some};
+ghost use Rattle.cases_of_conditions.specs.Calls.{is_call};
+
+mod changes;
+mod codes;
+mod conditions;
+mod endings;
+mod judges;
+mod made;
+mod templates;
+mod trees;
+mod typed;
+
+use cases_of_values::fault::{CaseFault, Written};
+use cases_of_values::output::Output;
+use serde_json::Value as Json;
+use std::alloc::Global;
+
+/// What a call answers on a case. `None` where it is one of another subject, or none at all.
+pub fn answer(alloc: Global, call: &str, case: &Json) -> Option<Result<String, CaseFault>>
+    ensures { is_some result ≡ is_call call.now }
+{
+    let mut out = Output::new(alloc);
+    let written = put(alloc, call, case, &mut out)?;
+    Some(out.finish(written))
+}
+
+fn put(alloc: Global, call: &str, case: &Json, out: &mut Output) -> Option<Written>
+    ensures { is_some result ≡ is_call call.now }
+{
+    if let Some(written) = templates::put(alloc, call, case, out) {
+        return Some(written);
+    }
+    if let Some(written) = conditions::put(alloc, call, case, out) {
+        return Some(written);
+    }
+    if let Some(written) = codes::put(alloc, call, case, out) {
+        return Some(written);
+    }
+    judges::put(alloc, call, case, out)
+}
