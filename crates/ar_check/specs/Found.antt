@@ -11,15 +11,15 @@ use Rattle.ar_condition.specs.declared.tree.Binary.TheVariants as binaries
 use Rattle.ar_check.specs.Basics.{most_predicates}
 use Rattle.ar_check.specs.Check.{Answer, typed_of}
 use Rattle.ar_check.specs.Operand.{plain_of}
-use Rattle.ar_check.specs.declared.found.Found.{Found}
-use Rattle.ar_check.specs.declared.found.Found.TheVariants as found
+use Rattle.ar_check.specs.declared.found.OperandKind.{OperandKind}
+use Rattle.ar_check.specs.declared.found.OperandKind.TheVariants as found
 use Rattle.ar_check.specs.declared.found.Operands.{Operands}
-use Rattle.ar_check.specs.declared.found.Operands.TheVariants.{One, Two}
+use Rattle.ar_check.specs.declared.found.Operands.TheVariants.{Before, One, Two}
 
 -- ---- kinds
 
 -- what a shape is, whether or not it may be nil as well
-abbrev pub found_shape : Shape → Found
+abbrev pub found_shape : Shape → OperandKind
 found_shape shapes.bool = found.Bool
 found_shape shapes.whole = found.Whole
 found_shape shapes.decimal = found.Decimal
@@ -28,7 +28,7 @@ found_shape (shapes.list item max) = found.List
 found_shape (shapes.object inner) = found.Object
 found_shape (shapes.optional shape) = found_shape shape
 
-abbrev pub found_kind : Kind → Found
+abbrev pub found_kind : Kind → OperandKind
 found_kind nil = found.Nil
 found_kind (shaped shape) = found_shape shape
 
@@ -57,14 +57,17 @@ entered_item around list = if nat_lt around most_predicates then items_of list e
 abbrev pub entered_list : ℕ → Option Kind → Option Shape
 entered_list around list = option_and_then (entered_item around) list
 
+abbrev pub before : Option Kind → Option Operands
+before kind = option_map (λ kind. Before (found_kind kind)) kind
+
 abbrev pub one : Option Kind → Option Operands
 one kind = option_map (λ kind. One (found_kind kind)) kind
 
 -- `in` and `not in` take a list for its items
-abbrev pub member_found : Kind → Found
+abbrev pub member_found : Kind → OperandKind
 member_found kind = unwrap_or (option_map found_shape (items_of kind)) (found_kind kind)
 
-abbrev pub right_found : Binary → Kind → Found
+abbrev pub right_found : Binary → Kind → OperandKind
 right_found binaries.In kind = member_found kind
 right_found binaries.NotIn kind = member_found kind
 right_found operator kind = found_kind kind
@@ -98,14 +101,14 @@ abbrev mutual
 
 abbrev mutual
   -- At the first tree at a place that takes operands, where `result` has a shape, and so does the innermost item, inside so
-  -- many predicates: both operands of an operator between two; else the one that is wanted of another kind. Children
-  -- are searched from left to right; the body of a predicate if the place is there, else its list.
+  -- many predicates: what stands before a field's name, both operands of an operator between two, else the one that is
+  -- wanted of another kind. Children are searched from left to right; the body of a predicate if the place is there, else its list.
   pub found_in : ℕ → Shape → Option Shape → ℕ → Expression → Option Operands
   found_in place result item around (trees.ResultAt at) = None
   found_in place result item around (trees.ItemAt at) = None
   found_in place result item around (trees.LiteralAt at literal) = None
   found_in place result item around (trees.FieldAt at owner name) =
-      if at == place then one (kind_of result item around owner)
+      if at == place then before (kind_of result item around owner)
       else found_in place result item around owner
   found_in place result item around (trees.IndexAt at list index) =
       if at == place then one (kind_of result item around index)

@@ -67,7 +67,7 @@ impl TypeError {
             TypeError::NotTruth(_) =>
                 "NotTruth: expected \"bool\" of the whole condition, as `result >= 0.95` gives",
             TypeError::PredicatesTooDeep(_) =>
-                "PredicatesTooDeep: expected at most four of all, any, none, one, count and filter in one another",
+                "PredicatesTooDeep: at most four of all, any, none, one, count and filter stand in one another",
             TypeError::OutOfMemory => "out of memory",
         }
     }

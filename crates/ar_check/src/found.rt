@@ -6,7 +6,7 @@ ghost use Rattle.ar_value.specs.View.{shape_view};
 ghost use Rattle.ar_condition.specs.Expression.{expressions, BinaryAt, ChoiceAt, IndexAt};
 ghost use Rattle.ar_condition.specs.Views.{expression_of};
 ghost use Rattle.ar_check.specs.Basics.{most_predicates};
-ghost use Rattle.ar_check.specs.Found.{any_has_place, entered_item, found_kind, found_shape, has_place, entered_list, items_of, member_found, one, operands_at, right_found, two};
+ghost use Rattle.ar_check.specs.Found.{any_has_place, before, entered_item, found_kind, found_shape, has_place, entered_list, items_of, member_found, one, operands_at, right_found, two};
 ghost use Rattle.ar_check.specs.Private.Inside.{kind_view};
 ghost use Rattle.ar_check.specs.Private.Search.{body_over, kind_at, place_among, place_in, place_in_predicate, place_over};
 
@@ -19,7 +19,7 @@ use std::alloc::{AllocError, Global};
 
 /// What an operand was found to be, whether or not it may be nil as well.
 #[derive(Clone, Copy, Debug)]
-pub enum Found {
+pub enum OperandKind {
     Nil,
     Bool,
     Whole,
@@ -29,12 +29,15 @@ pub enum Found {
     Object,
 }
 
-/// What was found where an operand isn't of a kind that is taken: at an operator between two
-/// operands both of them, else the one that is wanted of another kind.
+/// What was found where an operand isn't of a kind that is taken.
 #[derive(Clone, Copy, Debug)]
 pub enum Operands {
-    One(Found),
-    Two(Found, Found),
+    /// What stands before a field's name.
+    Before(OperandKind),
+    /// The one that is wanted of another kind.
+    One(OperandKind),
+    /// Both, at an operator between two.
+    Two(OperandKind, OperandKind),
 }
 
 /// What the operands of the tree at a place are: None where no tree that takes operands of some kinds
@@ -71,7 +74,7 @@ fn found_in(
 {
     match tree {
         Tree::Result { .. } | Tree::Item { .. } | Tree::Literal { .. } => Ok(None),
-        Tree::Field { at, owner, .. } => in_operand(alloc, at, owner, scope, place),
+        Tree::Field { at, owner, .. } => in_field(alloc, at, owner, scope, place),
         Tree::Index { at, list, index } => in_index(alloc, at, list, index, scope, place),
         Tree::Unary { at, operand, .. } => in_operand(alloc, at, operand, scope, place),
         Tree::Binary {
@@ -128,6 +131,26 @@ fn in_either(
     match in_child(alloc, first, scope, place)? {
         Some(found) => Ok(Some(found)),
         None => in_child(alloc, other, scope, place),
+    }
+}
+
+/// What is found at a field, or in what stands before its name.
+#[cycle(found_in)]
+fn in_field(
+    alloc: Global,
+    at: usize,
+    owner: Box<Tree>,
+    scope: &Scope<'_>,
+    place: usize,
+) -> Result<Option<Operands>, AllocError>
+    ensures { IfOk result (λ found. found
+        ≡ (if at == place then before (kind_at scope.now (expression_of owner.value))
+        else place_in scope.now place (expression_of owner.value))) }
+{
+    if at == place {
+        before(alloc, owner, scope)
+    } else {
+        in_child(alloc, owner, scope, place)
     }
 }
 
@@ -342,6 +365,20 @@ fn any_has_place(trees: &[Tree], place: usize) -> bool
     false
 }
 
+/// What stands before a field's name.
+fn before(
+    alloc: Global,
+    owner: Box<Tree>,
+    scope: &Scope<'_>,
+) -> Result<Option<Operands>, AllocError>
+    ensures { IfOk result (λ found. found ≡ before (kind_at scope.now (expression_of owner.value))) }
+{
+    match kind_of(alloc, owner, scope)? {
+        Some(kind) => Ok(Some(Operands::Before(found_kind(&kind)))),
+        None => Ok(None),
+    }
+}
+
 /// What the one operand is that is wanted of a kind.
 fn one(alloc: Global, operand: Box<Tree>, scope: &Scope<'_>) -> Result<Option<Operands>, AllocError>
     ensures { IfOk result (λ found. found ≡ one (kind_at scope.now (expression_of operand.value))) }
@@ -457,7 +494,7 @@ fn items_of<'a>(kind: &'a Kind<'_>) -> Option<&'a Shape>
 }
 
 /// What the right operand of an operator is: that of `in` and `not in` is told by its items.
-fn right_found(operator: Binary, kind: &Kind<'_>) -> Found
+fn right_found(operator: Binary, kind: &Kind<'_>) -> OperandKind
     ensures { result ≡ right_found operator (kind_view kind.now) }
 {
     match operator {
@@ -475,7 +512,7 @@ fn right_found(operator: Binary, kind: &Kind<'_>) -> Found
 }
 
 /// What the items of a list are; of no list, what it is itself.
-fn member_found(kind: &Kind<'_>) -> Found
+fn member_found(kind: &Kind<'_>) -> OperandKind
     ensures { result ≡ member_found (kind_view kind.now) }
 {
     match items_of(kind) {
@@ -484,26 +521,26 @@ fn member_found(kind: &Kind<'_>) -> Found
     }
 }
 
-fn found_kind(kind: &Kind<'_>) -> Found
+fn found_kind(kind: &Kind<'_>) -> OperandKind
     ensures { result ≡ found_kind (kind_view kind.now) }
 {
     match kind {
-        Kind::Nil => Found::Nil,
+        Kind::Nil => OperandKind::Nil,
         Kind::Declared(shape) => found_shape(shape),
         Kind::Made(shape) => found_shape(shape),
     }
 }
 
-fn found_shape(shape: &Shape) -> Found
+fn found_shape(shape: &Shape) -> OperandKind
     ensures { result ≡ found_shape (shape_view shape.now) }
 {
     match shape {
-        Shape::Bool => Found::Bool,
-        Shape::Whole => Found::Whole,
-        Shape::Decimal => Found::Decimal,
-        Shape::Text => Found::Text,
-        Shape::List { .. } => Found::List,
-        Shape::Object(_) => Found::Object,
+        Shape::Bool => OperandKind::Bool,
+        Shape::Whole => OperandKind::Whole,
+        Shape::Decimal => OperandKind::Decimal,
+        Shape::Text => OperandKind::Text,
+        Shape::List { .. } => OperandKind::List,
+        Shape::Object(_) => OperandKind::Object,
         Shape::Optional(plain) => found_shape(plain),
     }
 }

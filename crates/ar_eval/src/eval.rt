@@ -42,7 +42,7 @@ pub enum EvalError {
     #[error("condition: {0}")]
     Compiler(CompileError),
     /// The verifier refuses the condition's code at an operation, counted from 0.
-    #[error("condition: {1} (operation {0} of its code)")]
+    #[error("condition: {1}")]
     Verifier(usize, Reason),
     #[error("value: {0}")]
     Misfit(ShapeFault),

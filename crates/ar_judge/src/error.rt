@@ -21,7 +21,7 @@ pub enum BuildCause {
     #[error(": {0}")]
     Compiler(CompileError),
     /// The verifier refuses its code at an operation, counted from 0.
-    #[error(": {1} (operation {0} of its code)")]
+    #[error(": {1}")]
     Verifier(usize, Reason),
     #[error(": out of memory")]
     OutOfMemory,

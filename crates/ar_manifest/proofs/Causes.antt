@@ -10,7 +10,7 @@ use Rattle.ar_manifest.specs.Arguments.{value_of}
 use Rattle.ar_manifest.specs.Binding.{RunArguments, argument_name, bound_text, filled, referred_value, trimmed}
 use Rattle.ar_manifest.specs.Bound.{bound_condition, bound_limit, bound_metric, bound_of, effective_count, is_limit_text, limit_of_number, limit_of_text, most, next_bound}
 use Rattle.ar_manifest.specs.Cut.{Parts, whole, unclosed, reference, parts_of}
-use Rattle.ar_manifest.specs.Found.{fields, first_some, limit_at, limit_text, refused_at, refused_in_metric, refused_limit, refused_value, refuses_limit, text_value, texts_of, unbound_in, unbound_in_metric, unbound_in_text, unbound_reference}
+use Rattle.ar_manifest.specs.Found.{fields, first_some, limit_at, limit_text, refused_in_field, refused_in_metric, refused_limit, refused_value, refuses_limit, text_value, texts_of, unbound_in, unbound_in_metric, unbound_in_text, unbound_reference}
 use Rattle.ar_manifest.specs.Template.{TemplateArguments}
 use Rattle.ar_manifest.specs.declared.bound.BoundMetric.{BoundMetric}
 use Rattle.ar_manifest.specs.declared.error.ManifestError.{ManifestError}
@@ -148,10 +148,10 @@ module _ (arguments : TemplateArguments) (own : RunArguments) where
     text_there : (n : ℕ) (one : Option (List ℕ)) → slice_get (map (unbound_in_text arguments own i) (texts_of metric)) n ≡ Some one → is_some one ≡ true → unbound ≡ true
     text_there n one = there_at n (map (unbound_in_text arguments own i) (texts_of metric)) one
 
-    limit_there : (n : ℕ) (field : LimitField) → slice_get (map (refused_at arguments own i metric.limits) fields) n ≡ Some (refused_at arguments own i metric.limits field)
+    limit_there : (n : ℕ) (field : LimitField) → slice_get (map (refused_in_field arguments own i metric.limits) fields) n ≡ Some (refused_in_field arguments own i metric.limits field)
         → is_some (refused_value arguments own i (limit_at metric.limits field)) ≡ true → refused ≡ true
     limit_there n field at is =
-        there_at n (map (refused_at arguments own i metric.limits) fields) (refused_at arguments own i metric.limits field) at (mapped_there _ (refused_value arguments own i (limit_at metric.limits field)) is)
+        there_at n (map (refused_in_field arguments own i metric.limits) fields) (refused_in_field arguments own i metric.limits field) at (mapped_there _ (refused_value arguments own i (limit_at metric.limits field)) is)
 
     metric_explained : Explained unbound refused i (bound_metric arguments own i metric)
     unfolding bound_metric

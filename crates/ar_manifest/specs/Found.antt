@@ -102,12 +102,12 @@ unfoldable pub refused_value : TemplateArguments → RunArguments → ℕ → Op
 refused_value arguments own i limit = if refuses_limit (bound_limit arguments own i limit) then option_and_then (bound_value arguments own i) limit else None
 
 -- the limit of a field, if it is refused so
-abbrev pub refused_at : TemplateArguments → RunArguments → ℕ → MetricLimits → LimitField → Option RefusedLimit
-refused_at arguments own i limits field = option_map (λ value. record { field = field; value = value }) (refused_value arguments own i (limit_at limits field))
+abbrev pub refused_in_field : TemplateArguments → RunArguments → ℕ → MetricLimits → LimitField → Option RefusedLimit
+refused_in_field arguments own i limits field = option_map (λ value. record { field = field; value = value }) (refused_value arguments own i (limit_at limits field))
 
 -- the first limit of a metric that is refused
 abbrev pub refused_in_metric : TemplateArguments → RunArguments → ℕ → Metric → Option RefusedLimit
-refused_in_metric arguments own i metric = first_some (map (refused_at arguments own i metric.limits) fields)
+refused_in_metric arguments own i metric = first_some (map (refused_in_field arguments own i metric.limits) fields)
 
 -- of metric i of a template
 unfoldable pub refused_limit : Template → RunArguments → ℕ → Option RefusedLimit

@@ -2,7 +2,7 @@
 
 ghost use Rattle.std.specs.Prelude.{◌≡◌, IfOk, option_map};
 ghost use Rattle.ar_manifest.specs.Cut.{parts_of};
-ghost use Rattle.ar_manifest.specs.Found.{field_name, limit_at, limit_text, refused_at, refused_in_metric, refused_limit, refused_value, unbound_in, unbound_in_metric, unbound_in_text, unbound_reference};
+ghost use Rattle.ar_manifest.specs.Found.{field_name, limit_at, limit_text, refused_in_field, refused_in_metric, refused_limit, refused_value, unbound_in, unbound_in_metric, unbound_in_text, unbound_reference};
 ghost use Rattle.ar_manifest.specs.Private.Shown.{refused_bound, refused_number, refused_text};
 
 use crate::arguments::Args;
@@ -36,7 +36,7 @@ pub enum LimitField {
 #[derive(Drop)]
 pub enum LimitValue {
     Whole(u64),
-    /// A JSON number with a sign, a fraction or an exponent.
+    /// A JSON number that isn't of digits alone, or is too large for 64 bits.
     OtherNumber,
     Text(Text),
     /// A text of more than 256 bytes.
@@ -212,14 +212,14 @@ fn refused_value(
 }
 
 /// The limit of a field, if it is refused once it is bound.
-fn refused_at(
+fn refused_in_field(
     alloc: Global,
     scope: &Scope,
     limits: &MetricLimits,
     field: LimitField,
 ) -> Result<Option<RefusedLimit>, AllocError>
     ensures { IfOk result (λ found. found
-        ≡ refused_at scope.now.arguments.now scope.now.own.now scope.now.metric limits.now field) }
+        ≡ refused_in_field scope.now.arguments.now scope.now.own.now scope.now.metric limits.now field) }
 {
     match refused_value(alloc, scope, limit_at(limits, field))? {
         Some(value) => Ok(Some(RefusedLimit { field, value })),
@@ -237,7 +237,7 @@ fn refused_in_metric(
         ≡ refused_in_metric scope.now.arguments.now scope.now.own.now scope.now.metric metric.now) }
 {
     for field in FIELDS {
-        let refused = refused_at(alloc, scope, &metric.limits, field)?;
+        let refused = refused_in_field(alloc, scope, &metric.limits, field)?;
         if refused.is_some() {
             return Ok(refused);
         }

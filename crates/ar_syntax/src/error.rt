@@ -79,14 +79,13 @@ impl SyntaxError {
             SyntaxError::LiteralTooFine(_) =>
                 "LiteralTooFine: a decimal has at most six digits after the point",
             SyntaxError::NumberTooLarge(_) =>
-                "NumberTooLarge: expected a whole up to 9223372036854775807 or a decimal up to 9223372036854.775807",
+                "NumberTooLarge: expected at most 9223372036854775807, or 9223372036854.775807 with a point",
             SyntaxError::Unexpected(_) =>
                 "Unexpected: no condition goes on so, as `result >= 0.95` does; a {{args.name}} \
                  gives way to its value before a condition is read",
-            SyntaxError::UnknownName(_) =>
-                "UnknownName: no word of the language, as `result` is, and no name after a point",
+            SyntaxError::UnknownName(_) => "UnknownName: no word of the language",
             SyntaxError::WrongCount(_) =>
-                "WrongCount: len and isNil take one argument, default, all, any, none, one, count and filter two",
+                "WrongCount: len and isNil take one argument, default and calls with predicates two",
             SyntaxError::ItemOutside(_) =>
                 "ItemOutside: # is for the predicate of all, any, none, one, count or filter alone",
             SyntaxError::TooManyItems(_) => "TooManyItems: a list has at most 16 items",

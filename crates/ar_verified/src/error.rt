@@ -52,8 +52,7 @@ impl Reason {
                 "IllKinded: expected operands of the kinds that the operation takes",
             Reason::StackTooDeep => "StackTooDeep: expected at most 64 operands",
             Reason::BudgetTooLarge =>
-                "BudgetTooLarge: a run of it may cost more than 1000000000; lower the greatest \
-                 lengths of its lists or nest fewer predicates",
+                "BudgetTooLarge: a run may cost over 1000000000; lower a list's max or nest fewer predicates",
         }
     }
 }

@@ -22,6 +22,9 @@ decreases-in_child l = 8 * goal.size-in_child l + 1
 abbrev pub decreases-found_among : goal.decreases-found_among
 decreases-found_among l = 8 * goal.size-found_among l + 1
 
+abbrev pub decreases-in_field : goal.decreases-in_field
+decreases-in_field l = 8 * goal.size-in_field l + 2
+
 abbrev pub decreases-in_operand : goal.decreases-in_operand
 decreases-in_operand l = 8 * goal.size-in_operand l + 2
 
