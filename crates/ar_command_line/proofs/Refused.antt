@@ -2,7 +2,7 @@
 use Rattle.std.proofs.Common.{◌≡◌, ◌<◌, ◌≤◌, ℕ, suc, ◌+◌, arith, List, [], ◌∷◌, length, map, drop, Option, Some, None, refl, sym, ◌∙◌, ap, add-one, drop-cons}
 use Rattle.std.specs.Prelude.{slice_index_or}
 use Rattle.std.proofs.Math.ListN.{drop_of_length-le}
-use Rattle.ar_command_line.specs.Usage.{after, first_refused, number_of, workers_given}
+use Rattle.ar_command_line.specs.Usage.{after, at_end, first_refused, number_of, workers_given}
 use Rattle.ar_command_line.specs.declared.usage.Next.{Next}
 
 module _ {B : Type 0} (text : B → List ℕ) (words : List B) (place : ℕ) (word : B) (within : place < length words) (is : word ≡ slice_index_or words place word) where
@@ -24,7 +24,7 @@ module _ {B : Type 0} (text : B → List ℕ) (words : List B) (place : ℕ) (wo
       sym first ∙ ap (λ rest. first_refused next (map text rest)) (sym left) ∙ so_far
 
 pub none_left : {B : Type 0} (text : B → List ℕ) (words : List B) (place : ℕ) (next : Next) (total : Option (Next × List ℕ)) → length words ≤ place
-    → first_refused next (map text (drop place words)) ≡ total → None ≡ total
+    → first_refused next (map text (drop place words)) ≡ total → at_end next ≡ total
 unfolding first_refused
 none_left text words place next total past so_far = ap (λ rest. first_refused next (map text rest)) (sym (drop_of_length-le words past)) ∙ so_far
 

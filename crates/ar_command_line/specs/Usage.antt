@@ -28,8 +28,9 @@ after_option given word =
 abbrev pub is_alone : (word : List ℕ) → Bool
 is_alone word = bytes_eq word (codes "eval") || bytes_eq word (codes "check") || bytes_eq word (codes "list")
 
+-- `-` alone is no option
 abbrev pub is_option : (word : List ℕ) → Bool
-is_option word = starts_with nat_eq word (codes "-")
+is_option word = starts_with nat_eq word (codes "-") && not (bytes_eq word (codes "-"))
 
 -- what may come after a word, if it is taken
 abbrev pub after : Next → (word : List ℕ) → Option Next
@@ -44,18 +45,26 @@ abbrev pub following_or : {A B : Type 0} → (refused : B) → (rest : A → Opt
 following_or refused rest None = Some refused
 following_or refused rest (Some following) = rest following
 
--- the first word that isn't taken, with what could have come in its place
+-- `--workers` wants a number after it
+abbrev pub at_end : Next → Option (Next × List ℕ)
+at_end (Number given) = Some (Number given, codes "--workers")
+at_end next = None
+
+-- the first word that isn't taken, with what could have come in its place, or the last if something has to come after it
 unfoldable pub first_refused : Next → (words : List (List ℕ)) → Option (Next × List ℕ)
-first_refused next [] = None
+first_refused next [] = at_end next
 first_refused next (word ∷ words) = following_or (next, word) (λ following. first_refused following words) (after next word)
 
 -- ---- what is said of it
 
 abbrev pub reason : Next → (word : List ℕ) → List ℕ
 reason Command word = codes " is no command; expected `eval`, `check`, `list` or `run`, or --help"
-reason (Number given) word = codes " is no number; expected --workers and a whole number from 1 to 16"
+reason (Number given) word =
+    if bytes_eq word (codes "--workers") then codes " has no number after it; expected a whole number from 1 to 16"
+    else codes " is no number; expected --workers and a whole number from 1 to 16"
 reason Nothing word =
-    if is_option word then codes " isn't taken; options are for `run`" else codes " isn't taken; the document is read from standard input, as by: argo_judge run --plain < document.json"
+    if is_option word then codes " isn't taken; options are for `run`"
+    else codes " isn't taken; the document is read from standard input, as by: argo_judge COMMAND < document.json"
 reason (Options given) word =
     if is_option word then codes " isn't taken; `run` takes --workers N, --plain and --ordered, each once"
     else codes " isn't taken; the document is read from standard input, as by: argo_judge run --plain < document.json"

@@ -2,7 +2,7 @@
 
 pub(crate) const HELP: &str =
     "Each command reads one JSON document from standard input and writes its answer to standard output.
-A fault is one line on standard error: where it is, its name, and what was expected.
+A fault is one line on standard error: where it is, its name, and what was found or expected.
 
   eval   tries one condition on one value, before it goes into a template
   check  checks a whole document, and tells what each condition may cost at most

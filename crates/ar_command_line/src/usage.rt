@@ -1,7 +1,7 @@
 //! What is said of a command line whose words aren't taken.
 
 ghost use Rattle.std.specs.Prelude.{◌≡◌, ◌++◌, IfOk, OnOk, drop, map, option_map, string_bytes};
-ghost use Rattle.ar_command_line.specs.Usage.{after, after_option, first_refused, has_number, is_alone, is_new, is_option, number_of, number_said, reason, said, words_text, workers_given, workers_text};
+ghost use Rattle.ar_command_line.specs.Usage.{after, after_option, at_end, first_refused, has_number, is_alone, is_new, is_option, number_of, number_said, reason, said, words_text, workers_given, workers_text};
 
 use ar_quote::push_quoted;
 use std::alloc::{AllocError, Global};
@@ -72,10 +72,11 @@ fn is_alone(word: &str) -> bool
     matches!(word, "eval" | "check" | "list")
 }
 
+/// Whether a word is an option, as `-` alone isn't.
 fn is_option(word: &str) -> bool
     ensures { result ≡ is_option word.now }
 {
-    word.starts_with("-")
+    word.starts_with("-") && word != "-"
 }
 
 /// What may come after a word, if it is taken.
@@ -96,7 +97,18 @@ fn after(next: Next, word: &str) -> Option<Next>
     }
 }
 
-/// The first word that isn't taken, with what could have come in its place.
+/// The last word, if something has to come after it.
+fn at_end(next: Next) -> Option<(Next, &'static str)>
+    ensures { option_map (λ found. (found.0, found.1.now)) result ≡ at_end next }
+{
+    match next {
+        Next::Number(_) => Some((next, "--workers")),
+        Next::Command | Next::Nothing | Next::Options(_) => None,
+    }
+}
+
+/// The first word that isn't taken, with what could have come in its place, or the last if something
+/// has to come after it.
 #[tactic(auto, using(crate::proofs::Refused::taken, crate::proofs::Refused::refused, crate::proofs::Refused::none_left))]
 fn first_refused(words: &[String]) -> Option<(Next, &str)>
     ensures { option_map (λ found. (found.0, found.1.now)) result
@@ -109,7 +121,7 @@ fn first_refused(words: &[String]) -> Option<(Next, &str)>
             None => return Some((next, word.as_str())),
         }
     }
-    None
+    at_end(next)
 }
 
 fn reason(next: Next, word: &str) -> &'static str
@@ -117,12 +129,18 @@ fn reason(next: Next, word: &str) -> &'static str
 {
     match next {
         Next::Command => " is no command; expected `eval`, `check`, `list` or `run`, or --help",
+        Next::Number(_) if word == "--workers" => {
+            " has no number after it; expected a whole number from 1 to 16"
+        }
         Next::Number(_) => " is no number; expected --workers and a whole number from 1 to 16",
         Next::Nothing if is_option(word) => " isn't taken; options are for `run`",
         Next::Options(_) if is_option(word) => {
             " isn't taken; `run` takes --workers N, --plain and --ordered, each once"
         }
-        Next::Nothing | Next::Options(_) => {
+        Next::Nothing => {
+            " isn't taken; the document is read from standard input, as by: argo_judge COMMAND < document.json"
+        }
+        Next::Options(_) => {
             " isn't taken; the document is read from standard input, as by: argo_judge run --plain < document.json"
         }
     }

@@ -3,7 +3,7 @@ use Rattle.std.specs.Prelude.{ℕ, ◌-◌, nat_lt, if◌then◌else◌, List, [
 use Rattle.std.specs.Char.{encode_utf8}
 use Rattle.std.specs.Str.{chars}
 use Rattle.ar_quote.specs.Shown.{escaped}
-use Rattle.ar_quote.specs.Tokens.{Found}
+use Rattle.ar_quote.specs.Tokens.{TokenAt}
 
 -- a quote has marks round its token, « (0xAB) and » (0xBB)
 
@@ -24,5 +24,5 @@ abbrev pub quote_end : (characters : List ℕ) → List ℕ
 quote_end characters = if nat_lt most_around (length characters) then codes "\".." else codes "\""
 
 -- a condition as a JSON string, with marks round a token
-unfoldable pub quoted_round : Found → List ℕ
+unfoldable pub quoted_round : TokenAt → List ℕ
 quoted_round found = shown_before (chars found.before) ++ (encode_utf8 0xAB ++ (shown_first (chars found.token) ++ (token_end (chars found.token) ++ (encode_utf8 0xBB ++ (shown_first (chars found.after) ++ quote_end (chars found.after))))))

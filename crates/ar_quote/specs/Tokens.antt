@@ -60,13 +60,13 @@ abbrev pub cut : (place : ℕ) → (text : List ℕ) → Option (List ℕ × Lis
 cut place text = if is_place place text then Some (take place text, drop place text) else None
 
 -- the token at a byte of a text, with what comes before it and what after it
-pub record Found : Type 0 where
+pub record TokenAt : Type 0 where
   pub before : List ℕ
   pub token : List ℕ
   pub after : List ℕ
 
-abbrev pub found : (before token after : List ℕ) → Found
+abbrev pub found : (before token after : List ℕ) → TokenAt
 found before token after = record { before = before; token = token; after = after }
 
-unfoldable pub token_at : (place : ℕ) → (text : List ℕ) → Option Found
+unfoldable pub token_at : (place : ℕ) → (text : List ℕ) → Option TokenAt
 token_at place text = option_and_then (λ parts. option_map (λ rest. found parts.0 rest.0 rest.1) (cut (token_length parts.1) parts.1)) (cut place text)

@@ -15,4 +15,4 @@ pub mod tokens;
 
 pub use quote::push_round;
 pub use shown::push_quoted;
-pub use tokens::{Found, token_at};
+pub use tokens::{TokenAt, token_at};

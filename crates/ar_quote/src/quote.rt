@@ -7,7 +7,7 @@ ghost use Rattle.ar_quote.specs.Quote.{quote_end, quoted_round, shown_before, sh
 ghost use Rattle.ar_quote.specs.Tokens.{found};
 
 use crate::shown::{character_count, push_character};
-use crate::tokens::Found;
+use crate::tokens::TokenAt;
 use std::alloc::AllocError;
 
 /// How many characters of a condition are shown before a token, of it, and after it.
@@ -72,7 +72,7 @@ fn quote_end(after: &str) -> &'static str
 
 /// A condition as a JSON string, with marks round a token.
 #[tactic(auto, unfolding(crate::specs::Quote::quoted_round))]
-pub fn push_round(out: &mut String, here: Found<'_>) -> Result<(), AllocError>
+pub fn push_round(out: &mut String, here: TokenAt<'_>) -> Result<(), AllocError>
     ensures { OnOk result (string_bytes out.new ≡ string_bytes out.old
         ++ quoted_round (found here.entry.before.now here.entry.token.now here.entry.after.now)) }
 {

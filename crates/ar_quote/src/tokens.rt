@@ -135,7 +135,7 @@ fn token_length(text: &str) -> usize
 
 /// A token of a condition, with what comes before it and what after it.
 #[derive(Clone, Copy)]
-pub struct Found<'t> {
+pub struct TokenAt<'t> {
     pub before: &'t str,
     pub token: &'t str,
     pub after: &'t str,
@@ -151,13 +151,13 @@ fn cut(text: &str, place: usize) -> Option<(&str, &str)>
 
 /// The token at a byte of a text.
 #[tactic(auto, unfolding(crate::specs::Tokens::token_at))]
-pub fn token_at(text: &str, place: usize) -> Option<Found<'_>>
+pub fn token_at(text: &str, place: usize) -> Option<TokenAt<'_>>
     ensures { option_map (λ found_here. found found_here.before.now found_here.token.now found_here.after.now) result
         ≡ token_at place text.now }
 {
     let (before, rest) = cut(text, place)?;
     let (token, after) = cut(rest, token_length(rest))?;
-    Some(Found {
+    Some(TokenAt {
         before,
         token,
         after,

@@ -53,6 +53,6 @@ bound_condition document run metric error = condition_in (bound_metrics document
 abbrev pub unbound_in : Data → (run metric : ℕ) → Option (List ℕ)
 unbound_in document run metric = option_and_then (λ binding. unbound_reference binding.0 binding.1 metric) (binding_of document run)
 
--- the limit of a metric that is none
+-- the limit of a metric that is refused
 abbrev pub limit_in : Data → (run metric : ℕ) → Option RefusedLimit
 limit_in document run metric = option_and_then (λ binding. refused_limit binding.0 binding.1 metric) (binding_of document run)

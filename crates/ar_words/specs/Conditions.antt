@@ -2,7 +2,6 @@
 use Rattle.std.specs.Prelude.{ℕ, Bool, ◌&&◌, ◌||◌, nat_eq, if◌then◌else◌, List, [], ◌∷◌, ◌++◌, codes, Option, Some, None, option_map, unwrap_or}
 use Rattle.std.specs.List.{starts_with}
 use Rattle.std.specs.Str.{bytes_eq}
-use Rattle.ar_manifest.specs.Binding.{without_leading_spaces}
 use Rattle.ar_manifest.specs.Cut.{cut_at}
 use Rattle.ar_check.specs.Refused.{refused_at as kinds_refused_at}
 use Rattle.ar_check.specs.declared.error.TypeError.TheVariants as kinds
@@ -15,9 +14,9 @@ use Rattle.ar_syntax.specs.Refused.{refused_at as syntax_refused_at}
 use Rattle.ar_syntax.specs.declared.error.SyntaxError.TheVariants as syntax
 use Rattle.ar_quote.specs.Shown.{quoted}
 use Rattle.ar_quote.specs.Quote.{quoted_round}
-use Rattle.ar_quote.specs.Tokens.{Found, token_at}
+use Rattle.ar_quote.specs.Tokens.{TokenAt, token_at}
 use Rattle.ar_value.specs.Shape.{Shape}
-use Rattle.ar_words.specs.Operands.{operands_said, refused_operands}
+use Rattle.ar_words.specs.Operands.{are_two, operands_said, refused_operands}
 
 -- ---- places
 
@@ -28,9 +27,9 @@ place_of (Grammar error) = syntax_refused_at error
 place_of (Kinds error) = kinds_refused_at error
 place_of cause = None
 
-abbrev pub found_in : Option (List ℕ) → Option ℕ → Option Found
-found_in (Some condition) (Some place) = token_at place condition
-found_in condition place = None
+abbrev pub token_in : (condition : Option (List ℕ)) → (place : Option ℕ) → Option TokenAt
+token_in (Some condition) (Some place) = token_at place condition
+token_in condition place = None
 
 -- ---- what operators take
 
@@ -42,27 +41,31 @@ takes_numbers token =
 abbrev pub takes_texts : (token : List ℕ) → Bool
 takes_texts token = bytes_eq token (codes "contains") || bytes_eq token (codes "startsWith") || bytes_eq token (codes "endsWith")
 
--- `not` is a part of `not in`
-abbrev pub goes_on_in : (after : List ℕ) → Bool
-goes_on_in after = starts_with nat_eq (without_leading_spaces after) (codes "in")
+-- `in`, or `not` before it, which has two operands
+abbrev pub is_membership : (token : List ℕ) → Option Operands → Bool
+is_membership token operands = bytes_eq token (codes "in") || bytes_eq token (codes "not") && are_two operands
 
-abbrev pub takes_alike : Found → Bool
-takes_alike found =
-    bytes_eq found.token (codes "==") || bytes_eq found.token (codes "!=") || bytes_eq found.token (codes "in")
-    || bytes_eq found.token (codes "not") && goes_on_in found.after
+abbrev pub takes_alike : (token : List ℕ) → Option Operands → Bool
+takes_alike token operands = bytes_eq token (codes "==") || bytes_eq token (codes "!=") || is_membership token operands
+
+abbrev pub has_predicate : (token : List ℕ) → Bool
+has_predicate token =
+    bytes_eq token (codes "all") || bytes_eq token (codes "any") || bytes_eq token (codes "none") || bytes_eq token (codes "one")
+    || bytes_eq token (codes "count") || bytes_eq token (codes "filter")
 
 abbrev pub is_field : (token : List ℕ) → Bool
 is_field token = starts_with nat_eq token (codes ".")
 
-abbrev pub taken : Found → List ℕ
-taken found =
-    if takes_numbers found.token then codes "\"whole\" or \"decimal\" alone"
-    else (if takes_alike found then codes "numbers, \"bool\" or \"text\" alone, on both sides"
-    else (if takes_texts found.token then codes "\"text\" alone"
-    else (if bytes_eq found.token (codes "%") then codes "\"whole\" alone"
-    else (if bytes_eq found.token (codes "[") then codes "a \"whole\" after a list, or a name after a record"
-    else (if is_field found.token then codes "a record before it"
-    else codes "\"bool\" alone")))))
+abbrev pub taken : (token : List ℕ) → Option Operands → List ℕ
+taken token operands =
+    if takes_numbers token then codes "\"whole\" or \"decimal\" alone"
+    else (if takes_alike token operands then codes "numbers, \"bool\" or \"text\" on both sides"
+    else (if takes_texts token then codes "\"text\" alone"
+    else (if bytes_eq token (codes "%") then codes "\"whole\" alone"
+    else (if bytes_eq token (codes "[") then codes "a \"whole\" after a list, a name after a record"
+    else (if is_field token then codes "a record"
+    else (if has_predicate token then codes "\"bool\" as its predicate"
+    else codes "\"bool\" alone"))))))
 
 -- ---- words of the causes
 
@@ -74,10 +77,10 @@ abbrev pub unexpected : (token : List ℕ) → List ℕ
 unexpected [] = codes "the condition ends too early"
 unexpected (byte ∷ token) = codes "no condition goes on so"
 
-abbrev pub wrong_operand : Found → Option Operands → List ℕ
-wrong_operand found operands = quoted found.token ++ (codes " takes " ++ (taken found ++ operands_said operands))
+abbrev pub wrong_operand : TokenAt → Option Operands → List ℕ
+wrong_operand found operands = quoted found.token ++ (codes " takes " ++ (taken found.token operands ++ operands_said (is_membership found.token operands) operands))
 
-abbrev pub cause_words : BuildCause → Found → Option Operands → (text : List ℕ) → List ℕ
+abbrev pub cause_words : BuildCause → TokenAt → Option Operands → (text : List ℕ) → List ℕ
 cause_words (Grammar (syntax.Unexpected at)) found operands text = after_name (codes "Unexpected: ") (unexpected found.token) text
 cause_words (Kinds (kinds.WrongOperand at)) found operands text = after_name (codes "WrongOperand: ") (wrong_operand found operands) text
 cause_words (Kinds (kinds.NotAList at)) found operands text = after_name (codes "NotAList: ") (codes "expected a list, as {\"list\":shape,\"max\":number} declares") text
@@ -89,21 +92,21 @@ abbrev pub is_conversion : (token : List ℕ) → Bool
 is_conversion token = bytes_eq token (codes "asFloat") || bytes_eq token (codes "asInt") || bytes_eq token (codes "isNaN") || bytes_eq token (codes "isInf")
 
 abbrev pub conversion_advice : (token : List ℕ) → List ℕ
-conversion_advice token = if is_conversion token then codes "; leave \"" ++ (token ++ codes "\" out: the shape says the kind") else []
+conversion_advice token = if is_conversion token then codes "; leave it out: the shape says the kind" else []
 
-abbrev pub advice : BuildCause → Found → List ℕ
+abbrev pub advice : BuildCause → TokenAt → List ℕ
 advice (Grammar (syntax.UnknownName at)) found = conversion_advice found.token
 advice cause found = []
 
 -- ---- with the condition
 
-unfoldable pub with_quote : BuildCause → Option Operands → (text : List ℕ) → Option Found → List ℕ
+unfoldable pub with_quote : BuildCause → Option Operands → (text : List ℕ) → Option TokenAt → List ℕ
 with_quote cause operands text None = text
 with_quote cause operands text (Some found) = cause_words cause found operands text ++ (codes "; in " ++ (quoted_round found ++ advice cause found))
 
 -- a condition where `result` has a shape
 unfoldable pub condition_words : Option Shape → (condition : Option (List ℕ)) → BuildCause → (text : List ℕ) → List ℕ
-condition_words shape condition cause text = with_quote cause (refused_operands shape condition cause) text (found_in condition (place_of cause))
+condition_words shape condition cause text = with_quote cause (refused_operands shape condition cause) text (token_in condition (place_of cause))
 
 -- of a metric's condition, which is bound already
 unfoldable pub build_words : Option Shape → (condition : Option (List ℕ)) → BuildError → (text : List ℕ) → List ℕ

@@ -4,17 +4,17 @@ use Rattle.std.specs.Option.{option_or}
 use Rattle.serde_json.specs.Data.{Data, null, boolean, number, string, array, object}
 use Rattle.ar_json.specs.Members.{member}
 
-abbrev pub kind_said : Data → List ℕ
-kind_said null = codes "null"
-kind_said (boolean b) = codes "a boolean"
-kind_said (number n) = codes "a number"
-kind_said (string text) = codes "a text"
-kind_said (array items) = codes "a list"
-kind_said (object members) = codes "an object"
+abbrev pub json_said : Data → List ℕ
+json_said null = codes "null"
+json_said (boolean b) = codes "a boolean"
+json_said (number n) = codes "a number"
+json_said (string text) = codes "a text"
+json_said (array items) = codes "a list"
+json_said (object members) = codes "an object"
 
 -- what is said of a field with a value
 abbrev pub misfit_said : (field : List ℕ) → (value : Data) → (expected : List ℕ) → List ℕ
-misfit_said field value expected = codes "`" ++ (field ++ (codes "` is " ++ (kind_said value ++ (codes "; expected " ++ expected))))
+misfit_said field value expected = codes "`" ++ (field ++ (codes "` is " ++ (json_said value ++ (codes "; expected " ++ expected))))
 
 abbrev pub unless_text : (field : List ℕ) → (value : Data) → Option (List ℕ)
 unless_text field (string text) = None

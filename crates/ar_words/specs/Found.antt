@@ -21,7 +21,7 @@ no_value_said reference = quoted reference ++ codes " in braces has no value; ex
 
 abbrev pub value_said : LimitValue → List ℕ
 value_said (values.Whole n) = decimal n
-value_said values.OtherNumber = codes "a number with a sign, a fraction or an exponent"
+value_said values.OtherNumber = codes "a number not of digits alone, or too large"
 value_said (values.Text text) = quoted text
 value_said values.LongText = codes "a text of more than 256 bytes"
 

@@ -1,13 +1,13 @@
 -- What the operands of a condition are where one isn't of a kind that is taken.
-use Rattle.std.specs.Prelude.{ℕ, List, [], ◌++◌, codes, Option, Some, None, option_and_then}
+use Rattle.std.specs.Prelude.{ℕ, Bool, true, false, if◌then◌else◌, List, [], ◌++◌, codes, Option, Some, None, option_and_then}
 use Rattle.serde_json.specs.Data.{Data}
 use Rattle.serde_json.specs.Find.{get}
 use Rattle.ar_check.specs.Found.{operands_at}
 use Rattle.ar_check.specs.declared.error.TypeError.TheVariants as kinds
-use Rattle.ar_check.specs.declared.found.Found.{Found}
-use Rattle.ar_check.specs.declared.found.Found.TheVariants.{Nil, Bool, Whole, Decimal, Text, List as IsList, Object}
+use Rattle.ar_check.specs.declared.found.OperandKind.{OperandKind}
+use Rattle.ar_check.specs.declared.found.OperandKind.TheVariants as operand
 use Rattle.ar_check.specs.declared.found.Operands.{Operands}
-use Rattle.ar_check.specs.declared.found.Operands.TheVariants.{One, Two}
+use Rattle.ar_check.specs.declared.found.Operands.TheVariants.{Before, One, Two}
 use Rattle.ar_json.specs.Declaration.{shape_of}
 use Rattle.ar_judge.specs.declared.error.BuildCause.{BuildCause}
 use Rattle.ar_judge.specs.declared.error.BuildCause.TheVariants.{Kinds}
@@ -38,16 +38,25 @@ refused_operands shape condition cause = None
 
 -- ---- what is said of them
 
-abbrev pub kind_said : Found → List ℕ
-kind_said Nil = codes "nil"
-kind_said Bool = codes "\"bool\""
-kind_said Whole = codes "\"whole\""
-kind_said Decimal = codes "\"decimal\""
-kind_said Text = codes "\"text\""
-kind_said IsList = codes "a list"
-kind_said Object = codes "a record"
+abbrev pub kind_said : OperandKind → List ℕ
+kind_said operand.Nil = codes "nil"
+kind_said operand.Bool = codes "\"bool\""
+kind_said operand.Whole = codes "\"whole\""
+kind_said operand.Decimal = codes "\"decimal\""
+kind_said operand.Text = codes "\"text\""
+kind_said operand.List = codes "a list"
+kind_said operand.Object = codes "a record"
 
-abbrev pub operands_said : Option Operands → List ℕ
-operands_said None = []
-operands_said (Some (One operand)) = codes "; found " ++ kind_said operand
-operands_said (Some (Two left right)) = codes "; found " ++ (kind_said left ++ (codes " and " ++ kind_said right))
+abbrev pub are_two : Option Operands → Bool
+are_two (Some (Two left right)) = true
+are_two operands = false
+
+-- the right one of a membership is that of a list's items
+abbrev pub between : (is_membership : Bool) → List ℕ
+between is_membership = if is_membership then codes " and a list of " else codes " and "
+
+abbrev pub operands_said : (is_membership : Bool) → Option Operands → List ℕ
+operands_said is_membership None = []
+operands_said is_membership (Some (Before owner)) = codes "; found " ++ (kind_said owner ++ codes " before it")
+operands_said is_membership (Some (One operand)) = codes "; found " ++ kind_said operand
+operands_said is_membership (Some (Two left right)) = codes "; found " ++ (kind_said left ++ (between is_membership ++ kind_said right))

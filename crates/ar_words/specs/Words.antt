@@ -20,6 +20,8 @@ use Rattle.ar_words.specs.Fields.{misfit}
 use Rattle.ar_words.specs.Found.{found_after, limit_said, no_value_said, unknown_said}
 use Rattle.ar_words.specs.Lists.{entry_text, item_at, list_in, metrics, runs, template_list, text_at}
 use Rattle.ar_quote.specs.Shown.{quoted}
+use Rattle.ar_syntax.specs.declared.error.SyntaxError.{SyntaxError}
+use Rattle.ar_syntax.specs.declared.error.SyntaxError.TheVariants.{Unexpected}
 use Rattle.ar_words.specs.Names.{item_text, names_text, numbered}
 use Rattle.ar_words.specs.Operands.{declaration_in, declared_shape}
 
@@ -139,10 +141,11 @@ has_braces None = false
 has_braces (Some text) = is_some (cut_at (codes "{{") text)
 
 -- arguments in braces are bound in templates alone
-abbrev pub with_advice : (condition : Option (List ℕ)) → (text : List ℕ) → List ℕ
-with_advice condition text = if has_braces condition then text ++ codes "; arguments as {{args.NAME}} are bound in a template, by check, list and run" else text
+abbrev pub with_advice : SyntaxError → (condition : Option (List ℕ)) → (text : List ℕ) → List ℕ
+with_advice (Unexpected at) condition text = if has_braces condition then text ++ codes "; arguments as {{args.NAME}} are bound in a template, by check, list and run" else text
+with_advice error condition text = text
 
 abbrev pub eval_words : Data → EvalError → (text : List ℕ) → List ℕ
-eval_words document (Grammar error) text = with_advice (text_member (codes "condition") document) (condition_words None (text_member (codes "condition") document) (build.Grammar error) text)
+eval_words document (Grammar error) text = with_advice error (text_member (codes "condition") document) (condition_words None (text_member (codes "condition") document) (build.Grammar error) text)
 eval_words document (Kinds error) text = condition_words (declared_shape (get (codes "shape") document)) (text_member (codes "condition") document) (build.Kinds error) text
 eval_words document error text = text

@@ -135,7 +135,7 @@ pub(crate) fn unbound_in(
     }
 }
 
-/// The limit of a metric that is none.
+/// The limit of a metric that is refused.
 pub(crate) fn limit_in(
     alloc: Global,
     document: &Json,

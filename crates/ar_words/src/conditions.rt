@@ -1,25 +1,23 @@
 //! The texts of refusals of conditions.
 
 ghost use Rattle.std.specs.Prelude.{◌≡◌, ◌<◌, ◌++◌, IfOk, OnOk, length, option_map, string_bytes};
-ghost use Rattle.ar_manifest.specs.Binding.{without_leading_spaces};
 ghost use Rattle.ar_value.specs.View.{shape_view};
-ghost use Rattle.ar_words.specs.Conditions.{advice, after_name, build_words, cause_words, condition_words, conversion_advice, found_in, goes_on_in, is_conversion, is_field, place_of, taken, takes_alike, takes_numbers, takes_texts, unexpected, with_quote, wrong_operand};
+ghost use Rattle.ar_words.specs.Conditions.{advice, after_name, build_words, cause_words, condition_words, conversion_advice, has_predicate, is_conversion, is_field, is_membership, place_of, taken, takes_alike, takes_numbers, takes_texts, token_in, unexpected, with_quote, wrong_operand};
 ghost use Rattle.ar_quote.specs.Tokens.{found};
 
 use crate::cuts::cut_at;
-use crate::operands::{push_operands, refused_operands};
+use crate::operands::{are_two, push_operands, refused_operands};
 use ar_check::TypeError;
 use ar_check::found::Operands;
 use ar_judge::{BuildCause, BuildError};
-use ar_quote::{Found, push_quoted, push_round, token_at};
+use ar_quote::{TokenAt, push_quoted, push_round, token_at};
 use ar_syntax::SyntaxError;
 use ar_value::shape::Shape;
 use std::alloc::{AllocError, Global};
-use std::fmt::Write;
 
 // ---- places
 
-/// The byte of a condition at which it is refused.
+/// The byte of a condition at which it is refused. One that is too long isn't quoted.
 fn place_of(cause: BuildCause) -> Option<usize>
     ensures { result ≡ place_of cause }
 {
@@ -32,9 +30,9 @@ fn place_of(cause: BuildCause) -> Option<usize>
 }
 
 /// The token at which a condition is refused.
-fn found_in(condition: Option<&str>, place: Option<usize>) -> Option<Found<'_>>
+fn token_in(condition: Option<&str>, place: Option<usize>) -> Option<TokenAt<'_>>
     ensures { option_map (λ here. found here.before.now here.token.now here.after.now) result
-        ≡ found_in (option_map (λ text. text.now) condition.entry) place }
+        ≡ token_in (option_map (λ text. text.now) condition.entry) place }
 {
     token_at(condition?, place?)
 }
@@ -53,23 +51,23 @@ fn takes_texts(token: &str) -> bool
     matches!(token, "contains" | "startsWith" | "endsWith")
 }
 
-fn without_leading_spaces(text: &str) -> &str
-    ensures { result.now ≡ without_leading_spaces text.now }
+/// Whether a token is `in`, or `not` before it, which has two operands.
+fn is_membership(token: &str, operands: Option<Operands>) -> bool
+    ensures { result ≡ is_membership token.now operands }
 {
-    text.trim_start_matches(' ')
+    token == "in" || token == "not" && are_two(operands)
 }
 
-/// Whether `not` is a part of `not in`.
-fn goes_on_in(after: &str) -> bool
-    ensures { result ≡ goes_on_in after.now }
+fn takes_alike(token: &str, operands: Option<Operands>) -> bool
+    ensures { result ≡ takes_alike token.now operands }
 {
-    without_leading_spaces(after).starts_with("in")
+    token == "==" || token == "!=" || is_membership(token, operands)
 }
 
-fn takes_alike(here: Found<'_>) -> bool
-    ensures { result ≡ takes_alike (found here.entry.before.now here.entry.token.now here.entry.after.now) }
+fn has_predicate(token: &str) -> bool
+    ensures { result ≡ has_predicate token.now }
 {
-    matches!(here.token, "==" | "!=" | "in") || here.token == "not" && goes_on_in(here.after)
+    matches!(token, "all" | "any" | "none" | "one" | "count" | "filter")
 }
 
 fn is_field(token: &str) -> bool
@@ -79,21 +77,23 @@ fn is_field(token: &str) -> bool
 }
 
 /// What an operator takes.
-fn taken(here: Found<'_>) -> &'static str
-    ensures { result.now ≡ taken (found here.entry.before.now here.entry.token.now here.entry.after.now) }
+fn taken(token: &str, operands: Option<Operands>) -> &'static str
+    ensures { result.now ≡ taken token.now operands }
 {
-    if takes_numbers(here.token) {
+    if takes_numbers(token) {
         "\"whole\" or \"decimal\" alone"
-    } else if takes_alike(here) {
-        "numbers, \"bool\" or \"text\" alone, on both sides"
-    } else if takes_texts(here.token) {
+    } else if takes_alike(token, operands) {
+        "numbers, \"bool\" or \"text\" on both sides"
+    } else if takes_texts(token) {
         "\"text\" alone"
-    } else if here.token == "%" {
+    } else if token == "%" {
         "\"whole\" alone"
-    } else if here.token == "[" {
-        "a \"whole\" after a list, or a name after a record"
-    } else if is_field(here.token) {
-        "a record before it"
+    } else if token == "[" {
+        "a \"whole\" after a list, a name after a record"
+    } else if is_field(token) {
+        "a record"
+    } else if has_predicate(token) {
+        "\"bool\" as its predicate"
     } else {
         "\"bool\" alone"
     }
@@ -131,7 +131,7 @@ fn unexpected(token: &str) -> &'static str
 /// What is said of an operator whose operand isn't of a kind that it takes.
 fn wrong_operand(
     alloc: Global,
-    here: Found<'_>,
+    here: TokenAt<'_>,
     operands: Option<Operands>,
 ) -> Result<String, AllocError>
     ensures { IfOk result (λ words. string_bytes words
@@ -140,17 +140,17 @@ fn wrong_operand(
     let mut words = String::new(alloc);
     push_quoted(&mut words, here.token)?;
     words.push_str(" takes ")?;
-    words.push_str(taken(here))?;
-    push_operands(&mut words, operands)?;
+    words.push_str(taken(here.token, operands))?;
+    push_operands(&mut words, is_membership(here.token, operands), operands)?;
     Ok(words)
 }
 
-/// The text with other words where those of the refusal are too many.
+/// The text with what was found in the place of its own words.
 fn cause_text(
     alloc: Global,
     text: String,
     cause: BuildCause,
-    here: Found<'_>,
+    here: TokenAt<'_>,
     operands: Option<Operands>,
 ) -> Result<String, AllocError>
     ensures { IfOk result (λ said. string_bytes said ≡ cause_words cause
@@ -190,13 +190,13 @@ fn is_conversion(token: &str) -> bool
 fn push_conversion_advice(out: &mut String, token: &str) -> Result<(), AllocError>
     ensures { OnOk result (string_bytes out.new ≡ string_bytes out.old ++ conversion_advice token.now) }
 {
-    if !is_conversion(token) {
-        return Ok(());
+    if is_conversion(token) {
+        out.push_str("; leave it out: the shape says the kind")?;
     }
-    write!(out, "; leave \"{token}\" out: the shape says the kind")
+    Ok(())
 }
 
-fn push_advice(out: &mut String, cause: BuildCause, here: Found<'_>) -> Result<(), AllocError>
+fn push_advice(out: &mut String, cause: BuildCause, here: TokenAt<'_>) -> Result<(), AllocError>
     ensures { OnOk result (string_bytes out.new ≡ string_bytes out.old
         ++ advice cause (found here.entry.before.now here.entry.token.now here.entry.after.now)) }
 {
@@ -214,7 +214,7 @@ fn with_quote(
     alloc: Global,
     text: String,
     cause: BuildCause,
-    here: Option<Found<'_>>,
+    here: Option<TokenAt<'_>>,
     operands: Option<Operands>,
 ) -> Result<String, AllocError>
     ensures { IfOk result (λ said. string_bytes said ≡ with_quote cause operands (string_bytes text)
@@ -243,7 +243,7 @@ pub(crate) fn condition_text(
         (option_map (λ text. text.now) condition.entry) cause (string_bytes text)) }
 {
     let operands = refused_operands(alloc, shape, condition, cause)?;
-    let here = found_in(condition, place_of(cause));
+    let here = token_in(condition, place_of(cause));
     with_quote(alloc, text, cause, here, operands)
 }
 

@@ -2,7 +2,7 @@
 
 ghost use Rattle.std.specs.Prelude.{◌≡◌, IfOk, option_map, string_bytes};
 ghost use Rattle.serde_json.specs.View.{view};
-ghost use Rattle.ar_words.specs.Fields.{kind_said, limit_misfit, limits_misfit, misfit, misfit_said, text_misfit, texts_misfit};
+ghost use Rattle.ar_words.specs.Fields.{json_said, limit_misfit, limits_misfit, misfit, misfit_said, text_misfit, texts_misfit};
 
 use ar_json::members::member;
 use serde_json::Value as Json;
@@ -16,8 +16,8 @@ struct Misfit<'a> {
     expected: &'static str,
 }
 
-fn kind_said(json: &Json) -> &'static str
-    ensures { result.now ≡ kind_said (view json.now) }
+fn json_said(json: &Json) -> &'static str
+    ensures { result.now ≡ json_said (view json.now) }
 {
     match json {
         Json::Null => "null",
@@ -89,7 +89,7 @@ pub(crate) fn misfit(alloc: Global, metric: Option<&Json>) -> Result<Option<Stri
     let Some(found) = texts_misfit(metric).or(limits_misfit(metric)) else {
         return Ok(None);
     };
-    let kind = kind_said(found.value);
+    let kind = json_said(found.value);
     let said = format!(in alloc; "`{}` is {kind}; expected {}", found.field, found.expected)?;
     Ok(Some(said))
 }

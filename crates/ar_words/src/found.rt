@@ -64,13 +64,13 @@ fn push_value(out: &mut String, value: &LimitValue) -> Result<(), AllocError>
 {
     match value {
         LimitValue::Whole(number) => write!(out, "{number}"),
-        LimitValue::OtherNumber => out.push_str("a number with a sign, a fraction or an exponent"),
+        LimitValue::OtherNumber => out.push_str("a number not of digits alone, or too large"),
         LimitValue::Text(text) => push_quoted(out, text.as_str()),
         LimitValue::LongText => out.push_str("a text of more than 256 bytes"),
     }
 }
 
-/// What is said of a limit that is none.
+/// What is said of a limit that is refused.
 pub(crate) fn limit_said(
     alloc: Global,
     limit: Option<RefusedLimit>,

@@ -6,7 +6,7 @@
 //!
 //! - `texts`: the texts, by the refusals; `conditions`: those of refusals of conditions
 //! - `found`, `fields`, `operands`: what is said of what was found
-//! - `bindings`: what a run's arguments are bound to, or where they can't be
+//! - `bindings`: what the template's texts are bound to by a run's arguments, and where they can't be
 //! - `cuts`: where words stand in a text
 //! - `lists`: lists of a document, whose items have names; `names`: names as they are shown
 //! - `warnings`: what a document has that is probably not meant

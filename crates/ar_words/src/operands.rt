@@ -3,10 +3,10 @@
 ghost use Rattle.std.specs.Prelude.{◌≡◌, ◌++◌, IfOk, OnOk, option_map, string_bytes};
 ghost use Rattle.serde_json.specs.View.{view};
 ghost use Rattle.ar_value.specs.View.{shape_view};
-ghost use Rattle.ar_words.specs.Operands.{declaration_in, declared_shape, kind_said, operands_in, operands_said, refused_operands};
+ghost use Rattle.ar_words.specs.Operands.{are_two, between, declaration_in, declared_shape, kind_said, operands_in, operands_said, refused_operands};
 
 use crate::lists::{metrics, text_at};
-use ar_check::found::{Found, Operands};
+use ar_check::found::{OperandKind, Operands};
 use ar_check::{TypeError, operands_at};
 use ar_json::shape_reading::{ShapeError, read_shape};
 use ar_judge::BuildCause;
@@ -82,33 +82,58 @@ pub(crate) fn refused_operands(
 
 // ---- what is said of them
 
-fn kind_said(found: Found) -> &'static str
-    ensures { result.now ≡ kind_said found }
+fn kind_said(kind: OperandKind) -> &'static str
+    ensures { result.now ≡ kind_said kind }
 {
-    match found {
-        Found::Nil => "nil",
-        Found::Bool => "\"bool\"",
-        Found::Whole => "\"whole\"",
-        Found::Decimal => "\"decimal\"",
-        Found::Text => "\"text\"",
-        Found::List => "a list",
-        Found::Object => "a record",
+    match kind {
+        OperandKind::Nil => "nil",
+        OperandKind::Bool => "\"bool\"",
+        OperandKind::Whole => "\"whole\"",
+        OperandKind::Decimal => "\"decimal\"",
+        OperandKind::Text => "\"text\"",
+        OperandKind::List => "a list",
+        OperandKind::Object => "a record",
+    }
+}
+
+pub(crate) fn are_two(operands: Option<Operands>) -> bool
+    ensures { result ≡ are_two operands }
+{
+    matches!(operands, Some(Operands::Two(_, _)))
+}
+
+/// What stands between what is said of two operands.
+fn between(is_membership: bool) -> &'static str
+    ensures { result.now ≡ between is_membership }
+{
+    if is_membership {
+        " and a list of "
+    } else {
+        " and "
     }
 }
 
 /// What is said of operands, if there are any.
-pub(crate) fn push_operands(out: &mut String, operands: Option<Operands>) -> Result<(), AllocError>
-    ensures { OnOk result (string_bytes out.new ≡ string_bytes out.old ++ operands_said operands) }
+pub(crate) fn push_operands(
+    out: &mut String,
+    is_membership: bool,
+    operands: Option<Operands>,
+) -> Result<(), AllocError>
+    ensures { OnOk result (string_bytes out.new ≡ string_bytes out.old ++ operands_said is_membership operands) }
 {
     let Some(operands) = operands else {
         return Ok(());
     };
     out.push_str("; found ")?;
     match operands {
+        Operands::Before(owner) => {
+            out.push_str(kind_said(owner))?;
+            out.push_str(" before it")
+        }
         Operands::One(operand) => out.push_str(kind_said(operand)),
         Operands::Two(left, right) => {
             out.push_str(kind_said(left))?;
-            out.push_str(" and ")?;
+            out.push_str(between(is_membership))?;
             out.push_str(kind_said(right))
         }
     }

@@ -24,6 +24,7 @@ use ar_json::members::text_member;
 use ar_judge::{BuildCause, BuildError};
 use ar_manifest::ManifestError;
 use ar_quote::push_quoted;
+use ar_syntax::SyntaxError;
 use serde_json::Value as Json;
 use std::alloc::{AllocError, Global};
 use std::fmt::Write;
@@ -426,19 +427,24 @@ fn has_braces(condition: Option<&str>) -> bool
     }
 }
 
-/// The text with where arguments are bound, if the condition has braces.
-fn with_advice(condition: Option<&str>, mut text: String) -> Result<String, AllocError>
+/// The text with where arguments are bound, where the condition has braces and can't go on.
+fn with_advice(
+    error: SyntaxError,
+    condition: Option<&str>,
+    mut text: String,
+) -> Result<String, AllocError>
     ensures { IfOk result (λ said. string_bytes said
-        ≡ with_advice (option_map (λ text. text.now) condition.entry) (string_bytes text)) }
+        ≡ with_advice error (option_map (λ text. text.now) condition.entry) (string_bytes text)) }
 {
-    if has_braces(condition) {
-        text.push_str(ARGUMENTS_HINT)?;
+    match error {
+        SyntaxError::Unexpected(_) if has_braces(condition) => text.push_str(ARGUMENTS_HINT)?,
+        _ => {}
     }
     Ok(text)
 }
 
 /// The text of a refusal of what `eval` reads: its own text with the condition, and where arguments are
-/// bound, if the condition has braces.
+/// bound, if the condition has braces and can't go on.
 ///
 /// # Errors
 ///
@@ -456,7 +462,7 @@ pub fn eval_text(
         EvalError::Grammar(error) => {
             let cause = BuildCause::Grammar(error);
             let text = condition_text(alloc, text, &None, condition, cause)?;
-            with_advice(condition, text)
+            with_advice(error, condition, text)
         }
         EvalError::Kinds(error) => {
             let shape = declared_shape(alloc, document.get("shape"))?;
