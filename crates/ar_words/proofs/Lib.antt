@@ -1,3 +1,3 @@
-pub mod Found
+pub mod Signs
 pub mod Listed
 pub mod WarningLines

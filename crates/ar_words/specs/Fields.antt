@@ -1,5 +1,5 @@
 -- The field of a metric that holds a value of another kind than it takes.
-use Rattle.std.specs.Prelude.{ℕ, Bool, true, false, if◌then◌else◌, List, ◌++◌, codes, Option, Some, None, option_and_then}
+use Rattle.std.specs.Prelude.{ℕ, List, ◌++◌, codes, Option, Some, None, option_and_then}
 use Rattle.std.specs.Option.{option_or}
 use Rattle.serde_json.specs.Data.{Data, null, boolean, number, string, array, object}
 use Rattle.ar_json.specs.Members.{member}
@@ -10,7 +10,7 @@ json_said (boolean b) = codes "a boolean"
 json_said (number n) = codes "a number"
 json_said (string text) = codes "a text"
 json_said (array items) = codes "a list"
-json_said (object members) = codes "an object"
+json_said (object _) = codes "an object"
 
 -- what is said of a field with a value
 abbrev pub misfit_said : (field : List ℕ) → (value : Data) → (expected : List ℕ) → List ℕ

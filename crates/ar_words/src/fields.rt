@@ -1,6 +1,6 @@
 //! The field of a metric that holds a value of another kind than it takes.
 
-ghost use Rattle.std.specs.Prelude.{◌≡◌, IfOk, option_map, string_bytes};
+ghost use Rattle.std.specs.Prelude.{◌≡◌, IfOk, option_and_then, option_map, string_bytes};
 ghost use Rattle.serde_json.specs.View.{view};
 ghost use Rattle.ar_words.specs.Fields.{json_said, limit_misfit, limits_misfit, misfit, misfit_said, text_misfit, texts_misfit};
 
@@ -78,18 +78,32 @@ fn limits_misfit(metric: &Json) -> Option<Misfit<'_>>
         .or(limit_misfit(metric, "consecutiveErrorLimit"))
 }
 
+/// The first misfit, in the order in which a template is read.
+fn first_misfit(metric: &Json) -> Option<Misfit<'_>>
+    ensures { option_map (λ found. misfit_said found.field.now (view found.value.now) found.expected.now) result
+        ≡ misfit (view metric.now) }
+{
+    texts_misfit(metric).or(limits_misfit(metric))
+}
+
+fn misfit_said(alloc: Global, found: Misfit<'_>) -> Result<String, AllocError>
+    ensures { IfOk result (λ said. string_bytes said
+        ≡ misfit_said found.entry.field.now (view found.entry.value.now) found.entry.expected.now) }
+{
+    let kind = json_said(found.value);
+    format!(in alloc; "`{}` is {kind}; expected {}", found.field, found.expected)
+}
+
 /// What is said of a metric's first field that holds a value of another kind than it takes.
-pub(crate) fn misfit(alloc: Global, metric: Option<&Json>) -> Result<Option<String>, AllocError>
+pub(crate) fn field_said(alloc: Global, metric: Option<&Json>) -> Result<Option<String>, AllocError>
     ensures { IfOk result (λ said. option_map (λ said. string_bytes said) said
         ≡ option_and_then misfit (option_map (λ json. view json.now) metric.entry)) }
 {
     let Some(metric) = metric else {
         return Ok(None);
     };
-    let Some(found) = texts_misfit(metric).or(limits_misfit(metric)) else {
-        return Ok(None);
-    };
-    let kind = json_said(found.value);
-    let said = format!(in alloc; "`{}` is {kind}; expected {}", found.field, found.expected)?;
-    Ok(Some(said))
+    match first_misfit(metric) {
+        Some(found) => Ok(Some(misfit_said(alloc, found)?)),
+        None => Ok(None),
+    }
 }

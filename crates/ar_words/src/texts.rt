@@ -13,7 +13,7 @@ ghost use Rattle.ar_words.specs.Words.{beside_item, beside_metric, beside_run, b
 use crate::bindings::{bound_of, limit_in, refused_condition, unbound_in};
 use crate::conditions::{after_name, build_text, condition_text};
 use crate::cuts::cut_at;
-use crate::fields::misfit;
+use crate::fields::field_said;
 use crate::found::{found_after, limit_said, no_value_said, unknown_said};
 use crate::lists::{entry_text, item_at, list_in, metrics, runs, template_list, text_at};
 use crate::names::{item_text, push_names};
@@ -75,7 +75,7 @@ fn shown_item(
 }
 
 /// The text with the item's name after its kind and number.
-#[tactic(auto, using(crate::proofs::Found::numbered_some))]
+#[tactic(auto, using(crate::proofs::Signs::numbered_some))]
 fn beside_item(
     alloc: Global,
     text: String,
@@ -216,7 +216,7 @@ fn template_text(
             with_names(text, name, "metrics", metrics(document))
         }
         ManifestError::BadField(number) => {
-            let said = misfit(alloc, item_at(metrics(document), number))?;
+            let said = field_said(alloc, item_at(metrics(document), number))?;
             let text = found_after(alloc, text, "BadField: ", said)?;
             beside_metric(alloc, document, text, number)
         }

@@ -1,6 +1,6 @@
 use Rattle.std.proofs.Common.{arith}
 use Rattle.std.specs.Prelude.{codes}
-use Rattle.ar_words.proofs.Found.{contains_cuts}
+use Rattle.ar_words.proofs.Signs.{contains_cuts}
 use Rattle.ar_words.proofs.texts.has_braces.Goals as goal
 
 pub returns-in-Some : goal.returns-in-Some
