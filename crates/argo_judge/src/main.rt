@@ -46,12 +46,12 @@ fn run<R: Env + AllocGlobal + Input + Print + Eprint + Threads + Wait + Sync>(rt
     match requested(rt) {
         Ok(Request::CarryOut(command)) => carry_out(rt, command),
         Ok(Request::Show(text)) => show(rt, text.as_str()),
-        Err(error) => refuse(rt, error),
+        Err(error) => refuse_words(rt, error),
     }
 }
 
 /// Tells of a command line that asks for nothing in one line, and answers the exit status.
-fn refuse<R: Env + AllocGlobal + Eprint>(rt: &R, error: UsageError) -> u8 {
+fn refuse_words<R: Env + AllocGlobal + Eprint>(rt: &R, error: UsageError) -> u8 {
     match usage_text(rt, error) {
         Ok(text) => {
             let _ = eprintln!(rt; "argo_judge: {text}");
