@@ -101,7 +101,7 @@ abbrev mutual
 
 abbrev mutual
   -- At the first tree at a place that takes operands, where `result` has a shape, and so does the innermost item, inside so
-  -- many predicates: what stands before a field's name, both operands of an operator between two, else the one that is
+  -- many predicates: what is before a field's name, both operands of an operator between two, else the one that is
   -- wanted of another kind. Children are searched from left to right; the body of a predicate if the place is there, else its list.
   pub found_in : ℕ → Shape → Option Shape → ℕ → Expression → Option Operands
   found_in place result item around (trees.ResultAt at) = None

@@ -32,7 +32,7 @@ pub enum OperandKind {
 /// What was found where an operand isn't of a kind that is taken.
 #[derive(Clone, Copy, Debug)]
 pub enum Operands {
-    /// What stands before a field's name.
+    /// What is before a field's name.
     Before(OperandKind),
     /// The one that is wanted of another kind.
     One(OperandKind),
@@ -134,7 +134,7 @@ fn in_either(
     }
 }
 
-/// What is found at a field, or in what stands before its name.
+/// What is found at a field, or in what is before its name.
 #[cycle(found_in)]
 fn in_field(
     alloc: Global,
@@ -365,7 +365,7 @@ fn any_has_place(trees: &[Tree], place: usize) -> bool
     false
 }
 
-/// What stands before a field's name.
+/// What is before a field's name.
 fn before(
     alloc: Global,
     owner: Box<Tree>,

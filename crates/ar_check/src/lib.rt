@@ -10,7 +10,7 @@
 //! - `operand`: a tree with its kind, whose shape is borrowed where it is a part of a declared one
 //! - `operators`, `list`: operators, and list literals, whose operands have kinds
 //! - [`error`]: why a condition has no kinds
-//! - [`found`]: what the operands at a place are, to be told beside such a fault
+//! - [`found`]: what the operands at a place are, to be told next to such a fault
 //! - [`laws`]: what holds of all checked conditions
 //!
 //! In `specs`, `Operand` says what is made of operands where a plain kind or a decimal is wanted, and

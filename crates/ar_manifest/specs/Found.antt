@@ -1,4 +1,4 @@
--- What stands in a metric where it can't be bound: a reference that has no value, or a limit that isn't one.
+-- For what the binding of a metric is refused: a reference that has no value, or a limit that isn't one.
 use Rattle.std.specs.Prelude.{ℕ, nat_le, Bool, true, false, if◌then◌else◌, List, [], ◌∷◌, length, map, codes, Option, Some, None, option_map, option_and_then, slice_get, Result, Ok, Err, is_ok}
 use Rattle.std.specs.Option.{option_or}
 use Rattle.std.specs.Result.{result_ok}
@@ -53,7 +53,7 @@ texts_of metric = metric.success_condition ∷ metric.failure_condition ∷ map 
 
 -- ---- references
 
--- what stands in the first braces, among the parts of a text, that have no value
+-- the first reference, among the parts of a text, that has no value
 unfoldable pub unbound_in : TemplateArguments → RunArguments → ℕ → Parts → Option (List ℕ)
 unbound_in arguments own i (whole text) = None
 unbound_in arguments own i (unclosed before) = None

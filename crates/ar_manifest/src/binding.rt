@@ -105,7 +105,7 @@ impl Scope<'_> {
         }
     }
 
-    /// Whether what stands in braces has a value.
+    /// Whether what is in braces has a value.
     pub(crate) fn has_value(&self, between: &str) -> bool
         ensures { result ≡ is_ok (referred_value self.now.arguments.now self.now.own.now self.now.metric between.now) }
     {

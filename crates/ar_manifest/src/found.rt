@@ -1,4 +1,4 @@
-//! What stands in a metric where it can't be bound.
+//! For what the binding of a metric is refused.
 
 ghost use Rattle.std.specs.Prelude.{◌≡◌, IfOk, option_map};
 ghost use Rattle.ar_manifest.specs.Cut.{parts_of};
@@ -23,7 +23,7 @@ pub struct RefusedLimit {
     pub value: LimitValue,
 }
 
-/// The field that a limit stands in.
+/// The field of a limit.
 #[derive(Clone, Copy, Debug)]
 pub enum LimitField {
     Count,
@@ -79,7 +79,7 @@ fn scope_of<'a>(template: &'a Template, own: &'a Args, metric: usize) -> Scope<'
     }
 }
 
-/// What stands in the first braces of a text that have no value.
+/// The first reference of a text that has no value.
 fn unbound_in<'a>(scope: &Scope, text: &'a str) -> Option<&'a str>
     ensures { option_map (λ between. between.now) result
         ≡ unbound_in scope.now.arguments.now scope.now.own.now scope.now.metric (parts_of text.now) }
@@ -117,7 +117,7 @@ fn unbound_in_limit<'a>(scope: &Scope, limit: &'a Option<Limit>) -> Option<&'a s
     }
 }
 
-/// What stands in the first braces of a metric's texts that have no value.
+/// The first reference in a metric's texts that has no value.
 fn unbound_in_metric<'a>(scope: &Scope, metric: &'a Metric) -> Option<&'a str>
     ensures { option_map (λ between. between.now) result
         ≡ unbound_in_metric scope.now.arguments.now scope.now.own.now scope.now.metric metric.now }
@@ -130,7 +130,7 @@ fn unbound_in_metric<'a>(scope: &Scope, metric: &'a Metric) -> Option<&'a str>
         .or(unbound_in_limit(scope, &metric.limits.consecutive_error))
 }
 
-/// What stands in the first braces, over the texts of a metric, that have no value.
+/// The first reference in the texts of a metric that has no value.
 #[tactic(auto, unfolding(crate::specs::Found::unbound_reference))]
 pub(crate) fn unbound_reference<'a>(
     template: &'a Template,
@@ -143,7 +143,7 @@ pub(crate) fn unbound_reference<'a>(
     unbound_in_metric(&scope, template.metrics.as_slice().get(metric)?)
 }
 
-/// The limit that stands in a field.
+/// The limit of a field.
 fn limit_at(limits: &MetricLimits, field: LimitField) -> &Option<Limit>
     ensures { result.now ≡ limit_at limits.now field }
 {

@@ -5,7 +5,7 @@
 //! measurements are judged, and names the first fault of one that it refuses. [`Template::bind`]
 //! puts a run's arguments in, and gives each metric's conditions, limits, effective count, and whether it is dry.
 //! [`Template::bind_shortened`] does so without making a condition whole that is too long.
-//! Where binding is refused, [`Template::unbound_reference`] and [`Template::refused_limit`] give what stands there.
+//! Where binding is refused, [`Template::unbound_reference`] and [`Template::refused_limit`] tell for what.
 //!
 //! What is proved: a document is read as the template that `specs/Template` defines, and bound as
 //! `specs/Bound` defines, or it is refused by the one name that stands first in the stated order.
@@ -27,7 +27,7 @@
 //!
 //! In `specs`, `Template` and `DryRun` define reading, `Cut` where a text is cut at its braces,
 //! `Binding` what becomes of a text, `Bound` limits, counts and the order of refusals, `Shortened`
-//! what is given for conditions that are too long, `Found` what stands where binding is refused.
+//! what is given for conditions that are too long, `Found` for what binding is refused.
 //! `Private` has what only the proofs use.
 #![tactic(auto)]
 

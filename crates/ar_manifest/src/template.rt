@@ -165,8 +165,8 @@ impl Template {
         shortened(alloc, self, args)
     }
 
-    /// What stands in the first braces, over the texts of a metric, that have no value: the run's
-    /// arguments and the template's give none. The texts are gone through in the order of `bind`,
+    /// The first reference in the texts of a metric that has no value, without its braces: neither the
+    /// run's arguments nor the template's give one. The texts are gone through in the order of `bind`,
     /// each from left to right. Where `bind` refuses the metric by `UnknownArg` or `NoValue`, this
     /// is what it refuses. It takes no memory.
     pub fn unbound_reference(&self, args: &Args, metric: usize) -> Option<&str>

@@ -49,7 +49,7 @@ bound_condition document run metric error = condition_in (bound_metrics document
 
 -- ---- refusals of binding
 
--- what stands in braces in a text of a metric, and has no value
+-- the first reference in the texts of a metric that has no value
 abbrev pub unbound_in : Data → (run metric : ℕ) → Option (List ℕ)
 unbound_in document run metric = option_and_then (λ binding. unbound_reference binding.0 binding.1 metric) (binding_of document run)
 

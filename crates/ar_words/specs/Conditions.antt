@@ -1,4 +1,4 @@
--- The words of refusals of conditions: what stands at the byte of the refusal, and the condition round it.
+-- The words of refusals of conditions: what is at the byte of the refusal, and the condition round it.
 use Rattle.std.specs.Prelude.{ℕ, Bool, ◌&&◌, ◌||◌, nat_eq, if◌then◌else◌, List, [], ◌∷◌, ◌++◌, codes, Option, Some, None, option_map, unwrap_or}
 use Rattle.std.specs.List.{starts_with}
 use Rattle.std.specs.Str.{bytes_eq}

@@ -12,7 +12,7 @@ abbrev pub found_after : (name : List ℕ) → (said : Option (List ℕ)) → (t
 found_after name None text = text
 found_after name (Some said) text = after_name name said text
 
--- what is said of what stands in braces and isn't an argument, or has no value
+-- what is said of a reference that isn't an argument, or has no value
 abbrev pub unknown_said : (reference : List ℕ) → List ℕ
 unknown_said reference = quoted reference ++ codes " in braces; expected args.NAME with a name of `spec.args`"
 

@@ -117,7 +117,7 @@ pub(crate) fn refused_condition(
 
 // ---- refusals of binding
 
-/// A copy of what stands in braces in a text of a metric, and has no value.
+/// A copy of the first reference in the texts of a metric that has no value.
 pub(crate) fn unbound_in(
     alloc: Global,
     document: &Json,

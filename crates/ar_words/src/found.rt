@@ -27,7 +27,7 @@ pub(crate) fn found_after(
     }
 }
 
-/// What is said of what stands in braces and isn't an argument.
+/// What is said of a reference that isn't an argument.
 pub(crate) fn unknown_said(
     alloc: Global,
     reference: Option<Text>,
@@ -43,7 +43,7 @@ pub(crate) fn unknown_said(
     Ok(Some(said))
 }
 
-/// What is said of what stands in braces and has no value.
+/// What is said of a reference that has no value.
 pub(crate) fn no_value_said(
     alloc: Global,
     reference: Option<Text>,

@@ -102,7 +102,7 @@ pub(crate) fn are_two(operands: Option<Operands>) -> bool
     matches!(operands, Some(Operands::Two(_, _)))
 }
 
-/// What stands between what is said of two operands.
+/// What is between what is said of two operands.
 fn between(is_membership: bool) -> &'static str
     ensures { result.now ≡ between is_membership }
 {
