@@ -15,11 +15,11 @@ use Rattle.ar_value.specs.declared.fault.Fault.{Fault}
 use Rattle.ar_value.proofs.Merges.{merge_has_both}
 use Rattle.ar_check.specs.Check.{choice_in, choice_of, default_kind, default_of, in_common, plain_kind, truth_kind}
 use Rattle.ar_value.specs.Operators.{Failure, Meaning}
-use Rattle.ar_condition.specs.Meaning.{mean}
+use Rattle.ar_tree.specs.Meaning.{mean}
 use Rattle.ar_value.specs.Operators as operators
 use Rattle.ar_check.specs.Operand.{Operand, is_truth, is_whole, made_plain, turned}
-use Rattle.ar_condition.specs.Typed.{Typed}
-use Rattle.ar_condition.specs.Typed as typed
+use Rattle.ar_tree.specs.Typed.{Typed}
+use Rattle.ar_tree.specs.Typed as typed
 use Rattle.ar_check.proofs.Means.{Means, MeansKind, Sound, either_means, means_then, wanted}
 use Rattle.ar_check.proofs.Operands.{is_true}
 use Rattle.ar_check.proofs.OperatorKinds.{truth_then}

@@ -4,10 +4,10 @@ use Rattle.std.specs.Prelude.{if◌then◌else◌}
 use Rattle.ar_value.specs.Answer.{◌>>=◌, Unless}
 use Rattle.ar_value.specs.Kind.{shaped, plain}
 use Rattle.ar_value.specs.Shape.{Shape}
-use Rattle.ar_condition.specs.Expression.{Expression, place_of}
+use Rattle.ar_tree.specs.Expression.{Expression, place_of}
 use Rattle.ar_check.specs.Check.{checked, condition_of, typed_of}
 use Rattle.ar_check.specs.Operand.{Operand, operand, is_truth, made_plain}
-use Rattle.ar_condition.specs.Typed.{Typed}
+use Rattle.ar_tree.specs.Typed.{Typed}
 use Rattle.ar_check.specs.Typing.{HasKind, IsCondition}
 use Rattle.ar_check.specs.declared.error.TypeError.{TypeError}
 use Rattle.ar_check.specs.declared.error.TypeError.TheVariants.{NotTruth}

@@ -8,21 +8,21 @@ use Rattle.ar_value.specs.Answer.{◌>>=◌}
 use Rattle.ar_value.specs.Kind.{Kind, nil, shaped, common, plain}
 use Rattle.ar_value.specs.Shape.{Shape, FieldShapes}
 use Rattle.ar_value.specs.Shape as shapes
-use Rattle.ar_condition.specs.Expression.{Expression, Expressions, count}
-use Rattle.ar_condition.specs.Expression as trees
-use Rattle.ar_condition.specs.declared.tree.Comparison.TheVariants as comparisons
-use Rattle.ar_condition.specs.declared.tree.Binary.{Binary}
-use Rattle.ar_condition.specs.declared.tree.Binary.TheVariants as binaries
-use Rattle.ar_condition.specs.declared.tree.Literal.TheVariants as literals
+use Rattle.ar_tree.specs.Expression.{Expression, Expressions, count}
+use Rattle.ar_tree.specs.Expression as trees
+use Rattle.ar_tree.specs.declared.tree.Comparison.TheVariants as comparisons
+use Rattle.ar_tree.specs.declared.tree.Binary.{Binary}
+use Rattle.ar_tree.specs.declared.tree.Binary.TheVariants as binaries
+use Rattle.ar_tree.specs.declared.tree.Literal.TheVariants as literals
 use Rattle.ar_value.specs.declared.operator.Predicate.{Predicate}
 use Rattle.ar_value.specs.declared.operator.Predicate.TheVariants as predicates
-use Rattle.ar_condition.specs.declared.tree.Unary.{Unary}
+use Rattle.ar_tree.specs.declared.tree.Unary.{Unary}
 use Rattle.ar_check.specs.Check.{Answer, binary_of, body_of, choice_in, choice_of, default_kind, default_of, entered, equality_of, field_of, field_shape, given, in_common, index_of, is_nil_literal, is_whole_number, item_shape, len_of, negated, over_items, plain_kind, predicate_kind, predicate_of, truth_kind, unary_of, where_wanted}
 use Rattle.ar_check.specs.Basics.{most_predicates}
 use Rattle.ar_value.specs.Shape.{shape_named}
 use Rattle.ar_check.specs.Operand.{Operand, operand, is_truth, made_plain, plain_of, scalar}
-use Rattle.ar_condition.specs.Typed.{Typed}
-use Rattle.ar_condition.specs.Typed as typed
+use Rattle.ar_tree.specs.Typed.{Typed}
+use Rattle.ar_tree.specs.Typed as typed
 use Rattle.ar_check.specs.Typing.{DefaultKind, HasKind, HaveInCommon, InCommon, IsEquality, IsScalar, Operates, OperatesOnOne, PredicateKind}
 use Rattle.ar_check.specs.Typing as typing
 use Rattle.ar_check.specs.declared.error.TypeError.TheVariants.{PredicatesTooDeep}

@@ -6,9 +6,9 @@ use Rattle.ar_value.specs.Answer.{◌>>=◌}
 use Rattle.ar_value.specs.Value.{Value}
 use Rattle.ar_value.specs.Value as values
 use Rattle.ar_value.specs.Operators.{Meaning, is_nil}
-use Rattle.ar_condition.specs.Meaning.{mean}
-use Rattle.ar_condition.specs.Typed.{Typed}
-use Rattle.ar_condition.specs.Typed as typed
+use Rattle.ar_tree.specs.Meaning.{mean}
+use Rattle.ar_tree.specs.Typed.{Typed}
+use Rattle.ar_tree.specs.Typed as typed
 
 -- a value that isn't nil stands
 kept : (value other : Value) → value ≢ values.nil → (if is_nil value then other else value) ≡ value

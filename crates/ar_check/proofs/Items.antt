@@ -3,9 +3,9 @@ use Rattle.std.proofs.Common.{◌≡◌, ℕ, ◌+◌, Bool, true, false, List, 
 use Rattle.std.proofs.lemmas.List.{append_assoc, map-append}
 use Rattle.ar_value.specs.Answer.{◌>>=◌, Unless}
 use Rattle.ar_value.specs.Shape.{Shape}
-use Rattle.ar_condition.specs.Expression.{Expression, Expressions, none, more, expressions, place_of}
-use Rattle.ar_condition.specs.Views.{expression_of}
-use Rattle.ar_condition.specs.declared.tree.Tree.{Tree}
+use Rattle.ar_tree.specs.Expression.{Expression, Expressions, none, more, expressions, place_of}
+use Rattle.ar_tree.specs.Views.{expression_of}
+use Rattle.ar_tree.specs.declared.tree.Tree.{Tree}
 use Rattle.ar_check.specs.Check.{Item, item_of, item_typed, items_typed, typed_of}
 use Rattle.ar_check.specs.Operand.{Operand}
 use Rattle.ar_check.specs.Private.Inside.{item_view}

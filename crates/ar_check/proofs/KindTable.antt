@@ -5,14 +5,14 @@ use Rattle.ar_value.specs.Answer.{◌>>=◌}
 use Rattle.ar_value.specs.Kind.{Kind, nil, shaped, plain}
 use Rattle.ar_value.specs.Shape.{Shape}
 use Rattle.ar_value.specs.Shape as shapes
-use Rattle.ar_condition.specs.Expression.{Expression, Expressions, place_of, count}
-use Rattle.ar_condition.specs.Expression as trees
-use Rattle.ar_condition.specs.declared.tree.Literal.TheVariants as literals
+use Rattle.ar_tree.specs.Expression.{Expression, Expressions, place_of, count}
+use Rattle.ar_tree.specs.Expression as trees
+use Rattle.ar_tree.specs.declared.tree.Literal.TheVariants as literals
 use Rattle.ar_check.specs.Check.{Item, binary_of, choice_of, common_of, common_scalar, default_of, field_of, given, index_of, is_nil_literal, innermost, item_of, items_typed, len_of, list_of, no_scalar, over_items, predicate_of, scalar_shape, truth_kind, typed_of, unary_of}
 use Rattle.ar_check.specs.Basics.{literal_kind}
 use Rattle.ar_check.specs.Operand.{Operand, operand, scalar}
-use Rattle.ar_condition.specs.Typed.{Typed}
-use Rattle.ar_condition.specs.Typed as typed
+use Rattle.ar_tree.specs.Typed.{Typed}
+use Rattle.ar_tree.specs.Typed as typed
 use Rattle.ar_check.specs.Typing.{HasKind, HaveInCommon, InCommon, IsScalar}
 use Rattle.ar_check.specs.Typing as typing
 use Rattle.ar_check.specs.declared.error.TypeError.{TypeError}

@@ -11,10 +11,10 @@ use Rattle.ar_value.specs.Value.{Value, Items, count}
 use Rattle.ar_value.specs.Value as values
 use Rattle.ar_check.specs.Check.{Item, common_of, common_scalar, joined, list_in_common, list_of, scalar_shape, turned_item}
 use Rattle.ar_value.specs.Operators.{Failure, Meaning}
-use Rattle.ar_condition.specs.Meaning.{items_mean, mean}
+use Rattle.ar_tree.specs.Meaning.{items_mean, mean}
 use Rattle.ar_value.specs.Operators as operators
-use Rattle.ar_condition.specs.Typed.{Typed, Typeds, typeds}
-use Rattle.ar_condition.specs.Typed as typed
+use Rattle.ar_tree.specs.Typed.{Typed, Typeds, typeds}
+use Rattle.ar_tree.specs.Typed as typed
 use Rattle.ar_value.specs.declared.operator.Scalar.{Scalar}
 use Rattle.ar_value.specs.declared.operator.Scalar.TheVariants as scalars
 use Rattle.ar_check.proofs.Means.{Means, MeansKind, Sound, both, both_hold, means_then}

@@ -8,9 +8,9 @@ use Rattle.ar_value.specs.Shape.{Shape}
 use Rattle.ar_value.specs.Value.{Value}
 use Rattle.ar_check.specs.Check.{truth_kind, where_wanted}
 use Rattle.ar_value.specs.Operators.{Failure, Meaning, faulted, ill_kinded}
-use Rattle.ar_condition.specs.Meaning.{mean}
+use Rattle.ar_tree.specs.Meaning.{mean}
 use Rattle.ar_check.specs.Operand.{Operand}
-use Rattle.ar_condition.specs.Typed.{Typed}
+use Rattle.ar_tree.specs.Typed.{Typed}
 use Rattle.ar_check.specs.declared.error.TypeError.{TypeError}
 
 -- what is meant has a property, unless it is a fault

@@ -9,18 +9,18 @@ use Rattle.ar_value.specs.Shape.{Shape, FieldShapes}
 use Rattle.ar_value.specs.Shape as shapes
 use Rattle.ar_value.specs.Value.{Value, Items, Fields, count, value_named}
 use Rattle.ar_value.specs.Value as values
-use Rattle.ar_condition.specs.declared.tree.Literal.{Literal}
-use Rattle.ar_condition.specs.declared.tree.Literal.TheVariants as literals
+use Rattle.ar_tree.specs.declared.tree.Literal.{Literal}
+use Rattle.ar_tree.specs.declared.tree.Literal.TheVariants as literals
 use Rattle.ar_check.specs.Check.{given, is_whole_number, innermost, number_kind, plain_kind, scalar_shape, truth_kind}
 use Rattle.ar_check.specs.Basics.{literal_kind}
 use Rattle.ar_value.specs.Shape.{shape_named}
 use Rattle.ar_value.specs.Operators.{Failure, Meaning}
-use Rattle.ar_condition.specs.Meaning.{mean}
+use Rattle.ar_tree.specs.Meaning.{mean}
 use Rattle.ar_value.specs.Operators as operators
 use Rattle.ar_value.proofs.Merges.{common_with_itself}
 use Rattle.ar_check.specs.Operand.{Operand, made_plain, numbers, numbers_in, plain_of, plain_tree, scalar, scalar_of, is_bool, is_text, is_text_scalar, is_truth}
-use Rattle.ar_condition.specs.Typed.{Typed}
-use Rattle.ar_condition.specs.Typed as typed
+use Rattle.ar_tree.specs.Typed.{Typed}
+use Rattle.ar_tree.specs.Typed as typed
 use Rattle.ar_value.specs.declared.operator.Numbers.{Numbers}
 use Rattle.ar_value.specs.declared.operator.Scalar.{Scalar}
 use Rattle.ar_value.specs.declared.operator.Scalar.TheVariants as scalars

@@ -8,19 +8,19 @@ use Rattle.ar_value.specs.Kind.{Kind, shaped, fits_kind}
 use Rattle.ar_value.specs.Shape as shapes
 use Rattle.ar_value.specs.Value.{Value}
 use Rattle.ar_value.specs.Value as values
-use Rattle.ar_condition.specs.declared.tree.Comparison.{Comparison}
-use Rattle.ar_condition.specs.declared.tree.Comparison.TheVariants as comparisons
-use Rattle.ar_condition.specs.declared.tree.Binary.{Binary}
-use Rattle.ar_condition.specs.declared.tree.Binary.TheVariants as binaries
-use Rattle.ar_condition.specs.declared.tree.Unary.{Unary}
-use Rattle.ar_condition.specs.declared.tree.Unary.TheVariants as unaries
+use Rattle.ar_tree.specs.declared.tree.Comparison.{Comparison}
+use Rattle.ar_tree.specs.declared.tree.Comparison.TheVariants as comparisons
+use Rattle.ar_tree.specs.declared.tree.Binary.{Binary}
+use Rattle.ar_tree.specs.declared.tree.Binary.TheVariants as binaries
+use Rattle.ar_tree.specs.declared.tree.Unary.{Unary}
+use Rattle.ar_tree.specs.declared.tree.Unary.TheVariants as unaries
 use Rattle.ar_check.specs.Check.{Answer, binary_of, comparison_of, equal_of, equality_of, in_of, negated, same_family, text_test_of, truth_kind, unary_of}
 use Rattle.ar_value.specs.Operators.{Failure, Meaning}
-use Rattle.ar_condition.specs.Meaning.{mean}
+use Rattle.ar_tree.specs.Meaning.{mean}
 use Rattle.ar_value.specs.Operators as operators
 use Rattle.ar_check.specs.Operand.{Operand, family_in, is_text, is_truth, made_plain, numbers, scalar}
-use Rattle.ar_condition.specs.Typed.{Typed}
-use Rattle.ar_condition.specs.Typed as typed
+use Rattle.ar_tree.specs.Typed.{Typed}
+use Rattle.ar_tree.specs.Typed as typed
 use Rattle.ar_value.specs.declared.operator.Arithmetic.TheVariants.{Add, Subtract, Multiply, Divide, Remainder}
 use Rattle.ar_value.specs.declared.operator.Family.{Family}
 use Rattle.ar_value.specs.declared.operator.Order.TheVariants.{Less, LessOrEqual, Greater, GreaterOrEqual}

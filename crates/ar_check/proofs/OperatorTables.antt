@@ -8,13 +8,13 @@ use Rattle.ar_value.specs.Answer.{◌>>=◌}
 use Rattle.ar_value.specs.Kind.{Kind, shaped, plain}
 use Rattle.ar_value.specs.Shape.{Shape}
 use Rattle.ar_value.specs.Shape as shapes
-use Rattle.ar_condition.specs.declared.tree.Comparison.TheVariants as comparisons
-use Rattle.ar_condition.specs.declared.tree.Binary.{Binary}
-use Rattle.ar_condition.specs.declared.tree.Binary.TheVariants as binaries
+use Rattle.ar_tree.specs.declared.tree.Comparison.TheVariants as comparisons
+use Rattle.ar_tree.specs.declared.tree.Binary.{Binary}
+use Rattle.ar_tree.specs.declared.tree.Binary.TheVariants as binaries
 use Rattle.ar_check.specs.Check.{Answer, arithmetic_kind, arithmetic_on, binary_of, equal_of, equality_of, in_of, item_shape, member_of, negated, ordering_of, ordered_of, same_family, scalar_shape, calculation_of, arithmetic_in, compared_of, where_there, text_test_of, truth_kind, where_wanted, widened}
 use Rattle.ar_check.specs.Operand.{Operand, operand, family_in, is_text, is_truth, made_plain, numbers, plain_of, scalar, scalar_of}
-use Rattle.ar_condition.specs.Typed.{Typed}
-use Rattle.ar_condition.specs.Typed as typed
+use Rattle.ar_tree.specs.Typed.{Typed}
+use Rattle.ar_tree.specs.Typed as typed
 use Rattle.ar_check.specs.Typing.{InCommon, IsEquality, IsNumber, IsScalar, Operates, OperatesOnOne, SameFamily, SumOf}
 use Rattle.ar_check.specs.Typing as typing
 use Rattle.ar_value.specs.declared.operator.Arithmetic.{Arithmetic}

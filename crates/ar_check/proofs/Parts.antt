@@ -17,11 +17,11 @@ use Rattle.ar_value.specs.declared.fault.Fault.TheVariants.{IndexOutOfRange}
 use Rattle.ar_check.specs.Check.{field_of, field_shape, found_field, given, in_of, index_of, is_whole_number, item_shape, len_of, member_of, plain_kind, same_family, truth_kind}
 use Rattle.ar_value.specs.Shape.{shape_named}
 use Rattle.ar_value.specs.Operators.{Failure, Meaning}
-use Rattle.ar_condition.specs.Meaning.{mean}
+use Rattle.ar_tree.specs.Meaning.{mean}
 use Rattle.ar_value.specs.Operators as operators
 use Rattle.ar_check.specs.Operand.{Operand, family_in, made_plain, plain_of, scalar, scalar_of}
-use Rattle.ar_condition.specs.Typed.{Typed}
-use Rattle.ar_condition.specs.Typed as typed
+use Rattle.ar_tree.specs.Typed.{Typed}
+use Rattle.ar_tree.specs.Typed as typed
 use Rattle.ar_value.specs.declared.operator.Scalar.{Scalar}
 use Rattle.ar_check.proofs.Means.{MeansKind, Sound, IsThere, IsTruth, truth_wanted, answers, means_then, both_hold, wanted, both}
 use Rattle.ar_check.proofs.Operands.{is_index, is_plain, named_fits, on_list, on_object, on_whole, there_fits}

@@ -2,7 +2,7 @@
 use Rattle.std.proofs.Common.{◌≡◌, ℕ, ◌+◌, Option, Some, Result, Ok, Err, IfOk, refl, ◌∙◌, add-one}
 use Rattle.ar_value.specs.Shape.{Shape}
 use Rattle.ar_value.specs.View.{shape_view}
-use Rattle.ar_condition.specs.Expression.{Expression}
+use Rattle.ar_tree.specs.Expression.{Expression}
 use Rattle.ar_check.specs.Private.Inside.{innermost_of}
 use Rattle.ar_check.specs.Private.Search.{place_in, place_over}
 use Rattle.ar_check.specs.declared.found.Operands.{Operands}

@@ -13,11 +13,11 @@ use Rattle.ar_value.specs.declared.operator.Predicate.{Predicate}
 use Rattle.ar_value.specs.declared.operator.Predicate.TheVariants as predicates
 use Rattle.ar_check.specs.Check.{plain_kind, predicate_kind, predicate_of, truth_kind}
 use Rattle.ar_value.specs.Operators.{Failure, Meaning}
-use Rattle.ar_condition.specs.Meaning.{all_hold, any_holds, mean, none_holds, over, those}
+use Rattle.ar_tree.specs.Meaning.{all_hold, any_holds, mean, none_holds, over, those}
 use Rattle.ar_value.specs.Operators as operators
 use Rattle.ar_check.specs.Operand.{Operand, made_plain}
-use Rattle.ar_condition.specs.Typed.{Typed}
-use Rattle.ar_condition.specs.Typed as typed
+use Rattle.ar_tree.specs.Typed.{Typed}
+use Rattle.ar_tree.specs.Typed as typed
 use Rattle.ar_check.proofs.Means.{Means, MeansKind, Sound, both, both_hold, either_means, means_then, wanted}
 use Rattle.ar_check.proofs.Operands.{on_bool, on_list}
 use Rattle.ar_check.proofs.Parts.{ListOf, plain_list}

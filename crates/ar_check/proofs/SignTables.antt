@@ -5,12 +5,12 @@ use Rattle.ar_value.specs.declared.operator.UnaryOperator.TheVariants as unary
 use Rattle.ar_value.specs.Kind.{Kind, shaped, plain}
 use Rattle.ar_value.specs.Shape.{Shape}
 use Rattle.ar_value.specs.Shape as shapes
-use Rattle.ar_condition.specs.declared.tree.Unary.{Unary}
-use Rattle.ar_condition.specs.declared.tree.Unary.TheVariants as unaries
+use Rattle.ar_tree.specs.declared.tree.Unary.{Unary}
+use Rattle.ar_tree.specs.declared.tree.Unary.TheVariants as unaries
 use Rattle.ar_check.specs.Check.{Answer, negation_of, number_kind, plus_of, truth_kind, unary_of}
 use Rattle.ar_check.specs.Operand.{Operand, operand, is_truth, made_plain, numbers, numbers_in, plain_of, scalar_of}
-use Rattle.ar_condition.specs.Typed.{Typed}
-use Rattle.ar_condition.specs.Typed as typed
+use Rattle.ar_tree.specs.Typed.{Typed}
+use Rattle.ar_tree.specs.Typed as typed
 use Rattle.ar_check.specs.Typing.{InCommon, IsEquality, IsNumber, IsScalar, Operates, OperatesOnOne, SameFamily, SumOf}
 use Rattle.ar_check.specs.Typing as typing
 use Rattle.ar_value.specs.declared.operator.Numbers.{Numbers}

@@ -8,16 +8,16 @@ use Rattle.ar_value.specs.Kind.{Kind}
 use Rattle.ar_value.specs.Shape.{Shape}
 use Rattle.ar_value.specs.Value.{Value}
 use Rattle.ar_value.specs.Value as values
-use Rattle.ar_condition.specs.Expression.{Expression, Expressions, place_of}
-use Rattle.ar_condition.specs.Expression as trees
+use Rattle.ar_tree.specs.Expression.{Expression, Expressions, place_of}
+use Rattle.ar_tree.specs.Expression as trees
 use Rattle.ar_check.specs.Check.{Answer, body_of, checked, choice_of, condition_of, default_of, entered, field_of, index_of, item_of, item_shape, items_typed, is_nil_literal, len_of, list_of, no_scalar, over_items, predicate_of, given, truth_kind, typed_of, unary_of, binary_of}
 use Rattle.ar_check.specs.Basics.{most_predicates}
 use Rattle.ar_value.specs.Operators.{Meaning, faulted, ill_kinded}
-use Rattle.ar_condition.specs.Meaning.{IsTruthOrFault, is_fault, is_truth, mean}
+use Rattle.ar_tree.specs.Meaning.{IsTruthOrFault, is_fault, is_truth, mean}
 use Rattle.ar_check.specs.Operand.{Operand, made_plain, plain_of}
 use Rattle.ar_check.specs.Operand as operands
-use Rattle.ar_condition.specs.Typed.{Typed}
-use Rattle.ar_condition.specs.Typed as typed
+use Rattle.ar_tree.specs.Typed.{Typed}
+use Rattle.ar_tree.specs.Typed as typed
 use Rattle.ar_check.specs.declared.error.TypeError.TheVariants.{NotTruth, PredicatesTooDeep}
 use Rattle.ar_check.proofs.Means.{MeansKind, IsThere, Sound, answers, answers_each}
 use Rattle.ar_check.proofs.Operands.{is_scalar, is_true, item_sound, literal_sound}

@@ -8,7 +8,7 @@ use Rattle.ar_value.specs.Shape as shapes
 use Rattle.ar_check.specs.Check.{Answer, field_shape, found_field, given, is_whole_number, item_shape, number_kind, scalar_shape, where_wanted}
 use Rattle.ar_value.specs.Shape.{shape_named}
 use Rattle.ar_check.specs.Operand.{Operand, operand, is_bool, is_text_scalar, numbers_in, plain_of, scalar_of}
-use Rattle.ar_condition.specs.Typed.{Typed}
+use Rattle.ar_tree.specs.Typed.{Typed}
 use Rattle.ar_check.specs.declared.error.TypeError.{TypeError}
 use Rattle.ar_value.specs.declared.operator.Numbers.{Numbers}
 use Rattle.ar_value.specs.declared.operator.Numbers.TheVariants.{Wholes, Decimals}

@@ -1,7 +1,7 @@
 -- Trees that are turned beside others.
 use Rattle.std.proofs.Common.{◌≡◌, refl}
 use Rattle.ar_value.specs.Kind.{Kind, nil, shaped}
-use Rattle.ar_condition.specs.Typed.{Typed}
+use Rattle.ar_tree.specs.Typed.{Typed}
 use Rattle.ar_check.specs.Operand.{turned}
 use Rattle.ar_check.specs.Private.Inside.{turned_where, turns}
 

@@ -6,21 +6,21 @@ use Rattle.ar_value.specs.Answer.{◌>>=◌}
 use Rattle.ar_value.specs.Kind.{Kind, nil, shaped, common, plain}
 use Rattle.ar_value.specs.Shape.{Shape, shape_named}
 use Rattle.ar_value.specs.Shape as shapes
-use Rattle.ar_condition.specs.Expression.{Expression, Expressions, place_of}
-use Rattle.ar_condition.specs.Expression as trees
-use Rattle.ar_condition.specs.declared.tree.Comparison.{Comparison}
-use Rattle.ar_condition.specs.declared.tree.Comparison.TheVariants as comparisons
-use Rattle.ar_condition.specs.declared.tree.Binary.{Binary}
-use Rattle.ar_condition.specs.declared.tree.Binary.TheVariants as binaries
-use Rattle.ar_condition.specs.declared.tree.Literal.TheVariants as literals
+use Rattle.ar_tree.specs.Expression.{Expression, Expressions, place_of}
+use Rattle.ar_tree.specs.Expression as trees
+use Rattle.ar_tree.specs.declared.tree.Comparison.{Comparison}
+use Rattle.ar_tree.specs.declared.tree.Comparison.TheVariants as comparisons
+use Rattle.ar_tree.specs.declared.tree.Binary.{Binary}
+use Rattle.ar_tree.specs.declared.tree.Binary.TheVariants as binaries
+use Rattle.ar_tree.specs.declared.tree.Literal.TheVariants as literals
 use Rattle.ar_value.specs.declared.operator.Predicate.{Predicate}
 use Rattle.ar_value.specs.declared.operator.Predicate.TheVariants as predicates
-use Rattle.ar_condition.specs.declared.tree.Unary.{Unary}
-use Rattle.ar_condition.specs.declared.tree.Unary.TheVariants as unaries
+use Rattle.ar_tree.specs.declared.tree.Unary.{Unary}
+use Rattle.ar_tree.specs.declared.tree.Unary.TheVariants as unaries
 use Rattle.ar_check.specs.Basics.{literal_kind, most_predicates}
 use Rattle.ar_check.specs.Operand.{Operand, operand, among, family_in, is_text, is_truth, made_plain, numbers, plain_of, scalar, scalar_of, turned}
-use Rattle.ar_condition.specs.Typed.{Typed, typeds}
-use Rattle.ar_condition.specs.Typed as typed
+use Rattle.ar_tree.specs.Typed.{Typed, typeds}
+use Rattle.ar_tree.specs.Typed as typed
 use Rattle.ar_check.specs.declared.error.TypeError.{TypeError}
 use Rattle.ar_check.specs.declared.error.TypeError.TheVariants.{WrongOperand, NoSuchField, NotAList, NoCommonKind, NotScalar, NotTruth, PredicatesTooDeep}
 use Rattle.ar_value.specs.declared.operator.Arithmetic.{Arithmetic}

@@ -4,10 +4,10 @@ use Rattle.std.specs.Option.{option_or}
 use Rattle.ar_value.specs.Kind.{Kind, nil, shaped}
 use Rattle.ar_value.specs.Shape.{Shape}
 use Rattle.ar_value.specs.Shape as shapes
-use Rattle.ar_condition.specs.Expression.{Expression, Expressions}
-use Rattle.ar_condition.specs.Expression as trees
-use Rattle.ar_condition.specs.declared.tree.Binary.{Binary}
-use Rattle.ar_condition.specs.declared.tree.Binary.TheVariants as binaries
+use Rattle.ar_tree.specs.Expression.{Expression, Expressions}
+use Rattle.ar_tree.specs.Expression as trees
+use Rattle.ar_tree.specs.declared.tree.Binary.{Binary}
+use Rattle.ar_tree.specs.declared.tree.Binary.TheVariants as binaries
 use Rattle.ar_check.specs.Basics.{most_predicates}
 use Rattle.ar_check.specs.Check.{Answer, typed_of}
 use Rattle.ar_check.specs.Operand.{plain_of}

@@ -1,6 +1,6 @@
 pub use Rattle.ar_value.specs.Kind
-pub use Rattle.ar_condition.specs.Expression
-pub use Rattle.ar_condition.specs.Typed
+pub use Rattle.ar_tree.specs.Expression
+pub use Rattle.ar_tree.specs.Typed
 pub mod Memory
 pub mod Basics
 pub mod Operand

@@ -1,12 +1,12 @@
 //! Typed trees of parts that are there.
 
 ghost use Rattle.std.specs.Prelude.{◌≡◌, IfOk, map};
-ghost use Rattle.ar_condition.specs.Typed as typed;
-ghost use Rattle.ar_condition.specs.Typed.{typeds};
-ghost use Rattle.ar_condition.specs.Views.{typed_view};
+ghost use Rattle.ar_tree.specs.Typed as typed;
+ghost use Rattle.ar_tree.specs.Typed.{typeds};
+ghost use Rattle.ar_tree.specs.Views.{typed_view};
 ghost use Rattle.ar_check.specs.Private.Inside.{connected};
 
-use ar_condition::typed::{Typed, TypedItems};
+use ar_tree::typed::{Typed, TypedItems};
 use ar_value::operator::{BinaryOperator, Scalar, UnaryOperator};
 use std::alloc::{AllocError, Global};
 

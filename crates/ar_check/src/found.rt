@@ -3,8 +3,8 @@
 ghost use Rattle.std.specs.Prelude.{◌≡◌, ◌<◌, ◌==◌, if◌then◌else◌, IfOk, IfSome, map, option_map};
 ghost use Rattle.std.specs.Option.{option_or};
 ghost use Rattle.ar_value.specs.View.{shape_view};
-ghost use Rattle.ar_condition.specs.Expression.{expressions, BinaryAt, ChoiceAt, IndexAt};
-ghost use Rattle.ar_condition.specs.Views.{expression_of};
+ghost use Rattle.ar_tree.specs.Expression.{expressions, BinaryAt, ChoiceAt, IndexAt};
+ghost use Rattle.ar_tree.specs.Views.{expression_of};
 ghost use Rattle.ar_check.specs.Basics.{most_predicates};
 ghost use Rattle.ar_check.specs.Found.{any_has_place, before, entered_item, found_kind, found_shape, has_place, entered_list, items_of, member_found, one, operands_at, right_found, two};
 ghost use Rattle.ar_check.specs.Private.Inside.{kind_view};
@@ -13,7 +13,7 @@ ghost use Rattle.ar_check.specs.Private.Search.{body_over, kind_at, place_among,
 use crate::error::TypeError;
 use crate::operand::{Kind, plain_shape};
 use crate::typing::{MOST_PREDICATES, Scope, child, in_predicate};
-use ar_condition::tree::{Binary, Tree};
+use ar_tree::tree::{Binary, Tree};
 use ar_value::shape::Shape;
 use std::alloc::{AllocError, Global};
 

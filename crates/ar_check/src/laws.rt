@@ -7,12 +7,12 @@ ghost use Rattle.ar_value.specs.Kind.{Kind};
 ghost use Rattle.ar_value.specs.Shape.{Shape};
 ghost use Rattle.ar_value.specs.Value.{Value};
 ghost use Rattle.ar_value.specs.Value as values;
-ghost use Rattle.ar_condition.specs.Expression.{Expression};
+ghost use Rattle.ar_tree.specs.Expression.{Expression};
 ghost use Rattle.ar_check.specs.Check.{checked, typed_of};
-ghost use Rattle.ar_condition.specs.Meaning.{IsTruthOrFault, mean};
+ghost use Rattle.ar_tree.specs.Meaning.{IsTruthOrFault, mean};
 ghost use Rattle.ar_check.specs.Operand.{Operand, operand};
-ghost use Rattle.ar_condition.specs.Typed.{Typed};
-ghost use Rattle.ar_condition.specs.Typed as typed;
+ghost use Rattle.ar_tree.specs.Typed.{Typed};
+ghost use Rattle.ar_tree.specs.Typed as typed;
 ghost use Rattle.ar_check.specs.Typing.{HasKind};
 
 /// A checked condition, on a value of its shape, is true or false or meets a fault: nothing else

@@ -17,7 +17,7 @@
 //! `Check` goes through the constructs one by one: what each wants and gives, and its faults.
 //! `Typing` is the table of kinds as a relation, which laws say is the same; `Basics` has what both
 //! begin with. `Found` says what the operands at a place are. `Private` has what only private
-//! contracts speak of. Trees, and what a typed one means on a value, are `ar_condition`'s.
+//! contracts speak of. Trees, and what a typed one means on a value, are `ar_tree`'s.
 #![tactic(auto)]
 
 mod build;
@@ -29,7 +29,7 @@ mod operand;
 mod operators;
 mod typing;
 
-pub use ar_condition::Typed;
+pub use ar_tree::Typed;
 pub use error::TypeError;
 pub use found::operands_at;
 pub use typing::check;

@@ -6,14 +6,14 @@ ghost use Rattle.ar_value.specs.Kind.{shaped};
 ghost use Rattle.ar_value.specs.Shape.{list};
 ghost use Rattle.ar_value.specs.View.{shape_view};
 ghost use Rattle.ar_check.specs.Check.{common_of, common_scalar, joined, list_of, no_scalar, scalar_shape, turned_item};
-ghost use Rattle.ar_condition.specs.Views.{typed_view};
+ghost use Rattle.ar_tree.specs.Views.{typed_view};
 ghost use Rattle.ar_check.specs.Memory.{is_memory};
 ghost use Rattle.ar_check.specs.Private.Inside.{boxed_view, item_view, kind_view, operand_view};
 
 use crate::build::{self, listed};
 use crate::error::TypeError;
 use crate::operand::{Kind, Operand, given};
-use ar_condition::typed::Typed;
+use ar_tree::typed::Typed;
 use ar_value::operator::{Scalar, UnaryOperator};
 use ar_value::shape::Shape;
 use std::alloc::{AllocError, Global};

@@ -7,14 +7,14 @@ ghost use Rattle.ar_value.specs.Kind as shapes;
 ghost use Rattle.ar_value.specs.View.{shape_view};
 ghost use Rattle.ar_check.specs.Check.{field_shape, given, item_shape, plain_kind};
 ghost use Rattle.ar_check.specs.Operand.{is_text, is_truth, made_plain, numbers, plain_of, plain_tree, scalar, scalar_of, turned};
-ghost use Rattle.ar_condition.specs.Typed as typed;
-ghost use Rattle.ar_condition.specs.Views.{typed_view};
+ghost use Rattle.ar_tree.specs.Typed as typed;
+ghost use Rattle.ar_tree.specs.Views.{typed_view};
 ghost use Rattle.ar_check.specs.Memory.{is_memory};
 ghost use Rattle.ar_check.specs.Private.Inside.{boxed_view, kind_view, operand_view, shaped_answer, turned_where, turns};
 
 use crate::build;
 use crate::error::TypeError;
-use ar_condition::typed::Typed;
+use ar_tree::typed::Typed;
 use ar_value::holding::beside;
 use ar_value::kind;
 use ar_value::operator::{Numbers, Scalar, UnaryOperator};

@@ -5,8 +5,8 @@ ghost use Rattle.ar_value.specs.declared.operator.UnaryOperator.TheVariants as u
 ghost use Rattle.ar_value.specs.Answer.{Gives};
 ghost use Rattle.ar_check.specs.Check.{arithmetic_in, arithmetic_kind, binary_of, compared_of, comparison_of, equality_of, in_of, negated, number_kind, ordering_of, arithmetic_on, calculation_of, given, member_of, text_test_of, truth_kind, unary_of, where_wanted, widened};
 ghost use Rattle.ar_check.specs.Operand.{among, family_in};
-ghost use Rattle.ar_condition.specs.Typed as typed;
-ghost use Rattle.ar_condition.specs.Views.{typed_view};
+ghost use Rattle.ar_tree.specs.Typed as typed;
+ghost use Rattle.ar_tree.specs.Views.{typed_view};
 ghost use Rattle.ar_check.specs.Memory.{is_memory};
 ghost use Rattle.ar_check.specs.Private.Inside.{boxed_view, connected_of, item_scalar, kind_view, operand_view};
 
@@ -16,8 +16,8 @@ use crate::operand::{
     Kind, Operand, both_plain, given, given_unary, into_tree, is_text, is_truth, item_shape,
     made_plain, numbers, scalar, scalar_of,
 };
-use ar_condition::tree::{Binary, Comparison, Unary};
-use ar_condition::typed::Typed;
+use ar_tree::tree::{Binary, Comparison, Unary};
+use ar_tree::typed::Typed;
 use ar_value::kind::plain;
 use ar_value::operator::{
     Arithmetic, BinaryOperator, Compared, DecimalArithmetic, Family, Numbers, Order, Scalar,

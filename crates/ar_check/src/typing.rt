@@ -7,16 +7,16 @@ ghost use Rattle.ar_value.specs.Fits.{fits};
 ghost use Rattle.ar_value.specs.Kind.{shaped};
 ghost use Rattle.ar_value.specs.Value.{Value};
 ghost use Rattle.ar_value.specs.View.{shape_view};
-ghost use Rattle.ar_condition.specs.Expression.{expressions, BinaryAt, ChoiceAt, DefaultAt, FieldAt, IndexAt, IsNilAt, LenAt, ListAt, PredicateAt, UnaryAt};
-ghost use Rattle.ar_condition.specs.Views.{expression_of};
+ghost use Rattle.ar_tree.specs.Expression.{expressions, BinaryAt, ChoiceAt, DefaultAt, FieldAt, IndexAt, IsNilAt, LenAt, ListAt, PredicateAt, UnaryAt};
+ghost use Rattle.ar_tree.specs.Views.{expression_of};
 ghost use Rattle.ar_check.specs.Basics.{literal_kind};
 ghost use Rattle.ar_check.specs.Check.{checked, choice_of, choice_tree, default_kind, default_of, default_tree, field_of, given, index_of, innermost, is_nil_literal, len_of, over_items, plain_kind, predicate_kind, predicate_of};
-ghost use Rattle.ar_condition.specs.Meaning.{IsTruthOrFault, mean};
+ghost use Rattle.ar_tree.specs.Meaning.{IsTruthOrFault, mean};
 ghost use Rattle.ar_check.specs.Operand.{made_plain, operand};
 ghost use Rattle.ar_check.specs.Private.Inside.{boxed_view, inside, item_in, item_view, items_in, kind_view, operand_view, turned_where, typed_in};
-ghost use Rattle.ar_condition.specs.Typed as typed;
+ghost use Rattle.ar_tree.specs.Typed as typed;
 ghost use Rattle.ar_check.specs.Typing.{IsCondition};
-ghost use Rattle.ar_condition.specs.Views.{typed_view};
+ghost use Rattle.ar_tree.specs.Views.{typed_view};
 ghost use Rattle.ar_check.specs.Memory.{is_memory};
 
 use crate::build::{self, node};
@@ -27,8 +27,8 @@ use crate::operand::{
     item_shape, made_plain, plain_kind, scalar, turned, turned_both, turns, without_nil,
 };
 use crate::operators::{binary, is_nil_of, truth, unary, where_wanted};
-use ar_condition::tree::{Binary, Literal, Tree, Unary};
-use ar_condition::typed::Typed;
+use ar_tree::tree::{Binary, Literal, Tree, Unary};
+use ar_tree::typed::Typed;
 use ar_value::holding::beside;
 use ar_value::operator::{BinaryOperator, Predicate, Scalar, UnaryOperator};
 use ar_value::shape::Shape;

@@ -5,8 +5,8 @@ use Rattle.ar_value.specs.Shape.{Shape}
 use Rattle.ar_value.specs.declared.fault.Fault.{Fault}
 use Rattle.ar_manifest.specs.declared.bound.BoundMetric.{BoundMetric}
 use Rattle.ar_compile.specs.Compiled.{compiled}
-use Rattle.ar_verified.specs.Verdict.{IsVerified, Verified}
-use Rattle.ar_verified.proofs.OneVerdict.{same_bounds}
+use Rattle.ar_safety.specs.Verdict.{IsVerified, Verified}
+use Rattle.ar_safety.proofs.OneVerdict.{same_bounds}
 use Rattle.ar_judge.specs.Condition.{Condition, IsBuilt}
 use Rattle.ar_judge.specs.Verdict.{AreBuilt, Judge}
 use Rattle.ar_bundle.specs.Bundle.{Bundle}

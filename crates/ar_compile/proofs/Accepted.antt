@@ -9,11 +9,11 @@ use Rattle.ar_value.specs.declared.operator.Predicate.{Predicate}
 use Rattle.ar_value.specs.declared.operator.Predicate.TheVariants as predicates
 use Rattle.ar_value.specs.declared.operator.Scalar.{Scalar}
 use Rattle.ar_value.specs.declared.operator.Scalar.TheVariants as scalars
-use Rattle.ar_condition.specs.Expression.{Expression}
-use Rattle.ar_condition.specs.Typed.{Typed, Typeds, how_many}
-use Rattle.ar_condition.specs.Typed as typed
-use Rattle.ar_condition.specs.declared.tree.Literal.{Literal}
-use Rattle.ar_condition.specs.declared.tree.Literal.TheVariants as literals
+use Rattle.ar_tree.specs.Expression.{Expression}
+use Rattle.ar_tree.specs.Typed.{Typed, Typeds, how_many}
+use Rattle.ar_tree.specs.Typed as typed
+use Rattle.ar_tree.specs.declared.tree.Literal.{Literal}
+use Rattle.ar_tree.specs.declared.tree.Literal.TheVariants as literals
 use Rattle.ar_check.specs.Basics.{literal_kind}
 use Rattle.ar_check.specs.Check.{checked, predicate_kind, scalar_shape, truth_kind}
 use Rattle.ar_op.specs.Code.{Code}
@@ -21,16 +21,16 @@ use Rattle.ar_op.specs.declared.op.Op.{Op}
 use Rattle.ar_op.specs.declared.op.Jump.TheVariants as jumps
 use Rattle.ar_op.specs.declared.op.Op.TheVariants.{Push, MakeList, Field, Unary, Binary, Jump, Enter, Step}
 use Rattle.ar_op.specs.declared.op.Source.TheVariants as sources
-use Rattle.ar_verified.specs.Arrivals.{Around, answer_kind, item_of, lacks, operands}
-use Rattle.ar_verified.specs.Effects.{decimal_kind, decimal_shape, effect, is_family, is_scalar, list_made, of_one_family, truth}
-use Rattle.ar_verified.specs.Effects as effects
-use Rattle.ar_verified.specs.Places.{most_loops}
-use Rattle.ar_verified.specs.Arrivals.{Sent, all_sent}
-use Rattle.ar_verified.specs.declared.error.Cause.{Cause}
-use Rattle.ar_verified.specs.declared.error.Cause.TheVariants.{Fault}
-use Rattle.ar_verified.specs.declared.error.Reason.{Reason}
-use Rattle.ar_verified.specs.declared.error.Reason.TheVariants.{BudgetTooLarge, StackTooDeep}
-use Rattle.ar_verified.specs.Verdict.{IsFault}
+use Rattle.ar_safety.specs.Arrivals.{Around, answer_kind, item_of, lacks, operands}
+use Rattle.ar_safety.specs.Effects.{decimal_kind, decimal_shape, effect, is_family, is_scalar, list_made, of_one_family, truth}
+use Rattle.ar_safety.specs.Effects as effects
+use Rattle.ar_safety.specs.Places.{most_loops}
+use Rattle.ar_safety.specs.Arrivals.{Sent, all_sent}
+use Rattle.ar_safety.specs.declared.error.Cause.{Cause}
+use Rattle.ar_safety.specs.declared.error.Cause.TheVariants.{Fault}
+use Rattle.ar_safety.specs.declared.error.Reason.{Reason}
+use Rattle.ar_safety.specs.declared.error.Reason.TheVariants.{BudgetTooLarge, StackTooDeep}
+use Rattle.ar_safety.specs.Verdict.{IsFault}
 use Rattle.ar_compile.specs.Acceptance.{OnlyTooLarge}
 use Rattle.ar_compile.specs.Compiled.{compiled}
 use Rattle.ar_compile.specs.Length.{operations, operations_of_items}

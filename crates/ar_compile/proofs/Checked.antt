@@ -17,17 +17,17 @@ use Rattle.ar_value.specs.declared.operator.Order.TheVariants.{Less, LessOrEqual
 use Rattle.ar_value.specs.declared.operator.Predicate.{Predicate}
 use Rattle.ar_value.specs.declared.operator.Scalar.{Scalar}
 use Rattle.ar_value.specs.declared.operator.Scalar.TheVariants as scalars
-use Rattle.ar_condition.specs.Expression.{Expression, Expressions, count, place_of}
-use Rattle.ar_condition.specs.Expression as trees
-use Rattle.ar_condition.specs.Limits.{AllInLimits, AllWrittenInLimits, InLimits, IsShort, WrittenInLimits, most_items}
-use Rattle.ar_condition.specs.declared.tree.Binary.{Binary}
-use Rattle.ar_condition.specs.declared.tree.Binary.TheVariants as binaries
-use Rattle.ar_condition.specs.declared.tree.Comparison.{Comparison}
-use Rattle.ar_condition.specs.declared.tree.Comparison.TheVariants as comparisons
-use Rattle.ar_condition.specs.declared.tree.Unary.{Unary}
-use Rattle.ar_condition.specs.declared.tree.Unary.TheVariants as unaries
-use Rattle.ar_condition.specs.Typed.{Typed, Typeds, how_many, typeds}
-use Rattle.ar_condition.specs.Typed as typed
+use Rattle.ar_tree.specs.Expression.{Expression, Expressions, count, place_of}
+use Rattle.ar_tree.specs.Expression as trees
+use Rattle.ar_tree.specs.Limits.{AllInLimits, AllWrittenInLimits, InLimits, IsShort, WrittenInLimits, most_items}
+use Rattle.ar_tree.specs.declared.tree.Binary.{Binary}
+use Rattle.ar_tree.specs.declared.tree.Binary.TheVariants as binaries
+use Rattle.ar_tree.specs.declared.tree.Comparison.{Comparison}
+use Rattle.ar_tree.specs.declared.tree.Comparison.TheVariants as comparisons
+use Rattle.ar_tree.specs.declared.tree.Unary.{Unary}
+use Rattle.ar_tree.specs.declared.tree.Unary.TheVariants as unaries
+use Rattle.ar_tree.specs.Typed.{Typed, Typeds, how_many, typeds}
+use Rattle.ar_tree.specs.Typed as typed
 use Rattle.ar_check.specs.Check.{Answer, Item, arithmetic_kind, arithmetic_on, binary_of, body_of, calculation_of, checked, choice_in, choice_of, choice_tree, common_of, comparison_of, condition_of, default_kind, default_of, default_tree, entered, equal_of, equality_of, field_of, field_shape, given, in_common, in_of, index_of, innermost, is_nil_literal, is_whole_number, item_of, item_shape, items_typed, len_of, list_in_common, list_of, member_of, negated, negation_of, no_scalar, ordered_of, ordering_of, over_items, plain_kind, plus_of, predicate_kind, predicate_of, same_family, arithmetic_in, where_there, truth_kind, turned_item, typed_of, unary_of, where_wanted, widened}
 use Rattle.ar_check.specs.Operand.{Operand, among, family_in, is_text, is_truth, is_whole, made_plain, numbers, plain_of, plain_tree, scalar, scalar_of, turned}
 use Rattle.ar_check.specs.declared.error.TypeError.{TypeError}

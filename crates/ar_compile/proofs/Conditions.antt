@@ -6,9 +6,9 @@ use Rattle.ar_value.specs.Shape.{Shape}
 use Rattle.ar_value.specs.Value.{Value}
 use Rattle.ar_value.specs.Value as values
 use Rattle.ar_value.specs.declared.fault.Fault.{Fault}
-use Rattle.ar_condition.specs.Expression.{Expression}
-use Rattle.ar_condition.specs.Meaning.{answer_of, mean}
-use Rattle.ar_condition.specs.Typed.{Typed}
+use Rattle.ar_tree.specs.Expression.{Expression}
+use Rattle.ar_tree.specs.Meaning.{answer_of, mean}
+use Rattle.ar_tree.specs.Typed.{Typed}
 use Rattle.ar_check.specs.Check.{checked, truth_kind}
 use Rattle.ar_check.proofs.Means.{MeansKind}
 use Rattle.ar_check.proofs.Operands.{on_bool}

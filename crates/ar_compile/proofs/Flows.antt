@@ -15,13 +15,13 @@ use Rattle.ar_op.specs.Machine.{nth}
 use Rattle.ar_op.specs.declared.op.Op.{Op}
 use Rattle.ar_op.specs.declared.op.Jump.TheVariants as jumps
 use Rattle.ar_op.specs.declared.op.Op.TheVariants.{Jump, Enter, Step, Return}
-use Rattle.ar_verified.specs.Arrivals.{Around, Operands, Sent, all_sent, answer_kind, arrived, at_place, deepest, item_of, joined, lacks, merged, most_operands, operands, passed_on, sent, sent_on, sent_to, to_next}
-use Rattle.ar_verified.specs.Effects.{effect, truth}
-use Rattle.ar_verified.specs.Places.{most_loops}
-use Rattle.ar_verified.specs.declared.error.Cause.{Cause}
-use Rattle.ar_verified.specs.declared.error.Cause.TheVariants.{Fault}
-use Rattle.ar_verified.specs.declared.error.Reason.TheVariants.{StackTooDeep}
-use Rattle.ar_verified.proofs.Arriving.{all_append, all_more, arrives, elsewhere, sent_to_both}
+use Rattle.ar_safety.specs.Arrivals.{Around, Operands, Sent, all_sent, answer_kind, arrived, at_place, deepest, item_of, joined, lacks, merged, most_operands, operands, passed_on, sent, sent_on, sent_to, to_next}
+use Rattle.ar_safety.specs.Effects.{effect, truth}
+use Rattle.ar_safety.specs.Places.{most_loops}
+use Rattle.ar_safety.specs.declared.error.Cause.{Cause}
+use Rattle.ar_safety.specs.declared.error.Cause.TheVariants.{Fault}
+use Rattle.ar_safety.specs.declared.error.Reason.TheVariants.{StackTooDeep}
+use Rattle.ar_safety.proofs.Arriving.{all_append, all_more, arrives, elsewhere, sent_to_both}
 use Rattle.ar_compile.proofs.Blocks.{Block, IsPlain, SkipsTo, both, branches, loops, one, skips}
 use Rattle.ar_compile.proofs.Merging.{joined_front}
 

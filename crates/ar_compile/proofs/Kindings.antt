@@ -20,16 +20,16 @@ use Rattle.ar_value.specs.declared.operator.Order.TheVariants.{Less, LessOrEqual
 use Rattle.ar_value.specs.declared.operator.Predicate.{Predicate}
 use Rattle.ar_value.specs.declared.operator.Scalar.{Scalar}
 use Rattle.ar_value.specs.declared.operator.Scalar.TheVariants as scalars
-use Rattle.ar_condition.specs.Expression.{Expression, Expressions, place_of}
-use Rattle.ar_condition.specs.Expression as trees
-use Rattle.ar_condition.specs.declared.tree.Binary.{Binary}
-use Rattle.ar_condition.specs.declared.tree.Binary.TheVariants as binaries
-use Rattle.ar_condition.specs.declared.tree.Comparison.{Comparison}
-use Rattle.ar_condition.specs.declared.tree.Comparison.TheVariants as comparisons
-use Rattle.ar_condition.specs.declared.tree.Unary.{Unary}
-use Rattle.ar_condition.specs.declared.tree.Unary.TheVariants as unaries
-use Rattle.ar_condition.specs.Typed.{Typed, Typeds, typeds, how_many}
-use Rattle.ar_condition.specs.Typed as typed
+use Rattle.ar_tree.specs.Expression.{Expression, Expressions, place_of}
+use Rattle.ar_tree.specs.Expression as trees
+use Rattle.ar_tree.specs.declared.tree.Binary.{Binary}
+use Rattle.ar_tree.specs.declared.tree.Binary.TheVariants as binaries
+use Rattle.ar_tree.specs.declared.tree.Comparison.{Comparison}
+use Rattle.ar_tree.specs.declared.tree.Comparison.TheVariants as comparisons
+use Rattle.ar_tree.specs.declared.tree.Unary.{Unary}
+use Rattle.ar_tree.specs.declared.tree.Unary.TheVariants as unaries
+use Rattle.ar_tree.specs.Typed.{Typed, Typeds, typeds, how_many}
+use Rattle.ar_tree.specs.Typed as typed
 use Rattle.ar_check.specs.Basics.{most_predicates}
 use Rattle.ar_check.specs.Check.{Answer, Item, arithmetic_kind, arithmetic_on, binary_of, body_of, calculation_of, checked, choice_in, choice_of, common_of, comparison_of, condition_of, default_kind, default_of, entered, equal_of, equality_of, field_of, field_shape, found_field, given, in_common, in_of, index_of, innermost as innermost_of, is_nil_literal, is_whole_number, item_of, item_shape, items_typed, len_of, list_in_common, list_of, member_of, negated, negation_of, no_scalar, number_kind, ordered_of, ordering_of, over_items, plain_kind, plus_of, predicate_kind, predicate_of, same_family, scalar_shape, arithmetic_in, compared_of, where_there, truth_kind, turned_item, typed_of, unary_of, where_wanted, widened}
 use Rattle.ar_check.specs.Operand.{Operand, among, family_in, is_text, is_text_scalar, is_truth, is_bool, is_whole, made_plain, numbers, numbers_in, plain_of, plain_tree, scalar, scalar_of, turned}
@@ -37,8 +37,8 @@ use Rattle.ar_check.specs.declared.error.TypeError.TheVariants.{NotTruth, Predic
 use Rattle.ar_check.proofs.Lists.{all_suit, common_suits, suits}
 use Rattle.ar_check.proofs.Means.{answers, both_hold}
 use Rattle.ar_check.proofs.Parts.{ListOf, is_list, one_family}
-use Rattle.ar_verified.specs.Effects.{binary_kind, family_of, is_family, unary_kind}
-use Rattle.ar_verified.specs.Effects as effects
+use Rattle.ar_safety.specs.Effects.{binary_kind, family_of, is_family, unary_kind}
+use Rattle.ar_safety.specs.Effects as effects
 use Rattle.ar_compile.specs.Private.Kinded.{Kinded, AllKinded, measured, innermost, literally, of_field, of_unary, of_binary, of_both, of_either, of_choice, of_list, of_predicate, none, one_more}
 
 module _ (wanted : Shape) (inner : Option Shape) (around : ℕ) where

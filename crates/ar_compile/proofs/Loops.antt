@@ -12,8 +12,8 @@ use Rattle.ar_value.specs.Value as values
 use Rattle.ar_value.specs.declared.fault.Fault.{Fault}
 use Rattle.ar_value.specs.declared.operator.Predicate.{Predicate}
 use Rattle.ar_value.specs.declared.operator.Predicate.TheVariants as predicates
-use Rattle.ar_condition.specs.Meaning.{all_hold, any_holds, mean, none_holds, over, those}
-use Rattle.ar_condition.specs.Typed.{Typed}
+use Rattle.ar_tree.specs.Meaning.{all_hold, any_holds, mean, none_holds, over, those}
+use Rattle.ar_tree.specs.Typed.{Typed}
 use Rattle.ar_check.specs.Check.{truth_kind}
 use Rattle.ar_check.proofs.Means.{MeansKind, both_hold}
 use Rattle.ar_check.proofs.Operands.{on_bool}

@@ -12,9 +12,9 @@ use Rattle.ar_value.specs.Value as values
 use Rattle.ar_value.specs.declared.operator.BinaryOperator.{BinaryOperator}
 use Rattle.ar_value.specs.declared.operator.Scalar.{Scalar}
 use Rattle.ar_value.specs.declared.operator.UnaryOperator.{UnaryOperator}
-use Rattle.ar_condition.specs.Meaning.{items_mean, mean}
-use Rattle.ar_condition.specs.Typed.{Typed, Typeds, how_many}
-use Rattle.ar_condition.specs.Typed as typed
+use Rattle.ar_tree.specs.Meaning.{items_mean, mean}
+use Rattle.ar_tree.specs.Typed.{Typed, Typeds, how_many}
+use Rattle.ar_tree.specs.Typed as typed
 use Rattle.ar_check.specs.Check.{scalar_shape, truth_kind}
 use Rattle.ar_check.proofs.Branches.{choice_means, left_fits, means_more, right_fits}
 use Rattle.ar_check.proofs.Lists.{Fill, as_long, more_mean}
@@ -23,9 +23,9 @@ use Rattle.ar_check.proofs.OperatorKinds.{both_means, one_means}
 use Rattle.ar_check.proofs.Operands.{literal_sound, there_fits}
 use Rattle.ar_check.proofs.Parts.{field_means}
 use Rattle.ar_check.proofs.Predicates.{predicate_means}
-use Rattle.ar_verified.specs.Effects.{binary_kind, unary_kind}
-use Rattle.ar_verified.proofs.Effects.{binary_sound, unary_sound}
-use Rattle.ar_verified.proofs.Values.{MeansKind as MeansFitting}
+use Rattle.ar_safety.specs.Effects.{binary_kind, unary_kind}
+use Rattle.ar_safety.proofs.Effects.{binary_sound, unary_sound}
+use Rattle.ar_safety.proofs.Values.{MeansKind as MeansFitting}
 use Rattle.ar_compile.specs.Private.Kinded.{Kinded, AllKinded, measured, innermost, literally, of_field, of_unary, of_binary, of_both, of_either, of_choice, of_list, of_predicate, none, one_more}
 
 -- ---- operators

@@ -4,9 +4,9 @@ use Rattle.std.specs.Prelude.{◌||◌, option_and_then}
 use Rattle.std.specs.Str.{bytes_eq}
 use Rattle.std.proofs.lemmas.Slice.Eq.{bytes_eq-Decides}
 use Rattle.ar_value.specs.Kind.{Kind, is_optional, joined_field, merge, nil, or_nil, plain, shaped, widest, widest_fields}
-use Rattle.ar_verified.specs.Arrivals.{Around, Operands, joined, merged, of_loops, operands}
-use Rattle.ar_verified.specs.declared.error.Reason.{Reason}
-use Rattle.ar_verified.specs.declared.error.Reason.TheVariants.{BadMerge}
+use Rattle.ar_safety.specs.Arrivals.{Around, Operands, joined, merged, of_loops, operands}
+use Rattle.ar_safety.specs.declared.error.Reason.{Reason}
+use Rattle.ar_safety.specs.declared.error.Reason.TheVariants.{BadMerge}
 use Rattle.ar_value.specs.Shape.{Shape, FieldShapes, bool, whole, decimal, text, list, object, optional, no_fields, field}
 
 -- ---- shapes that differ in greatest lengths only

@@ -8,9 +8,9 @@ use Rattle.ar_value.specs.Value.{Value}
 use Rattle.ar_value.specs.Value as values
 use Rattle.ar_value.specs.declared.fault.Fault.{Fault}
 use Rattle.ar_value.specs.declared.operator.BinaryOperator.{BinaryOperator}
-use Rattle.ar_condition.specs.Meaning.{mean}
-use Rattle.ar_condition.specs.Typed.{Typed}
-use Rattle.ar_condition.specs.Typed as typed
+use Rattle.ar_tree.specs.Meaning.{mean}
+use Rattle.ar_tree.specs.Typed.{Typed}
+use Rattle.ar_tree.specs.Typed as typed
 use Rattle.ar_check.specs.Check.{truth_kind}
 use Rattle.ar_check.proofs.Means.{MeansKind}
 use Rattle.ar_check.proofs.Operands.{on_bool}

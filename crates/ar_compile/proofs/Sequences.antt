@@ -3,10 +3,10 @@ use Rattle.std.proofs.Common.{◌≡◌, ℕ, suc, true, false, ◌+◌, ◌<◌
 use Rattle.std.specs.Prelude.{slice_index_or}
 use Rattle.std.specs.Bool.{Decides}
 use Rattle.std.proofs.Math.ListN.{drop_of_length-le}
-use Rattle.ar_condition.specs.Typed.{Typed, Typeds, typeds, how_many}
+use Rattle.ar_tree.specs.Typed.{Typed, Typeds, typeds, how_many}
 use Rattle.ar_op.specs.Code.{Code}
 use Rattle.ar_compile.specs.Length.{operations, operations_of_items}
-use Rattle.ar_condition.specs.Limits.{AllInLimits, InLimits}
+use Rattle.ar_tree.specs.Limits.{AllInLimits, InLimits}
 use Rattle.ar_compile.specs.Private.Drafts.{drafted, drafted_items}
 use Rattle.ar_compile.specs.Private.Trees.{Agree}
 use Rattle.ar_compile.proofs.Drafts.{drafted_length, one_place_more, same_place}

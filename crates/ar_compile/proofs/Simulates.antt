@@ -12,11 +12,11 @@ use Rattle.ar_value.specs.Value as values
 use Rattle.ar_value.specs.declared.fault.Fault.{Fault}
 use Rattle.ar_value.specs.declared.operator.Predicate.{Predicate}
 use Rattle.ar_value.specs.declared.operator.Scalar.{Scalar}
-use Rattle.ar_condition.specs.Meaning.{items_mean, mean, over}
-use Rattle.ar_condition.specs.Typed.{Typed, Typeds, how_many}
-use Rattle.ar_condition.specs.Typed as typed
-use Rattle.ar_condition.specs.declared.tree.Literal.{Literal}
-use Rattle.ar_condition.specs.declared.tree.Literal.TheVariants as literals
+use Rattle.ar_tree.specs.Meaning.{items_mean, mean, over}
+use Rattle.ar_tree.specs.Typed.{Typed, Typeds, how_many}
+use Rattle.ar_tree.specs.Typed as typed
+use Rattle.ar_tree.specs.declared.tree.Literal.{Literal}
+use Rattle.ar_tree.specs.declared.tree.Literal.TheVariants as literals
 use Rattle.ar_check.specs.Check.{scalar_shape, truth_kind}
 use Rattle.ar_check.proofs.Means.{IsThere, MeansKind}
 use Rattle.ar_check.proofs.Operands.{on_list}

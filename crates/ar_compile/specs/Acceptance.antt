@@ -2,9 +2,9 @@
 use Rattle.std.specs.Prelude.{◌≡◌, ◌⊎◌, ℕ}
 use Rattle.ar_value.specs.Shape.{Shape}
 use Rattle.ar_op.specs.Code.{Code}
-use Rattle.ar_verified.specs.Verdict.{IsFault}
-use Rattle.ar_verified.specs.declared.error.Reason.{Reason}
-use Rattle.ar_verified.specs.declared.error.Reason.TheVariants.{BudgetTooLarge, StackTooDeep}
+use Rattle.ar_safety.specs.Verdict.{IsFault}
+use Rattle.ar_safety.specs.declared.error.Reason.{Reason}
+use Rattle.ar_safety.specs.declared.error.Reason.TheVariants.{BudgetTooLarge, StackTooDeep}
 
 -- if it has a fault under a shape, then that a run of it may have too many operands, or cost too much
 pub record OnlyTooLarge (code : Code) (shape : Shape) : Type 0 where

@@ -1,10 +1,10 @@
 -- The code of a condition: operands in order, then the operation.
 use Rattle.std.specs.Prelude.{ℕ, suc, ◌+◌, if◌then◌else◌, List, [], ◌∷◌, ◌++◌}
 use Rattle.std.specs.Str.{bytes_eq}
-use Rattle.ar_condition.specs.Typed.{Typed, Typeds, how_many}
-use Rattle.ar_condition.specs.Typed as typed
-use Rattle.ar_condition.specs.declared.tree.Literal.{Literal}
-use Rattle.ar_condition.specs.declared.tree.Literal.TheVariants as literals
+use Rattle.ar_tree.specs.Typed.{Typed, Typeds, how_many}
+use Rattle.ar_tree.specs.Typed as typed
+use Rattle.ar_tree.specs.declared.tree.Literal.{Literal}
+use Rattle.ar_tree.specs.declared.tree.Literal.TheVariants as literals
 use Rattle.ar_op.specs.Code.{Code, code_of_parts}
 use Rattle.ar_op.specs.declared.op.Jump.TheVariants as jumps
 use Rattle.ar_op.specs.declared.op.Op.{Op}

@@ -1,7 +1,7 @@
 -- How many operations the code of a condition has.
 use Rattle.std.specs.Prelude.{ℕ, ◌+◌}
-use Rattle.ar_condition.specs.Typed.{Typed, Typeds}
-use Rattle.ar_condition.specs.Typed as typed
+use Rattle.ar_tree.specs.Typed.{Typed, Typeds}
+use Rattle.ar_tree.specs.Typed as typed
 
 abbrev mutual
   -- of a tree, which leaves its value on the stack

@@ -2,9 +2,9 @@
 
 ghost use Rattle.std.specs.Prelude.{◌≡◌, Ok};
 ghost use Rattle.ar_value.specs.Shape.{Shape};
-ghost use Rattle.ar_condition.specs.Expression.{Expression};
-ghost use Rattle.ar_condition.specs.Limits.{InLimits, WrittenInLimits};
-ghost use Rattle.ar_condition.specs.Typed.{Typed};
+ghost use Rattle.ar_tree.specs.Expression.{Expression};
+ghost use Rattle.ar_tree.specs.Limits.{InLimits, WrittenInLimits};
+ghost use Rattle.ar_tree.specs.Typed.{Typed};
 ghost use Rattle.ar_check.specs.Check.{checked};
 
 /// A checked condition is within limits where its tree as written is.

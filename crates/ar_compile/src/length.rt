@@ -1,11 +1,11 @@
 //! How many operations the code of a condition has.
 
 ghost use Rattle.std.specs.Prelude.{◌+◌, ◌-◌, ◌≤◌, SomeIff};
-ghost use Rattle.ar_condition.specs.Views.{typed_view};
+ghost use Rattle.ar_tree.specs.Views.{typed_view};
 ghost use Rattle.ar_compile.specs.Length.{operations, operations_of_items};
 ghost use Rattle.ar_compile.specs.Private.Trees.{items_view, operations_of_two};
 
-use ar_condition::Typed;
+use ar_tree::Typed;
 
 /// What is left of so much room after the operations of a tree, if there is enough.
 #[cycle(length)]

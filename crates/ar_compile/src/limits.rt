@@ -2,13 +2,13 @@
 
 ghost use Rattle.std.specs.Prelude.{◌≤◌};
 ghost use Rattle.std.specs.Bool.{Decides};
-ghost use Rattle.ar_condition.specs.Limits.{AllInLimits, InLimits, IsShortLiteral, most_items};
-ghost use Rattle.ar_condition.specs.Typed.{how_many};
-ghost use Rattle.ar_condition.specs.Views.{typed_view};
+ghost use Rattle.ar_tree.specs.Limits.{AllInLimits, InLimits, IsShortLiteral, most_items};
+ghost use Rattle.ar_tree.specs.Typed.{how_many};
+ghost use Rattle.ar_tree.specs.Views.{typed_view};
 ghost use Rattle.ar_compile.specs.Private.Trees.{items_view};
 
-use ar_condition::Typed;
-use ar_condition::tree::Literal;
+use ar_tree::Typed;
+use ar_tree::tree::Literal;
 
 /// The most items of a list literal.
 const MOST_ITEMS: usize = 16;

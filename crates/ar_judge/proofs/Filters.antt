@@ -6,10 +6,10 @@ use Rattle.ar_value.specs.Shape.{Shape}
 use Rattle.ar_value.specs.declared.operator.Predicate.{Predicate}
 use Rattle.ar_value.specs.Predicates.{gathers}
 use Rattle.ar_operand.specs.Memory.{keeps_items}
-use Rattle.ar_condition.specs.Typed.{Typed, Typeds}
-use Rattle.ar_condition.specs.Typed as typed
-use Rattle.ar_condition.specs.declared.tree.Literal.{Literal}
-use Rattle.ar_condition.specs.declared.tree.Literal.TheVariants as literals
+use Rattle.ar_tree.specs.Typed.{Typed, Typeds}
+use Rattle.ar_tree.specs.Typed as typed
+use Rattle.ar_tree.specs.declared.tree.Literal.{Literal}
+use Rattle.ar_tree.specs.declared.tree.Literal.TheVariants as literals
 use Rattle.ar_op.specs.declared.op.Op.{Op}
 use Rattle.ar_op.specs.declared.op.Op.TheVariants.{Return, Enter, Step}
 use Rattle.ar_compile.specs.Compiled.{Tables, code_at, compiled, items_at, literal_op, no_tables, tables_with}

@@ -4,9 +4,9 @@ use Rattle.ar_value.specs.Fits.{fits}
 use Rattle.ar_value.specs.Shape.{Shape}
 use Rattle.ar_value.specs.Value.{Value}
 use Rattle.ar_value.specs.declared.fault.Fault.{Fault}
-use Rattle.ar_condition.specs.Expression.{Expression}
-use Rattle.ar_condition.specs.Meaning.{answer_of, mean}
-use Rattle.ar_condition.specs.Typed.{Typed}
+use Rattle.ar_tree.specs.Expression.{Expression}
+use Rattle.ar_tree.specs.Meaning.{answer_of, mean}
+use Rattle.ar_tree.specs.Typed.{Typed}
 use Rattle.ar_syntax.proofs.Limits.{parsed_in_limits}
 use Rattle.ar_syntax.specs.Parse.{parse_of}
 use Rattle.ar_syntax.specs.declared.error.SyntaxError.{SyntaxError}
@@ -17,8 +17,8 @@ use Rattle.ar_compile.proofs.Conditions.{compiled_means}
 use Rattle.ar_compile.proofs.Lawful.{compiled_is_code}
 use Rattle.ar_compile.specs.Compiled.{compiled}
 use Rattle.ar_compile.specs.Ends.{EndsWith}
-use Rattle.ar_verified.proofs.Safe.{few_operands, verified_is_safe}
-use Rattle.ar_verified.specs.Safety.{IsSafe}
+use Rattle.ar_safety.proofs.Safe.{few_operands, verified_is_safe}
+use Rattle.ar_safety.specs.Safety.{IsSafe}
 use Rattle.ar_judge.specs.Condition.{Condition, IsBuilt, refused_as, said, typed_of}
 use Rattle.ar_judge.specs.Headline.{HeadlineHolds, HoldsWhereThere, JudgeHeadlineHolds, JudgesAsMeant, RunsAsMeant, run_answer}
 use Rattle.ar_judge.specs.Verdict.{AreBuilt, IsJudge, Judge, said_of, verdict_by}

@@ -5,9 +5,9 @@ use Rattle.ar_value.specs.Shape.{Shape}
 use Rattle.ar_op.specs.Code.{most_entries}
 use Rattle.ar_compile.specs.Compiled.{compiled}
 use Rattle.ar_compile.specs.Length.{length_of}
-use Rattle.ar_verified.specs.Verdict.{IsFault}
-use Rattle.ar_verified.specs.declared.error.Reason.{Reason}
-use Rattle.ar_verified.proofs.OneVerdict.{one_verdict, same_fault}
+use Rattle.ar_safety.specs.Verdict.{IsFault}
+use Rattle.ar_safety.specs.declared.error.Reason.{Reason}
+use Rattle.ar_safety.proofs.OneVerdict.{one_verdict, same_fault}
 use Rattle.ar_judge.specs.Condition.{Condition, IsBuilt, IsRefused, IsTooLong, IsUnsafe}
 use Rattle.ar_judge.specs.Verdict.{AreBuilt, IsJudge, Judge, RefusesText, RefusesTexts}
 use Rattle.ar_judge.specs.declared.error.BuildCause.{BuildCause}

@@ -6,10 +6,10 @@ use Rattle.ar_value.specs.declared.shape.Shape.{Shape as Declared}
 use Rattle.ar_value.specs.Value.{Value}
 use Rattle.ar_value.specs.View.{shape_view}
 use Rattle.ar_value.specs.declared.fault.Fault.{Fault}
-use Rattle.ar_condition.specs.Expression.{Expression}
-use Rattle.ar_condition.specs.Limits.{InLimits, WrittenInLimits}
-use Rattle.ar_condition.specs.Meaning.{answer_of, mean}
-use Rattle.ar_condition.specs.Typed.{Typed}
+use Rattle.ar_tree.specs.Expression.{Expression}
+use Rattle.ar_tree.specs.Limits.{InLimits, WrittenInLimits}
+use Rattle.ar_tree.specs.Meaning.{answer_of, mean}
+use Rattle.ar_tree.specs.Typed.{Typed}
 use Rattle.ar_syntax.specs.Parse.{parse_of}
 use Rattle.ar_check.specs.Check.{checked}
 use Rattle.ar_op.specs.Code.{Code, most_entries}
@@ -21,9 +21,9 @@ use Rattle.ar_compile.specs.declared.error.CompileError.{CompileError}
 use Rattle.ar_compile.specs.declared.error.CompileError.TheVariants.{TooManyOps, OutOfMemory}
 use Rattle.ar_operand.proofs.Ends as runs
 use Rattle.ar_operand.specs.Run.{IsDone}
-use Rattle.ar_verified.specs.Verdict.{IsCause, IsFault, IsVerified, Verified}
-use Rattle.ar_verified.specs.declared.error.Cause.{Cause}
-use Rattle.ar_verified.specs.declared.error.Cause.TheVariants as causes
+use Rattle.ar_safety.specs.Verdict.{IsCause, IsFault, IsVerified, Verified}
+use Rattle.ar_safety.specs.declared.error.Cause.{Cause}
+use Rattle.ar_safety.specs.declared.error.Cause.TheVariants as causes
 use Rattle.ar_judge.specs.Condition.{IsBuilt, IsRefused, condition_of, of_compiler, of_verifier, said, typed_of}
 use Rattle.ar_judge.specs.Private.Readiness.{IsCodeOf, IsReady, Means}
 

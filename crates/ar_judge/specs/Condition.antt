@@ -5,8 +5,8 @@ use Rattle.ar_value.specs.Shape.{Shape}
 use Rattle.ar_value.specs.Value.{Value}
 use Rattle.ar_value.specs.View.{shape_view}
 use Rattle.ar_value.specs.declared.fault.Fault.{Fault}
-use Rattle.ar_condition.specs.Meaning.{answer_of, mean}
-use Rattle.ar_condition.specs.Typed.{Typed}
+use Rattle.ar_tree.specs.Meaning.{answer_of, mean}
+use Rattle.ar_tree.specs.Typed.{Typed}
 use Rattle.ar_syntax.specs.Parse.{parse_of}
 use Rattle.ar_syntax.specs.declared.error.SyntaxError.{SyntaxError}
 use Rattle.ar_syntax.specs.declared.error.SyntaxError.TheVariants as syntax
@@ -19,10 +19,10 @@ use Rattle.ar_compile.specs.Length.{length_of}
 use Rattle.ar_compile.specs.declared.error.CompileError.{CompileError}
 use Rattle.ar_compile.specs.declared.error.CompileError.TheVariants.{TooManyOps}
 use Rattle.ar_compile.specs.declared.error.CompileError.TheVariants as compile_error
-use Rattle.ar_verified.specs.Verdict.{IsFault, IsVerified, Verified}
-use Rattle.ar_verified.specs.declared.error.Cause.{Cause}
-use Rattle.ar_verified.specs.declared.error.Cause.TheVariants as causes
-use Rattle.ar_verified.specs.declared.error.Reason.{Reason}
+use Rattle.ar_safety.specs.Verdict.{IsFault, IsVerified, Verified}
+use Rattle.ar_safety.specs.declared.error.Cause.{Cause}
+use Rattle.ar_safety.specs.declared.error.Cause.TheVariants as causes
+use Rattle.ar_safety.specs.declared.error.Reason.{Reason}
 use Rattle.ar_judge.specs.declared.error.BuildCause.{BuildCause}
 use Rattle.ar_judge.specs.declared.error.BuildCause.TheVariants.{Grammar, Kinds, Compiler, Verifier, OutOfMemory}
 

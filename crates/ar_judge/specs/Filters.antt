@@ -4,8 +4,8 @@ use Rattle.ar_value.specs.Shape.{Shape}
 use Rattle.ar_value.specs.Value.{Value}
 use Rattle.ar_value.specs.Predicates.{gathers}
 use Rattle.ar_operand.specs.Memory.{keeps_items}
-use Rattle.ar_condition.specs.Typed.{Typed, Typeds}
-use Rattle.ar_condition.specs.Typed as typed
+use Rattle.ar_tree.specs.Typed.{Typed, Typeds}
+use Rattle.ar_tree.specs.Typed as typed
 use Rattle.ar_machine.specs.Filter.{BeginsNoFilter}
 use Rattle.ar_judge.specs.Condition.{Condition, typed_of}
 

@@ -2,8 +2,8 @@
 
 use ar_check::TypeError;
 use ar_compile::CompileError;
+use ar_safety::Reason;
 use ar_syntax::SyntaxError;
-use ar_verified::Reason;
 use std::alloc::AllocError;
 use thiserror::Error;
 
@@ -80,16 +80,16 @@ impl From<CompileError> for BuildCause {
     }
 }
 
-impl From<ar_verified::Cause> for BuildCause {
+impl From<ar_safety::Cause> for BuildCause {
     ghost use Rattle.std.specs.Prelude.{◌≡◌};
     ghost use Rattle.ar_judge.specs.Condition.{of_verifier};
 
     ghost from_gives = { λ cause e. e ≡ of_verifier cause };
 
-    fn from(cause: ar_verified::Cause) -> BuildCause {
+    fn from(cause: ar_safety::Cause) -> BuildCause {
         match cause {
-            ar_verified::Cause::OutOfMemory => BuildCause::OutOfMemory,
-            ar_verified::Cause::Fault { place, reason } => BuildCause::Verifier(place, reason),
+            ar_safety::Cause::OutOfMemory => BuildCause::OutOfMemory,
+            ar_safety::Cause::Fault { place, reason } => BuildCause::Verifier(place, reason),
         }
     }
 }

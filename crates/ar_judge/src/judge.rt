@@ -13,10 +13,10 @@ use crate::shared_condition::SharedCondition;
 use crate::verdict::{Cause, Verdict};
 use ar_machine::Answer;
 use ar_manifest::BoundMetric;
+use ar_safety::Verified;
 use ar_value::Text;
 use ar_value::shared_shape::SharedShape;
 use ar_value::value::Value;
-use ar_verified::Verified;
 use std::alloc::{AllocError, Global};
 use std::marker::Model;
 

@@ -4,7 +4,7 @@ use Rattle.std.specs.Prelude.{ℕ, List, [], ◌∷◌, ◌++◌, codes, length,
 use Rattle.ar_code.specs.Listing.{listing}
 use Rattle.ar_judge.specs.Condition.{Condition}
 use Rattle.ar_judge.specs.Verdict.{Judge}
-use Rattle.ar_verified.specs.Verdict.{Verified}
+use Rattle.ar_safety.specs.Verdict.{Verified}
 use Rattle.ar_bundle.specs.Bundle.{Bundle}
 use Rattle.ar_bundle.specs.declared.bundle.MetricPart.{MetricPart}
 use Rattle.ar_bundle.specs.declared.bundle.RunPart.{RunPart}

@@ -9,7 +9,7 @@ use crate::reports::put_counted;
 use ar_bundle::{Bundle, MetricPart, RunPart};
 use ar_code::listing;
 use ar_judge::Judge;
-use ar_verified::Verified;
+use ar_safety::Verified;
 use std::alloc::{AllocError, Global};
 
 /// What is shown of each condition.

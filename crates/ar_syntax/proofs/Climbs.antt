@@ -1,7 +1,7 @@
 -- A stack in memory, and what ends on it.
 use Rattle.std.proofs.Common.{◌≡◌, ℕ, zero, suc, ◌<◌, Some, true, false, List, [], ◌∷◌, ◌++◌, length, refl, ◌∙◌, ap, arith, length-append}
 use Rattle.std.specs.Prelude.{slice_get}
-use Rattle.ar_condition.specs.Expression.{Expression}
+use Rattle.ar_tree.specs.Expression.{Expression}
 use Rattle.ar_syntax.specs.Machine.{Frame, RightOf, Prefixed, No, Have, climbed, unwound}
 use Rattle.ar_syntax.specs.Private.Frames.{closed_by, ended, ends, ends_below, frame_of, frames_of, top_ends, unwinds}
 use Rattle.ar_syntax.specs.declared.climb.Reach.{Reach}

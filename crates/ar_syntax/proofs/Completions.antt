@@ -1,7 +1,7 @@
 -- What begins a condition is what the machine reads: each state that it reaches has tokens that end a condition.
 use Rattle.std.proofs.Common.{◌≡◌, ◌≢◌, ℕ, zero, suc, ◌+◌, ◌-◌, ◌≤◌, Bool, true, false, List, [], ◌∷◌, ◌++◌, length, refl, sym, ◌∙◌, ap, subst, arith, Option, Some, None}
 use Rattle.std.specs.Prelude.{pred}
-use Rattle.ar_condition.specs.Expression.{Expression, FieldAt, IndexAt, LiteralAt, UnaryAt, BinaryAt, ChoiceAt, ListAt, expressions}
+use Rattle.ar_tree.specs.Expression.{Expression, FieldAt, IndexAt, LiteralAt, UnaryAt, BinaryAt, ChoiceAt, ListAt, expressions}
 use Rattle.ar_syntax.specs.Grammar.{Arguments, ArgumentsBehind, Further, Items, ItemsBehind, Phrase, Primary, Rules, Selections, may_continue, may_open, most_openers, takes_all, takes_more, ternary}
 use Rattle.ar_syntax.specs.Grammar as grammar
 use Rattle.ar_syntax.specs.Machine.{Frame, State, RightOf, Prefixed, Yes, No, Grouped, Listed, Indexed, Argued, Body, Braced, Want, Have, WantName, WantIndex, HaveText, WantIn, WantGroup, WantArgument, HaveArgument, inside, left, wanted}
@@ -11,9 +11,9 @@ use Rattle.ar_syntax.specs.declared.token.Sign.TheVariants as signs
 use Rattle.ar_syntax.specs.declared.token.Word.TheVariants as words
 use Rattle.ar_syntax.specs.declared.token.TokenKind.{TokenKind}
 use Rattle.ar_syntax.specs.declared.token.TokenKind.TheVariants as kinds
-use Rattle.ar_condition.specs.declared.tree.Binary.TheVariants.{NotIn}
-use Rattle.ar_condition.specs.declared.tree.Literal.TheVariants.{Text}
-use Rattle.ar_condition.specs.declared.tree.Literal.TheVariants as literals
+use Rattle.ar_tree.specs.declared.tree.Binary.TheVariants.{NotIn}
+use Rattle.ar_tree.specs.declared.tree.Literal.TheVariants.{Text}
+use Rattle.ar_tree.specs.declared.tree.Literal.TheVariants as literals
 use Rattle.ar_syntax.specs.Grammar.{ends_bracket, is_alone, is_text_alone}
 use Rattle.ar_syntax.specs.Roles.{Leaf}
 use Rattle.ar_syntax.proofs.Leads.{Had, Argument, After, Wanted, TextClosed, Inner, Called, Leads}

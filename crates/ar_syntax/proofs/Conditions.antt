@@ -1,6 +1,6 @@
 -- The tree of tokens is the grammar's, and so is their refusal.
 use Rattle.std.proofs.Common.{◌≡◌, ℕ, Bool, true, false, List, [], ◌∷◌, ◌++◌, refl, sym, ◌∙◌, ap, subst, Option, Some, None}
-use Rattle.ar_condition.specs.Expression.{Expression}
+use Rattle.ar_tree.specs.Expression.{Expression}
 use Rattle.ar_syntax.specs.Machine.{State}
 use Rattle.ar_syntax.specs.declared.token.Token.{Token}
 use Rattle.std.specs.Prelude.{nat_le}

@@ -1,13 +1,13 @@
 -- Each state that is reached has tokens that end a condition: a number, and then what closes the brackets.
 use Rattle.std.proofs.Common.{◌≡◌, ℕ, suc, Bool, true, false, List, [], ◌∷◌, ◌++◌, length, refl, arith, Option, Some, None}
 use Rattle.std.specs.Prelude.{pred}
-use Rattle.ar_condition.specs.Expression.{Expression, LiteralAt, UnaryAt, BinaryAt, ChoiceAt}
+use Rattle.ar_tree.specs.Expression.{Expression, LiteralAt, UnaryAt, BinaryAt, ChoiceAt}
 use Rattle.ar_syntax.specs.Grammar.{Rules, may_continue, may_open, takes_all, takes_more}
 use Rattle.ar_syntax.specs.Machine.{Frame, State, RightOf, Prefixed, Yes, No, Grouped, Listed, Indexed, Argued, Body, Braced, Want, Have, WantName, WantIndex, HaveText, WantIn, WantGroup, WantArgument, HaveArgument, inside, left}
 use Rattle.ar_syntax.specs.Roles.{Call, Ender, Follow, Start, Ends, Comma, Colon, EndGroup, EndBracket, EndBrace, Operator, NotOf, Choose, Select, Open, NoFollow, follows, is_body, is_brace, is_group, is_in, looseness, name_of, starts, text_value}
 use Rattle.ar_syntax.specs.declared.token.Token.{Token}
-use Rattle.ar_condition.specs.declared.tree.Binary.{Binary}
-use Rattle.ar_condition.specs.declared.tree.Literal.TheVariants.{Text}
+use Rattle.ar_tree.specs.declared.tree.Binary.{Binary}
+use Rattle.ar_tree.specs.declared.tree.Literal.TheVariants.{Text}
 use Rattle.std.specs.Prelude.{nat_le}
 use Rattle.ar_syntax.specs.Machine.{argue, begin, choose, climbed, close_braced, close_empty, close_text, end_with, follow, negate, open_index, operate, select, step, unwound, when}
 use Rattle.ar_syntax.specs.Roles.{Len, IsNil, Default, Over, Leaf, Prefix, Group, Bracket, Calls, ItemPoint, NoStart}

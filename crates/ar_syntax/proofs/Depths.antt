@@ -3,11 +3,11 @@ use Rattle.std.proofs.Common.{◌≡◌, ℕ, zero, suc, ◌+◌, ◌-◌, ◌<�
 use Rattle.std.proofs.lemmas.Bool.Decides.{nat_tests}
 use Rattle.std.specs.Prelude.{◌&&◌, slice_index_or}
 use Rattle.std.proofs.Math.ListN.{drop_of_length-le}
-use Rattle.ar_condition.specs.Expression.{Expression, expressions}
-use Rattle.ar_condition.specs.Expression as trees
+use Rattle.ar_tree.specs.Expression.{Expression, expressions}
+use Rattle.ar_tree.specs.Expression as trees
 use Rattle.ar_syntax.specs.Refusal.{depth, items_depth}
-use Rattle.ar_condition.specs.Views.{expression_of}
-use Rattle.ar_condition.specs.declared.tree.Tree.{Tree}
+use Rattle.ar_tree.specs.Views.{expression_of}
+use Rattle.ar_tree.specs.declared.tree.Tree.{Tree}
 
 pub some_level : (tree : Expression) → 0 < depth tree
 some_level (trees.ResultAt at) = omega arith

@@ -1,6 +1,6 @@
 -- Where one is inside a predicate.
 use Rattle.std.proofs.Common.{◌≡◌, ◌≢◌, ℕ, Bool, true, false, List, [], ◌∷◌, ◌++◌, length, refl, ◌∙◌, ap, subst, arith, Option, Some, None}
-use Rattle.ar_condition.specs.Expression.{Expression, FieldAt, ItemAt, LiteralAt, UnaryAt, BinaryAt, ChoiceAt}
+use Rattle.ar_tree.specs.Expression.{Expression, FieldAt, ItemAt, LiteralAt, UnaryAt, BinaryAt, ChoiceAt}
 use Rattle.ar_syntax.specs.Grammar.{Rules, may_open, takes_all}
 use Rattle.ar_syntax.specs.Machine.{Frame, State, RightOf, Prefixed, Yes, No, Grouped, Listed, Indexed, Argued, Body, Braced, Want, Have, WantName, WantIndex, HaveText, WantIn, WantGroup, WantArgument, HaveArgument, inside, left}
 use Rattle.ar_syntax.specs.Roles.{Call, Ender, Follow, Start, Ends, Comma, Colon, EndGroup, EndBracket, EndBrace, Operator, NotOf, Choose, Select, Open, NoFollow, called, follows, is_body, is_brace, is_group, is_in, looseness, name_of, starts, text_value}
@@ -9,10 +9,10 @@ use Rattle.ar_syntax.specs.declared.token.Sign.TheVariants as signs
 use Rattle.ar_syntax.specs.declared.token.Word.TheVariants as words
 use Rattle.ar_syntax.specs.declared.token.TokenKind.{TokenKind}
 use Rattle.ar_syntax.specs.declared.token.TokenKind.TheVariants as kinds
-use Rattle.ar_condition.specs.declared.tree.Binary.{Binary}
-use Rattle.ar_condition.specs.declared.tree.Binary.TheVariants.{NotIn}
-use Rattle.ar_condition.specs.declared.tree.Binary.TheVariants as binaries
-use Rattle.ar_condition.specs.declared.tree.Literal.TheVariants.{Text}
+use Rattle.ar_tree.specs.declared.tree.Binary.{Binary}
+use Rattle.ar_tree.specs.declared.tree.Binary.TheVariants.{NotIn}
+use Rattle.ar_tree.specs.declared.tree.Binary.TheVariants as binaries
+use Rattle.ar_tree.specs.declared.tree.Literal.TheVariants.{Text}
 use Rattle.std.specs.Prelude.{nat_le}
 use Rattle.ar_syntax.specs.Machine.{argue, begin, choose, climbed, close_braced, close_empty, close_text, end_with, follow, have, negate, open_index, operate, select, step, unwound, want, when}
 use Rattle.ar_syntax.specs.Roles.{Len, IsNil, Default, kind_follow, kind_is_brace, Over, kind_start, kind_text, Leaf, Prefix, Group, Bracket, Calls, ItemPoint, NoStart}

@@ -1,13 +1,13 @@
 -- What a state of the machine and the tokens that follow lead to, in the grammar's own rules.
 use Rattle.std.proofs.Common.{◌≡◌, ℕ, zero, suc, ◌-◌, Bool, true, List, [], ◌∷◌, ◌++◌, Option, Some, None}
 use Rattle.std.specs.Prelude.{pred}
-use Rattle.ar_condition.specs.Expression.{Expression, FieldAt, IndexAt, LiteralAt, UnaryAt, BinaryAt, ChoiceAt, ListAt, expressions}
+use Rattle.ar_tree.specs.Expression.{Expression, FieldAt, IndexAt, LiteralAt, UnaryAt, BinaryAt, ChoiceAt, ListAt, expressions}
 use Rattle.ar_syntax.specs.Grammar.{Arguments, ArgumentsBehind, Further, ItemsBehind, Phrase, Rules, Selections, ternary}
 use Rattle.ar_syntax.specs.Machine.{Frame, State, RightOf, Prefixed, Yes, No, Grouped, Listed, Indexed, Argued, Body, Braced, Want, Have, WantName, WantIndex, HaveText, WantIn, WantGroup, WantArgument, HaveArgument, inside, left, wanted}
 use Rattle.ar_syntax.specs.Roles.{Call, Ender, Follow, Ends, Colon, EndGroup, EndBracket, EndBrace, called, follows, is_group, is_in, looseness, name_of, text_value}
 use Rattle.ar_syntax.specs.declared.token.Token.{Token}
-use Rattle.ar_condition.specs.declared.tree.Binary.TheVariants.{NotIn}
-use Rattle.ar_condition.specs.declared.tree.Literal.TheVariants.{Text}
+use Rattle.ar_tree.specs.declared.tree.Binary.TheVariants.{NotIn}
+use Rattle.ar_tree.specs.declared.tree.Literal.TheVariants.{Text}
 
 -- what may be said of a tree with the tokens after it
 abbrev pub Claim : Type 1

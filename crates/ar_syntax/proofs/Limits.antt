@@ -5,10 +5,10 @@ use Rattle.std.specs.List.{AllByRecursion}
 use Rattle.std.proofs.lemmas.Bool.{ltb-false, ltb-true}
 use Rattle.std.proofs.lemmas.List.{length-take}
 use Rattle.ar_value.specs.Answer.{Gives}
-use Rattle.ar_condition.specs.Expression.{Expression, count, expressions}
-use Rattle.ar_condition.specs.Limits.{AllWrittenInLimits, IsShort, WrittenInLimits, most_items}
-use Rattle.ar_condition.specs.Views.{expression_of}
-use Rattle.ar_condition.specs.declared.tree.Tree.{Tree}
+use Rattle.ar_tree.specs.Expression.{Expression, count, expressions}
+use Rattle.ar_tree.specs.Limits.{AllWrittenInLimits, IsShort, WrittenInLimits, most_items}
+use Rattle.ar_tree.specs.Views.{expression_of}
+use Rattle.ar_tree.specs.declared.tree.Tree.{Tree}
 use Rattle.ar_syntax.specs.Grammar.{Arguments, ArgumentsBehind, Further, Items, ItemsBehind, Phrase, Primary, Selections, may_continue}
 use Rattle.ar_syntax.specs.Grammar as grammar
 use Rattle.ar_syntax.specs.Parse.{SaysTree, parse_of}

@@ -14,13 +14,13 @@ use Rattle.ar_syntax.specs.Parse.{stepped}
 use Rattle.ar_syntax.proofs.Answers.{unless_holds}
 use Rattle.ar_syntax.specs.Fault.{accepts, fault_of, is_inside, kind_fault, wants_operand}
 use Rattle.ar_syntax.specs.declared.error.SyntaxError.TheVariants.{TooDeep, TooManyItems, WrongCount}
-use Rattle.ar_condition.specs.Views.{expression_of}
-use Rattle.ar_condition.specs.Expression.{Expression, FieldAt, LiteralAt}
+use Rattle.ar_tree.specs.Views.{expression_of}
+use Rattle.ar_tree.specs.Expression.{Expression, FieldAt, LiteralAt}
 use Rattle.ar_syntax.specs.declared.state.Refusal.{Refusal}
 use Rattle.ar_syntax.specs.declared.state.State as rust
 use Rattle.ar_syntax.specs.declared.token.Token.{Token}
-use Rattle.ar_condition.specs.declared.tree.Literal.TheVariants.{Text}
-use Rattle.ar_condition.specs.declared.tree.Tree.{Tree}
+use Rattle.ar_tree.specs.declared.tree.Literal.TheVariants.{Text}
+use Rattle.ar_tree.specs.declared.tree.Tree.{Tree}
 use Rattle.ar_syntax.specs.declared.state.Refusal.TheVariants.{Arguments, Depth, Items, OutOfMemory, Other}
 
 pub length_of_map : (xs : List Tree) → length (map expression_of xs) ≡ length xs

@@ -1,15 +1,15 @@
 -- What one token does after an operand: phrases of tighter levels end before it.
 use Rattle.std.proofs.Common.{◌≡◌, ◌≢◌, ℕ, zero, suc, ◌+◌, ◌-◌, ◌<◌, ◌≤◌, Bool, true, false, List, [], ◌∷◌, ◌++◌, refl, sym, ◌∙◌, ap, subst, arith, Option, Some, None}
 use Rattle.std.specs.Prelude.{pred}
-use Rattle.ar_condition.specs.Expression.{Expression, UnaryAt, BinaryAt, ChoiceAt}
+use Rattle.ar_tree.specs.Expression.{Expression, UnaryAt, BinaryAt, ChoiceAt}
 use Rattle.ar_syntax.specs.Grammar.{Arguments, ArgumentsBehind, Further, Items, ItemsBehind, Phrase, Primary, Rules, Selections, may_continue, may_open, most_openers, takes_all, takes_more, ternary}
 use Rattle.ar_syntax.specs.Grammar as grammar
 use Rattle.ar_syntax.specs.Machine.{Frame, State, RightOf, Prefixed, Yes, No, Grouped, Listed, Indexed, Argued, Body, Braced, Have, inside, left, wanted}
 use Rattle.ar_syntax.specs.Roles.{Call, Ender, Follow, Ends, Comma, Colon, EndGroup, EndBracket, EndBrace, Operator, NotOf, Choose, Select, Open, follows, looseness}
 use Rattle.ar_syntax.specs.declared.token.Token.{Token}
-use Rattle.ar_condition.specs.declared.tree.Binary.{Binary}
-use Rattle.ar_condition.specs.declared.tree.Binary.TheVariants.{NotIn}
-use Rattle.ar_condition.specs.declared.tree.Binary.TheVariants as binaries
+use Rattle.ar_tree.specs.declared.tree.Binary.{Binary}
+use Rattle.ar_tree.specs.declared.tree.Binary.TheVariants.{NotIn}
+use Rattle.ar_tree.specs.declared.tree.Binary.TheVariants as binaries
 use Rattle.std.specs.Prelude.{nat_le, cond}
 use Rattle.std.proofs.lemmas.Bool.{leb-true, leb-false}
 use Rattle.ar_syntax.specs.Machine.{climbed}

@@ -21,8 +21,8 @@ use Rattle.ar_syntax.specs.declared.token.Base.{Base}
 use Rattle.ar_syntax.specs.declared.token.Token.{Token}
 use Rattle.ar_syntax.specs.declared.token.TokenKind.{TokenKind}
 use Rattle.ar_syntax.specs.declared.token.TokenKind.TheVariants as kinds
-use Rattle.ar_condition.specs.declared.tree.Comparison.{Comparison}
-use Rattle.ar_condition.specs.declared.tree.Comparison.TheVariants as comparisons
+use Rattle.ar_tree.specs.declared.tree.Comparison.{Comparison}
+use Rattle.ar_tree.specs.declared.tree.Comparison.TheVariants as comparisons
 use Rattle.ar_syntax.specs.declared.token.Sign.{Sign}
 use Rattle.ar_syntax.specs.declared.token.Sign.TheVariants as signs
 use Rattle.ar_syntax.specs.declared.token.Word.{Word}

@@ -1,7 +1,7 @@
 -- Deriving equals running: the machine reads the tokens of just those trees that the grammar derives.
 use Rattle.std.proofs.Common.{◌≡◌, ◌≢◌, ℕ, ◌<◌, Bool, true, false, List, [], ◌∷◌, ◌++◌, length, refl, sym, subst, arith, Option, Some, None}
 use Rattle.std.specs.Prelude.{pred}
-use Rattle.ar_condition.specs.Expression.{Expression, LiteralAt, UnaryAt, BinaryAt, ChoiceAt}
+use Rattle.ar_tree.specs.Expression.{Expression, LiteralAt, UnaryAt, BinaryAt, ChoiceAt}
 use Rattle.ar_syntax.specs.Grammar.{Arguments, ArgumentsBehind, Further, Items, ItemsBehind, Phrase, Primary, Rules, Selections, may_continue, may_open, most_openers, takes_all, takes_more, ternary}
 use Rattle.ar_syntax.specs.Grammar as grammar
 use Rattle.ar_syntax.specs.Machine.{Frame, State, RightOf, Prefixed, Yes, No, Grouped, Listed, Indexed, Argued, Body, Braced, Want, Have, WantName, WantIndex, HaveText, WantIn, WantGroup, WantArgument, HaveArgument, inside, left, wanted}
@@ -13,8 +13,8 @@ use Rattle.ar_syntax.specs.declared.token.Word.{Word}
 use Rattle.ar_syntax.specs.declared.token.Word.TheVariants as words
 use Rattle.ar_syntax.specs.declared.token.TokenKind.{TokenKind}
 use Rattle.ar_syntax.specs.declared.token.TokenKind.TheVariants as kinds
-use Rattle.ar_condition.specs.declared.tree.Binary.{Binary}
-use Rattle.ar_condition.specs.declared.tree.Literal.TheVariants.{Text}
+use Rattle.ar_tree.specs.declared.tree.Binary.{Binary}
+use Rattle.ar_tree.specs.declared.tree.Literal.TheVariants.{Text}
 use Rattle.ar_syntax.specs.Grammar.{ends_bracket, is_alone, is_text_alone}
 use Rattle.ar_syntax.specs.Machine.{argue, begin, choose, climbed, close_braced, close_empty, close_text, end_with, follow, negate, open_index, operate, select, step, unwound, want, when}
 use Rattle.ar_syntax.specs.Roles.{kind_follow, kind_is_brace, Over, kind_start, sign_follow, sign_start, word_follow, Leaf, Prefix, Group, Bracket, Calls, ItemPoint, NoStart}

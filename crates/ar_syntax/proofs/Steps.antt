@@ -1,7 +1,7 @@
 -- One token: a state and tokens lead where the state after the first and the others do.
 use Rattle.std.proofs.Common.{◌≡◌, ◌≢◌, ℕ, suc, ◌-◌, ◌<◌, Bool, true, false, List, [], ◌∷◌, ◌++◌, length, refl, sym, ◌∙◌, ap, subst, arith, Option, Some, None}
 use Rattle.std.specs.Prelude.{pred}
-use Rattle.ar_condition.specs.Expression.{Expression, FieldAt, IndexAt, ItemAt, LiteralAt, UnaryAt, BinaryAt, ChoiceAt, ListAt, expressions}
+use Rattle.ar_tree.specs.Expression.{Expression, FieldAt, IndexAt, ItemAt, LiteralAt, UnaryAt, BinaryAt, ChoiceAt, ListAt, expressions}
 use Rattle.ar_syntax.specs.Grammar.{Arguments, ArgumentsBehind, Further, Items, ItemsBehind, Phrase, Primary, Rules, Selections, may_continue, may_open, most_openers, takes_all, takes_more, ternary}
 use Rattle.ar_syntax.specs.Grammar as grammar
 use Rattle.ar_syntax.specs.Machine.{Frame, State, RightOf, Prefixed, Yes, No, Grouped, Listed, Indexed, Argued, Body, Braced, Have, inside, left, wanted}
@@ -9,9 +9,9 @@ use Rattle.ar_syntax.specs.Roles.{Call, Ender, Follow, Start, Ends, Comma, Colon
 use Rattle.ar_syntax.specs.declared.token.Token.{Token}
 use Rattle.ar_syntax.specs.declared.token.TokenKind.{TokenKind}
 use Rattle.ar_syntax.specs.declared.token.TokenKind.TheVariants as kinds
-use Rattle.ar_condition.specs.declared.tree.Binary.{Binary}
-use Rattle.ar_condition.specs.declared.tree.Binary.TheVariants.{NotIn}
-use Rattle.ar_condition.specs.declared.tree.Literal.TheVariants.{Text}
+use Rattle.ar_tree.specs.declared.tree.Binary.{Binary}
+use Rattle.ar_tree.specs.declared.tree.Binary.TheVariants.{NotIn}
+use Rattle.ar_tree.specs.declared.tree.Literal.TheVariants.{Text}
 use Rattle.ar_syntax.specs.Grammar.{ends_bracket, is_alone, is_text_alone}
 use Rattle.ar_syntax.specs.Machine.{begin, choose, climbed, close_braced, end_with, follow, have, negate, operate, unwound, want, when}
 use Rattle.ar_syntax.specs.Roles.{kind_start, kind_text, Leaf, Prefix, Group, Bracket, Calls, ItemPoint, NoStart}

@@ -4,12 +4,12 @@ use Rattle.std.specs.Prelude.{IfOk, IfErr}
 use Rattle.ar_value.specs.Answer.{◌>>=◌, Gives}
 use Rattle.ar_syntax.specs.Parse.{SaysTree, IsRefusal, token_fault, grammar_fault, IsNoCondition, parse_of, tree_of}
 use Rattle.ar_syntax.specs.Tokens.{is_memory, tokens_of}
-use Rattle.ar_condition.specs.Expression.{Expression}
+use Rattle.ar_tree.specs.Expression.{Expression}
 use Rattle.ar_syntax.specs.declared.error.SyntaxError.{SyntaxError}
 use Rattle.ar_syntax.specs.declared.error.SyntaxError.TheVariants as errors
 use Rattle.ar_syntax.specs.declared.token.Token.{Token}
-use Rattle.ar_condition.specs.declared.tree.Tree.{Tree}
-use Rattle.ar_condition.specs.Views.{expression_of}
+use Rattle.ar_tree.specs.declared.tree.Tree.{Tree}
+use Rattle.ar_tree.specs.Views.{expression_of}
 use Rattle.ar_syntax.proofs.Conditions.{Derives-from_tree_of, IsRefused-from_tree_of, tree_of-Derives, tree_of-IsRefused}
 
 module _ (text : List ℕ) where

@@ -1,20 +1,20 @@
 -- Tokens with their trees, computed by the machine.
 use Rattle.std.specs.Prelude.{◌≡◌, ℕ, false, true, pos, List, codes, Option, Some, None, Result, Ok, Err, refl}
-use Rattle.ar_condition.specs.Expression.{Expression, ResultAt, ItemAt, LiteralAt, FieldAt, IndexAt, UnaryAt, BinaryAt, ChoiceAt, ListAt, LenAt, IsNilAt, DefaultAt, PredicateAt, none, more}
+use Rattle.ar_tree.specs.Expression.{Expression, ResultAt, ItemAt, LiteralAt, FieldAt, IndexAt, UnaryAt, BinaryAt, ChoiceAt, ListAt, LenAt, IsNilAt, DefaultAt, PredicateAt, none, more}
 use Rattle.ar_syntax.specs.Grammar.{Rules}
 use Rattle.ar_syntax.specs.Machine.{step, tree_by}
 use Rattle.ar_syntax.specs.Roles.{follows, is_brace, is_group, is_in, name_of, starts, text_value}
 use Rattle.ar_syntax.specs.Token.{word_of}
 use Rattle.ar_syntax.specs.Tokens.{base_of, front_of, number_of, sign_at, text_of, token_of, tokens_behind, tokens_of}
 use Rattle.ar_syntax.specs.declared.error.SyntaxError.{SyntaxError}
-use Rattle.ar_condition.specs.declared.tree.Comparison.TheVariants.{Equal, Greater, Less}
+use Rattle.ar_tree.specs.declared.tree.Comparison.TheVariants.{Equal, Greater, Less}
 use Rattle.ar_syntax.specs.declared.token.Token.{Token}
-use Rattle.ar_condition.specs.declared.tree.Binary.TheVariants as binaries
-use Rattle.ar_condition.specs.declared.tree.Literal.TheVariants as literals
+use Rattle.ar_tree.specs.declared.tree.Binary.TheVariants as binaries
+use Rattle.ar_tree.specs.declared.tree.Literal.TheVariants as literals
 use Rattle.ar_value.specs.declared.operator.Predicate.TheVariants.{All}
 use Rattle.ar_value.specs.declared.operator.Predicate.TheVariants as predicates
 use Rattle.ar_value.specs.declared.operator.TextTest.TheVariants.{Contains, StartsWith, EndsWith}
-use Rattle.ar_condition.specs.declared.tree.Unary.TheVariants as unaries
+use Rattle.ar_tree.specs.declared.tree.Unary.TheVariants as unaries
 
 abbrev strict : Rules
 strict = record { any_depth = false; any_items = false; any_count = false }

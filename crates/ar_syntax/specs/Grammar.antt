@@ -17,13 +17,13 @@
 -- A rule relates the tokens from a phrase's first on, what the phrase says, and the tokens after it, inside a predicate or
 -- not, where so many openers may still begin.
 use Rattle.std.specs.Prelude.{◌≡◌, ℕ, zero, suc, Bool, true, false, ◌||◌, nat_eq, nat_lt, List, [], ◌∷◌, ◌++◌, length, Option, Some, None, pred}
-use Rattle.ar_condition.specs.Expression.{Expression, FieldAt, IndexAt, ItemAt, UnaryAt, BinaryAt, ChoiceAt, ListAt, expressions}
-use Rattle.ar_condition.specs.Limits.{most_items}
+use Rattle.ar_tree.specs.Expression.{Expression, FieldAt, IndexAt, ItemAt, UnaryAt, BinaryAt, ChoiceAt, ListAt, expressions}
+use Rattle.ar_tree.specs.Limits.{most_items}
 use Rattle.ar_syntax.specs.Roles.{Call, Follow, Ends, Comma, Colon, EndGroup, EndBracket, EndBrace, Operator, NotOf, Choose, Select, Open, Leaf, Prefix, Group, Bracket, Calls, ItemPoint, arity, called, follows, is_body, is_brace, is_group, is_in, looseness, name_of, starts, text_value}
 use Rattle.ar_syntax.specs.declared.token.Token.{Token}
-use Rattle.ar_condition.specs.declared.tree.Binary.{Binary}
-use Rattle.ar_condition.specs.declared.tree.Binary.TheVariants.{NotIn}
-use Rattle.ar_condition.specs.declared.tree.Unary.{Unary}
+use Rattle.ar_tree.specs.declared.tree.Binary.{Binary}
+use Rattle.ar_tree.specs.declared.tree.Binary.TheVariants.{NotIn}
+use Rattle.ar_tree.specs.declared.tree.Unary.{Unary}
 
 -- ---- limits
 

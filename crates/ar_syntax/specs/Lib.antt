@@ -1,6 +1,6 @@
 pub use Rattle.ar_value.specs.Decimal
 pub use Rattle.ar_value.specs.Digits
-pub use Rattle.ar_condition.specs.Expression
+pub use Rattle.ar_tree.specs.Expression
 pub mod Token
 pub mod Tokens
 pub mod Roles

@@ -1,7 +1,7 @@
 -- The tree of a text, or its refusal.
 use Rattle.std.specs.Prelude.{◌≡◌, ℕ, true, nat_le, if◌then◌else◌, List, [], ◌∷◌, length, Option, Some, None, Result, Ok, Err}
 use Rattle.ar_value.specs.Answer.{◌>>=◌}
-use Rattle.ar_condition.specs.Expression.{Expression}
+use Rattle.ar_tree.specs.Expression.{Expression}
 use Rattle.ar_syntax.specs.Fault.{fault_of}
 use Rattle.ar_syntax.specs.Machine.{State, finished, start_state, step}
 use Rattle.ar_syntax.specs.Refusal.{Derives, IsRefused, depth, most_depth, strict}

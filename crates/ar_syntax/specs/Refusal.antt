@@ -1,7 +1,7 @@
 -- Which tokens are a condition, and the place and name of the fault of those that are none.
 use Rattle.std.specs.Prelude.{◌≡◌, ℕ, ◌+◌, ℤ, Bool, true, false, ◌&&◌, not, max, nat_le, List, [], ◌∷◌, ◌++◌}
-use Rattle.ar_condition.specs.Expression.{Expression, Expressions}
-use Rattle.ar_condition.specs.Expression as trees
+use Rattle.ar_tree.specs.Expression.{Expression, Expressions}
+use Rattle.ar_tree.specs.Expression as trees
 use Rattle.ar_syntax.specs.Grammar.{BeginsBy, DerivesBy, Rules}
 use Rattle.ar_syntax.specs.declared.error.SyntaxError.{SyntaxError}
 use Rattle.ar_syntax.specs.declared.error.SyntaxError.TheVariants.{Unexpected, UnknownName, WrongCount, ItemOutside, TooManyItems, TooDeep}

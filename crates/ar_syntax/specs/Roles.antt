@@ -1,6 +1,6 @@
 -- What a token can be where an operand is wanted, and after an operand.
 use Rattle.std.specs.Prelude.{ℕ, Bool, true, false, nat_eq, List, [], ◌∷◌, Option, Some, None}
-use Rattle.ar_condition.specs.Expression.{Expression, ResultAt, ItemAt, LiteralAt, LenAt, IsNilAt, DefaultAt, PredicateAt}
+use Rattle.ar_tree.specs.Expression.{Expression, ResultAt, ItemAt, LiteralAt, LenAt, IsNilAt, DefaultAt, PredicateAt}
 use Rattle.ar_syntax.specs.Token.{letters}
 pub use Rattle.ar_syntax.specs.declared.role.Call.{Call}
 pub use Rattle.ar_syntax.specs.declared.role.Call.TheVariants.{Len, IsNil, Default, Over}
@@ -15,11 +15,11 @@ use Rattle.ar_syntax.specs.declared.token.TokenKind.{TokenKind}
 use Rattle.ar_syntax.specs.declared.token.TokenKind.TheVariants as kinds
 use Rattle.ar_syntax.specs.declared.token.Word.{Word}
 use Rattle.ar_syntax.specs.declared.token.Word.TheVariants as words
-use Rattle.ar_condition.specs.declared.tree.Binary.{Binary}
-use Rattle.ar_condition.specs.declared.tree.Binary.TheVariants as binaries
-use Rattle.ar_condition.specs.declared.tree.Literal.TheVariants as literals
-use Rattle.ar_condition.specs.declared.tree.Unary.{Unary}
-use Rattle.ar_condition.specs.declared.tree.Unary.TheVariants as unaries
+use Rattle.ar_tree.specs.declared.tree.Binary.{Binary}
+use Rattle.ar_tree.specs.declared.tree.Binary.TheVariants as binaries
+use Rattle.ar_tree.specs.declared.tree.Literal.TheVariants as literals
+use Rattle.ar_tree.specs.declared.tree.Unary.{Unary}
+use Rattle.ar_tree.specs.declared.tree.Unary.TheVariants as unaries
 
 -- ---- calls
 

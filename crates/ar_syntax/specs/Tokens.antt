@@ -13,7 +13,7 @@ use Rattle.ar_syntax.specs.declared.scanner.Piece.{Piece}
 use Rattle.ar_syntax.specs.declared.scanner.Piece.TheVariants.{Gap, Found}
 use Rattle.ar_syntax.specs.declared.token.Base.{Base}
 use Rattle.ar_syntax.specs.declared.token.Base.TheVariants.{Binary, Octal, Hexadecimal}
-use Rattle.ar_condition.specs.declared.tree.Comparison.TheVariants.{Equal, NotEqual, Less, LessOrEqual, Greater, GreaterOrEqual}
+use Rattle.ar_tree.specs.declared.tree.Comparison.TheVariants.{Equal, NotEqual, Less, LessOrEqual, Greater, GreaterOrEqual}
 use Rattle.ar_syntax.specs.declared.token.Sign.{Sign}
 use Rattle.ar_syntax.specs.declared.token.Sign.TheVariants as signs
 use Rattle.ar_syntax.specs.declared.token.Token.{Token}

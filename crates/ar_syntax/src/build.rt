@@ -1,11 +1,11 @@
 //! Nodes on the heap.
 
 ghost use Rattle.std.specs.Prelude.{◌≡◌, IfOk};
-ghost use Rattle.ar_condition.specs.Views.{expression_of};
+ghost use Rattle.ar_tree.specs.Views.{expression_of};
 ghost use Rattle.ar_syntax.specs.Private.Steps.{IsOperand};
 
 use crate::state::{Refusal, State};
-use ar_condition::tree::Tree;
+use ar_tree::tree::Tree;
 use std::alloc::{AllocError, Global};
 
 /// The node in a box.

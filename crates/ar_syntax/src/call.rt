@@ -5,13 +5,13 @@ ghost use Rattle.ar_syntax.specs.Machine.{Have, WantArgument, close_braced, when
 ghost use Rattle.ar_syntax.specs.Grammar.{takes_all, takes_more};
 ghost use Rattle.ar_syntax.specs.Roles.{arity, called, follows, is_group};
 ghost use Rattle.ar_syntax.specs.Private.Steps.{Steps, StepsFreely};
-ghost use Rattle.ar_condition.specs.Views.{expression_of};
+ghost use Rattle.ar_tree.specs.Views.{expression_of};
 
 use crate::build::{boxed, operand};
 use crate::role::{Call, Ender, Follow, follow_of, is_group};
 use crate::state::{Refusal, State};
 use crate::token::Token;
-use ar_condition::tree::Tree;
+use ar_tree::tree::Tree;
 use std::alloc::{AllocError, Global};
 
 /// After the name of a call.

@@ -3,12 +3,12 @@
 ghost use Rattle.std.specs.Prelude.{◌≡◌, ◌∷◌, true, false, IfOk, MatchOption};
 ghost use Rattle.ar_syntax.specs.Machine.{Have};
 ghost use Rattle.ar_syntax.specs.Private.Frames.{closed_by, ended, ends, ends_below, frame_of, frames_of, top_ends};
-ghost use Rattle.ar_condition.specs.Views.{expression_of};
+ghost use Rattle.ar_tree.specs.Views.{expression_of};
 
 use crate::build::boxed;
 use crate::machine::Frame;
 use crate::role::looseness;
-use ar_condition::tree::Tree;
+use ar_tree::tree::Tree;
 use std::alloc::{AllocError, Global};
 
 /// How far an operand ends phrases.

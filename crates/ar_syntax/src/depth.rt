@@ -1,11 +1,11 @@
 //! How deep a tree is.
 
 ghost use Rattle.std.specs.Prelude.{◌≡◌, map, nat_le};
-ghost use Rattle.ar_condition.specs.Expression.{expressions};
+ghost use Rattle.ar_tree.specs.Expression.{expressions};
 ghost use Rattle.ar_syntax.specs.Refusal.{depth, items_depth};
-ghost use Rattle.ar_condition.specs.Views.{expression_of};
+ghost use Rattle.ar_tree.specs.Views.{expression_of};
 
-use ar_condition::tree::Tree;
+use ar_tree::tree::Tree;
 
 /// Whether a tree has at most so many levels. It recurs no deeper than that.
 #[cycle(fits)]

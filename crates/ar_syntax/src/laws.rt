@@ -4,7 +4,7 @@
 ghost use Rattle.std.specs.Prelude.{◌≡◌, ◌≢◌, ◌↔◌, ℕ, nat_le, false, List, Some};
 ghost use Rattle.ar_syntax.specs.Refusal.{Derives, IsRefused, depth, most_depth};
 ghost use Rattle.ar_syntax.specs.Parse.{IsRefusal, SaysTree, parse_of};
-ghost use Rattle.ar_condition.specs.Expression.{Expression};
+ghost use Rattle.ar_tree.specs.Expression.{Expression};
 ghost use Rattle.ar_syntax.specs.declared.error.SyntaxError.{SyntaxError};
 ghost use Rattle.ar_syntax.specs.Token.{letters, word_of};
 ghost use Rattle.ar_syntax.specs.declared.token.Token.{Token};

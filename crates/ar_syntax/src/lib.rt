@@ -16,7 +16,7 @@
 //! - [`error`]: why a text is no condition
 //! - [`laws`]: what holds of the grammar as a whole
 //!
-//! Trees are `ar_condition`'s, and names and the values of text literals `ar_value`'s `Text`.
+//! Trees are `ar_tree`'s, and names and the values of text literals `ar_value`'s `Text`.
 //!
 //! In `specs`, `Token` and `Tokens` define the tokens of a text, `Grammar` the trees that tokens
 //! derive, with `Roles` for what each token can be, and `Refusal` the place and name of the fault of
@@ -44,7 +44,7 @@ mod state;
 mod step;
 pub mod token;
 
-pub use ar_condition::Tree;
+pub use ar_tree::Tree;
 pub use error::SyntaxError;
 pub use parser::parse;
 pub use scanner::tokens;

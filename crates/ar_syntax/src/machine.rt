@@ -1,7 +1,7 @@
 //! What is begun and not ended while tokens are read.
 
 use crate::role::Call;
-use ar_condition::tree::{Binary, Tree, Unary};
+use ar_tree::tree::{Binary, Tree, Unary};
 
 /// A phrase that waits for an operand.
 #[derive(Drop)]

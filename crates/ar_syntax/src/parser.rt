@@ -9,8 +9,8 @@ ghost use Rattle.ar_syntax.specs.declared.error.SyntaxError.TheVariants.{TooLong
 ghost use Rattle.ar_syntax.specs.Private.Steps.{at_state};
 ghost use Rattle.ar_syntax.specs.Tokens.{is_memory, most_condition_bytes};
 ghost use Rattle.ar_syntax.specs.Private.Frames.{frames_of};
-ghost use Rattle.ar_condition.specs.Limits.{WrittenInLimits};
-ghost use Rattle.ar_condition.specs.Views.{expression_of};
+ghost use Rattle.ar_tree.specs.Limits.{WrittenInLimits};
+ghost use Rattle.ar_tree.specs.Views.{expression_of};
 
 use crate::climb::{Reach, climb};
 use crate::depth::fits;
@@ -21,7 +21,7 @@ use crate::scanner::tokens;
 use crate::state::State;
 use crate::step::step;
 use crate::token::Token;
-use ar_condition::tree::Tree;
+use ar_tree::tree::Tree;
 use std::alloc::{AllocError, Global};
 
 /// How many levels a tree may have.

@@ -4,7 +4,7 @@ ghost use Rattle.std.specs.Prelude.{◌≡◌};
 ghost use Rattle.ar_syntax.specs.Roles.{arity, follows, is_body, is_brace, is_group, is_in, looseness, sign_follow, word_follow};
 
 use crate::token::{Sign, Token, TokenKind, Word};
-use ar_condition::tree::Binary;
+use ar_tree::tree::Binary;
 use ar_value::operator::Predicate;
 
 /// The calls of the language.

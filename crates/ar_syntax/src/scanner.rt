@@ -10,7 +10,7 @@ use crate::error::SyntaxError;
 use crate::number::{begins_number, number_token};
 use crate::quoted::{is_quote, text_token};
 use crate::token::{Sign, Token, TokenKind, Word, begins_word, continues_word, placed};
-use ar_condition::tree::Comparison;
+use ar_tree::tree::Comparison;
 use ar_value::text::Text;
 use std::alloc::{AllocError, Global};
 

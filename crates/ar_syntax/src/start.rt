@@ -1,14 +1,14 @@
 //! What a token begins where an operand is wanted.
 
 ghost use Rattle.std.specs.Prelude.{◌≡◌, IfOk};
-ghost use Rattle.ar_condition.specs.Expression.{LiteralAt};
+ghost use Rattle.ar_tree.specs.Expression.{LiteralAt};
 ghost use Rattle.ar_syntax.specs.Roles.{Leaf, sign_start, starts, word_start};
 ghost use Rattle.ar_syntax.specs.Private.Steps.{start_of};
-ghost use Rattle.ar_condition.specs.Views.{expression_of};
+ghost use Rattle.ar_tree.specs.Views.{expression_of};
 
 use crate::role::Call;
 use crate::token::{Sign, Token, TokenKind, Word};
-use ar_condition::tree::{Literal, Tree, Unary};
+use ar_tree::tree::{Literal, Tree, Unary};
 use ar_value::text::Text;
 use std::alloc::{AllocError, Global};
 

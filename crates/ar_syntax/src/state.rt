@@ -4,7 +4,7 @@ ghost use Rattle.std.specs.Prelude.{◌≡◌};
 ghost use Rattle.ar_syntax.specs.declared.state.Refusal.TheVariants.{OutOfMemory};
 
 use crate::role::Call;
-use ar_condition::tree::Tree;
+use ar_tree::tree::Tree;
 use ar_value::text::Text;
 use std::alloc::{AllocError, AllocFailed};
 

@@ -1,15 +1,15 @@
 //! One token more.
 
 ghost use Rattle.std.specs.Prelude.{◌≡◌, ◌∷◌, ◌++◌, [], length, map, pred, Some, IfOk};
-ghost use Rattle.ar_condition.specs.Expression.{LiteralAt};
+ghost use Rattle.ar_tree.specs.Expression.{LiteralAt};
 ghost use Rattle.ar_syntax.specs.Grammar.{ends_bracket, may_continue, may_open};
 ghost use Rattle.ar_syntax.specs.Machine.{Argued, Body, Braced, Frame, Grouped, Have, Indexed, Listed, RightOf, Yes, Want, WantArgument, argue, begin, choose, climbed, close_empty, close_text, end_with, have, left, open_index, operate, negate, select, step, unwound, want, when};
 ghost use Rattle.ar_syntax.specs.Roles.{follows, is_body, is_brace, is_in, looseness, name_of, text_value};
-ghost use Rattle.ar_condition.specs.declared.tree.Binary.TheVariants.{NotIn};
-ghost use Rattle.ar_condition.specs.declared.tree.Literal.TheVariants.{Text as TextLiteral};
+ghost use Rattle.ar_tree.specs.declared.tree.Binary.TheVariants.{NotIn};
+ghost use Rattle.ar_tree.specs.declared.tree.Literal.TheVariants.{Text as TextLiteral};
 ghost use Rattle.ar_syntax.specs.Private.Steps.{Steps, StepsFreely, is_empty_call, start_of, state_of};
 ghost use Rattle.ar_syntax.specs.Private.Frames.{frame_of, frames_of};
-ghost use Rattle.ar_condition.specs.Views.{expression_of};
+ghost use Rattle.ar_tree.specs.Views.{expression_of};
 
 use crate::build::{boxed, operand};
 use crate::call::{end_call, have_argument, next_argument, want_group};
@@ -20,7 +20,7 @@ use crate::stack::{inside, left};
 use crate::start::{Begin, begin_of};
 use crate::state::{Refusal, State};
 use crate::token::{Token, TokenKind};
-use ar_condition::tree::{Binary, Literal, Tree, Trees};
+use ar_tree::tree::{Binary, Literal, Tree, Trees};
 use ar_value::text::Text;
 use std::alloc::{AllocError, Global};
 use std::mem;

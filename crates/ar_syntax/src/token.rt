@@ -4,7 +4,7 @@ ghost use Rattle.std.specs.Prelude.{◌≡◌, ◌+◌, ◌^◌, ◌<◌};
 ghost use Rattle.ar_syntax.specs.Token.{begins_word, comparison_sign, continues_word, letters, predicate_letters, radix, spelling, takes_field, test_letters, word_of};
 ghost use Rattle.ar_syntax.specs.Tokens.{token};
 
-use ar_condition::tree::Comparison;
+use ar_tree::tree::Comparison;
 use ar_value::decimal::Decimal;
 use ar_value::operator::{Predicate, TextTest};
 use ar_value::text::Text;

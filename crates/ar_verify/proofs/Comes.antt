@@ -11,26 +11,26 @@ use Rattle.ar_value.specs.Shape.{Shape}
 use Rattle.ar_op.specs.Code.{Code}
 use Rattle.ar_op.specs.declared.op.Op.{Op}
 use Rattle.ar_op.specs.Machine.{nth}
-use Rattle.ar_verified.specs.Arrivals.{Around, Operands, Sent, all_sent, arrival, arrived, at_place, deepest, joined, merged, of_loops, operands, sends, sent, sent_on, sent_to}
-use Rattle.ar_verified.specs.Budget.{most_items, most_on_top}
-use Rattle.ar_verified.specs.Memory.{is_memory}
-use Rattle.ar_verified.specs.Places.{all_pass, names_well}
+use Rattle.ar_safety.specs.Arrivals.{Around, Operands, Sent, all_sent, arrival, arrived, at_place, deepest, joined, merged, of_loops, operands, sends, sent, sent_on, sent_to}
+use Rattle.ar_safety.specs.Budget.{most_items, most_on_top}
+use Rattle.ar_safety.specs.Memory.{is_memory}
+use Rattle.ar_safety.specs.Places.{all_pass, names_well}
 use Rattle.ar_verify.specs.Private.Failures.{Meets, cause_at}
 use Rattle.ar_verify.specs.Private.Held.{arrival_view}
 use Rattle.ar_verify.specs.Private.Sending.{sends_by}
 use Rattle.ar_verify.specs.Private.Table.{ComesTo, Shows, State, StaysWithin, Table, entry, looked_at, most_each, one_more, summary, summed_up, table_view, visited, with_all, with_one, without}
-use Rattle.ar_verified.specs.declared.error.Cause.{Cause}
-use Rattle.ar_verified.specs.declared.error.Cause.TheVariants.{Fault}
-use Rattle.ar_verified.specs.declared.error.Reason.{Reason}
-use Rattle.ar_verified.specs.declared.error.Reason.TheVariants.{Unreachable}
+use Rattle.ar_safety.specs.declared.error.Cause.{Cause}
+use Rattle.ar_safety.specs.declared.error.Cause.TheVariants.{Fault}
+use Rattle.ar_safety.specs.declared.error.Reason.{Reason}
+use Rattle.ar_safety.specs.declared.error.Reason.TheVariants.{Unreachable}
 use Rattle.ar_verify.specs.declared.failure.Failure.{Failure}
 use Rattle.ar_verify.specs.declared.failure.Failure.TheVariants as failures
 use Rattle.ar_verify.specs.declared.operands.Operands as held
-use Rattle.ar_verified.proofs.Arriving.{all_more, elsewhere, sent_to_both}
-use Rattle.ar_verified.proofs.Entries.{nth_at}
-use Rattle.ar_verified.proofs.Nesting.{passes_each}
+use Rattle.ar_safety.proofs.Arriving.{all_more, elsewhere, sent_to_both}
+use Rattle.ar_safety.proofs.Entries.{nth_at}
+use Rattle.ar_safety.proofs.Nesting.{passes_each}
 use Rattle.ar_verify.proofs.Passed.{sends_as}
-use Rattle.ar_verified.proofs.Passing.{Ahead, passed_ahead, sends_on}
+use Rattle.ar_safety.proofs.Passing.{Ahead, passed_ahead, sends_on}
 use Rattle.ar_verify.proofs.Targets.{sends_within, stays_within}
 use Rattle.ar_verify.specs.declared.whole.ShapeName as ShapeName
 

@@ -11,13 +11,13 @@ use Rattle.ar_op.specs.declared.op.Op.{Op}
 use Rattle.ar_op.specs.declared.op.Jump.TheVariants.{And, Or, Branch, Always}
 use Rattle.ar_op.specs.declared.op.Op.TheVariants.{Push, Jump, Enter, Step, Return}
 use Rattle.ar_op.specs.declared.op.Source.TheVariants as sources
-use Rattle.ar_verified.specs.Arrivals.{Sent}
-use Rattle.ar_verified.specs.Budget.{GoesOn, JumpsTo, Stops, most_at, price}
+use Rattle.ar_safety.specs.Arrivals.{Sent}
+use Rattle.ar_safety.specs.Budget.{GoesOn, JumpsTo, Stops, most_at, price}
 use Rattle.ar_verify.specs.Private.Costs.{AreCosts, HasPassed, IsCapped, IsCost, LeadsInside, cost_by, cost_by_either, cost_by_jump, cost_by_loop, cost_by_next, number_at, too_dear}
-use Rattle.ar_verified.proofs.Dearest.{JumpWay, LoopWay, NextWay, WayBy, due, due_is, prices, way_by}
-use Rattle.ar_verified.proofs.Entries.{nth_at}
-use Rattle.ar_verified.proofs.Nesting.{stands_below}
-use Rattle.ar_verified.proofs.Reached.{Clean, GoesFurther, clean, jumps_well, not_last, the_step}
+use Rattle.ar_safety.proofs.Dearest.{JumpWay, LoopWay, NextWay, WayBy, due, due_is, prices, way_by}
+use Rattle.ar_safety.proofs.Entries.{nth_at}
+use Rattle.ar_safety.proofs.Nesting.{stands_below}
+use Rattle.ar_safety.proofs.Reached.{Clean, GoesFurther, clean, jumps_well, not_last, the_step}
 
 -- ---- what is capped
 

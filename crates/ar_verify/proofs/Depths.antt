@@ -12,13 +12,13 @@ use Rattle.ar_op.specs.Machine.{nth}
 use Rattle.ar_op.specs.declared.op.Op.{Op}
 use Rattle.ar_op.specs.declared.op.Op.TheVariants.{Jump, Enter, Step, Return}
 use Rattle.ar_verify.specs.Private.Depths.{depth_at, depth_behind, depths, is_inside, last_of, nests_by, open_behind, stays_by, step_of, open_steps, IsNested, JumpsInside}
-use Rattle.ar_verified.specs.declared.error.Cause.TheVariants.{Fault}
-use Rattle.ar_verified.specs.Places.{all_pass, held, holding, in_innermost, names_well, nests_well, reaches, same_loops, stays, unless}
-use Rattle.ar_verified.specs.declared.error.Reason.{Reason}
-use Rattle.ar_verified.specs.declared.error.Reason.TheVariants.{CrossesLoop}
-use Rattle.ar_verified.proofs.Entries.{nth_at}
+use Rattle.ar_safety.specs.declared.error.Cause.TheVariants.{Fault}
+use Rattle.ar_safety.specs.Places.{all_pass, held, holding, in_innermost, names_well, nests_well, reaches, same_loops, stays, unless}
+use Rattle.ar_safety.specs.declared.error.Reason.{Reason}
+use Rattle.ar_safety.specs.declared.error.Reason.TheVariants.{CrossesLoop}
+use Rattle.ar_safety.proofs.Entries.{nth_at}
 use Rattle.ar_verify.proofs.Passes.{finds, goes_on}
-use Rattle.ar_verified.proofs.Nesting.{passes_each, alike, begins, behind_step, both, held_further, holding_alike, inner_first, innermost_at_step, is_ahead, lies_within, reaches_less, reaching, stays_around, step_pairs, the_same_loops}
+use Rattle.ar_safety.proofs.Nesting.{passes_each, alike, begins, behind_step, both, held_further, holding_alike, inner_first, innermost_at_step, is_ahead, lies_within, reaches_less, reaching, stays_around, step_pairs, the_same_loops}
 
 -- ---- the numbers of loops, one after the other
 

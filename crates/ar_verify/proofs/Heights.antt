@@ -3,7 +3,7 @@ use Rattle.std.proofs.Common.{◌≡◌, ℕ, ◌+◌, ◌<◌, ◌≤◌, List,
 use Rattle.std.specs.Prelude.{slice_index_or, min, ◌-◌, ◌^◌}
 use Rattle.std.proofs.Math.Seq.{take-suc}
 use Rattle.std.proofs.lemmas.List.{take_all}
-use Rattle.ar_verified.specs.Arrivals.{floor}
+use Rattle.ar_safety.specs.Arrivals.{floor}
 use Rattle.ar_verify.specs.Private.Held.{around_view, counted, from_innermost}
 use Rattle.ar_verify.specs.Private.Kinds.{kind_view}
 use Rattle.ar_verify.specs.declared.operands.Around.{Around}

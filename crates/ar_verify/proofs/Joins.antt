@@ -5,7 +5,7 @@ use Rattle.std.proofs.Math.ListN.{drop_of_length-le}
 use Rattle.std.proofs.lemmas.List.{append-nil, drop-map, length-map, map-append, reverse-append}
 use Rattle.ar_value.specs.Kind.{Kind, merge}
 use Rattle.ar_value.proofs.Merges.{merge_with_itself}
-use Rattle.ar_verified.specs.Arrivals.{merged}
+use Rattle.ar_safety.specs.Arrivals.{merged}
 
 -- a kind with itself
 pub merged_with_itself : (left right : Kind) → left ≡ right → Some left ≡ merge left right

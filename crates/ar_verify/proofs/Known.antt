@@ -7,11 +7,11 @@ use Rattle.std.proofs.lemmas.List.{get_or_append_left, length-append}
 use Rattle.ar_value.specs.Answer.{◌>>=◌}
 use Rattle.ar_value.specs.Shape.{Shape}
 use Rattle.ar_op.specs.Code.{Code}
-use Rattle.ar_verified.specs.Arrivals.{Sent, all_sent, arrival, deepest}
-use Rattle.ar_verified.specs.Budget.{most_items}
+use Rattle.ar_safety.specs.Arrivals.{Sent, all_sent, arrival, deepest}
+use Rattle.ar_safety.specs.Budget.{most_items}
 use Rattle.ar_verify.specs.Private.Table.{Summary, most_each, summary, summed_up}
-use Rattle.ar_verified.specs.declared.error.Cause.{Cause}
-use Rattle.ar_verified.proofs.Passing.{bound}
+use Rattle.ar_safety.specs.declared.error.Cause.{Cause}
+use Rattle.ar_safety.proofs.Passing.{bound}
 
 long_each : (places : ℕ) (sents : List Sent) → length (most_each places sents) ≡ places
 long_each zero sents = refl

@@ -4,7 +4,7 @@ use Rattle.std.specs.Prelude.{◌||◌, if◌then◌else◌, option_and_then}
 use Rattle.ar_value.specs.Kind.{Kind, nil, shaped, plain}
 use Rattle.ar_value.specs.Shape.{Shape, bool, whole, decimal, text, list, object, optional}
 use Rattle.ar_value.specs.declared.operator.Scalar.TheVariants as scalars
-use Rattle.ar_verified.specs.Effects.{family_in, family_of, is_number, is_scalar, item_kind, length_kind, member_kind, of_one_family, truth, where_taken}
+use Rattle.ar_safety.specs.Effects.{family_in, family_of, is_number, is_scalar, item_kind, length_kind, member_kind, of_one_family, truth, where_taken}
 use Rattle.ar_verify.specs.Private.Kinds.{list_in}
 use Rattle.ar_verify.specs.Private.Lists.{is_list, list_parts, longest}
 use Rattle.ar_verify.specs.Private.Roots.{child}

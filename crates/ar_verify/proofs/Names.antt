@@ -2,7 +2,7 @@
 use Rattle.std.proofs.Common.{◌≡◌, ℕ, zero, suc, ◌<◌, ◌≤◌, List, [], ◌∷◌, length, map, Some, None, ap, arith, get_or}
 use Rattle.std.proofs.lemmas.List.{length-map}
 use Rattle.ar_op.specs.Machine.{nth}
-use Rattle.ar_verified.proofs.Entries.{nth_past}
+use Rattle.ar_safety.proofs.Entries.{nth_past}
 
 pub nth_name : {A B : Type 0} (f : A → B) (xs : List A) (i : ℕ) (x : A) → i < length xs → x ≡ get_or xs i x → nth (map f xs) i ≡ Some (f x)
 nth_name f [] i x within is = absurd (omega arith)

@@ -10,12 +10,12 @@ use Rattle.ar_op.specs.declared.op.Jump.{Jump}
 use Rattle.ar_op.specs.declared.op.Jump.TheVariants as jumps_by
 use Rattle.ar_op.specs.declared.op.Op.{Op}
 use Rattle.ar_op.specs.declared.op.Op.TheVariants as ops
-use Rattle.ar_verified.specs.Arrivals.{Around, Operands, Sent, ended, entered, item_of, jumped, on_truth, passed_on, sends, sent, to_next}
-use Rattle.ar_verified.specs.Effects.{effect, is_scalar}
+use Rattle.ar_safety.specs.Arrivals.{Around, Operands, Sent, ended, entered, item_of, jumped, on_truth, passed_on, sends, sent, to_next}
+use Rattle.ar_safety.specs.Effects.{effect, is_scalar}
 use Rattle.ar_verify.specs.Private.Sending.{beginning, ending, going_on, jumping, passed_by, sends_by, truth_taken}
 use Rattle.ar_verify.specs.Private.Stacks.{TakesScalar}
-use Rattle.ar_verified.specs.declared.error.Reason.{Reason}
-use Rattle.ar_verified.specs.declared.error.Reason.TheVariants.{IllKinded}
+use Rattle.ar_safety.specs.declared.error.Reason.{Reason}
+use Rattle.ar_safety.specs.declared.error.Reason.TheVariants.{IllKinded}
 
 -- ---- a boolean on top
 

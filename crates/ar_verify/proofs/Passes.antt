@@ -3,10 +3,10 @@ use Rattle.std.proofs.Common.{◌≡◌, ℕ, suc, ◌+◌, ◌<◌, ◌≤◌, 
 use Rattle.std.specs.Prelude.{slice_index_or}
 use Rattle.std.proofs.Math.ListN.{drop_of_length-le}
 use Rattle.ar_op.specs.declared.op.Op.{Op}
-use Rattle.ar_verified.specs.Places.{Pass, all_pass, found}
-use Rattle.ar_verified.specs.declared.error.Cause.{Cause}
-use Rattle.ar_verified.specs.declared.error.Cause.TheVariants.{Fault}
-use Rattle.ar_verified.specs.declared.error.Reason.{Reason}
+use Rattle.ar_safety.specs.Places.{Pass, all_pass, found}
+use Rattle.ar_safety.specs.declared.error.Cause.{Cause}
+use Rattle.ar_safety.specs.declared.error.Cause.TheVariants.{Fault}
+use Rattle.ar_safety.specs.declared.error.Reason.{Reason}
 
 module _ (pass : Pass) (ops : List Op) (whole : Result (Unit {0}) Cause) where
   first_left : (i : ℕ) (op : Op) → i < length ops → op ≡ slice_index_or ops i op → all_pass pass i (drop i ops) ≡ found i (pass i op) (all_pass pass (suc i) (drop (suc i) ops))

@@ -5,12 +5,12 @@ use Rattle.std.proofs.lemmas.List.{get_or-map, map-append, map-set, replicate-ap
 use Rattle.ar_value.specs.Shape.{Shape}
 use Rattle.ar_op.specs.Code.{Code}
 use Rattle.ar_op.specs.declared.op.Op.{Op}
-use Rattle.ar_verified.specs.Arrivals.{Operands, Sent, deepest, most_operands, operands}
+use Rattle.ar_safety.specs.Arrivals.{Operands, Sent, deepest, most_operands, operands}
 use Rattle.ar_verify.specs.Private.Held.{arrival_view, counted, operands_view}
 use Rattle.ar_verify.specs.Private.Sending.{sends_by}
 use Rattle.ar_verify.specs.Private.Table.{State, Table, added, entry, table_view, with_all, without}
-use Rattle.ar_verified.specs.declared.error.Reason.{Reason}
-use Rattle.ar_verified.specs.declared.error.Reason.TheVariants.{Unreachable}
+use Rattle.ar_safety.specs.declared.error.Reason.{Reason}
+use Rattle.ar_safety.specs.declared.error.Reason.TheVariants.{Unreachable}
 use Rattle.ar_verify.specs.declared.operands.Operands as held
 use Rattle.ar_verify.specs.declared.whole.ShapeName as ShapeName
 

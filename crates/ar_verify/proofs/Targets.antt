@@ -12,15 +12,15 @@ use Rattle.ar_op.specs.declared.op.Jump.{Jump}
 use Rattle.ar_op.specs.declared.op.Jump.TheVariants as jumps
 use Rattle.ar_op.specs.declared.op.Op.{Op}
 use Rattle.ar_op.specs.declared.op.Op.TheVariants as ops
-use Rattle.ar_verified.specs.Arrivals.{Around, Operands, Sent, answer_kind, item_of, lacks, sent, where_shallow}
-use Rattle.ar_verified.specs.Effects.{effect}
-use Rattle.ar_verified.specs.Places.{ends_loop, forward, names_well, unless}
+use Rattle.ar_safety.specs.Arrivals.{Around, Operands, Sent, answer_kind, item_of, lacks, sent, where_shallow}
+use Rattle.ar_safety.specs.Effects.{effect}
+use Rattle.ar_safety.specs.Places.{ends_loop, forward, names_well, unless}
 use Rattle.ar_verify.specs.Private.Sending.{around, ending, going_on, jumping, kept_or_taken, list_taken, passed_by, sends_by, truth_taken}
 use Rattle.ar_verify.specs.Private.Table.{StaysWithin}
-use Rattle.ar_verified.specs.declared.error.Reason.{Reason}
-use Rattle.ar_verified.specs.declared.error.Reason.TheVariants.{MissingOperand, UnpairedLoop}
-use Rattle.ar_verified.proofs.Nesting.{is_ahead, none_of_both}
-use Rattle.ar_verified.proofs.Passing.{bound, unlike}
+use Rattle.ar_safety.specs.declared.error.Reason.{Reason}
+use Rattle.ar_safety.specs.declared.error.Reason.TheVariants.{MissingOperand, UnpairedLoop}
+use Rattle.ar_safety.proofs.Nesting.{is_ahead, none_of_both}
+use Rattle.ar_safety.proofs.Passing.{bound, unlike}
 
 module _ (count : ℕ) where
   abbrev Within : List Sent → Type 0

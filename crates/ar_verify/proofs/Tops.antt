@@ -7,9 +7,9 @@ use Rattle.std.proofs.lemmas.List.{length-map, length-reverse, map-append, rever
 use Rattle.ar_value.specs.Kind.{Kind, nil, shaped}
 use Rattle.ar_value.specs.Shape.{bool, whole, decimal, text, list, object, optional}
 use Rattle.ar_value.specs.declared.operator.Scalar.{Scalar}
-use Rattle.ar_verified.specs.Arrivals.{Around, item_of}
-use Rattle.ar_verified.specs.Budget.{most_on_top}
-use Rattle.ar_verified.specs.Effects.{list_made, scalar_shape}
+use Rattle.ar_safety.specs.Arrivals.{Around, item_of}
+use Rattle.ar_safety.specs.Budget.{most_on_top}
+use Rattle.ar_safety.specs.Effects.{list_made, scalar_shape}
 use Rattle.ar_verify.specs.Private.Stacks.{TakesScalar, first, most_in}
 
 -- one more on top

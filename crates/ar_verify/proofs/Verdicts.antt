@@ -4,10 +4,10 @@ use Rattle.std.proofs.lemmas.Bool.Decides.{nat_tests}
 use Rattle.std.specs.Prelude.{IfErr, IfOk, if◌then◌else◌, nat_le}
 use Rattle.ar_value.specs.Shape.{Shape}
 use Rattle.ar_op.specs.Code.{Code}
-use Rattle.ar_verified.specs.Budget.{IsBudget}
-use Rattle.ar_verified.specs.Places.{places_pass}
-use Rattle.ar_verified.specs.Verdict.{IsFault, IsVerified, greatest_budget, passed}
-use Rattle.ar_verified.specs.declared.error.Reason.TheVariants.{BudgetTooLarge}
+use Rattle.ar_safety.specs.Budget.{IsBudget}
+use Rattle.ar_safety.specs.Places.{places_pass}
+use Rattle.ar_safety.specs.Verdict.{IsFault, IsVerified, greatest_budget, passed}
+use Rattle.ar_safety.specs.declared.error.Reason.TheVariants.{BudgetTooLarge}
 use Rattle.ar_verify.specs.Private.Costs.{AreMost, HasPassed, IsCost}
 use Rattle.ar_verify.specs.Private.Table.{Summary, summed_up}
 use Rattle.ar_verify.proofs.Known.{Known, known}

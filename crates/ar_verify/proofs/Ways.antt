@@ -10,7 +10,7 @@ use Rattle.ar_value.specs.View.{shape_view}
 use Rattle.ar_value.specs.declared.shape.Shape.{Shape as ShapeCode}
 use Rattle.ar_value.proofs.FieldLists.{Of}
 use Rattle.std.proofs.lemmas.Bool.Decides.{nat_tests}
-use Rattle.ar_verified.specs.Effects.{field_kind}
+use Rattle.ar_safety.specs.Effects.{field_kind}
 use Rattle.ar_verify.specs.Private.Roots.{child, field_or, nth_field, number_named, number_of, part_at}
 
 -- ---- step by step

@@ -8,7 +8,7 @@ use Rattle.ar_value.specs.declared.operator.Scalar.{Scalar}
 use Rattle.ar_value.specs.declared.operator.Scalar.TheVariants as scalars
 use Rattle.ar_value.specs.Private.Same.{same_shape}
 use Rattle.ar_value.proofs.Same.{same_is}
-use Rattle.ar_verified.specs.Effects.{decimal_shape, family_of, is_scalar}
+use Rattle.ar_safety.specs.Effects.{decimal_shape, family_of, is_scalar}
 use Rattle.ar_verify.specs.Private.Forms.{all_alike, field_forms, form, longest_of, wider, wider_fields, widest_of}
 use Rattle.ar_verify.specs.Private.Roots.{child, field_or, number_named, number_of}
 use Rattle.ar_verify.specs.Private.Lists.{is_list, longest}

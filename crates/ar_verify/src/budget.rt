@@ -2,7 +2,7 @@
 
 ghost use Rattle.std.specs.Prelude.{◌≡◌, IfOk, length, nat_le};
 ghost use Rattle.ar_verify.specs.Private.Costs.{cost_by, cost_by_jump, cost_by_loop, cost_by_next, AreCosts, HasPassed, IsCost, LeadsInside};
-ghost use Rattle.ar_verified.specs.Verdict.{greatest_budget};
+ghost use Rattle.ar_safety.specs.Verdict.{greatest_budget};
 
 use ar_op::code::Code;
 use ar_op::op::{Jump, Op};

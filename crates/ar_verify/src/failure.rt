@@ -1,6 +1,6 @@
 //! Why an operation sends nothing on.
 
-use ar_verified::{Cause, Reason};
+use ar_safety::{Cause, Reason};
 use std::alloc::AllocError;
 
 /// A fault of an operation, told without its place, or out of memory.

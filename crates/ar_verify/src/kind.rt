@@ -4,7 +4,7 @@ ghost use Rattle.std.specs.Prelude.{◌≡◌, ◌||◌, IfOk, Some, option_map}
 ghost use Rattle.ar_value.specs.Kind.{is_optional, merge, or_nil, plain, shaped, widest};
 ghost use Rattle.ar_value.specs.Shape.{list, optional};
 ghost use Rattle.ar_value.specs.View.{shape_view};
-ghost use Rattle.ar_verified.specs.Effects.{family_in, family_of, is_scalar};
+ghost use Rattle.ar_safety.specs.Effects.{family_in, family_of, is_scalar};
 ghost use Rattle.ar_verify.specs.Private.Kinds.{kind_view, list_in, list_view};
 ghost use Rattle.ar_verify.specs.Private.Lists.{is_list};
 ghost use Rattle.ar_verify.specs.Private.Roots.{child};

@@ -1,7 +1,7 @@
 //! The verifier: code that it accepts runs safely, and within a budget that is known before.
 //!
 //! [`verify`] takes code and the shape of the values that it is to judge, and answers
-//! [`Verified`] code or its first fault, as `ar_verified/specs/Verdict` defines
+//! [`Verified`] code or its first fault, as `ar_safety/specs/Verdict` defines
 //! them. Each pass is one way through the operations. Only out of memory can keep the verifier from its
 //! answer.
 //!
@@ -37,5 +37,5 @@ mod stack;
 mod verifier;
 mod whole;
 
-pub use ar_verified::{Cause, Reason, Refused, Verified};
+pub use ar_safety::{Cause, Reason, Refused, Verified};
 pub use verifier::verify;

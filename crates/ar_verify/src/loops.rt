@@ -6,13 +6,13 @@
 
 ghost use Rattle.std.specs.Prelude.{◌≡◌, ◌<◌, length, IfOk, Ok};
 ghost use Rattle.ar_value.specs.Answer.{Gives};
-ghost use Rattle.ar_verified.specs.Memory.{is_memory};
-ghost use Rattle.ar_verified.specs.Places.{all_pass, names_well, nests_well};
+ghost use Rattle.ar_safety.specs.Memory.{is_memory};
+ghost use Rattle.ar_safety.specs.Places.{all_pass, names_well, nests_well};
 ghost use Rattle.ar_verify.specs.Private.Depths.{depth_behind, depths, is_inside, last_of, nests_by, open_behind, stays_by, JumpsInside};
 
 use crate::places::unless;
 use ar_op::op::Op;
-use ar_verified::{Cause, Reason};
+use ar_safety::{Cause, Reason};
 use std::alloc::{AllocError, Global};
 
 /// How many loops may be around an operation.

@@ -1,7 +1,7 @@
 //! Operands on the way to a place, by their kinds.
 
 ghost use Rattle.std.specs.Prelude.{◌≡◌, ◌++◌, ◌∷◌, [], IfOk, MatchOption, OnOk, map, option_map};
-ghost use Rattle.ar_verified.specs.Arrivals.{floor, height, merged, of_loops, operands};
+ghost use Rattle.ar_safety.specs.Arrivals.{floor, height, merged, of_loops, operands};
 ghost use Rattle.ar_verify.specs.Private.Held.{around_view, arrival_view, counted, from_innermost, operands_view};
 ghost use Rattle.ar_verify.specs.Private.Kinds.{kind_view};
 ghost use Rattle.ar_verify.specs.Private.Stacks.{from_top};
@@ -10,7 +10,7 @@ use crate::kind::{Kind, merge};
 use crate::list::ListShape;
 use crate::stack::add;
 use crate::whole::ShapeName;
-use ar_verified::Reason;
+use ar_safety::Reason;
 use std::alloc::{AllocError, Global};
 
 /// A loop around a place.

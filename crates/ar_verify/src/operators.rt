@@ -4,7 +4,7 @@ ghost use Rattle.std.specs.Prelude.{◌≡◌, ◌&&◌, IfOk, option_map};
 ghost use Rattle.ar_value.specs.Kind.{plain, shaped};
 ghost use Rattle.ar_value.specs.Shape.{optional};
 ghost use Rattle.ar_value.specs.View.{shape_view};
-ghost use Rattle.ar_verified.specs.Effects.{decimal_kind, decimal_shape, family_in, family_of, is_scalar, binary_kind, decimals_kind, default_kind, equal_kind, field_kind, is_compared, is_family, is_number, item_kind, length_kind, member_kind, needed_kind, negative_kind, of_one_family, opposite_kind, order_kind, quotient_kind, same_kind, truth, unary_kind, where_taken, wholes_kind};
+ghost use Rattle.ar_safety.specs.Effects.{decimal_kind, decimal_shape, family_in, family_of, is_scalar, binary_kind, decimals_kind, default_kind, equal_kind, field_kind, is_compared, is_family, is_number, item_kind, length_kind, member_kind, needed_kind, negative_kind, of_one_family, opposite_kind, order_kind, quotient_kind, same_kind, truth, unary_kind, where_taken, wholes_kind};
 ghost use Rattle.ar_verify.specs.Private.Kinds.{kind_view};
 ghost use Rattle.ar_verify.specs.Private.Roots.{number_of};
 ghost use Rattle.ar_verify.specs.Private.Shapes.{list_of, parts_view};

@@ -7,13 +7,13 @@ ghost use Rattle.ar_value.specs.Answer.{Gives};
 ghost use Rattle.ar_op.specs.Machine.{begins_loop, nth};
 ghost use Rattle.ar_value.specs.Predicates.{is_same};
 ghost use Rattle.ar_op.specs.declared.op.Op.TheVariants.{Enter, Step};
-ghost use Rattle.ar_verified.specs.Memory.{is_memory};
-ghost use Rattle.ar_verified.specs.Places.{all_pass, ends_in_return, ends_loop, forward, has_ops, inside, is_return, names_well, places_pass, unless};
+ghost use Rattle.ar_safety.specs.Memory.{is_memory};
+ghost use Rattle.ar_safety.specs.Places.{all_pass, ends_in_return, ends_loop, forward, has_ops, inside, is_return, names_well, places_pass, unless};
 
 use crate::loops::all_nest_well;
 use ar_op::op::Op;
+use ar_safety::{Cause, Reason};
 use ar_value::operator::Predicate;
-use ar_verified::{Cause, Reason};
 use std::alloc::Global;
 
 /// The operation at a place.

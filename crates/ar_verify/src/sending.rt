@@ -2,8 +2,8 @@
 
 ghost use Rattle.std.specs.Prelude.{◌≡◌, ◌+◌, ◌<◌, ◌≤◌, ◌∷◌, [], IfOk, MatchOption, Ok, OnOk, option_map};
 ghost use Rattle.ar_value.specs.View.{shape_view};
-ghost use Rattle.ar_verified.specs.Arrivals.{answer_kind, deepest, item_of, lacks, most_operands, operands};
-ghost use Rattle.ar_verified.specs.Effects.{effect};
+ghost use Rattle.ar_safety.specs.Arrivals.{answer_kind, deepest, item_of, lacks, most_operands, operands};
+ghost use Rattle.ar_safety.specs.Effects.{effect};
 ghost use Rattle.ar_verify.specs.Private.Failures.{Meets};
 ghost use Rattle.ar_verify.specs.Private.Held.{around_view, counted, from_innermost, operands_view};
 ghost use Rattle.ar_verify.specs.Private.Kinds.{kind_view, list_view};
@@ -21,9 +21,9 @@ use crate::stack::{add, pop, push};
 use crate::whole::{ShapeName, Whole};
 use ar_op::code::Code;
 use ar_op::op::{Jump, Op, Source};
+use ar_safety::Reason;
 use ar_value::operator::{Predicate, Scalar};
 use ar_value::shape::Shape;
-use ar_verified::Reason;
 use std::alloc::{AllocError, Global};
 
 /// How many operands there may be, those below the floor too.

@@ -3,17 +3,17 @@
 ghost use Rattle.std.specs.Prelude.{◌≡◌, Err, IfErr, IfOk, Ok, if◌then◌else◌, nat_le};
 ghost use Rattle.ar_value.specs.View.{shape_view};
 ghost use Rattle.ar_op.specs.Code.{IsCode};
-ghost use Rattle.ar_verified.specs.Safety.{RunsSafely};
-ghost use Rattle.ar_verified.specs.Verdict.{IsCause, IsVerified, greatest_budget};
-ghost use Rattle.ar_verified.specs.declared.error.Cause.TheVariants.{Fault};
-ghost use Rattle.ar_verified.specs.declared.error.Reason.TheVariants.{BudgetTooLarge};
+ghost use Rattle.ar_safety.specs.Safety.{RunsSafely};
+ghost use Rattle.ar_safety.specs.Verdict.{IsCause, IsVerified, greatest_budget};
+ghost use Rattle.ar_safety.specs.declared.error.Cause.TheVariants.{Fault};
+ghost use Rattle.ar_safety.specs.declared.error.Reason.TheVariants.{BudgetTooLarge};
 
 use crate::arrivals::find_arrivals;
 use crate::budget::{budget, is_payable};
 use crate::places::check_places;
 use ar_op::code::Code;
+use ar_safety::{Cause, Reason, Refused, Verified};
 use ar_value::shared_shape::SharedShape;
-use ar_verified::{Cause, Reason, Refused, Verified};
 use std::alloc::Global;
 
 /// What a run costs at most, and how many operands it has.

@@ -5,8 +5,8 @@ ghost use Rattle.cases_of_values.specs.Output.{Writes};
 ghost use Rattle.cases_of_conditions.specs.Endings.{done_text, ended_text};
 
 use ar_machine::Outcome;
+use ar_safety::Cause;
 use ar_tested::Ended;
-use ar_verified::Cause;
 use cases_of_values::output::Output;
 use cases_of_values::printing::put_answer;
 

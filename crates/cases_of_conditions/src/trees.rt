@@ -1,6 +1,6 @@
 //! Conditions as written, printed: a node as `(operator@place child child)`, a leaf as `leaf@place`.
 
-use ar_condition::tree::{Binary, Comparison, Literal, Tree, Unary};
+use ar_tree::tree::{Binary, Comparison, Literal, Tree, Unary};
 use ar_value::operator::{Predicate, TextTest};
 use cases_of_values::output::Output;
 use cases_of_values::printing::{put_decimal, put_quoted, put_truth, put_whole};

@@ -2,7 +2,7 @@
 //! out: `plain` where nil is a fault, `decimal` where a whole is turned.
 
 use crate::trees::{predicate_name, put_literal, test_name};
-use ar_condition::typed::Typed;
+use ar_tree::typed::Typed;
 use ar_value::operator::{
     Arithmetic, BinaryOperator, Compared, DecimalArithmetic, Family, Numbers, Order, Scalar,
     UnaryOperator,

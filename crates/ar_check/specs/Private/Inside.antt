@@ -7,12 +7,12 @@ use Rattle.ar_value.specs.Kind.{Kind, common, is_decimal, plain}
 use Rattle.ar_value.specs.Kind as kind
 use Rattle.ar_value.specs.Shape.{Shape}
 use Rattle.ar_value.specs.View.{shape_view}
-use Rattle.ar_condition.specs.Expression.{Expression, Expressions}
+use Rattle.ar_tree.specs.Expression.{Expression, Expressions}
 use Rattle.ar_check.specs.Check.{Answer, Item, item_shape, item_typed, items_typed, truth_kind, typed_of, where_wanted}
 use Rattle.ar_check.specs.Operand.{Operand, is_truth, is_whole, made_plain, operand, plain_of, scalar_of}
-use Rattle.ar_condition.specs.Typed.{Typed}
-use Rattle.ar_condition.specs.Typed as typed
-use Rattle.ar_condition.specs.Views.{typed_view}
+use Rattle.ar_tree.specs.Typed.{Typed}
+use Rattle.ar_tree.specs.Typed as typed
+use Rattle.ar_tree.specs.Views.{typed_view}
 use Rattle.ar_check.specs.declared.error.TypeError.{TypeError}
 use Rattle.ar_value.specs.declared.operator.Scalar.{Scalar}
 use Rattle.ar_check.specs.declared.build.Connective.{Connective}

@@ -3,7 +3,7 @@ use Rattle.std.specs.Prelude.{ℕ, suc, ◌==◌, if◌then◌else◌, Option, S
 use Rattle.ar_value.specs.Kind.{Kind}
 use Rattle.ar_value.specs.Shape.{Shape}
 use Rattle.ar_value.specs.View.{shape_view}
-use Rattle.ar_condition.specs.Expression.{Expression, Expressions}
+use Rattle.ar_tree.specs.Expression.{Expression, Expressions}
 use Rattle.ar_check.specs.Found.{found_among, found_in, has_place, entered_list, kind_of, one}
 use Rattle.ar_check.specs.Private.Inside.{innermost_of}
 use Rattle.ar_check.specs.declared.found.Operands.{Operands}

@@ -1,9 +1,9 @@
 -- Code that grows as a tree is compiled: operation by operation, jumps being set once their places are known.
 use Rattle.std.specs.Prelude.{ℕ, List, [], ◌∷◌, ◌++◌, length, set}
-use Rattle.ar_condition.specs.Typed.{Typed, Typeds, how_many}
-use Rattle.ar_condition.specs.Typed as typed
-use Rattle.ar_condition.specs.declared.tree.Literal.{Literal}
-use Rattle.ar_condition.specs.declared.tree.Literal.TheVariants as literals
+use Rattle.ar_tree.specs.Typed.{Typed, Typeds, how_many}
+use Rattle.ar_tree.specs.Typed as typed
+use Rattle.ar_tree.specs.declared.tree.Literal.{Literal}
+use Rattle.ar_tree.specs.declared.tree.Literal.TheVariants as literals
 use Rattle.ar_value.specs.declared.operator.Predicate.{Predicate}
 use Rattle.ar_op.specs.Code.{Code, code_of_parts}
 use Rattle.ar_op.specs.declared.op.Jump.{Jump as JumpKind}

@@ -6,12 +6,12 @@ use Rattle.ar_value.specs.declared.operator.BinaryOperator.{BinaryOperator}
 use Rattle.ar_value.specs.declared.operator.Predicate.{Predicate}
 use Rattle.ar_value.specs.declared.operator.Scalar.{Scalar}
 use Rattle.ar_value.specs.declared.operator.UnaryOperator.{UnaryOperator}
-use Rattle.ar_condition.specs.Typed.{Typed, Typeds, how_many}
-use Rattle.ar_condition.specs.Typed as typed
-use Rattle.ar_condition.specs.declared.tree.Literal.{Literal}
+use Rattle.ar_tree.specs.Typed.{Typed, Typeds, how_many}
+use Rattle.ar_tree.specs.Typed as typed
+use Rattle.ar_tree.specs.declared.tree.Literal.{Literal}
 use Rattle.ar_check.specs.Basics.{literal_kind, most_predicates}
 use Rattle.ar_check.specs.Check.{predicate_kind, scalar_shape, truth_kind}
-use Rattle.ar_verified.specs.Effects.{binary_kind, unary_kind}
+use Rattle.ar_safety.specs.Effects.{binary_kind, unary_kind}
 
 mutual
   -- where `result` has a shape, and so has the innermost item, inside so many predicates

@@ -1,10 +1,10 @@
 -- Trees in memory that stand together.
 use Rattle.std.specs.Prelude.{ℕ, ◌+◌, List, map}
-use Rattle.ar_condition.specs.Typed.{Typeds, typeds}
-use Rattle.ar_condition.specs.Views.{typed_view}
-use Rattle.ar_condition.specs.declared.typed.Typed.{Typed as TypedCode}
+use Rattle.ar_tree.specs.Typed.{Typeds, typeds}
+use Rattle.ar_tree.specs.Views.{typed_view}
+use Rattle.ar_tree.specs.declared.typed.Typed.{Typed as TypedCode}
 use Rattle.ar_compile.specs.Length.{operations}
-use Rattle.ar_condition.specs.Limits.{AllInLimits}
+use Rattle.ar_tree.specs.Limits.{AllInLimits}
 
 -- the items of a list literal
 abbrev pub items_view : List TypedCode → Typeds

@@ -4,13 +4,13 @@ use Rattle.ar_value.specs.Fits.{fits}
 use Rattle.ar_value.specs.Shape.{Shape}
 use Rattle.ar_value.specs.Value.{Value}
 use Rattle.ar_value.specs.View.{shape_view}
-use Rattle.ar_condition.specs.Meaning.{answer_of, mean}
-use Rattle.ar_condition.specs.Typed.{Typed}
+use Rattle.ar_tree.specs.Meaning.{answer_of, mean}
+use Rattle.ar_tree.specs.Typed.{Typed}
 use Rattle.ar_op.specs.Code.{Code, most_entries}
 use Rattle.ar_compile.specs.Compiled.{compiled}
 use Rattle.ar_compile.specs.Ends.{EndsWith}
 use Rattle.ar_compile.specs.Length.{length_of}
-use Rattle.ar_verified.specs.Verdict.{Verified}
+use Rattle.ar_safety.specs.Verdict.{Verified}
 use Rattle.ar_judge.specs.Condition.{IsRefused, typed_of}
 use Rattle.ar_judge.specs.declared.error.BuildCause.{BuildCause}
 

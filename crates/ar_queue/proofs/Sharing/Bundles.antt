@@ -4,8 +4,8 @@ use denote.Param.SendFields.{declared_send, declared_sync, variants_sync}
 use Rattle.std.proofs.Crossing.{crosses, Arc-sync}
 use Rattle.ar_op.specs.contracts.code.Code as Code
 use Rattle.ar_op.specs.contracts.op.Op as Op
-use Rattle.ar_verified.specs.contracts.verified.Verified as Verified
-use Rattle.ar_verified.specs.contracts.verified.Verified.TheInside as VerifiedInside
+use Rattle.ar_safety.specs.contracts.verified.Verified as Verified
+use Rattle.ar_safety.specs.contracts.verified.Verified.TheInside as VerifiedInside
 use Rattle.ar_judge.specs.contracts.condition.Condition as Condition
 use Rattle.ar_judge.specs.contracts.condition.Condition.TheInside as ConditionInside
 use Rattle.ar_judge.specs.contracts.judge.Judge as Judge

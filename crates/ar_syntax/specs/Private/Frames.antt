@@ -1,9 +1,9 @@
 -- What the stack in memory says of what is begun and not ended.
 use Rattle.std.specs.Prelude.{ℕ, Bool, true, false, nat_le, map, List, [], ◌∷◌, ◌++◌}
-use Rattle.ar_condition.specs.Expression.{Expression, UnaryAt, BinaryAt, ChoiceAt}
+use Rattle.ar_tree.specs.Expression.{Expression, UnaryAt, BinaryAt, ChoiceAt}
 use Rattle.ar_syntax.specs.Machine.{Frame, State, climbed, unwound, RightOf, Prefixed, Yes, No, Grouped, Listed, Indexed, Argued, Body, Braced}
 use Rattle.ar_syntax.specs.Roles.{looseness}
-use Rattle.ar_condition.specs.Views.{expression_of}
+use Rattle.ar_tree.specs.Views.{expression_of}
 use Rattle.ar_syntax.specs.declared.climb.Reach.{Reach}
 use Rattle.ar_syntax.specs.declared.climb.Reach.TheVariants.{Level, Ender}
 use Rattle.ar_syntax.specs.declared.machine.Frame as rust

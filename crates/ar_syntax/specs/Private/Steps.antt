@@ -1,12 +1,12 @@
 -- A step of the code, beside that of the machine.
 use Rattle.std.specs.Prelude.{◌≡◌, Bool, true, false, if◌then◌else◌, List, [], map, Option, Some, None, Result, Ok, Err, IfErr}
-use Rattle.ar_condition.specs.Expression.{Expression}
+use Rattle.ar_tree.specs.Expression.{Expression}
 use Rattle.ar_syntax.specs.Fault.{accepts, kind_fault}
 use Rattle.ar_syntax.specs.Grammar.{Rules}
 use Rattle.ar_syntax.specs.Machine.{Frame, State, Want, Have, WantName, WantIndex, HaveText, WantIn, WantGroup, WantArgument, HaveArgument}
 use Rattle.ar_syntax.specs.Refusal.{at_any_depth, of_any_count, of_any_items, strict}
 use Rattle.ar_syntax.specs.Roles.{EndGroup, Ends, Follow, Start, Leaf, Prefix, Group, Bracket, Calls, ItemPoint, NoStart}
-use Rattle.ar_condition.specs.Views.{expression_of}
+use Rattle.ar_tree.specs.Views.{expression_of}
 use Rattle.ar_syntax.specs.Private.Frames.{frames_of}
 use Rattle.ar_syntax.specs.declared.machine.Frame as rust_frames
 use Rattle.ar_syntax.specs.declared.error.SyntaxError.{SyntaxError}

@@ -6,9 +6,9 @@ use Rattle.ar_op.specs.Code.{Code}
 use Rattle.ar_op.specs.declared.op.Jump.TheVariants.{Always}
 use Rattle.ar_op.specs.declared.op.Op.{Op}
 use Rattle.ar_op.specs.declared.op.Op.TheVariants.{Jump, Enter, Step, Return}
-use Rattle.ar_verified.specs.Arrivals.{Sent}
-use Rattle.ar_verified.specs.Budget.{IsDearest, most_at, price}
-use Rattle.ar_verified.specs.Verdict.{passed}
+use Rattle.ar_safety.specs.Arrivals.{Sent}
+use Rattle.ar_safety.specs.Budget.{IsDearest, most_at, price}
+use Rattle.ar_safety.specs.Verdict.{passed}
 
 -- one more than the greatest budget
 abbrev pub too_dear : ℕ

@@ -4,9 +4,9 @@ use Rattle.std.specs.Prelude.{◌≡◌, ℕ, ◌+◌, ◌-◌, ◌==◌, ◌<�
 use Rattle.ar_op.specs.Machine.{nth}
 use Rattle.ar_op.specs.declared.op.Op.{Op}
 use Rattle.ar_op.specs.declared.op.Op.TheVariants.{Jump, Enter, Step, Return}
-use Rattle.ar_verified.specs.Places.{all_pass, held, most_loops, nests_well, or_else, unless}
-use Rattle.ar_verified.specs.declared.error.Reason.{Reason}
-use Rattle.ar_verified.specs.declared.error.Reason.TheVariants.{CrossesLoop, LoopsTooDeep}
+use Rattle.ar_safety.specs.Places.{all_pass, held, most_loops, nests_well, or_else, unless}
+use Rattle.ar_safety.specs.declared.error.Reason.{Reason}
+use Rattle.ar_safety.specs.declared.error.Reason.TheVariants.{CrossesLoop, LoopsTooDeep}
 
 -- ---- how many loops are around each place
 

@@ -1,8 +1,8 @@
 -- What helpers answer that know no place.
 use Rattle.std.specs.Prelude.{◌≡◌, ℕ, Result, Ok, Err}
-use Rattle.ar_verified.specs.declared.error.Cause.{Cause}
-use Rattle.ar_verified.specs.declared.error.Cause.TheVariants as causes
-use Rattle.ar_verified.specs.declared.error.Reason.{Reason}
+use Rattle.ar_safety.specs.declared.error.Cause.{Cause}
+use Rattle.ar_safety.specs.declared.error.Cause.TheVariants as causes
+use Rattle.ar_safety.specs.declared.error.Reason.{Reason}
 use Rattle.ar_verify.specs.declared.failure.Failure.{Failure}
 use Rattle.ar_verify.specs.declared.failure.Failure.TheVariants as failures
 

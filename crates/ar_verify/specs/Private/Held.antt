@@ -1,9 +1,9 @@
 -- What operands and loops in memory stand for.
 use Rattle.std.specs.Prelude.{ℕ, ◌-◌, ◌^◌, min, List, map, reverse, Result, Ok, Err}
-use Rattle.ar_verified.specs.Arrivals.{Around, Operands, operands}
+use Rattle.ar_safety.specs.Arrivals.{Around, Operands, operands}
 use Rattle.ar_verify.specs.Private.Kinds.{list_view}
 use Rattle.ar_verify.specs.Private.Stacks.{from_top}
-use Rattle.ar_verified.specs.declared.error.Reason.{Reason}
+use Rattle.ar_safety.specs.declared.error.Reason.{Reason}
 use Rattle.ar_verify.specs.declared.operands.Around as code
 use Rattle.ar_verify.specs.declared.operands.Operands as held
 use Rattle.ar_verify.specs.declared.whole.ShapeName as ShapeName

@@ -9,12 +9,12 @@ use Rattle.ar_op.specs.declared.op.Jump.{Jump}
 use Rattle.ar_op.specs.declared.op.Jump.TheVariants as jumps
 use Rattle.ar_op.specs.declared.op.Op.{Op}
 use Rattle.ar_op.specs.declared.op.Op.TheVariants as ops
-use Rattle.ar_verified.specs.Arrivals.{Around, Operands, Sent, answer_kind, item_of, lacks, sent, where_shallow}
-use Rattle.ar_verified.specs.Effects.{effect}
+use Rattle.ar_safety.specs.Arrivals.{Around, Operands, Sent, answer_kind, item_of, lacks, sent, where_shallow}
+use Rattle.ar_safety.specs.Effects.{effect}
 use Rattle.ar_verify.specs.Private.Held.{operands_view}
 use Rattle.ar_verify.specs.Private.Kinds.{list_in}
-use Rattle.ar_verified.specs.declared.error.Reason.{Reason}
-use Rattle.ar_verified.specs.declared.error.Reason.TheVariants.{BadMerge, IllKinded, MissingOperand}
+use Rattle.ar_safety.specs.declared.error.Reason.{Reason}
+use Rattle.ar_safety.specs.declared.error.Reason.TheVariants.{BadMerge, IllKinded, MissingOperand}
 use Rattle.ar_verify.specs.declared.sending.Sends.{Sends}
 use Rattle.ar_verify.specs.declared.sending.Sends.TheVariants as code
 use Rattle.ar_verify.specs.declared.sending.Sent as codes

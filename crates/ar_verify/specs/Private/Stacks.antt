@@ -3,7 +3,7 @@ use Rattle.std.specs.Prelude.{◌≡◌, ℕ, Bool, false, List, [], ◌∷◌, 
 use Rattle.ar_value.specs.Kind.{Kind}
 use Rattle.ar_value.specs.Shape.{Shape}
 use Rattle.ar_value.specs.declared.operator.Scalar.{Scalar}
-use Rattle.ar_verified.specs.Effects.{is_scalar}
+use Rattle.ar_safety.specs.Effects.{is_scalar}
 use Rattle.ar_verify.specs.Private.Kinds.{kind_view, list_in}
 use Rattle.ar_verify.specs.declared.kind.Kind as code
 use Rattle.ar_verify.specs.declared.whole.ShapeName as ShapeName

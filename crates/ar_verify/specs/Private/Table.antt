@@ -5,15 +5,15 @@ use Rattle.ar_value.specs.Shape.{Shape}
 use Rattle.ar_op.specs.Code.{Code}
 use Rattle.ar_op.specs.declared.op.Op.{Op}
 use Rattle.ar_op.specs.declared.op.Op.TheVariants as ops
-use Rattle.ar_verified.specs.Arrivals.{Operands, Sent, all_sent, arrival, arrived, deepest, merged, of_loops, sent_on, sent_to}
-use Rattle.ar_verified.specs.Budget.{most_items, most_on_top}
+use Rattle.ar_safety.specs.Arrivals.{Operands, Sent, all_sent, arrival, arrived, deepest, merged, of_loops, sent_on, sent_to}
+use Rattle.ar_safety.specs.Budget.{most_items, most_on_top}
 use Rattle.ar_verify.specs.Private.Held.{arrival_view}
 use Rattle.ar_verify.specs.Private.Sending.{sends_by}
 use Rattle.ar_verify.specs.declared.arrivals.Arrivals as code
 use Rattle.ar_verify.specs.declared.arrivals.Pass as passes
-use Rattle.ar_verified.specs.declared.error.Cause.{Cause}
-use Rattle.ar_verified.specs.declared.error.Reason.{Reason}
-use Rattle.ar_verified.specs.declared.error.Reason.TheVariants.{Unreachable}
+use Rattle.ar_safety.specs.declared.error.Cause.{Cause}
+use Rattle.ar_safety.specs.declared.error.Reason.{Reason}
+use Rattle.ar_safety.specs.declared.error.Reason.TheVariants.{Unreachable}
 use Rattle.ar_verify.specs.declared.operands.Operands as held
 use Rattle.ar_verify.specs.declared.whole.ShapeName as ShapeName
 

@@ -1,4 +1,4 @@
-use Rattle.ar_condition.specs.Views.{expression_of}
+use Rattle.ar_tree.specs.Views.{expression_of}
 use Rattle.ar_check.proofs.Places.{found_over}
 use Rattle.ar_check.proofs.found.+found_in.Goals as goal
 

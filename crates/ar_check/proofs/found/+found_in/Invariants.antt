@@ -1,8 +1,8 @@
 use Rattle.std.proofs.Common.{◌≡◌, ◌+◌, ◌*◌, length, map, max}
 use Rattle.std.specs.Vec.Iter.{into_iter_items, into_iter_len}
-use Rattle.ar_condition.specs.Expression.{expressions}
-use Rattle.ar_condition.specs.Views.{expression_of}
-use Rattle.ar_condition.specs.declared.tree.Tree.{size-Tree}
+use Rattle.ar_tree.specs.Expression.{expressions}
+use Rattle.ar_tree.specs.Views.{expression_of}
+use Rattle.ar_tree.specs.declared.tree.Tree.{size-Tree}
 use Rattle.ar_check.specs.Private.Search.{place_among}
 use Rattle.ar_check.proofs.found.+found_in.Given as goal
 

@@ -1,6 +1,6 @@
 use Rattle.std.proofs.Common.{◌≡◌, drop, map}
-use Rattle.ar_condition.specs.Expression.{expressions}
-use Rattle.ar_condition.specs.Views.{expression_of}
+use Rattle.ar_tree.specs.Expression.{expressions}
+use Rattle.ar_tree.specs.Views.{expression_of}
 use Rattle.ar_check.specs.Found.{any_has_place}
 use Rattle.ar_check.proofs.found.+has_place.Given as goal
 

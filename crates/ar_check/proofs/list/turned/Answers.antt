@@ -4,9 +4,9 @@ use Rattle.std.proofs.lemmas.List.{map-append}
 use Rattle.ar_check.specs.Check.{Item, turned_item}
 use Rattle.ar_check.specs.Private.Inside.{item_view}
 use Rattle.ar_check.specs.declared.list.Item.{Item as ItemCode}
-use Rattle.ar_condition.specs.Typed.{Typed}
-use Rattle.ar_condition.specs.Views.{typed_view}
-use Rattle.ar_condition.specs.declared.typed.Typed.{Typed as TypedCode}
+use Rattle.ar_tree.specs.Typed.{Typed}
+use Rattle.ar_tree.specs.Views.{typed_view}
+use Rattle.ar_tree.specs.declared.typed.Typed.{Typed as TypedCode}
 use Rattle.ar_check.proofs.Items.{len_next}
 use Rattle.ar_check.proofs.list.turned.Goals as goal
 

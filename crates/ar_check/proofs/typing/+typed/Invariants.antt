@@ -1,9 +1,9 @@
 use Rattle.std.proofs.Common.{◌≡◌, ◌+◌, ◌*◌, length, map, max, option_map}
 use Rattle.std.specs.Vec.Iter.{into_iter_items, into_iter_len}
 use Rattle.ar_value.specs.View.{shape_view}
-use Rattle.ar_condition.specs.Expression.{expressions}
-use Rattle.ar_condition.specs.Views.{expression_of}
-use Rattle.ar_condition.specs.declared.tree.Tree.{size-Tree}
+use Rattle.ar_tree.specs.Expression.{expressions}
+use Rattle.ar_tree.specs.Views.{expression_of}
+use Rattle.ar_tree.specs.declared.tree.Tree.{size-Tree}
 use Rattle.ar_check.specs.Check.{items_typed}
 use Rattle.ar_check.specs.Private.Inside.{item_view}
 use Rattle.ar_check.proofs.Items.{behind}

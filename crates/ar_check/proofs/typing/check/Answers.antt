@@ -1,9 +1,9 @@
 use Rattle.std.proofs.Common.{rules, ◌≡◌, Ok, Err}
 use Rattle.std.proofs.lemmas.Result.{err_from_is_err_and}
 use Rattle.ar_value.specs.View.{shape_view}
-use Rattle.ar_condition.specs.Views.{expression_of}
+use Rattle.ar_tree.specs.Views.{expression_of}
 use Rattle.ar_check.specs.Check.{checked}
-use Rattle.ar_condition.specs.Views.{typed_view}
+use Rattle.ar_tree.specs.Views.{typed_view}
 use Rattle.ar_check.specs.Memory.{is_memory}
 use Rattle.ar_check.specs.declared.error.TypeError.TheVariants.{NotTruth}
 use Rattle.ar_check.proofs.Conditions.{is_condition, is_none, refuses_none}

@@ -1,9 +1,9 @@
 use Rattle.std.proofs.Common.{◌≡◌, ◌+◌, ◌*◌, ◌≤◌, drop, map, max}
-use Rattle.ar_condition.specs.Typed.{typeds}
-use Rattle.ar_condition.specs.Views.{typed_view}
-use Rattle.ar_condition.specs.declared.typed.Typed.{size-Typed}
+use Rattle.ar_tree.specs.Typed.{typeds}
+use Rattle.ar_tree.specs.Views.{typed_view}
+use Rattle.ar_tree.specs.declared.typed.Typed.{size-Typed}
 use Rattle.ar_compile.specs.Length.{operations_of_items}
-use Rattle.ar_condition.specs.Limits.{AllInLimits}
+use Rattle.ar_tree.specs.Limits.{AllInLimits}
 use Rattle.ar_compile.specs.Private.Drafts.{drafted_items, place_of}
 use Rattle.ar_compile.proofs.compiler.+compiler.Given as goal
 

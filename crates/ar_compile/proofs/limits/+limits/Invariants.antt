@@ -1,6 +1,6 @@
 use Rattle.std.proofs.Common.{drop, map}
-use Rattle.ar_condition.specs.Typed.{typeds}
-use Rattle.ar_condition.specs.Views.{typed_view}
+use Rattle.ar_tree.specs.Typed.{typeds}
+use Rattle.ar_tree.specs.Views.{typed_view}
 use Rattle.ar_compile.specs.Private.Trees.{Agree, items_view}
 use Rattle.ar_compile.proofs.limits.+limits.Given as goal
 

@@ -1,5 +1,5 @@
 use Rattle.std.proofs.Common.{rules}
-use Rattle.ar_condition.specs.Views.{expression_of}
+use Rattle.ar_tree.specs.Views.{expression_of}
 use Rattle.ar_judge.proofs.Running.{has_code, has_no_code, in_limits}
 use Rattle.ar_judge.proofs.condition.code_of.Goals as goal
 

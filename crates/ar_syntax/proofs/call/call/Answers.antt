@@ -1,6 +1,6 @@
 use Rattle.std.proofs.Common.{arith, rules, ap, ◌∙◌}
 use Rattle.std.proofs.lemmas.Grind.{common_steps}
-use Rattle.ar_condition.specs.declared.tree.Tree.{the_lemmas}
+use Rattle.ar_tree.specs.declared.tree.Tree.{the_lemmas}
 use Rattle.ar_syntax.specs.Roles.{arity}
 use Rattle.ar_syntax.proofs.Openers.{one_argument, two_arguments}
 use Rattle.ar_syntax.proofs.call.call.Goals as goal

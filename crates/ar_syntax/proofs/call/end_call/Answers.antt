@@ -1,5 +1,5 @@
 use Rattle.std.proofs.Common.{rules, ◌∙◌}
-use Rattle.ar_condition.specs.Views.{expression_of}
+use Rattle.ar_tree.specs.Views.{expression_of}
 use Rattle.ar_syntax.proofs.Openers.{call_gives_operand}
 use Rattle.ar_syntax.proofs.call.end_call.Goals as goal
 

@@ -1,5 +1,5 @@
 use Rattle.std.proofs.Common.{arith, ap, length, sym, ◌∙◌}
-use Rattle.ar_condition.specs.Views.{expression_of}
+use Rattle.ar_tree.specs.Views.{expression_of}
 use Rattle.ar_syntax.specs.Private.Frames.{frame_of, frames_of}
 use Rattle.ar_syntax.proofs.Climbs.{ended-ends, ended-stays, length-frames_of}
 use Rattle.ar_syntax.proofs.climb.climb.Goals as goal

@@ -1,6 +1,6 @@
 use Rattle.std.proofs.Common.{◌≡◌, length}
 use Rattle.ar_syntax.specs.Private.Frames.{ended, frames_of}
-use Rattle.ar_condition.specs.Views.{expression_of}
+use Rattle.ar_tree.specs.Views.{expression_of}
 use Rattle.ar_syntax.proofs.climb.climb.Given as goal
 
 -- what is left to end

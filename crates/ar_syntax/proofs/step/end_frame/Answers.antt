@@ -1,6 +1,6 @@
 use Rattle.std.proofs.Common.{refl}
 use Rattle.ar_syntax.specs.Private.Frames.{frames_of}
-use Rattle.ar_condition.specs.Views.{expression_of}
+use Rattle.ar_tree.specs.Views.{expression_of}
 use Rattle.ar_syntax.proofs.Openers.{no_end}
 use Rattle.ar_syntax.proofs.step.end_frame.Goals as goal
 

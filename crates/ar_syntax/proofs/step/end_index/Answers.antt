@@ -1,8 +1,8 @@
 use Rattle.std.proofs.Common.{◌≡◌, rules}
-use Rattle.ar_condition.specs.Expression.{IndexAt}
-use Rattle.ar_condition.specs.Views.{expression_of}
-use Rattle.ar_condition.specs.declared.tree.Tree.{the_lemmas}
-use Rattle.ar_condition.specs.declared.tree.Tree.TheVariants as trees
+use Rattle.ar_tree.specs.Expression.{IndexAt}
+use Rattle.ar_tree.specs.Views.{expression_of}
+use Rattle.ar_tree.specs.declared.tree.Tree.{the_lemmas}
+use Rattle.ar_tree.specs.declared.tree.Tree.TheVariants as trees
 use Rattle.ar_syntax.proofs.step.end_index.Goals as goal
 
 pub returns-in-EndBracket : goal.returns-in-EndBracket

@@ -1,5 +1,5 @@
 use Rattle.std.proofs.Common.{map, sym}
-use Rattle.ar_condition.specs.Views.{expression_of}
+use Rattle.ar_tree.specs.Views.{expression_of}
 use Rattle.ar_syntax.specs.Private.Frames.{frames_of}
 use Rattle.ar_syntax.specs.Roles.{follows}
 use Rattle.ar_syntax.proofs.Openers.{argument_begins, empty_call}

@@ -4,9 +4,9 @@ use Rattle.ar_value.specs.View.{shape_view}
 use Rattle.ar_op.specs.declared.op.Op.{Op}
 use Rattle.ar_op.specs.declared.op.Op.TheVariants.{Push}
 use Rattle.ar_op.specs.declared.op.Source.TheVariants.{Bool}
-use Rattle.ar_verified.specs.Arrivals.{operands}
+use Rattle.ar_safety.specs.Arrivals.{operands}
 use Rattle.ar_verify.specs.Private.Table.{pass_view}
-use Rattle.ar_verified.specs.declared.error.Reason.TheVariants.{Unreachable}
+use Rattle.ar_safety.specs.declared.error.Reason.TheVariants.{Unreachable}
 use Rattle.ar_verify.proofs.Comes.{all_seen, begins, goes_on, inside_table, stopped}
 use Rattle.ar_verify.proofs.arrivals.find_named.Goals as goal
 

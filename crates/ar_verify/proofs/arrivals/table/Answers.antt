@@ -1,6 +1,6 @@
 use Rattle.std.proofs.Common.{◌≡◌, ap, replicate, Ok, Err, ◌∷◌, [], ◌∙◌, arith}
-use Rattle.ar_verified.specs.Arrivals.{operands}
-use Rattle.ar_verified.specs.declared.error.Reason.TheVariants.{Unreachable}
+use Rattle.ar_safety.specs.Arrivals.{operands}
+use Rattle.ar_safety.specs.declared.error.Reason.TheVariants.{Unreachable}
 use Rattle.ar_verify.proofs.Table.{one_place, one_place_more}
 use Rattle.ar_verify.proofs.arrivals.table.Goals as goal
 

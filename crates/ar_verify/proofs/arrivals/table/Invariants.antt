@@ -1,7 +1,7 @@
 use Rattle.std.proofs.Common.{◌≡◌, ◌∷◌, [], replicate, Ok, Err}
-use Rattle.ar_verified.specs.Arrivals.{operands}
+use Rattle.ar_safety.specs.Arrivals.{operands}
 use Rattle.ar_verify.specs.Private.Table.{table_view}
-use Rattle.ar_verified.specs.declared.error.Reason.TheVariants.{Unreachable}
+use Rattle.ar_safety.specs.declared.error.Reason.TheVariants.{Unreachable}
 use Rattle.ar_verify.proofs.arrivals.table.Given as goal
 
 abbrev pub invariant-loop-place : goal.invariant-loop-place

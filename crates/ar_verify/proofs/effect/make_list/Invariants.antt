@@ -1,5 +1,5 @@
 use Rattle.std.proofs.Common.{◌≡◌, ◌-◌}
-use Rattle.ar_verified.specs.Effects.{list_made}
+use Rattle.ar_safety.specs.Effects.{list_made}
 use Rattle.ar_verify.specs.Private.Stacks.{from_top}
 use Rattle.ar_verify.proofs.effect.make_list.Given as goal
 

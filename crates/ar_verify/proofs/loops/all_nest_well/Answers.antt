@@ -1,7 +1,7 @@
 use Rattle.std.proofs.Common.{sym, ◌∙◌, ap}
 use Rattle.ar_verify.specs.Private.Depths.{last_of}
 use Rattle.ar_verify.proofs.Depths.{finds_here, is_counted, jumps_inside, nested_further}
-use Rattle.ar_verified.proofs.Entries.{nth_at}
+use Rattle.ar_safety.proofs.Entries.{nth_at}
 use Rattle.ar_verify.proofs.loops.all_nest_well.Goals as goal
 
 pub nests_well-requires-clause-from : goal.nests_well-requires-clause-from

@@ -1,5 +1,5 @@
 use Rattle.std.proofs.Common.{◌≡◌, take}
-use Rattle.ar_verified.specs.Arrivals.{floor}
+use Rattle.ar_safety.specs.Arrivals.{floor}
 use Rattle.ar_verify.specs.Private.Held.{counted, from_innermost}
 use Rattle.ar_verify.proofs.operands.floor.Given as goal
 

@@ -1,5 +1,5 @@
 use Rattle.std.proofs.Common.{drop, map}
-use Rattle.ar_verified.specs.Arrivals.{merged}
+use Rattle.ar_safety.specs.Arrivals.{merged}
 use Rattle.ar_verify.specs.Private.Kinds.{kind_view}
 use Rattle.ar_verify.proofs.Joins.{Behind}
 use Rattle.ar_verify.proofs.operands.merge_all.Given as goal

@@ -1,5 +1,5 @@
 use Rattle.std.proofs.Common.{◌≡◌, drop}
-use Rattle.ar_verified.specs.Places.{all_pass, names_well}
+use Rattle.ar_safety.specs.Places.{all_pass, names_well}
 use Rattle.ar_verify.proofs.places.all_name_well.Given as goal
 
 -- what the pass finds among the operations that are left is what it finds at all

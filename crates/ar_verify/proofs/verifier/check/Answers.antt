@@ -1,8 +1,8 @@
 use Rattle.std.proofs.Common.{length, ap, sym, subst, ◌∙◌}
 use Rattle.std.specs.Prelude.{nat_le}
-use Rattle.ar_verified.specs.Verdict.{IsCause, IsVerified, greatest_budget}
+use Rattle.ar_safety.specs.Verdict.{IsCause, IsVerified, greatest_budget}
 use Rattle.ar_value.specs.View.{shape_view}
-use Rattle.ar_verified.specs.Places.{places_pass}
+use Rattle.ar_safety.specs.Places.{places_pass}
 use Rattle.ar_verify.specs.Private.Costs.{IsCost}
 use Rattle.ar_verify.specs.Private.Table.{summary_view}
 use Rattle.ar_verify.proofs.Verdicts.{by_test, has_passed, is_too_dear, is_verified, so_many}

@@ -1,0 +1,52 @@
+-- What a tree says, without where it lies in memory.
+use Rattle.std.specs.Prelude.{ℕ, suc, List, [], ◌∷◌}
+use Rattle.ar_tree.specs.declared.tree.Binary.{Binary}
+use Rattle.ar_tree.specs.declared.tree.Literal.{Literal}
+use Rattle.ar_value.specs.declared.operator.Predicate.{Predicate}
+use Rattle.ar_tree.specs.declared.tree.Unary.{Unary}
+
+mutual
+  -- a node with its place and its children
+  pub data Expression : Type 0 where
+    ResultAt : (at : ℕ) → Expression
+    ItemAt : (at : ℕ) → Expression
+    LiteralAt : (at : ℕ) (literal : Literal) → Expression
+    FieldAt : (at : ℕ) (owner : Expression) (name : List ℕ) → Expression
+    IndexAt : (at : ℕ) (list index : Expression) → Expression
+    UnaryAt : (at : ℕ) (operator : Unary) (operand : Expression) → Expression
+    BinaryAt : (at : ℕ) (operator : Binary) (left right : Expression) → Expression
+    ChoiceAt : (at : ℕ) (condition yes no : Expression) → Expression
+    ListAt : (at : ℕ) (items : Expressions) → Expression
+    LenAt : (at : ℕ) (list : Expression) → Expression
+    IsNilAt : (at : ℕ) (operand : Expression) → Expression
+    DefaultAt : (at : ℕ) (operand otherwise : Expression) → Expression
+    PredicateAt : (at : ℕ) (predicate : Predicate) (list body : Expression) → Expression
+
+  pub data Expressions : Type 0 where
+    none : Expressions
+    more : (first : Expression) (others : Expressions) → Expressions
+
+abbrev pub expressions : List Expression → Expressions
+expressions [] = none
+expressions (first ∷ others) = more first (expressions others)
+
+-- how many there are
+abbrev pub count : Expressions → ℕ
+count none = 0
+count (more first others) = suc (count others)
+
+-- the place of a tree: that of its operator, else of its own token
+abbrev pub place_of : Expression → ℕ
+place_of (ResultAt at) = at
+place_of (ItemAt at) = at
+place_of (LiteralAt at literal) = at
+place_of (FieldAt at owner name) = at
+place_of (IndexAt at list index) = at
+place_of (UnaryAt at operator operand) = at
+place_of (BinaryAt at operator left right) = at
+place_of (ChoiceAt at condition met unmet) = at
+place_of (ListAt at items) = at
+place_of (LenAt at list) = at
+place_of (IsNilAt at operand) = at
+place_of (DefaultAt at operand otherwise) = at
+place_of (PredicateAt at predicate list body) = at

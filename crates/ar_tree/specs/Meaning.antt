@@ -1,0 +1,103 @@
+-- What a typed condition means where `result` has a value, and so has the innermost item: a value, or a fault.
+use Rattle.std.specs.Prelude.{◌==◌, pos, Bool, true, false, if◌then◌else◌, Option, Some, Result, Ok, Err}
+use Rattle.ar_value.specs.Answer.{◌>>=◌}
+use Rattle.ar_value.specs.Operators.{Failure, Meaning, faulted, field_in, ill_kinded, items_in, one, scalar_item, there, truth, two}
+use Rattle.ar_value.specs.Value.{Value, Items, nil, bool, whole, decimal, text, list, no_items, item, count}
+use Rattle.ar_value.specs.declared.fault.Fault.{Fault}
+use Rattle.ar_tree.specs.declared.tree.Literal.{Literal}
+use Rattle.ar_tree.specs.declared.tree.Literal.TheVariants as literals
+use Rattle.ar_value.specs.declared.operator.Predicate.{Predicate}
+use Rattle.ar_value.specs.declared.operator.Predicate.TheVariants as predicates
+use Rattle.ar_tree.specs.Typed.{Typed, Typeds}
+use Rattle.ar_tree.specs.Typed as typed
+
+abbrev pub literal_value : Literal → Value
+literal_value literals.Nil = nil
+literal_value (literals.Bool truth) = bool truth
+literal_value (literals.Whole value) = whole value
+literal_value (literals.Decimal millionths) = decimal millionths
+literal_value (literals.Text letters) = text letters
+
+-- ---- predicates
+
+-- `holds` says of an item whether the predicate holds of it
+abbrev pub all_hold : (Value → Result Bool Failure) → Items → Meaning
+all_hold holds no_items = Ok (bool true)
+all_hold holds (item first items) = holds first >>= λ it. if it then all_hold holds items else Ok (bool false)
+
+abbrev pub any_holds : (Value → Result Bool Failure) → Items → Meaning
+any_holds holds no_items = Ok (bool false)
+any_holds holds (item first items) = holds first >>= λ it. if it then Ok (bool true) else any_holds holds items
+
+abbrev pub none_holds : (Value → Result Bool Failure) → Items → Meaning
+none_holds holds no_items = Ok (bool true)
+none_holds holds (item first items) = holds first >>= λ it. if it then Ok (bool false) else none_holds holds items
+
+-- the items of which it holds, in order
+abbrev pub those : (Value → Result Bool Failure) → Items → Result Items Failure
+those holds no_items = Ok no_items
+those holds (item first items) = do
+  it ← holds first
+  others ← those holds items
+  Ok (if it then item first others else others)
+
+abbrev pub over : Predicate → (Value → Result Bool Failure) → Items → Meaning
+over predicates.All holds items = all_hold holds items
+over predicates.Any holds items = any_holds holds items
+over predicates.None holds items = none_holds holds items
+over predicates.One holds items = those holds items >>= λ found. Ok (bool (count found == 1))
+over predicates.Count holds items = those holds items >>= λ found. Ok (whole (pos (count found)))
+over predicates.Filter holds items = those holds items >>= λ found. Ok (list found)
+
+-- ---- conditions
+
+abbrev mutual
+  -- Operands are evaluated from left to right, and the first fault is the meaning.
+  pub mean : Value → Option Value → Typed → Meaning
+  mean result here typed.result = Ok result
+  mean result here typed.item = there ill_kinded here
+  mean result here (typed.literal literal) = Ok (literal_value literal)
+  mean result here (typed.field owner name) = mean result here owner >>= field_in name
+  mean result here (typed.unary operator operand) = mean result here operand >>= one operator
+  mean result here (typed.binary operator left right) = do
+    left ← mean result here left
+    right ← mean result here right
+    two operator left right
+  -- the right side only where the left one doesn't decide
+  mean result here (typed.both left right) = do
+    first ← mean result here left
+    holds ← truth first
+    if holds then mean result here right else Ok (bool false)
+  mean result here (typed.either left right) = do
+    first ← mean result here left
+    holds ← truth first
+    if holds then Ok (bool true) else mean result here right
+  -- one branch
+  mean result here (typed.choice condition met unmet) = do
+    condition ← mean result here condition
+    holds ← truth condition
+    if holds then mean result here met else mean result here unmet
+  mean result here (typed.listed scalar items) = items_mean result here items >>= λ items. Ok (list items)
+  mean result here (typed.predicate predicate many body) = do
+    among ← mean result here many
+    items ← items_in among
+    over predicate (λ value. mean result (Some value) body >>= truth) items
+
+  pub items_mean : Value → Option Value → Typeds → Result Items Failure
+  items_mean result here typed.none = Ok no_items
+  items_mean result here (typed.more first others) = do
+    value ← mean result here first
+    scalar ← scalar_item value
+    items ← items_mean result here others
+    Ok (item scalar items)
+
+-- what a condition may come to: true, false or a fault, and nothing else
+pub data IsTruthOrFault : Meaning → Type 0 where
+  is_truth : (holds : Bool) → IsTruthOrFault (Ok (bool holds))
+  is_fault : (fault : Fault) → IsTruthOrFault (Err (faulted fault))
+
+-- What a checked condition says: true or false, or the fault that it meets. It means nothing else.
+abbrev pub answer_of : Meaning → Result Bool Fault
+answer_of (Ok (bool holds)) = Ok holds
+answer_of (Err (faulted fault)) = Err fault
+answer_of meaning = Ok false

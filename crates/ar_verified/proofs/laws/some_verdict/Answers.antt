@@ -1,5 +1,0 @@
-use Rattle.ar_verified.proofs.OneVerdict.{some_verdict}
-use Rattle.ar_verified.proofs.laws.some_verdict.Goals as goal
-
-pub returns : goal.returns
-returns c = some_verdict
