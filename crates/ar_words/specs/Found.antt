@@ -12,12 +12,9 @@ abbrev pub found_after : (name : List ℕ) → (said : Option (List ℕ)) → (t
 found_after name None text = text
 found_after name (Some said) text = after_name name said text
 
--- what is said of a reference that isn't an argument, or has no value
-abbrev pub unknown_said : (reference : List ℕ) → List ℕ
-unknown_said reference = quoted reference ++ codes " in braces; expected args.NAME with a name of `spec.args`"
-
-abbrev pub no_value_said : (reference : List ℕ) → List ℕ
-no_value_said reference = quoted reference ++ codes " in braces has no value; expected one from the run or the template"
+-- what is said of a reference
+abbrev pub reference_said : (words reference : List ℕ) → List ℕ
+reference_said words reference = quoted reference ++ words
 
 abbrev pub value_said : LimitValue → List ℕ
 value_said (values.Whole n) = decimal n

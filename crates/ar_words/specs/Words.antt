@@ -17,7 +17,7 @@ use Rattle.ar_judge.specs.declared.error.BuildError.{BuildError}
 use Rattle.ar_words.specs.Bindings.{bound_condition, limit_in, unbound_in}
 use Rattle.ar_words.specs.Conditions.{after_name, build_words, condition_words}
 use Rattle.ar_words.specs.Fields.{misfit}
-use Rattle.ar_words.specs.Found.{found_after, limit_said, no_value_said, unknown_said}
+use Rattle.ar_words.specs.Found.{found_after, limit_said, reference_said}
 use Rattle.ar_words.specs.Lists.{entry_text, item_at, list_in, metrics, runs, template_list, text_at}
 use Rattle.ar_quote.specs.Shown.{quoted}
 use Rattle.ar_syntax.specs.declared.error.SyntaxError.{SyntaxError}
@@ -78,8 +78,8 @@ template_words document cause text = text
 
 -- where the arguments of a run are bound
 abbrev pub bind_words : Data → (run : ℕ) → ManifestError → (text : List ℕ) → List ℕ
-bind_words document run (causes.UnknownArg metric) text = with_arguments document (beside_metric document metric (found_after (codes "UnknownArg: ") (option_map unknown_said (unbound_in document run metric)) text))
-bind_words document run (causes.NoValue metric) text = beside_metric document metric (found_after (codes "NoValue: ") (option_map no_value_said (unbound_in document run metric)) text)
+bind_words document run (causes.UnknownArg metric) text = with_arguments document (beside_metric document metric (found_after (codes "UnknownArg: ") (option_map (reference_said (codes " in braces; expected args.NAME with a name of `spec.args`")) (unbound_in document run metric)) text))
+bind_words document run (causes.NoValue metric) text = beside_metric document metric (found_after (codes "NoValue: ") (option_map (reference_said (codes " in braces has no value; expected one from the run or the template")) (unbound_in document run metric)) text)
 bind_words document run (causes.BadLimit metric) text = beside_metric document metric (found_after (codes "BadLimit: ") (option_map limit_said (limit_in document run metric)) text)
 bind_words document run cause text = template_words document cause text
 

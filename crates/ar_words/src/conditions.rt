@@ -6,7 +6,7 @@ ghost use Rattle.ar_words.specs.Conditions.{advice, after_name, build_words, cau
 ghost use Rattle.ar_quote.specs.Tokens.{found};
 
 use crate::cuts::cut_at;
-use crate::operands::{are_two, push_operands, refused_operands};
+use crate::operands::{push_operands, refused_operands};
 use ar_check::TypeError;
 use ar_check::found::Operands;
 use ar_judge::{BuildCause, BuildError};
@@ -55,7 +55,7 @@ fn takes_texts(token: &str) -> bool
 fn is_membership(token: &str, operands: Option<Operands>) -> bool
     ensures { result ≡ is_membership token.now operands }
 {
-    token == "in" || token == "not" && are_two(operands)
+    token == "in" || token == "not" && matches!(operands, Some(Operands::Two(_, _)))
 }
 
 fn takes_alike(token: &str, operands: Option<Operands>) -> bool

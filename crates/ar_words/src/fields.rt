@@ -78,14 +78,6 @@ fn limits_misfit(metric: &Json) -> Option<Misfit<'_>>
         .or(limit_misfit(metric, "consecutiveErrorLimit"))
 }
 
-/// The first misfit, in the order in which a template is read.
-fn first_misfit(metric: &Json) -> Option<Misfit<'_>>
-    ensures { option_map (λ found. misfit_said found.field.now (view found.value.now) found.expected.now) result
-        ≡ misfit (view metric.now) }
-{
-    texts_misfit(metric).or(limits_misfit(metric))
-}
-
 fn misfit_said(alloc: Global, found: Misfit<'_>) -> Result<String, AllocError>
     ensures { IfOk result (λ said. string_bytes said
         ≡ misfit_said found.entry.field.now (view found.entry.value.now) found.entry.expected.now) }
@@ -102,7 +94,7 @@ pub(crate) fn field_said(alloc: Global, metric: Option<&Json>) -> Result<Option<
     let Some(metric) = metric else {
         return Ok(None);
     };
-    match first_misfit(metric) {
+    match texts_misfit(metric).or(limits_misfit(metric)) {
         Some(found) => Ok(Some(misfit_said(alloc, found)?)),
         None => Ok(None),
     }

@@ -1,7 +1,7 @@
 //! What is said of what was found where a template or its binding is refused.
 
 ghost use Rattle.std.specs.Prelude.{◌≡◌, ◌<◌, ◌++◌, IfOk, OnOk, length, option_map, string_bytes};
-ghost use Rattle.ar_words.specs.Found.{found_after, limit_said, no_value_said, unknown_said, value_said};
+ghost use Rattle.ar_words.specs.Found.{found_after, limit_said, reference_said, value_said};
 
 use crate::conditions::after_name;
 use ar_manifest::{LimitValue, RefusedLimit};
@@ -27,35 +27,21 @@ pub(crate) fn found_after(
     }
 }
 
-/// What is said of a reference that isn't an argument.
-pub(crate) fn unknown_said(
+/// What is said of a reference, if there is one: words after it.
+pub(crate) fn reference_said(
     alloc: Global,
     reference: Option<Text>,
+    words: &str,
 ) -> Result<Option<String>, AllocError>
-    ensures { IfOk result (λ said. option_map (λ said. string_bytes said) said ≡ option_map unknown_said reference) }
+    ensures { IfOk result (λ said. option_map (λ said. string_bytes said) said
+        ≡ option_map (reference_said words.now) reference) }
 {
     let Some(reference) = reference else {
         return Ok(None);
     };
     let mut said = String::new(alloc);
     push_quoted(&mut said, reference.as_str())?;
-    said.push_str(" in braces; expected args.NAME with a name of `spec.args`")?;
-    Ok(Some(said))
-}
-
-/// What is said of a reference that has no value.
-pub(crate) fn no_value_said(
-    alloc: Global,
-    reference: Option<Text>,
-) -> Result<Option<String>, AllocError>
-    ensures { IfOk result (λ said. option_map (λ said. string_bytes said) said ≡ option_map no_value_said reference) }
-{
-    let Some(reference) = reference else {
-        return Ok(None);
-    };
-    let mut said = String::new(alloc);
-    push_quoted(&mut said, reference.as_str())?;
-    said.push_str(" in braces has no value; expected one from the run or the template")?;
+    said.push_str(words)?;
     Ok(Some(said))
 }
 

@@ -3,7 +3,7 @@
 ghost use Rattle.std.specs.Prelude.{◌≡◌, ◌++◌, IfOk, OnOk, option_map, string_bytes};
 ghost use Rattle.serde_json.specs.View.{view};
 ghost use Rattle.ar_value.specs.View.{shape_view};
-ghost use Rattle.ar_words.specs.Operands.{are_two, between, declaration_in, declared_shape, kind_said, operands_in, operands_said, refused_operands};
+ghost use Rattle.ar_words.specs.Operands.{between, declaration_in, declared_shape, kind_said, operands_in, operands_said, refused_operands};
 
 use crate::lists::{metrics, text_at};
 use ar_check::found::{OperandKind, Operands};
@@ -94,12 +94,6 @@ fn kind_said(kind: OperandKind) -> &'static str
         OperandKind::List => "a list",
         OperandKind::Object => "a record",
     }
-}
-
-pub(crate) fn are_two(operands: Option<Operands>) -> bool
-    ensures { result ≡ are_two operands }
-{
-    matches!(operands, Some(Operands::Two(_, _)))
 }
 
 /// What is between what is said of two operands.

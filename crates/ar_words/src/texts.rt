@@ -8,13 +8,13 @@ ghost use Rattle.ar_words.specs.Conditions.{build_words};
 ghost use Rattle.ar_words.specs.Lists.{item_at};
 ghost use Rattle.ar_quote.specs.Shown.{quoted};
 ghost use Rattle.ar_words.specs.Names.{item_text};
-ghost use Rattle.ar_words.specs.Words.{beside_item, beside_metric, beside_run, bind_words, built_words, bundle_words, eval_words, given_kind, has_braces, head_words, in_place, is_list_kind, kind_of_list, list_kind, list_words, manifest_words, template_words, those_there, with_advice, with_argument, with_arguments, with_double_name, with_names, with_place};
+ghost use Rattle.ar_words.specs.Words.{beside_item, beside_metric, beside_run, bind_words, built_words, bundle_words, eval_words, given_kind, has_braces, head_words, in_place, kind_of_list, list_kind, list_words, manifest_words, template_words, those_there, with_advice, with_argument, with_arguments, with_double_name, with_names, with_place};
 
 use crate::bindings::{bound_of, limit_in, refused_condition, unbound_in};
 use crate::conditions::{after_name, build_text, condition_text};
 use crate::cuts::cut_at;
 use crate::fields::field_said;
-use crate::found::{found_after, limit_said, no_value_said, unknown_said};
+use crate::found::{found_after, limit_said, reference_said};
 use crate::lists::{entry_text, item_at, list_in, metrics, runs, template_list, text_at};
 use crate::names::{item_text, push_names};
 use crate::operands::{declaration_in, declared_shape};
@@ -31,6 +31,12 @@ use std::fmt::Write;
 
 const ARGUMENTS_HINT: &str =
     "; arguments as {{args.NAME}} are bound in a template, by check, list and run";
+
+/// What is said of a reference that is no argument.
+const UNKNOWN: &str = " in braces; expected args.NAME with a name of `spec.args`";
+
+/// What is said of a reference that has no value.
+const NO_VALUE: &str = " in braces has no value; expected one from the run or the template";
 
 const MANIFEST_HINT: &str = "; the document has no member `manifest`, into which the template goes";
 
@@ -241,12 +247,14 @@ fn bind_text(
 {
     match cause {
         ManifestError::UnknownArg(metric) => {
-            let said = unknown_said(alloc, unbound_in(alloc, document, run, metric)?)?;
+            let reference = unbound_in(alloc, document, run, metric)?;
+            let said = reference_said(alloc, reference, UNKNOWN)?;
             let text = found_after(alloc, text, "UnknownArg: ", said)?;
             with_arguments(document, beside_metric(alloc, document, text, metric)?)
         }
         ManifestError::NoValue(metric) => {
-            let said = no_value_said(alloc, unbound_in(alloc, document, run, metric)?)?;
+            let reference = unbound_in(alloc, document, run, metric)?;
+            let said = reference_said(alloc, reference, NO_VALUE)?;
             let text = found_after(alloc, text, "NoValue: ", said)?;
             beside_metric(alloc, document, text, metric)
         }
@@ -269,21 +277,12 @@ fn with_place(document: &Json, mut text: String) -> Result<String, AllocError>
     Ok(text)
 }
 
-fn is_list_kind(kind: &str) -> bool
-    ensures { result ≡ is_list_kind kind.now }
-{
-    matches!(
-        kind,
-        "List" | "AnalysisTemplateList" | "ClusterAnalysisTemplateList"
-    )
-}
-
 /// A kind, if it is one of lists.
 fn kind_of_list(kind: Option<&str>) -> Option<&str>
     ensures { option_map (λ kind. kind.now) result ≡ kind_of_list (option_map (λ kind. kind.now) kind.entry) }
 {
     match kind {
-        Some(kind) if is_list_kind(kind) => Some(kind),
+        Some("List" | "AnalysisTemplateList" | "ClusterAnalysisTemplateList") => kind,
         _ => None,
     }
 }
