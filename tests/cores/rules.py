@@ -1,4 +1,4 @@
-"""The core of a board, read a second time from crates/ar_core/specs/Core.antt: steps on plain lists.
+"""The core of a board, read a second time from crates/ar_board/specs/Core.antt: steps on plain lists.
 
 A bundle is a dict: `limits`, of each run a list of its metrics' limits as ../phases/rules.py takes them; `entries`, of
 each number its run and its event. A state is a dict: `next`, `queue`, `hands` with None for an empty one, `histories`, of

@@ -6,9 +6,9 @@ use Rattle.ar_bundle.specs.Bundle.{Bundle, IsBundle}
 use Rattle.ar_bundle.specs.Lawful.{AreLawful, AtMostOnce, numbers_of, times}
 use Rattle.ar_bundle.specs.declared.history.Entry.{Entry}
 use Rattle.ar_bundle.proofs.Bundles.{entry_at, run_of_number}
-use Rattle.ar_cell.specs.Receipts.{Hold}
-use Rattle.ar_cell.specs.declared.receipt.Receipt.{Receipt}
-use Rattle.ar_cell.proofs.Places.{times_own}
+use Rattle.ar_board.specs.Receipts.{Hold}
+use Rattle.ar_board.specs.declared.cell.receipt.Receipt.{Receipt}
+use Rattle.ar_board.proofs.Places.{times_own}
 use Rattle.ar_board.specs.Board.{AreAsMany, IsClosed, IsUnmetAmong}
 use Rattle.ar_board.specs.Private.Closing.{AreAllMarked, AreMet, AreStored, IsThere, IsUnheld, StoredAs}
 use Rattle.ar_board.specs.Seats.{PerLock}

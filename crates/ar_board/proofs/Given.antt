@@ -11,8 +11,8 @@ use Rattle.ar_bundle.specs.declared.bundle.RunPart.{RunPart}
 use Rattle.ar_bundle.specs.declared.history.Entry.{Entry}
 use Rattle.ar_bundle.proofs.Bundles.{entry_at}
 use Rattle.ar_bundle.proofs.Room.{number_inside}
-use Rattle.ar_cell.specs.Cell.{ArePut, IsKept, KeptRun, histories_of, history_at, lock_of}
-use Rattle.ar_cell.proofs.Cells.{histories_each}
+use Rattle.ar_board.specs.Cell.{ArePut, IsKept, KeptRun, histories_of, history_at, lock_of}
+use Rattle.ar_board.proofs.Cells.{histories_each}
 use Rattle.ar_board.specs.Board.{stored_from, stored_under}
 use Rattle.ar_board.specs.Private.Closing.{AreInside, AreOfCell, IsCellClosed}
 use Rattle.ar_board.specs.Seats.{PerLock, at_lock, per_lock}

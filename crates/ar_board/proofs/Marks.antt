@@ -6,15 +6,15 @@ use Rattle.std.proofs.lemmas.List.{length-replicate, length-set, map_push, take_
 use Rattle.std.proofs.lemmas.Option.{slice_get_read, slice_get_within}
 use Rattle.ar_bundle.specs.Bundle.{Bundle, IsBundle, most_runs, run_of}
 use Rattle.ar_bundle.specs.declared.history.Entry.{Entry}
-use Rattle.ar_cell.specs.Receipts.{IsLater, IsMet}
+use Rattle.ar_board.specs.Receipts.{IsLater, IsMet}
 use Rattle.ar_board.specs.Board.{IsUnmet}
 use Rattle.ar_board.specs.Private.Closing.{AreAllMarked, AreLast, AreMarked, AreMet, AreOwn, IsAt, IsBehind, IsLast, IsLaterOf, LastOf, MarkedAmong, MarkedAs}
-use Rattle.ar_cell.specs.declared.receipt.Receipt.{Receipt}
+use Rattle.ar_board.specs.declared.cell.receipt.Receipt.{Receipt}
 use Rattle.ar_bundle.proofs.Bundles.{run_of_number}
 use Rattle.ar_bundle.proofs.HistoryLemmas.{all_push}
 use Rattle.ar_bundle.proofs.Room.{number_inside}
-use Rattle.ar_cell.proofs.Cells.{cases_at}
-use Rattle.ar_cell.proofs.Opened.{pushed_at}
+use Rattle.ar_board.proofs.Cells.{cases_at}
+use Rattle.ar_board.proofs.Opened.{pushed_at}
 use Rattle.ar_board.proofs.Seats.{at_before, at_last}
 
 -- ---- lists

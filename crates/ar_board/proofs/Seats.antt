@@ -7,12 +7,12 @@ use Rattle.std.proofs.lemmas.List.Sums.{sum_by_push}
 use Rattle.ar_bundle.specs.Bundle.{Bundle}
 use Rattle.ar_bundle.specs.declared.bundle.EventPart.{EventPart}
 use Rattle.ar_board.specs.Board.{AreSeated, Seat, received_under, receipts_of, seat_of}
-use Rattle.ar_cell.specs.Cell.{entries_under, lock_of}
+use Rattle.ar_board.specs.Cell.{entries_under, lock_of}
 use Rattle.ar_board.specs.Private.Closing.{AreGiven, AreOwn}
 use Rattle.ar_board.specs.Seats.{PerLock, AllAre, IsSeat, at_lock, receipts_under}
 use Rattle.ar_board.specs.Private.Seats.{IsOneMore, one_under}
 use Rattle.ar_board.proofs.UnderLocks.{by_four, none_of_each, one_in_all, under_four}
-use Rattle.ar_cell.specs.declared.receipt.Receipt.{Receipt}
+use Rattle.ar_board.specs.declared.cell.receipt.Receipt.{Receipt}
 use Rattle.ar_bundle.proofs.HistoryLemmas.{all_push}
 
 -- ---- opening

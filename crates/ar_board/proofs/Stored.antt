@@ -8,7 +8,7 @@ use Rattle.std.proofs.lemmas.Option.{slice_get_read, slice_get_within}
 use Rattle.ar_bundle.specs.Lawful.{numbers_of, times, times_in}
 use Rattle.ar_bundle.specs.declared.history.Entry.{Entry}
 use Rattle.ar_bundle.proofs.HistoryLemmas.{times_by, times_push}
-use Rattle.ar_cell.proofs.Cells.{cases_at}
+use Rattle.ar_board.proofs.Cells.{cases_at}
 use Rattle.ar_board.specs.Private.Closing.{AreInside, AreStored, IsFirstUnheld, IsThere, StoredAs}
 use Rattle.ar_board.proofs.Marks.{of_all, same_read, take_next, take_whole}
 

@@ -5,7 +5,7 @@ use Rattle.std.specs.List.{count_by}
 use Rattle.std.proofs.lemmas.Bool.Decides.{nat_tests}
 use Rattle.std.proofs.lemmas.List.Sums.{sum_by-cons}
 use Rattle.ar_bundle.specs.Bundle.{Bundle}
-use Rattle.ar_cell.specs.Cell.{entries_under, lock_of}
+use Rattle.ar_board.specs.Cell.{entries_under, lock_of}
 use Rattle.ar_board.specs.Seats.{PerLock, AllAre, at_lock, per_lock}
 use Rattle.ar_board.specs.Private.Seats.{IsOneMore, one_under}
 

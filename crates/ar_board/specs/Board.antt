@@ -4,14 +4,14 @@ use Rattle.std.specs.List.{count_by, sum_by}
 use Rattle.ar_bundle.specs.Bundle.{Bundle, run_of}
 use Rattle.ar_bundle.specs.Lawful.{AreHistoriesSoFar, AreLawful, times}
 use Rattle.ar_bundle.specs.declared.history.Entry.{Entry}
-use Rattle.ar_cell.specs.Cell.{Cell, IsCell, IsFresh, IsSnapshot, authors_at, lock_of, posts_of}
-use Rattle.ar_cell.specs.Receipts.{Hold, IsMet}
+use Rattle.ar_board.specs.Cell.{Cell, IsCell, IsFresh, IsSnapshot, authors_at, lock_of, posts_of}
+use Rattle.ar_board.specs.Receipts.{Hold, IsMet}
 use Rattle.ar_board.specs.declared.lost.Lost.{Lost}
-use Rattle.ar_cell.specs.declared.posted.Posted.{Posted}
-use Rattle.ar_cell.specs.declared.receipt.Receipt.{Receipt}
-use Rattle.ar_cell.specs.declared.snapshot.LookFault.{LookFault}
-use Rattle.ar_cell.specs.declared.snapshot.LookFault.TheVariants.{OutOfMemory, Stale}
-use Rattle.ar_cell.specs.declared.snapshot.Snapshot.{Snapshot}
+use Rattle.ar_board.specs.declared.cell.posted.Posted.{Posted}
+use Rattle.ar_board.specs.declared.cell.receipt.Receipt.{Receipt}
+use Rattle.ar_board.specs.declared.cell.snapshot.LookFault.{LookFault}
+use Rattle.ar_board.specs.declared.cell.snapshot.LookFault.TheVariants.{OutOfMemory, Stale}
+use Rattle.ar_board.specs.declared.cell.snapshot.Snapshot.{Snapshot}
 
 -- a seat: which of the workers it is for, and the receipts of its posts, in the order in which they were given
 pub record Seat : Type 0 where

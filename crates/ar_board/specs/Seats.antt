@@ -2,8 +2,8 @@
 use Rattle.std.specs.Prelude.{◌≡◌, ◌<◌, ◌≤◌, ◌==◌, ℕ, zero, suc, List, length, Some}
 use Rattle.std.specs.List.{AllByRecursion, count_by}
 use Rattle.ar_bundle.specs.Bundle.{Bundle, run_of}
-use Rattle.ar_cell.specs.Cell.{entries_under, lock_of}
-use Rattle.ar_cell.specs.declared.receipt.Receipt.{Receipt}
+use Rattle.ar_board.specs.Cell.{entries_under, lock_of}
+use Rattle.ar_board.specs.declared.cell.receipt.Receipt.{Receipt}
 
 -- a number for each lock, as shares of the four ledgers have parts and amounts
 pub record PerLock : Type 0 where

@@ -7,7 +7,7 @@ ghost use Rattle.ar_board.specs.Board.{AreSeated, IsClosed, IsLost, IsReceived, 
 ghost use Rattle.ar_board.specs.Seats.{AllAre};
 ghost use Rattle.ar_board.specs.Private.Shares.{amounts_of, parts_of};
 ghost use Rattle.ar_board.specs.Private.Seats.{IsOneMore};
-ghost use Rattle.ar_cell.specs.Cell.{lock_of};
+ghost use Rattle.ar_board.specs.Cell.{lock_of};
 
 use crate::closing::{Room, first_unheld, note_all_stored, note_all_unmet};
 use crate::holding::both;
@@ -15,9 +15,8 @@ use crate::locks::{Blanks, First, Fourth, LockNames, Second, Third};
 use crate::lost::Lost;
 use crate::seat::{Seat, gather, seats_of};
 use crate::shares::Shares;
-use crate::under;
+use crate::{Double, LookFault, Posted, Receipt, RunCell, Snapshot, lock_of_run, under};
 use ar_bundle::{Bundle, BundleName, Finding, Histories};
-use ar_cell::{Double, LookFault, Posted, Receipt, RunCell, Snapshot, lock_of_run};
 use std::alloc::{AllocError, Global};
 use std::sync::{Mutex, Wait};
 

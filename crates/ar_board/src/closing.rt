@@ -7,8 +7,8 @@ ghost use Rattle.ar_bundle.specs.Bundle.{IsBundle};
 ghost use Rattle.ar_bundle.specs.Lawful.{numbers_of, times, times_in};
 ghost use Rattle.ar_board.specs.Private.Closing.{AreAllMarked, AreInside, AreMarked, AreOwn, AreStored, FirstUnheld, IsAt, IsBehind, IsLaterOf};
 
+use crate::Receipt;
 use ar_bundle::{Bundle, BundleName, Entry, History};
-use ar_cell::Receipt;
 use std::alloc::{AllocError, Global};
 
 /// The most runs that a bundle has.

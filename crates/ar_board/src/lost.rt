@@ -1,7 +1,7 @@
 //! What shows that a number was lost.
 
+use crate::Receipt;
 use ar_bundle::Histories;
-use ar_cell::Receipt;
 use std::fmt;
 
 /// A board's histories don't hold each number of the bundle.

@@ -7,10 +7,10 @@ ghost use Rattle.ar_board.specs.Private.Closing.{AreGiven};
 ghost use Rattle.ar_board.specs.Seats.{AllAre};
 ghost use Rattle.ar_board.specs.Private.Shares.{amounts_of, parts_of};
 
+use crate::Receipt;
 use crate::locks::LockNames;
 use crate::shares::Shares;
 use ar_bundle::{Bundle, BundleName};
-use ar_cell::Receipt;
 use std::alloc::{AllocError, Global};
 use std::marker::{Model, PhantomData};
 

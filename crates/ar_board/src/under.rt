@@ -4,10 +4,10 @@ ghost use Rattle.std.specs.Prelude.{◌≡◌, ◌+◌, ◌<◌, ◌≤◌, IfEr
 ghost use Rattle.ar_bundle.specs.Bundle.{IsBundle, found};
 ghost use Rattle.ar_board.specs.Board.{IsSeen, IsUnseen, seat_of};
 ghost use Rattle.ar_board.specs.Private.Closing.{IsCellClosed};
-ghost use Rattle.ar_cell.specs.Cell.{IsUnder, entries_under, lock_of};
+ghost use Rattle.ar_board.specs.Cell.{IsUnder, entries_under, lock_of};
 
+use crate::{Double, LockName, LookFault, Posted, Receipt, RunCell, Snapshot};
 use ar_bundle::{Bundle, BundleName, Finding, History};
-use ar_cell::{Double, LockName, LookFault, Posted, Receipt, RunCell, Snapshot};
 use std::alloc::{AllocError, Global};
 use std::sync::ledger::{Book, Share};
 use std::sync::{Mutex, Wait};

@@ -1,3 +1,6 @@
+pub mod Below
+pub mod Grown
+pub mod Lawful
 pub mod Bundles
 pub mod HistoryLemmas
 pub mod Room

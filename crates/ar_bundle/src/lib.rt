@@ -1,4 +1,4 @@
-//! Bundles of analysis runs, what their measurements come to, and histories of runs.
+//! Bundles of analysis runs, what their measurements come to, histories of runs, and the plain run.
 //!
 //! A [`Bundle`] has a template's metrics, its runs, each with a judge and limits for each metric,
 //! and what happened to the runs, numbered from 0. [`Bundle::finding`] is the verdict of a number's
@@ -6,8 +6,13 @@
 //! run the numbers in the order in which they were applied, each with its finding and its effect;
 //! `specs/Lawful` says which of them are lawful for a bundle.
 //!
+//! [`run_plain`] judges and applies the numbers of a bundle in their order, in one thread. Its histories are
+//! lawful, and numbers rise in each. [`Runs`] are the runs of a bundle to which numbers are applied in their
+//! order (`specs/Growing`), here and where workers have judged them.
+//!
 //! - [`bundle`]: bundles and their parts; [`finding`]: what a number comes to
 //! - [`history`]: histories of runs; [`laws`]: what holds of those that are lawful
+//! - `plain`: the plain run; `runs`: applying numbers in their order
 //! - [`names`]: types that name a bundle in contracts
 #![tactic(auto)]
 
@@ -16,8 +21,12 @@ pub mod finding;
 pub mod history;
 pub mod laws;
 pub mod names;
+mod plain;
+mod runs;
 
 pub use bundle::{Bundle, EventPart, Judges, MetricPart, RunLimits, RunPart, What};
 pub use finding::Finding;
 pub use history::{Entry, Histories, History};
 pub use names::BundleName;
+pub use plain::run_plain;
+pub use runs::Runs;

@@ -9,10 +9,10 @@ use Rattle.ar_judge.specs.Condition.{refused_as}
 use Rattle.ar_document.specs.Document as bundles
 use Rattle.ar_json.specs.Document.{json_in, most_bytes}
 use Rattle.ar_document.specs.declared.error.BundleError.{BundleError}
-use Rattle.ar_device.specs.Input.{ReadsUpToLimit}
+use Rattle.ar_command_line.specs.Input.{ReadsUpToLimit}
 use Rattle.ar_eval.specs.Evaluation.{Evaluates, Follows, of_json, prepared, prepared_input}
 use Rattle.ar_command.specs.Serving.{Refuses, Reports, Says, WritesFront}
-use Rattle.ar_device.specs.Output.{AppendsFront}
+use Rattle.ar_command_line.specs.Output.{AppendsFront}
 use Rattle.ar_eval.specs.declared.eval.EvalError.{EvalError}
 use Rattle.ar_command.specs.declared.serving.Closing.{Closing}
 use Rattle.ar_command_line.specs.declared.command_line.Command.{Command}

@@ -15,9 +15,9 @@ use Rattle.ar_document.specs.Document as document
 use Rattle.ar_document.specs.declared.error.BundleError.{BundleError}
 use Rattle.ar_document.specs.declared.error.BundleError.TheVariants as bundle
 use Rattle.ar_eval.specs.Evaluation.{Evaluates}
-use Rattle.ar_device.specs.Output.{AppendsFront}
-use Rattle.ar_device.specs.declared.input.InputError.{InputError}
-use Rattle.ar_device.specs.declared.input.InputError.TheVariants as input
+use Rattle.ar_command_line.specs.Output.{AppendsFront}
+use Rattle.ar_command_line.specs.declared.input.InputError.{InputError}
+use Rattle.ar_command_line.specs.declared.input.InputError.TheVariants as input
 use Rattle.ar_eval.specs.declared.eval.EvalError.{EvalError}
 use Rattle.ar_eval.specs.declared.eval.EvalError.TheVariants as eval
 use Rattle.ar_command.specs.declared.serving.Closing.{Closing}

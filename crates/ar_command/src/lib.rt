@@ -19,7 +19,6 @@ pub mod laws;
 pub mod serving;
 pub mod status;
 
-pub use ar_command_line::Command;
-pub use ar_device::{Device, DeviceFault, Kept, Sink, Source, write_output};
+pub use ar_command_line::{Command, Device, DeviceFault, Kept, Sink, Source, write_output};
 pub use ar_eval::{EvalError, eval};
 pub use serving::{Closing, Refusal, ServeError, serve, serve_plain};

@@ -3,12 +3,11 @@
 ghost use Rattle.std.specs.Prelude.{◌≡◌, ◌≢◌, ℕ, List, false, true, Err, IfErr, IfOk, IfSome, OnErr, OnOk, string_bytes};
 ghost use Rattle.std.specs.Io.KnownBytes.{Appends};
 ghost use Rattle.ar_command.specs.Serving.{IsBroken, IsCarriedOut, IsCut, IsRefused, Refuses, RunsAlone, RunsWith, Says, WritesFront};
-ghost use Rattle.ar_device.specs.Output.{AppendsFront};
+ghost use Rattle.ar_command_line.specs.Output.{AppendsFront};
 
 use crate::answer::{Said, answer, judged};
 use ar_board::MOST_WORKERS;
-use ar_command_line::Command;
-use ar_device::{InputError, Sink, Source, read_input, write_output};
+use ar_command_line::{Command, InputError, Sink, Source, read_input, write_output};
 use ar_document::BundleError;
 use ar_eval::EvalError;
 use ar_workers::{Gate, WorkError};

@@ -1,7 +1,6 @@
 -- Where `clap` finds no fault in the words, they name a command, but for the number of workers.
 use Rattle.std.proofs.Common.{◌≡◌, ◌≢◌, Bool, true, false, List, [], ◌∷◌, Option, Some, None, Ok, Err, option_map, is_some, refl, ap, cond, find, ◌∙◌, sym, subst, Result, inl, inr, IfOk, codes, ℕ}
-use Rattle.std.specs.Prelude.{⊤, unwrap_or}
-use Rattle.std.specs.Prelude.{IsErr}
+use Rattle.std.specs.Prelude.{⊤, unwrap_or, IsErr}
 use Rattle.std.specs.Result.{result_err}
 use Rattle.std.proofs.lemmas.Result.{IfOk-weaker}
 use Rattle.clap.specs.Words.{App, HasKind, HasMatchesOf, IsAmong, FailsBy, Kinds, Row, Shape, Text, fault_of, is_simple, is_simple_and_free, kind_of, subcommand_of, subcommand_rows_of}

@@ -1,3 +1,4 @@
+mod Reading
 pub mod Bounds
 pub mod Building
 pub mod Facts

@@ -1,2 +1,7 @@
+pub mod Retrying
+pub mod Device
+pub mod Kept
+pub mod Input
+pub mod Output
 pub mod CommandLine
 pub mod Usage

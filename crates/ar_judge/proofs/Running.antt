@@ -19,8 +19,8 @@ use Rattle.ar_compile.specs.Ends.{EndsWith}
 use Rattle.ar_compile.specs.Length.{length_of}
 use Rattle.ar_compile.specs.declared.error.CompileError.{CompileError}
 use Rattle.ar_compile.specs.declared.error.CompileError.TheVariants.{TooManyOps, OutOfMemory}
-use Rattle.ar_operand.proofs.Ends as runs
-use Rattle.ar_operand.specs.Run.{IsDone}
+use Rattle.ar_machine.proofs.Ends as runs
+use Rattle.ar_machine.specs.Run.{IsDone}
 use Rattle.ar_safety.specs.Verdict.{IsCause, IsFault, IsVerified, Verified}
 use Rattle.ar_safety.specs.declared.error.Cause.{Cause}
 use Rattle.ar_safety.specs.declared.error.Cause.TheVariants as causes

@@ -3,7 +3,7 @@ use Rattle.std.specs.Prelude.{◌≡◌, Bool, false, ◌||◌, List, ℕ, Ok}
 use Rattle.ar_value.specs.Shape.{Shape}
 use Rattle.ar_value.specs.Value.{Value}
 use Rattle.ar_value.specs.Predicates.{gathers}
-use Rattle.ar_operand.specs.Memory.{keeps_items}
+use Rattle.ar_machine.specs.Memory.{keeps_items}
 use Rattle.ar_tree.specs.Typed.{Typed, Typeds}
 use Rattle.ar_tree.specs.Typed as typed
 use Rattle.ar_machine.specs.Filter.{BeginsNoFilter}

@@ -1,3 +1,11 @@
+pub mod Entries
+pub mod Items
+pub mod Kinded
+pub mod Stacks
+pub mod MadeValues
+pub mod Simulation
+pub mod Reached
+pub mod Ends
 pub mod Lists
 pub mod Beside
 pub mod Well

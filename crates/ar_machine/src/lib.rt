@@ -2,7 +2,7 @@
 //!
 //! [`run`] runs verified code on a value of its shape. By its contract it ends with the answer of the
 //! machine in `ar_op/specs/Machine`, which tests every operand, and with what that run costs, within the
-//! code's budget (`IsDone` of `ar_operand/specs/Run`). Only out of memory can keep it from that. Nothing but
+//! code's budget (`IsDone` of `specs/Run`). Only out of memory can keep it from that. Nothing but
 //! the begin of a loop of a `filter` over items takes memory, so [`run`] succeeds whatever memory is left where
 //! no state of the run stands at one (`specs/Filter`).
 //!
@@ -11,15 +11,21 @@
 //! stacks and the list literals lie in the run's own frame. A loop of a `filter` takes memory once, at its
 //! begin, for as many items as it goes over: so none of its steps takes memory (`specs/Private/Room`).
 //!
-//! - `runs`: runs; `steps`: what each operation does
+//! - `runs`: runs; `steps`: what each operation does; [`outcome`]: what a run answers and costs
 //! - `effects`: operations that go on to the next place; `loops`: the begin and the step of a loop;
 //!   `filters`: the step of a `filter`
 //! - `state`: states; `stack`, `open`: their stacks, of operands and of loops; `loop_entry`: a loop
 //! - `made`: lists that the code made, beside the stacks; `kept`: what filters have kept, beside the loops
+//! - [`operand`]: operands, and in its folder the values that they lend, lists, comparisons, operators, and the
+//!   tables of code. What is there wants no verified code and takes no memory: `ar_tested`, which runs code
+//!   that nobody verified, uses it, too. Each function says what it gives by the values that its arguments
+//!   stand for (`specs/Operand`)
 //!
-//! Operands and the operators on them are those of `ar_operand`. `specs/Private` says what states in memory
-//! stand for; that a run in memory is one of the machine is proved in `ar_operand`, too. `ar_tested` runs code
-//! that nobody verified.
+//! `specs/Run` defines how runs end that may cost no more than their fuel, and `proofs/Ends` proves that a run
+//! ends in one way only. `specs/Memory` defines the machine as memory keeps its states, which have less of
+//! what loops found than the machine's own; `specs/Same` says when such a state stands for one of the
+//! machine, `specs/Private` what states of this crate's stand for. `proofs/Reached` proves that a run in memory
+//! is one of the machine.
 #![tactic(auto)]
 
 mod effects;
@@ -29,10 +35,12 @@ mod loop_entry;
 mod loops;
 mod made;
 mod open;
+pub mod operand;
+pub mod outcome;
 mod runs;
 mod stack;
 mod state;
 mod steps;
 
-pub use ar_operand::outcome::{Answer, Outcome};
+pub use outcome::{Answer, Outcome};
 pub use runs::run;

@@ -3,9 +3,9 @@ use Rattle.std.proofs.Common.{◌≡◌, ℕ, Bool, Result, refl, ap, ◌∙◌}
 use Rattle.ar_value.specs.Value.{Value}
 use Rattle.ar_value.specs.declared.fault.Fault.{Fault}
 use Rattle.ar_op.specs.Code.{Code}
-use Rattle.ar_operand.specs.declared.outcome.Outcome.{Outcome}
-use Rattle.ar_operand.proofs.Ends as ends
-use Rattle.ar_operand.proofs.Ends.{Ending, EndsBy, answered, halted, spent}
+use Rattle.ar_machine.specs.declared.outcome.Outcome.{Outcome}
+use Rattle.ar_machine.proofs.Ends as ends
+use Rattle.ar_machine.proofs.Ends.{Ending, EndsBy, answered, halted, spent}
 use Rattle.ar_tested.specs.Run.{EndsAs}
 use Rattle.ar_tested.specs.declared.outcome.Ended.{Ended}
 use Rattle.ar_tested.specs.declared.outcome.Ended.TheVariants.{Done, Stuck, Spent}

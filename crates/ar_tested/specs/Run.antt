@@ -1,8 +1,8 @@
--- How a run ends, by the definitions of ends in `ar_operand/specs/Run`.
+-- How a run ends, by the definitions of ends in `ar_machine/specs/Run`.
 use Rattle.std.specs.Prelude.{ℕ}
 use Rattle.ar_value.specs.Value.{Value}
 use Rattle.ar_op.specs.Code.{Code}
-use Rattle.ar_operand.specs.Run.{IsDone, IsSpent, IsStuck}
+use Rattle.ar_machine.specs.Run.{IsDone, IsSpent, IsStuck}
 use Rattle.ar_tested.specs.declared.outcome.Ended.{Ended}
 use Rattle.ar_tested.specs.declared.outcome.Ended.TheVariants.{Done, Stuck, Spent}
 

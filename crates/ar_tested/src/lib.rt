@@ -19,7 +19,7 @@
 //!
 //! `specs/Private` says what states in memory stand for. Of the items that a loop found, memory keeps
 //! what its answer takes, so a state in memory stands for one of the machine by a relation
-//! (`ar_operand/specs/Same`).
+//! (`ar_machine/specs/Same`).
 #![tactic(auto)]
 
 mod effect;

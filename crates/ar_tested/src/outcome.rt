@@ -1,6 +1,6 @@
 //! How runs end.
 
-use ar_operand::outcome::Outcome;
+use ar_machine::outcome::Outcome;
 
 /// How a run ends.
 #[derive(Clone, Copy, PartialEq, Eq)]

@@ -7,9 +7,9 @@ ghost use Rattle.ar_tested.specs.Run.{EndsAs};
 use crate::machine::{act, cost_of};
 use crate::outcome::Ended;
 use crate::state::{Next, State};
+use ar_machine::operand::tables::op_at;
+use ar_machine::outcome::Outcome;
 use ar_op::code::Code;
-use ar_operand::outcome::Outcome;
-use ar_operand::tables::op_at;
 use ar_value::value::Value;
 use std::alloc::{AllocError, Global};
 
@@ -18,7 +18,7 @@ use std::alloc::{AllocError, Global};
 /// # Errors
 ///
 /// Out of memory, which operands, loops and the lists that code makes take.
-#[tactic(auto, using(ar_operand::proofs::Reached::reaches_begin))]
+#[tactic(auto, using(ar_machine::proofs::Reached::reaches_begin))]
 pub fn run_tested(alloc: Global, code: &Code, value: &Value, fuel: u64) -> Result<Ended, AllocError>
     ensures { IfOk result (EndsAs code.now (value_view value.now) fuel) }
 {

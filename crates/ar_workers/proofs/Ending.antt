@@ -6,7 +6,7 @@ use Rattle.ar_bundle.specs.Bundle.{Bundle}
 use Rattle.ar_bundle.specs.Lawful.{times_in}
 use Rattle.ar_board.specs.Board.{AreSeated, IsLost, Seat, seat_of}
 use Rattle.ar_board.specs.declared.lost.Lost.{Lost as Losing}
-use Rattle.ar_cell.specs.declared.receipt.Receipt.{Receipt}
+use Rattle.ar_board.specs.declared.cell.receipt.Receipt.{Receipt}
 use Rattle.ar_queue.specs.Rule.{HasTakenAll, IsDone}
 use Rattle.ar_queue.specs.declared.queue.View.{View}
 use Rattle.ar_queue.specs.Workers.{AreNamed, IsFeeder}

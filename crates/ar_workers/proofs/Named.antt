@@ -4,8 +4,8 @@ use Rattle.std.proofs.lemmas.List.{map_push}
 use Rattle.ar_bundle.specs.Bundle.{Bundle}
 use Rattle.ar_bundle.specs.Lawful.{times_in}
 use Rattle.ar_board.specs.Board.{IsReceived, Seat, receipts_of}
-use Rattle.ar_cell.specs.declared.posted.Posted.{Posted}
-use Rattle.ar_cell.specs.declared.receipt.Receipt.{Receipt}
+use Rattle.ar_board.specs.declared.cell.posted.Posted.{Posted}
+use Rattle.ar_board.specs.declared.cell.receipt.Receipt.{Receipt}
 use Rattle.ar_queue.specs.Workers.{IsNamed, all_named}
 use Rattle.ar_workers.specs.Joined.{named, named_by}
 use Rattle.ar_bundle.proofs.HistoryLemmas.{times_push}

@@ -5,7 +5,7 @@ use Rattle.ar_bundle.specs.Lawful.{times_in}
 use Rattle.ar_bundle.specs.declared.history.Entry.{Entry}
 use Rattle.ar_board.specs.Board.{IsLost, IsUnmetAmong}
 use Rattle.ar_board.specs.declared.lost.Lost.{Lost as Losing}
-use Rattle.ar_cell.specs.declared.receipt.Receipt.{Receipt}
+use Rattle.ar_board.specs.declared.cell.receipt.Receipt.{Receipt}
 use Rattle.ar_queue.specs.Rule.{once_below}
 use Rattle.ar_workers.specs.declared.error.WorkError.{WorkError}
 use Rattle.ar_workers.specs.declared.error.WorkError.TheVariants.{Lost, NoThread, OutOfMemory}

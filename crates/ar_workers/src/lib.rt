@@ -5,7 +5,7 @@
 //! (`ar_bundle/specs/Lawful`); where a number is lost, [`WorkError::Lost`] hands out what shows it
 //! (`specs/Joined`). The workers of [`run_ordered`] keep what they judged, and the calling thread applies
 //! it in the order of the numbers, which then rise in each history; no number can be lost. [`run_plain`]
-//! of `ar_plain` does so in one thread. A caller sees and may hold what workers do by a [`Gate`].
+//! of `ar_bundle` does so in one thread. A caller sees and may hold what workers do by a [`Gate`].
 //!
 //! - `running`: workers post, the board is closed; `ordered`: workers judge, and their findings are put in
 //!   order
@@ -24,7 +24,7 @@ mod posting;
 mod running;
 mod settling;
 
-pub use ar_plain::run_plain;
+pub use ar_bundle::run_plain;
 pub use ar_queue::{FreeGate, Gate};
 pub use error::WorkError;
 pub use ordered::run_ordered;

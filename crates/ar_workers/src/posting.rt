@@ -7,9 +7,8 @@ ghost use Rattle.ar_board.specs.Board.{receipts_of};
 ghost use Rattle.ar_queue.specs.Workers.{all_named};
 ghost use Rattle.ar_workers.specs.Joined.{named, named_by};
 
-use ar_board::{Board, LockNames, Seat};
+use ar_board::{Board, Double, LockNames, Seat};
 use ar_bundle::{Bundle, BundleName};
-use ar_cell::Double;
 use ar_queue::{Desk, Unfinished};
 use std::alloc::{AllocError, Global};
 use std::sync::Wait;

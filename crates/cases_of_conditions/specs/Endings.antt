@@ -1,7 +1,7 @@
 -- How the ends of runs of code are printed.
 use Rattle.std.specs.Prelude.{ℕ, List, ◌++◌, codes, decimal}
 use Rattle.cases_of_values.specs.Printing.{answer_text}
-use Rattle.ar_operand.specs.declared.outcome.Outcome.{Outcome}
+use Rattle.ar_machine.specs.declared.outcome.Outcome.{Outcome}
 use Rattle.ar_tested.specs.declared.outcome.Ended.{Ended}
 use Rattle.ar_tested.specs.declared.outcome.Ended.TheVariants.{Done, Stuck, Spent}
 

@@ -6,9 +6,8 @@ ghost use Rattle.ar_bundle.specs.Bundle.{found};
 
 use crate::cells::TWO_RUNS;
 use ar_board::locks::First;
-use ar_board::{Blanks, Board, LockNames, Lost, Seat};
+use ar_board::{Blanks, Board, LockNames, Lost, Receipt, RunCell, Seat};
 use ar_bundle::{Bundle, BundleName, Finding, Histories, History};
-use ar_cell::{Receipt, RunCell};
 use ar_document::read_bundle;
 use std::alloc::Global;
 use std::fmt::{Debug, Write};

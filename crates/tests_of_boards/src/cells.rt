@@ -2,8 +2,8 @@
 
 ghost use Rattle.std.specs.Prelude.{◌≡◌, ◌<◌};
 
+use ar_board::{LockName, Receipt, RunCell, lock_of_run};
 use ar_bundle::{Bundle, BundleName};
-use ar_cell::{LockName, Receipt, RunCell, lock_of_run};
 use ar_document::read_bundle;
 use std::alloc::Global;
 use std::marker::Brand;

@@ -18,11 +18,11 @@ fn can_be_called(_: HostRuntime) {
     ar_limits::laws::limits_before_count();
     ar_limits::laws::one_for_each_metric();
     ar_limits::laws::effects_in_order();
-    ar_core::laws::each_number_once();
-    ar_core::laws::histories_are_of_runs();
-    ar_core::laws::ordered_histories_rise();
-    ar_core::laws::parked_numbers_wait();
-    ar_core::laws::lawful_at_rest();
+    ar_board::laws::each_number_once();
+    ar_board::laws::histories_are_of_runs();
+    ar_board::laws::ordered_histories_rise();
+    ar_board::laws::parked_numbers_wait();
+    ar_board::laws::lawful_at_rest();
     ar_bundle::laws::lawful_are_so_far();
-    ar_cell::laws::receipts_are_met_or_not();
+    ar_board::laws::receipts_are_met_or_not();
 }

@@ -51,7 +51,7 @@ struct Narrow {
 
 impl Narrow {
     ghost use Rattle.std.specs.Prelude.{◌||◌, true, IfOk, OnErr};
-    ghost use Rattle.ar_device.specs.Output.{takes_nothing};
+    ghost use Rattle.ar_command_line.specs.Output.{takes_nothing};
 
     fn new(alloc: Global, a_write: usize, room: usize, full: Full) -> Narrow
         ensures { result.has_failed ≡ false }

@@ -4,9 +4,9 @@ use Rattle.std.specs.List.{AllByRecursion}
 use Rattle.ar_bundle.specs.Bundle.{Bundle, most_runs, run_of}
 use Rattle.ar_bundle.specs.Lawful.{times}
 use Rattle.ar_bundle.specs.declared.history.Entry.{Entry}
-use Rattle.ar_cell.specs.Cell.{ArePut, Cell, IsCell, histories_of, history_at, lock_of}
-use Rattle.ar_cell.specs.Receipts.{IsMet, numbers_at}
-use Rattle.ar_cell.specs.declared.receipt.Receipt.{Receipt}
+use Rattle.ar_board.specs.Cell.{ArePut, Cell, IsCell, histories_of, history_at, lock_of}
+use Rattle.ar_board.specs.Receipts.{IsMet, numbers_at}
+use Rattle.ar_board.specs.declared.cell.receipt.Receipt.{Receipt}
 use Rattle.ar_board.specs.Board.{IsUnmet, IsUnmetAmong, Seat, receipts_of, received_under}
 use Rattle.ar_board.specs.Seats.{AllAre, PerLock, at_lock}
 

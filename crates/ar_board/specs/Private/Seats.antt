@@ -1,7 +1,7 @@
 -- One receipt more of a seat.
 use Rattle.std.specs.Prelude.{◌≡◌, ◌≤◌, ◌==◌, ◌+◌, ℕ, if◌then◌else◌}
 use Rattle.ar_bundle.specs.Bundle.{Bundle}
-use Rattle.ar_cell.specs.Cell.{entries_under}
+use Rattle.ar_board.specs.Cell.{entries_under}
 use Rattle.ar_board.specs.Seats.{PerLock, at_lock}
 
 -- whether it is the lock, as a count

@@ -2,9 +2,9 @@
 use Rattle.std.specs.Prelude.{◌≡◌, List, map, option_map, reverse, drop, IfOk, Option, Result}
 use Rattle.std.specs.declared.alloc.AllocError.{AllocError}
 use Rattle.ar_value.specs.Value.{Value, items_of}
-use Rattle.ar_operand.specs.Memory.{MemoryLoop, MemoryNext, MemoryState, ends, goes, stuck}
-use Rattle.ar_operand.specs.Operand.{value_of}
-use Rattle.ar_operand.specs.declared.lent.ValueRef.{ValueRef}
+use Rattle.ar_machine.specs.Memory.{MemoryLoop, MemoryNext, MemoryState, ends, goes, stuck}
+use Rattle.ar_machine.specs.Operand.{value_of}
+use Rattle.ar_machine.specs.declared.operand.lent.ValueRef.{ValueRef}
 use Rattle.ar_tested.specs.Private.Operand.{from_top, values_in}
 use Rattle.ar_tested.specs.declared.state.Loop.{Loop}
 use Rattle.ar_tested.specs.declared.state.Next.{Next}

@@ -11,10 +11,10 @@ use Rattle.ar_bundle.specs.contracts.history.Entry as Entry
 use Rattle.ar_bundle.specs.contracts.history.History as History
 use Rattle.ar_board.specs.contracts.board.Board as Board
 use Rattle.ar_workers.specs.contracts.posting.Posting as Posting
-use Rattle.ar_cell.specs.contracts.cell.RunCell as RunCell
-use Rattle.ar_cell.specs.contracts.kept_run.KeptRun as KeptRun
-use Rattle.ar_cell.specs.contracts.run_history.RunHistory as RunHistory
-use Rattle.ar_cell.specs.contracts.receipt.Receipt as Receipt
+use Rattle.ar_board.specs.contracts.cell.RunCell as RunCell
+use Rattle.ar_board.specs.contracts.cell.kept_run.KeptRun as KeptRun
+use Rattle.ar_board.specs.contracts.cell.run_history.RunHistory as RunHistory
+use Rattle.ar_board.specs.contracts.cell.receipt.Receipt as Receipt
 use Rattle.ar_board.specs.contracts.locks.First as First
 use Rattle.ar_board.specs.contracts.locks.Fourth as Fourth
 use Rattle.ar_board.specs.contracts.locks.Second as Second
@@ -22,7 +22,7 @@ use Rattle.ar_board.specs.contracts.locks.Third as Third
 use Rattle.ar_board.specs.contracts.seat.Seat as Seat
 use Rattle.ar_board.specs.declared.locks.LockNames as LockNames
 use Rattle.ar_bundle.specs.declared.names.BundleName as BundleName
-use Rattle.ar_cell.specs.declared.names.LockName as LockName
+use Rattle.ar_board.specs.declared.cell.names.LockName as LockName
 use Rattle.ar_queue.proofs.Sharing.Bundles.{bundle_sync}
 
 entry_send : IsSend Entry.the_row

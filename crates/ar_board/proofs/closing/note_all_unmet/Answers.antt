@@ -2,7 +2,7 @@ use Rattle.std.proofs.Common.{rules, arith, sym, subst, List, Vec, Global}
 use Rattle.std.proofs.lemmas.Grind.{common_steps}
 use Rattle.ar_board.proofs.Marks.{all_marked_first, all_marked_next, own_there}
 use Rattle.ar_board.specs.Private.Closing.{AreMarked, AreOwn}
-use Rattle.ar_cell.specs.declared.receipt.Receipt.{Receipt}
+use Rattle.ar_board.specs.declared.cell.receipt.Receipt.{Receipt}
 use Rattle.ar_board.proofs.closing.note_all_unmet.Goals as goal
 
 pub note_unmet-requires-clause-own : goal.note_unmet-requires-clause-own

@@ -2,7 +2,7 @@ use Rattle.std.proofs.Common.{◌≡◌, ◌<◌, ◌≤◌, ◌*◌, ◌+◌, �
 use Rattle.std.proofs.lemmas.Grind.{common_steps}
 use Rattle.ar_bundle.specs.Bundle.{Bundle, IsBundle}
 use Rattle.ar_board.specs.Private.Closing.{AreMarked, AreOwn, IsAt, IsBehind}
-use Rattle.ar_cell.specs.declared.receipt.Receipt.{Receipt}
+use Rattle.ar_board.specs.declared.cell.receipt.Receipt.{Receipt}
 use Rattle.ar_board.proofs.Marks.{last_first, last_next, marked_first, marked_met, marked_unmet, number_there, run_there, same_read}
 use Rattle.ar_board.proofs.closing.note_unmet.Goals as goal
 use Rattle.ar_board.proofs.closing.note_unmet.Goals.{then-not-is_met, else-not-is_met}

@@ -2,7 +2,7 @@ use Rattle.std.proofs.Common.{◌≡◌, ◌∷◌, [], ◌++◌, List, Vec, Glo
 use Rattle.std.proofs.lemmas.Grind.{common_steps}
 use Rattle.std.proofs.lemmas.List.{length_push, map_push}
 use Rattle.std.specs.Vec.Iter.{into_iter_items}
-use Rattle.ar_cell.specs.declared.receipt.Receipt.{Receipt}
+use Rattle.ar_board.specs.declared.cell.receipt.Receipt.{Receipt}
 use Rattle.ar_board.specs.Board.{Seat}
 use Rattle.ar_board.specs.Private.Closing.{AreGiven}
 use Rattle.ar_board.specs.Private.Shares.{amounts_of, parts_of}

@@ -1,5 +1,5 @@
 use Rattle.std.proofs.Common.{rules, string_bytes, subst, sym}
-use Rattle.ar_device.specs.Input.{ReadsUpToLimit}
+use Rattle.ar_command_line.specs.Input.{ReadsUpToLimit}
 use Rattle.ar_command.proofs.Documents.{cut_of_whole, refused_by, written_of_whole}
 use Rattle.ar_command.specs.Serving.{Breaks}
 use Rattle.ar_command.proofs.serving.serve.Goals as goal

@@ -1,5 +1,5 @@
 use Rattle.std.proofs.Common.{rules}
-use Rattle.ar_operand.proofs.Made.{all_taken}
+use Rattle.ar_machine.proofs.MadeValues.{all_taken}
 use Rattle.ar_tested.proofs.Made.{scalar_refused, scalar_taken}
 use Rattle.ar_tested.proofs.effect.make_list.Goals as goal
 

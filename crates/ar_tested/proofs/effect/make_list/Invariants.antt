@@ -1,7 +1,7 @@
 use Rattle.std.proofs.Common.{◌≡◌, ◌-◌, map, reverse}
 use Rattle.ar_value.specs.Value.{items_of, no_items}
 use Rattle.ar_op.specs.Machine.{list_made}
-use Rattle.ar_operand.specs.Operand.{value_of}
+use Rattle.ar_machine.specs.Operand.{value_of}
 use Rattle.ar_tested.specs.Private.Operand.{from_top}
 use Rattle.ar_tested.proofs.effect.make_list.Given as goal
 

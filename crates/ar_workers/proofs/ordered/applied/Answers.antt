@@ -1,7 +1,7 @@
 use Rattle.std.proofs.Common.{None, rules, subst, sym, ◌∙◌, arith}
 use Rattle.ar_bundle.specs.Lawful.{AreLawful}
 use Rattle.ar_workers.proofs.Judged.{known_inside, known_read}
-use Rattle.ar_plain.proofs.Lawful.{all_rise, lawful_behind}
+use Rattle.ar_bundle.proofs.Lawful.{all_rise, lawful_behind}
 use Rattle.ar_workers.proofs.ordered.applied.Goals as goal
 
 pub bounds : goal.bounds

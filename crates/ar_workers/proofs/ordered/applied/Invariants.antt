@@ -1,5 +1,5 @@
 use Rattle.std.proofs.Common.{◌≤◌}
-use Rattle.ar_plain.specs.Growing.{AreGrown}
+use Rattle.ar_bundle.specs.Growing.{AreGrown}
 use Rattle.ar_workers.proofs.ordered.applied.Given as goal
 
 -- the numbers so far

@@ -4,7 +4,7 @@ use Rattle.std.proofs.lemmas.List.{length-replicate}
 use Rattle.std.specs.List.{AllByRecursion}
 use Rattle.ar_bundle.specs.Lawful.{times}
 use Rattle.ar_bundle.specs.declared.history.Entry.{Entry}
-use Rattle.ar_cell.specs.declared.receipt.Receipt.{Receipt}
+use Rattle.ar_board.specs.declared.cell.receipt.Receipt.{Receipt}
 use Rattle.ar_board.specs.Board.{IsClosed, IsLost, Seat, receipts_of, received_under}
 use Rattle.ar_board.specs.Private.Closing.{AreAllMarked, AreInside, AreStored}
 use Rattle.ar_board.proofs.Closed.{holds, is_closed, not_held, why}

@@ -1,6 +1,6 @@
 use Rattle.std.proofs.Common.{◌≡◌, ◌≤◌, sym, ◌∙◌, rules}
 use Rattle.std.proofs.lemmas.Result.{on_ok_weaker}
-use Rattle.ar_cell.specs.Cell.{entries_under, lock_of}
+use Rattle.ar_board.specs.Cell.{entries_under, lock_of}
 use Rattle.ar_board.proofs.UnderLocks.{last_lock, one_first, one_fourth, one_second, one_third}
 use Rattle.ar_board.proofs.board.Board.post_under.Goals as goal
 

@@ -1,0 +1,29 @@
+//! The plain run.
+
+ghost use Rattle.std.specs.Prelude.{IfOk};
+ghost use Rattle.ar_bundle.specs.Lawful.{AllRise, AreLawful};
+
+use crate::runs::Runs;
+use crate::{Bundle, Histories};
+use std::alloc::{AllocError, Global};
+
+/// The histories of a bundle's runs, in one thread: its numbers in their order, each judged and
+/// applied to its run.
+///
+/// # Errors
+///
+/// Out of memory alone.
+#[tactic(auto, using(crate::proofs::Lawful::all_rise))]
+pub fn run_plain(alloc: Global, bundle: &Bundle) -> Result<Histories, AllocError>
+    ensures lawful { IfOk result (AreLawful bundle.now) }
+    // Numbers rise in each history.
+    ensures in_order { IfOk result AllRise }
+{
+    let events = bundle.events();
+    let mut runs = Runs::open(alloc, bundle)?;
+    for number in 0..events {
+        let finding = bundle.finding(alloc, number)?;
+        runs.apply(bundle, number, finding)?;
+    }
+    Ok(Histories::from(runs.histories))
+}

@@ -1,7 +1,0 @@
-pub mod Places
-pub mod Cells
-pub mod Shows
-pub mod Under
-pub mod Opened
-pub mod Put
-pub mod ReceiptLemmas

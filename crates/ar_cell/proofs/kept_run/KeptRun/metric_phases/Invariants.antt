@@ -1,6 +1,0 @@
-use Rattle.std.proofs.Common.{◌≡◌, take}
-use Rattle.ar_cell.proofs.kept_run.KeptRun.metric_phases.Given as goal
-
--- the phases so far
-abbrev pub invariant-loop-metric : goal.invariant-loop-metric
-invariant-loop-metric l = l.phases.items ≡ take l.metric l.self.run.state.phases

@@ -1,9 +1,0 @@
-use Rattle.std.proofs.Common.{rules}
-use Rattle.ar_cell.proofs.Shows.{next_skip, next_here, next_end}
-use Rattle.ar_cell.proofs.kept_run.KeptRun.next_own.Goals as goal
-
-pub returns-then-index-worker : goal.returns-then-index-worker
-returns-then-index-worker c = search (rules, next_skip, next_here, next_end)
-
-pub loop-place-preserved : goal.loop-place-preserved
-loop-place-preserved c = search (rules, next_skip, next_here, next_end)

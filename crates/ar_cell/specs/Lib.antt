@@ -1,4 +1,0 @@
-pub mod Posting
-pub mod Receipts
-pub mod Cell
-pub mod Private

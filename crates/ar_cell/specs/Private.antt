@@ -1,3 +1,0 @@
--- How values of public types lie in memory (their views and what always holds of them), and what private contracts speak
--- of. These follow the code.
-pub mod KeptRuns

@@ -1,0 +1,32 @@
+-- Devices: a reader or a writer, and whether it failed.
+use Rattle.std.specs.Prelude.{Bool, Option, None, Some, Result, Ok, Err, is_some}
+use Rattle.std.specs.declared.io.Error.{Error}
+use Rattle.ar_command_line.specs.declared.device.Device.{Device}
+use Rattle.ar_command_line.specs.declared.stream.DeviceFault.{DeviceFault}
+
+-- the reader or the writer
+abbrev pub inner_of : {T : Type 0} → Device T → T
+inner_of device = device.inner
+
+-- the first fault that it met
+abbrev pub fault_of : {T : Type 0} → Device T → Option Error
+fault_of device = device.fault
+
+-- it met a fault
+abbrev pub has_failed : {T : Type 0} → Device T → Bool
+has_failed device = is_some device.fault
+
+-- a fault is kept where there is none yet
+abbrev pub or_first : Option Error → Error → Option Error
+or_first None fault = Some fault
+or_first (Some first) fault = Some first
+
+-- the first fault, after one more answer
+abbrev pub first_fault : {A : Type 0} → Option Error → Result A Error → Option Error
+first_fault first (Ok value) = first
+first_fault first (Err fault) = or_first first fault
+
+-- an answer, with the mere fact of a fault in place of its words
+abbrev pub answer_of : {A : Type 0} → Result A Error → Result A DeviceFault
+answer_of (Ok value) = Ok value
+answer_of (Err fault) = Err (record {})

@@ -1,0 +1,75 @@
+//! Calls of the system that are made again where a signal interrupted them.
+
+ghost use Rattle.std.specs.Prelude.{◌≡◌, false, true, IfErr};
+ghost use Rattle.std.specs.Io.{ReadsAtMost, WritesAtMost};
+ghost use Rattle.std.specs.Io.KnownBytes.{Keeps, ReadConsumes, WriteAppends};
+ghost use Rattle.std.specs.IoError.{error_kind};
+ghost use Rattle.ar_command_line.specs.Retrying.{IsInterrupted, IsLasting};
+
+use std::io;
+use std::io::{ErrorKind, Read, Write};
+
+/// How often a call is made at most, as the standard library has it.
+const MOST_TRIES: u64 = u64::MAX;
+
+/// One read.
+pub(crate) fn read_retrying<T: Read>(reader: &mut T, buf: &mut [u8]) -> io::Result<usize>
+    ensures bound { ReadsAtMost result buf.new }
+    ensures bytes { ReadConsumes (T.remaining reader.old) (T.remaining reader.new) result buf.new }
+    ensures lasting { IfErr result IsLasting }
+{
+    for _try in 0..MOST_TRIES {
+        let answer = reader.read(buf);
+        if !is_interrupted(&answer) {
+            return answer;
+        }
+    }
+    Err(interrupted_too_often())
+}
+
+/// One write.
+pub(crate) fn write_retrying<T: Write>(writer: &mut T, buf: &[u8]) -> io::Result<usize>
+    ensures bound { WritesAtMost result buf.now }
+    ensures bytes { WriteAppends (T.contents writer.old) (T.contents writer.new) result buf.now }
+    ensures lasting { IfErr result IsLasting }
+{
+    for _try in 0..MOST_TRIES {
+        let answer = writer.write(buf);
+        if !is_interrupted(&answer) {
+            return answer;
+        }
+    }
+    Err(interrupted_too_often())
+}
+
+/// One flush.
+pub(crate) fn flush_retrying<T: Write>(writer: &mut T) -> io::Result<()>
+    ensures bytes { Keeps (T.contents writer.old) (T.contents writer.new) }
+    ensures lasting { IfErr result IsLasting }
+{
+    for _try in 0..MOST_TRIES {
+        let answer = writer.flush();
+        if !is_interrupted(&answer) {
+            return answer;
+        }
+    }
+    Err(interrupted_too_often())
+}
+
+/// Whether an answer is that a signal interrupted the call, which did nothing then.
+fn is_interrupted<A>(answer: &io::Result<A>) -> bool
+    ensures interrupted { result ≡ true → IsInterrupted answer.now }
+    ensures ended { result ≡ false → IfErr answer.now IsLasting }
+{
+    match answer {
+        Ok(_) => false,
+        Err(fault) => fault.kind() == ErrorKind::Interrupted,
+    }
+}
+
+/// What is told of a call that was interrupted each time.
+fn interrupted_too_often() -> io::Error
+    ensures { error_kind result ≡ ErrorKind.TimedOut }
+{
+    io::Error::from(ErrorKind::TimedOut)
+}

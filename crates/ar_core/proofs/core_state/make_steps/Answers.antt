@@ -1,6 +1,0 @@
-use Rattle.ar_core.specs.declared.core_steps.CoreStep.TheVariants.{Put}
-use Rattle.ar_core.proofs.CoreLaws.{core_next}
-use Rattle.ar_core.proofs.core_state.make_steps.Goals as goal
-
-pub loop-step-preserved : goal.loop-step-preserved
-loop-step-preserved c = core_next c.args.core.now c.args.steps.now c.loop-step.step-index c.loop-step.core c.core_step.new.core Put c.loop-step-test.true c.loop-step.invariant c.core_step.ensures.after

@@ -1,6 +1,0 @@
-use Rattle.std.proofs.Common.{rules}
-use Rattle.ar_core.proofs.CoreLaws.{each_once}
-use Rattle.ar_core.proofs.laws.each_number_once.Goals as goal
-
-pub returns : goal.returns
-returns c = search (rules, each_once)

@@ -1,5 +1,0 @@
-use Rattle.ar_core.proofs.CoreLaws.{at_rest}
-use Rattle.ar_core.proofs.laws.lawful_at_rest.Goals as goal
-
-pub returns : goal.returns
-returns c bundle workers places ordered steps is rest = at_rest bundle workers places ordered steps is rest

@@ -1,7 +1,0 @@
-use Rattle.std.proofs.Common.{◌≡◌, [], replicate}
-use Rattle.ar_core.specs.Private.Own.{items_of}
-use Rattle.ar_core.proofs.own_numbers.empty_lists.Given as goal
-
--- so many lists so far
-abbrev pub invariant-loop : goal.invariant-loop
-invariant-loop l = items_of l.lists.items ≡ replicate l.counter []

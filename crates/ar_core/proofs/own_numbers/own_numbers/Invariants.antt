@@ -1,7 +1,0 @@
-use Rattle.std.proofs.Common.{◌≤◌, take}
-use Rattle.ar_core.specs.Private.Own.{AreOwn, items_of}
-use Rattle.ar_core.proofs.own_numbers.own_numbers.Given as goal
-
--- the numbers so far
-abbrev pub invariant-loop-number : goal.invariant-loop-number
-invariant-loop-number l = (l.number ≤ l.number-end) × AreOwn l.bundle (take l.number l.bundle.entries) (items_of l.own.items)

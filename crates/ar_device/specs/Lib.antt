@@ -1,5 +1,0 @@
-pub mod Retrying
-pub mod Device
-pub mod Kept
-pub mod Input
-pub mod Output

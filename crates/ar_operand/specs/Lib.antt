@@ -1,5 +1,0 @@
-pub mod Run
-pub mod Operand
-pub mod Kinded
-pub mod Memory
-pub mod Same
