@@ -4,7 +4,8 @@ use Rattle.std.specs.Prelude.{IfSome, slice_get, slice_index_or}
 use Rattle.std.specs.List.{AllByRecursion}
 use Rattle.std.proofs.lemmas.List.{length-replicate, length-set, map_push, take_more}
 use Rattle.std.proofs.lemmas.Option.{slice_get_read, slice_get_within}
-use Rattle.ar_bundle.specs.Bundle.{Bundle, IsBundle, most_runs, run_of}
+use Rattle.ar_value.specs.Limits.{most_runs}
+use Rattle.ar_bundle.specs.Bundle.{Bundle, IsBundle, run_of}
 use Rattle.ar_bundle.specs.declared.history.Entry.{Entry}
 use Rattle.ar_board.specs.Receipts.{IsLater, IsMet}
 use Rattle.ar_board.specs.Board.{IsUnmet}

@@ -4,6 +4,7 @@ use Rattle.std.specs.List.{AllByRecursion, filter_map}
 use Rattle.ar_value.specs.Fits.{fits}
 use Rattle.ar_value.specs.Shape.{Shape}
 use Rattle.ar_value.specs.View.{shape_view}
+use Rattle.ar_value.specs.Limits.{most_metrics, most_runs}
 use Rattle.ar_json.specs.declared.value_reading.ShapeFault.TheVariants as shape_fault
 pub use Rattle.ar_limits.specs.Replay.{most_events}
 use Rattle.ar_judge.specs.Condition.{Condition}
@@ -72,12 +73,6 @@ CanHappen metrics Stop = Unit {0}
 pub record IsEntry (metrics : List MetricPart) (runs : ℕ) (entry : EventPart) : Type 0 where
   pub run : entry.run < runs
   pub what : CanHappen metrics entry.what
-
-abbrev pub most_metrics : ℕ
-most_metrics = 64
-
-abbrev pub most_runs : ℕ
-most_runs = 64
 
 pub record IsBundle (bundle : Bundle) : Type 0 where
   pub few_metrics : length bundle.metrics ≤ most_metrics

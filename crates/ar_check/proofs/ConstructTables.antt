@@ -18,8 +18,8 @@ use Rattle.ar_value.specs.declared.operator.Predicate.{Predicate}
 use Rattle.ar_value.specs.declared.operator.Predicate.TheVariants as predicates
 use Rattle.ar_tree.specs.declared.tree.Unary.{Unary}
 use Rattle.ar_check.specs.Check.{Answer, binary_of, body_of, choice_in, choice_of, default_kind, default_of, entered, equality_of, field_of, field_shape, given, in_common, index_of, is_nil_literal, is_whole_number, item_shape, len_of, negated, over_items, plain_kind, predicate_kind, predicate_of, truth_kind, unary_of, where_wanted}
-use Rattle.ar_check.specs.Basics.{most_predicates}
 use Rattle.ar_value.specs.Shape.{shape_named}
+use Rattle.ar_value.specs.Limits.{most_loops}
 use Rattle.ar_check.specs.Operand.{Operand, operand, is_truth, made_plain, plain_of, scalar}
 use Rattle.ar_tree.specs.Typed.{Typed}
 use Rattle.ar_tree.specs.Typed as typed
@@ -78,15 +78,15 @@ by_depth at shape inside true h = (refl, let same : shape ≡ inside = cc in sam
 by_depth at shape inside false h = absurd (cc)
 
 -- a predicate that is entered isn't too deep
-entered_found : (at around : ℕ) (shape inside : Shape) → entered at around shape ≡ Ok inside → (around < most_predicates) × (shape ≡ inside)
+entered_found : (at around : ℕ) (shape inside : Shape) → entered at around shape ≡ Ok inside → (around < most_loops) × (shape ≡ inside)
 entered_found at around shape inside h =
-    let less = by_depth at shape inside (nat_lt around most_predicates) h in
-    let test : nat_lt around most_predicates ≡ true = less.0 in
+    let less = by_depth at shape inside (nat_lt around most_loops) h in
+    let test : nat_lt around most_loops ≡ true = less.0 in
     (grind (arith, nat_tests), less.1)
 
 -- a predicate that isn't too deep is entered
-is_entered : (at around : ℕ) (shape : Shape) → around < most_predicates → entered at around shape ≡ Ok shape
-is_entered at around shape h = let test : nat_lt around most_predicates ≡ true = grind (arith, nat_tests) in rw test refl
+is_entered : (at around : ℕ) (shape : Shape) → around < most_loops → entered at around shape ≡ Ok shape
+is_entered at around shape h = let test : nat_lt around most_loops ≡ true = grind (arith, nat_tests) in rw test refl
 
 -- whether a body is a boolean
 body_found : (body : Operand) (holds : Bool × Typed) → body_of body ≡ Ok holds → is_truth body ≡ holds.0
@@ -94,7 +94,7 @@ body_found body holds h = let same : (is_truth body, made_plain body) ≡ holds 
 
 -- what holds of the items of a list
 pub over_found : (at around : ℕ) (list : Kind) (body : Shape → Answer) (holds : Bool × Typed) → over_items at around list body ≡ Ok holds
-    → (shape : Shape) × (found : Operand) × (item_shape at (plain_of list) ≡ Ok shape) × (around < most_predicates) × (body shape ≡ Ok found) × (is_truth found ≡ holds.0)
+    → (shape : Shape) × (found : Operand) × (item_shape at (plain_of list) ≡ Ok shape) × (around < most_loops) × (body shape ≡ Ok found) × (is_truth found ≡ holds.0)
 unfolding over_items
 over_found at around list body holds h =
     let shape = from_bind (item_shape at (plain_of list)) (λ shape. entered at around shape >>= λ inside. body inside >>= body_of) holds h in
@@ -104,7 +104,7 @@ over_found at around list body holds h =
     (shape.0, found.0, shape.1, less.0, ap body less.1 ∙ found.1, body_found found.0 holds found.2)
 
 -- likewise the other way
-over_typed : (at around : ℕ) (list : Kind) (body : Shape → Answer) (shape : Shape) (found : Operand) → item_shape at (plain_of list) ≡ Ok shape → around < most_predicates → body shape ≡ Ok found
+over_typed : (at around : ℕ) (list : Kind) (body : Shape → Answer) (shape : Shape) (found : Operand) → item_shape at (plain_of list) ≡ Ok shape → around < most_loops → body shape ≡ Ok found
     → over_items at around list body ≡ Ok (is_truth found, made_plain found)
 unfolding over_items
 over_typed at around list body shape found h less k =
@@ -221,7 +221,7 @@ module _ (result : Shape) (item : Option Shape) (around : ℕ) where
 
   -- what holds of each item is a boolean
   pub predicate_has : (at : ℕ) (predicate : Predicate) (items body : Expression) (list inside found : Operand) (holds : Bool × Typed) (shape : Shape) → HasKind result item around items list.kind
-      → item_shape at (plain_of list.kind) ≡ Ok shape → around < most_predicates → HasKind result (Some shape) (suc around) body inside.kind → is_truth inside ≡ holds.0
+      → item_shape at (plain_of list.kind) ≡ Ok shape → around < most_loops → HasKind result (Some shape) (suc around) body inside.kind → is_truth inside ≡ holds.0
       → predicate_of at predicate list holds.0 holds.1 ≡ Ok found → HasKind result item around (trees.PredicateAt at predicate items body) found.kind
   predicate_has at predicate items body list inside found holds shape h has less k same is =
       let of = list_within at list.kind shape has in
@@ -300,7 +300,7 @@ default_typed at first other left right both h k row =
     both_typed first other (default_of at) left right both h k (λ tree otherwise. found_default at _ (default_kind (plain_kind left) right) both (default_by_row row))
 
 -- a predicate
-pub predicate_typed : (at around : ℕ) (predicate : Predicate) (list : Answer) (body : Shape → Answer) (of shape holds kind : Shape) (max : ℕ) → IsTyped list (shaped of) → plain of ≡ shapes.list shape max → around < most_predicates
+pub predicate_typed : (at around : ℕ) (predicate : Predicate) (list : Answer) (body : Shape → Answer) (of shape holds kind : Shape) (max : ℕ) → IsTyped list (shaped of) → plain of ≡ shapes.list shape max → around < most_loops
     → IsTyped (body shape) (shaped holds) → plain holds ≡ shapes.bool → PredicateKind predicate (plain of) kind
     → IsTyped (list >>= λ list. over_items at around list.kind body >>= λ holds. predicate_of at predicate list holds.0 holds.1) (shaped kind)
 predicate_typed at around predicate list body of shape holds kind max h k less l is row =

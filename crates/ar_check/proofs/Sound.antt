@@ -11,8 +11,8 @@ use Rattle.ar_value.specs.Value as values
 use Rattle.ar_tree.specs.Expression.{Expression, Expressions, place_of}
 use Rattle.ar_tree.specs.Expression as trees
 use Rattle.ar_check.specs.Check.{Answer, body_of, checked, choice_of, condition_of, default_of, entered, field_of, index_of, item_of, item_shape, items_typed, is_nil_literal, len_of, list_of, no_scalar, over_items, predicate_of, given, truth_kind, typed_of, unary_of, binary_of}
-use Rattle.ar_check.specs.Basics.{most_predicates}
 use Rattle.ar_value.specs.Operators.{Meaning, faulted, ill_kinded}
+use Rattle.ar_value.specs.Limits.{most_loops}
 use Rattle.ar_tree.specs.Meaning.{IsTruthOrFault, is_fault, is_truth, mean}
 use Rattle.ar_check.specs.Operand.{Operand, made_plain, plain_of}
 use Rattle.ar_check.specs.Operand as operands
@@ -36,7 +36,7 @@ by_depth at shape false = tt
 
 -- what is entered are the items' shape
 entered_same : (at around : ℕ) (shape : Shape) → IfOk (entered at around shape) (λ inside. inside ≡ shape)
-entered_same at around shape = by_depth at shape (nat_lt around most_predicates)
+entered_same at around shape = by_depth at shape (nat_lt around most_loops)
 
 -- ---- trees
 

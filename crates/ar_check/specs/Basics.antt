@@ -11,7 +11,3 @@ literal_kind (literals.Bool holds) = shaped shapes.bool
 literal_kind (literals.Whole value) = shaped shapes.whole
 literal_kind (literals.Decimal millionths) = shaped shapes.decimal
 literal_kind (literals.Text text) = shaped shapes.text
-
--- how many predicates may stand in one another
-abbrev pub most_predicates : ℕ
-most_predicates = 4

@@ -17,7 +17,7 @@ use Rattle.ar_value.specs.declared.operator.Predicate.{Predicate}
 use Rattle.ar_value.specs.declared.operator.Predicate.TheVariants as predicates
 use Rattle.ar_tree.specs.declared.tree.Unary.{Unary}
 use Rattle.ar_tree.specs.declared.tree.Unary.TheVariants as unaries
-use Rattle.ar_check.specs.Basics.{literal_kind, most_predicates}
+use Rattle.ar_check.specs.Basics.{literal_kind}
 use Rattle.ar_check.specs.Operand.{Operand, operand, among, family_in, is_text, is_truth, made_plain, numbers, plain_of, scalar, scalar_of, turned}
 use Rattle.ar_tree.specs.Typed.{Typed, typeds}
 use Rattle.ar_tree.specs.Typed as typed
@@ -38,6 +38,7 @@ use Rattle.ar_value.specs.declared.operator.Order.TheVariants.{Less, LessOrEqual
 use Rattle.ar_value.specs.declared.operator.Scalar.{Scalar}
 use Rattle.ar_value.specs.declared.operator.Scalar.TheVariants as scalars
 use Rattle.ar_value.specs.declared.operator.TextTest.{TextTest}
+use Rattle.ar_value.specs.Limits.{most_loops}
 
 abbrev pub Answer : Type 0
 Answer = Result Operand TypeError
@@ -321,7 +322,7 @@ list_of at items None = list_in_common at items (common_of items)
 
 -- one more predicate, inside so many others
 abbrev pub entered : ℕ → ℕ → Shape → Result Shape TypeError
-entered at around shape = if nat_lt around most_predicates then Ok shape else Err (PredicatesTooDeep at)
+entered at around shape = if nat_lt around most_loops then Ok shape else Err (PredicatesTooDeep at)
 
 -- what holds of an item: whether that is a boolean, and its tree
 abbrev pub body_of : Operand → Result (Bool × Typed) TypeError

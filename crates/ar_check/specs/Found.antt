@@ -4,11 +4,11 @@ use Rattle.std.specs.Option.{option_or}
 use Rattle.ar_value.specs.Kind.{Kind, nil, shaped}
 use Rattle.ar_value.specs.Shape.{Shape}
 use Rattle.ar_value.specs.Shape as shapes
+use Rattle.ar_value.specs.Limits.{most_loops}
 use Rattle.ar_tree.specs.Expression.{Expression, Expressions}
 use Rattle.ar_tree.specs.Expression as trees
 use Rattle.ar_tree.specs.declared.tree.Binary.{Binary}
 use Rattle.ar_tree.specs.declared.tree.Binary.TheVariants as binaries
-use Rattle.ar_check.specs.Basics.{most_predicates}
 use Rattle.ar_check.specs.Check.{Answer, typed_of}
 use Rattle.ar_check.specs.Operand.{plain_of}
 use Rattle.ar_check.specs.declared.found.OperandKind.{OperandKind}
@@ -52,7 +52,7 @@ kind_of result item around tree = kind_in (typed_of result item around tree)
 
 -- the shape of a list's items, where one more predicate may speak of them
 abbrev pub entered_item : ℕ → Kind → Option Shape
-entered_item around list = if nat_lt around most_predicates then items_of list else None
+entered_item around list = if nat_lt around most_loops then items_of list else None
 
 abbrev pub entered_list : ℕ → Option Kind → Option Shape
 entered_list around list = option_and_then (entered_item around) list

@@ -12,9 +12,10 @@ use Rattle.ar_tree.specs.declared.tree.Literal.TheVariants as literals
 use Rattle.ar_value.specs.declared.operator.Predicate.{Predicate}
 use Rattle.ar_value.specs.declared.operator.Predicate.TheVariants as predicates
 use Rattle.ar_value.specs.declared.operator.TextTest.{TextTest}
+use Rattle.ar_value.specs.Limits.{most_loops}
 use Rattle.ar_tree.specs.declared.tree.Unary.{Unary}
 use Rattle.ar_tree.specs.declared.tree.Unary.TheVariants as unaries
-use Rattle.ar_check.specs.Basics.{literal_kind, most_predicates}
+use Rattle.ar_check.specs.Basics.{literal_kind}
 
 -- ---- scalars
 
@@ -135,7 +136,7 @@ mutual
         → HasKind result item around (DefaultAt at operand otherwise) both
     -- the predicate speaks of an item, and is the innermost one there
     of_predicate : {item : Option Shape} {around at max : ℕ} {predicate : Predicate} {items body : Expression} {of shape holds kind : Shape}
-        → HasKind result item around items (shaped of) → plain of ≡ list shape max → around < most_predicates
+        → HasKind result item around items (shaped of) → plain of ≡ list shape max → around < most_loops
         → HasKind result (Some shape) (suc around) body (shaped holds) → plain holds ≡ bool → PredicateKind predicate (plain of) kind
         → HasKind result item around (PredicateAt at predicate items body) (shaped kind)
 

@@ -3,17 +3,18 @@
 ghost use Rattle.std.specs.Prelude.{◌≡◌, ◌<◌, ◌==◌, if◌then◌else◌, IfOk, IfSome, map, option_map};
 ghost use Rattle.std.specs.Option.{option_or};
 ghost use Rattle.ar_value.specs.View.{shape_view};
+ghost use Rattle.ar_value.specs.Limits.{most_loops};
 ghost use Rattle.ar_tree.specs.Expression.{expressions, BinaryAt, ChoiceAt, IndexAt};
 ghost use Rattle.ar_tree.specs.Views.{expression_of};
-ghost use Rattle.ar_check.specs.Basics.{most_predicates};
 ghost use Rattle.ar_check.specs.Found.{any_has_place, before, entered_item, found_kind, found_shape, has_place, entered_list, items_of, member_found, one, operands_at, right_found, two};
 ghost use Rattle.ar_check.specs.Private.Inside.{kind_view};
 ghost use Rattle.ar_check.specs.Private.Search.{body_over, kind_at, place_among, place_in, place_in_predicate, place_over};
 
 use crate::error::TypeError;
 use crate::operand::{Kind, plain_shape};
-use crate::typing::{MOST_PREDICATES, Scope, child, in_predicate};
+use crate::typing::{Scope, child, in_predicate};
 use ar_tree::tree::{Binary, Tree};
+use ar_value::limits::MOST_LOOPS;
 use ar_value::shape::Shape;
 use std::alloc::{AllocError, Global};
 
@@ -469,9 +470,9 @@ fn kind_of<'s>(
 /// The shape of a list's items, where one more predicate may speak of them.
 fn entered_item<'a>(around: usize, list: &'a Kind<'_>) -> Option<&'a Shape>
     ensures item { option_map (λ shape. shape_view shape.now) result ≡ entered_item around (kind_view list.now) }
-    ensures few { IfSome result (λ _. around < most_predicates) }
+    ensures few { IfSome result (λ _. around < most_loops) }
 {
-    if around < MOST_PREDICATES {
+    if around < MOST_LOOPS {
         items_of(list)
     } else {
         None

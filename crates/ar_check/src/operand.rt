@@ -15,7 +15,7 @@ ghost use Rattle.ar_check.specs.Private.Inside.{boxed_view, kind_view, operand_v
 use crate::build;
 use crate::error::TypeError;
 use ar_tree::typed::Typed;
-use ar_value::holding::beside;
+use ar_value::holding::zip_ok;
 use ar_value::kind;
 use ar_value::operator::{Numbers, Scalar, UnaryOperator};
 use ar_value::sameness::are_same_shapes;
@@ -59,7 +59,7 @@ pub(crate) fn given_unary<'s>(
     ensures { Gives is_memory boxed_view result
         (given (typed.unary operator (typed_view tree.value)) (kind_view kind.entry)) }
 {
-    let (kind, tree) = beside(kind, build::unary(alloc, operator, tree))?;
+    let (kind, tree) = zip_ok(kind, build::unary(alloc, operator, tree))?;
     given(alloc, tree, kind)
 }
 
@@ -255,9 +255,9 @@ pub(crate) fn plain_kind<'s>(alloc: Global, kind: &Kind<'s>) -> Result<Kind<'s>,
     }
 }
 
-/// The same kind once more: only a made shape is copied.
-fn again<'s>(alloc: Global, kind: &Kind<'s>) -> Result<Kind<'s>, AllocError>
-    ensures { IfOk result (λ again. kind_view again ≡ kind_view kind.now) }
+/// A copy of a kind: only a made shape is copied.
+fn clone_kind<'s>(alloc: Global, kind: &Kind<'s>) -> Result<Kind<'s>, AllocError>
+    ensures { IfOk result (λ copy. kind_view copy ≡ kind_view kind.now) }
 {
     match kind {
         Kind::Nil => Ok(Kind::Nil),
@@ -266,14 +266,18 @@ fn again<'s>(alloc: Global, kind: &Kind<'s>) -> Result<Kind<'s>, AllocError>
     }
 }
 
-/// The kind of two that are the same, of which one may be borrowed.
-fn either<'s>(alloc: Global, left: &Kind<'s>, right: &Kind<'s>) -> Result<Kind<'s>, AllocError>
+/// A copy of one of two kinds that are the same: of the one that is borrowed, if there is one.
+fn clone_either<'s>(
+    alloc: Global,
+    left: &Kind<'s>,
+    right: &Kind<'s>,
+) -> Result<Kind<'s>, AllocError>
     requires { kind_view left.now ≡ kind_view right.now }
     ensures { IfOk result (λ kind. kind_view kind ≡ kind_view left.now) }
 {
     match left {
-        Kind::Nil | Kind::Declared(_) => again(alloc, left),
-        Kind::Made(_) => again(alloc, right),
+        Kind::Nil | Kind::Declared(_) => clone_kind(alloc, left),
+        Kind::Made(_) => clone_kind(alloc, right),
     }
 }
 
@@ -283,7 +287,7 @@ fn or_nil<'s>(alloc: Global, kind: &Kind<'s>) -> Result<Kind<'s>, AllocError>
 {
     match shape_of(kind) {
         None => Ok(Kind::Nil),
-        Some(shape) if kind::is_optional(shape) => again(alloc, kind),
+        Some(shape) if kind::is_optional(shape) => clone_kind(alloc, kind),
         Some(shape) => Ok(Kind::Made(kind::or_nil(alloc, shape)?)),
     }
 }
@@ -317,7 +321,7 @@ pub(crate) fn common<'s>(
         return Ok(Some(or_nil(alloc, kind)?));
     };
     if are_same_shapes(one, other) {
-        return Ok(Some(either(alloc, left, right)?));
+        return Ok(Some(clone_either(alloc, left, right)?));
     }
     match kind::common_shapes(alloc, one, other)? {
         Some(shape) => Ok(Some(Kind::Made(shape))),

@@ -29,14 +29,12 @@ use crate::operand::{
 use crate::operators::{binary, is_nil_of, truth, unary, where_wanted};
 use ar_tree::tree::{Binary, Literal, Tree, Unary};
 use ar_tree::typed::Typed;
-use ar_value::holding::beside;
+use ar_value::holding::zip_ok;
+use ar_value::limits::MOST_LOOPS;
 use ar_value::operator::{BinaryOperator, Predicate, Scalar, UnaryOperator};
 use ar_value::shape::Shape;
 use ar_value::text::Text;
 use std::alloc::{AllocError, Global};
-
-/// How many predicates may stand in one another.
-pub(crate) const MOST_PREDICATES: usize = 4;
 
 /// The typed tree of a condition where `result` has a shape. Children come first, from left to
 /// right.
@@ -350,7 +348,7 @@ fn typed_body(
         (λ shape. inside scope.now shape (expression_of body.value))) }
 {
     let shape = item_shape(at, list)?;
-    if scope.around >= MOST_PREDICATES {
+    if scope.around >= MOST_LOOPS {
         return Err(TypeError::PredicatesTooDeep(at));
     }
     let inside = in_predicate(scope, shape, scope.around + 1);
@@ -434,7 +432,7 @@ fn field_of<'s>(
     ensures { Gives is_memory boxed_view result (field_of at name (operand_view owner.entry.value)) }
 {
     let kind = field_kind(alloc, at, name.as_str(), &owner.kind)?;
-    let (kind, tree) = beside(kind, field_tree(alloc, owner, name))?;
+    let (kind, tree) = zip_ok(kind, field_tree(alloc, owner, name))?;
     given(alloc, tree, kind)
 }
 
@@ -458,7 +456,7 @@ fn index_of<'s>(
 {
     let kind = item_kind(alloc, at, &list.kind)?;
     let wanted = matches!(scalar(&position), Some(Scalar::Whole));
-    let (kind, tree) = beside(kind, index_tree(alloc, list, position))?;
+    let (kind, tree) = zip_ok(kind, index_tree(alloc, list, position))?;
     where_wanted(alloc, at, wanted, tree, kind)
 }
 
@@ -508,7 +506,7 @@ fn choice_of<'s>(
 {
     let kind = common(alloc, &yes.kind, &no.kind)?;
     let wanted = is_truth(&condition);
-    let (kind, tree) = beside(kind, choice_tree(alloc, condition, yes, no))?;
+    let (kind, tree) = zip_ok(kind, choice_tree(alloc, condition, yes, no))?;
     match kind {
         Some(kind) => where_wanted(alloc, at, wanted, tree, kind),
         None => Err(TypeError::NoCommonKind(at)),
@@ -551,7 +549,7 @@ fn default_of<'s>(
     } = Box::into_inner(other);
     let kind = default_kind(alloc, plain, of_other)?;
     let made = default_tree(alloc, turns_first, tree, turns_other, other);
-    let (kind, tree) = beside(kind, made)?;
+    let (kind, tree) = zip_ok(kind, made)?;
     match kind {
         Some(kind) => given(alloc, tree, kind),
         None => Err(TypeError::NoCommonKind(at)),
@@ -602,7 +600,7 @@ fn predicate_of<'s>(
 {
     let kind = predicate_kind(alloc, over, &list.kind)?;
     let (wanted, body) = body;
-    let (kind, tree) = beside(kind, predicate_tree(alloc, over, list, body))?;
+    let (kind, tree) = zip_ok(kind, predicate_tree(alloc, over, list, body))?;
     where_wanted(alloc, at, wanted, tree, kind)
 }
 

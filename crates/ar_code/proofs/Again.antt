@@ -10,7 +10,7 @@ use Rattle.std.proofs.lemmas.Slice.Eq.{bytes_eq-Decides}
 use Rattle.ar_value.specs.Decimal.{is_i64}
 use Rattle.ar_value.specs.declared.operator.Scalar.{Scalar}
 use Rattle.ar_value.specs.declared.operator.Scalar.TheVariants as scalars
-use Rattle.ar_op.specs.Code.{Code, InRange, Inside, IsCode, IsEntry, IsText, IsWritable, most_entries, most_items}
+use Rattle.ar_op.specs.Code.{Code, InRange, Inside, IsCode, IsEntry, IsText, IsWritable}
 use Rattle.ar_op.specs.declared.op.Op.{Op}
 use Rattle.ar_op.specs.declared.op.Op.TheVariants.{Push, MakeList, Field, Unary, Binary, Jump, Enter, Step}
 use Rattle.ar_op.specs.declared.op.Jump.TheVariants as jumps
@@ -26,6 +26,7 @@ use Rattle.ar_value.specs.declared.operator.Order.TheVariants as orders
 use Rattle.ar_value.specs.declared.operator.Predicate.TheVariants as predicates
 use Rattle.ar_value.specs.declared.operator.TextTest.TheVariants as tests
 use Rattle.ar_value.specs.declared.operator.UnaryOperator.TheVariants as unary
+use Rattle.ar_value.specs.Limits.{most_code_entries, most_literal_items}
 use Rattle.ar_code.specs.declared.version.Version.{Version}
 use Rattle.ar_code.specs.declared.version.Version.TheVariants.{First, Second}
 use Rattle.ar_code.specs.Decoding.{Reading, all_ops, among, count_at, decoded, parts_at, whole, cut_number, so_many_ops, so_many_texts, text_at, texts_at, entry_at, op_at, op_of, place, fields_at, items_at, list_at, narrow, number_at, scalar_at, signed, source_at, spelled, sum_of, version_at, wide}
@@ -96,7 +97,7 @@ wide_again end n rest below = number_again end wide n rest below (omega (arith, 
 narrow_again : (end n : ℕ) (rest : List ℕ) → n < 2 ^ 32 → number_at end narrow (number n ++ rest) ≡ Ok (n, rest)
 narrow_again end n rest below = number_again end narrow n rest below (omega (arith, below))
 
-entry_again : (end at count n : ℕ) (rest : List ℕ) → n < count → count ≤ most_entries → entry_at end at count (number n ++ rest) ≡ Ok (n, rest)
+entry_again : (end at count n : ℕ) (rest : List ℕ) → n < count → count ≤ most_code_entries → entry_at end at count (number n ++ rest) ≡ Ok (n, rest)
 unfolding entry_at
 entry_again end at count n rest inside few = rw (narrow_again end n rest (omega (arith, inside, few)), lt-ltb n count inside) refl
 
@@ -107,11 +108,11 @@ scalar_again end scalars.Whole rest = rw (wide_again end 1 rest (lit< tt)) refl
 scalar_again end scalars.Decimal rest = rw (wide_again end 2 rest (lit< tt)) refl
 scalar_again end scalars.Text rest = rw (wide_again end 3 rest (lit< tt)) refl
 
-items_again : (end n : ℕ) (rest : List ℕ) → n ≤ most_items → items_at end (number n ++ rest) ≡ Ok (n, rest)
+items_again : (end n : ℕ) (rest : List ℕ) → n ≤ most_literal_items → items_at end (number n ++ rest) ≡ Ok (n, rest)
 unfolding items_at
-items_again end n rest few = rw (wide_again end n rest (omega (arith, few)), le-ltb most_items n few) refl
+items_again end n rest few = rw (wide_again end n rest (omega (arith, few)), le-ltb most_literal_items n few) refl
 
-list_again : (end n : ℕ) (scalar : Scalar) (rest : List ℕ) → n ≤ most_items → list_at end ((number (scalar_number scalar) ++ number n) ++ rest) ≡ Ok (MakeList scalar n, rest)
+list_again : (end n : ℕ) (scalar : Scalar) (rest : List ℕ) → n ≤ most_literal_items → list_at end ((number (scalar_number scalar) ++ number n) ++ rest) ≡ Ok (MakeList scalar n, rest)
 unfolding list_at
 list_again end n scalar rest few = rw (append_assoc (number (scalar_number scalar)) (number n) rest, scalar_again end scalar (number n ++ rest), items_again end n rest few) refl
 
@@ -195,7 +196,7 @@ op_found : (version : Version) (op : Op) → IsOf version op → op_of version (
 unfolding op_of
 op_found version op is = rw is (found op)
 
-source_again : (end at texts names : ℕ) (source : Source) (rest : List ℕ) → texts ≤ most_entries → InRange (Push source) → Inside texts names (Push source) → source_at end at texts (empty_source source) (source_fields source ++ rest) ≡ Ok (source, rest)
+source_again : (end at texts names : ℕ) (source : Source) (rest : List ℕ) → texts ≤ most_code_entries → InRange (Push source) → Inside texts names (Push source) → source_at end at texts (empty_source source) (source_fields source ++ rest) ≡ Ok (source, rest)
 unfolding source_at
 source_again end at texts names (sources.Bool true) rest few range inside = refl
 source_again end at texts names (sources.Bool false) rest few range inside = refl
@@ -204,7 +205,7 @@ source_again end at texts names (sources.Decimal millionths) rest few range insi
 source_again end at texts names (sources.Text number) rest few range inside = rw (entry_again end at texts number rest inside few) refl
 source_again end at texts names source rest few range inside = refl
 
-fields_again : (end at texts names : ℕ) (op : Op) (rest : List ℕ) → texts ≤ most_entries → names ≤ most_entries → InRange op → Inside texts names op → fields_at end at texts names (empty op) (fields_of op ++ rest) ≡ Ok (op, rest)
+fields_again : (end at texts names : ℕ) (op : Op) (rest : List ℕ) → texts ≤ most_code_entries → names ≤ most_code_entries → InRange op → Inside texts names op → fields_at end at texts names (empty op) (fields_of op ++ rest) ≡ Ok (op, rest)
 unfolding fields_at
 fields_again end at texts names (Push source) rest few_texts few_names range inside = rw (source_again end at texts names source rest few_texts range inside) refl
 fields_again end at texts names (MakeList scalar count) rest few_texts few_names range inside = list_again end count scalar rest inside
@@ -214,15 +215,15 @@ fields_again end at texts names (Enter predicate step) rest few_texts few_names 
 fields_again end at texts names (Step predicate enter) rest few_texts few_names range inside = rw (narrow_again end enter rest range) refl
 fields_again end at texts names op rest few_texts few_names range inside = refl
 
-op_again : (end : ℕ) (version : Version) (texts names : ℕ) (op : Op) (rest : List ℕ) → texts ≤ most_entries → names ≤ most_entries → IsOf version op → InRange op × Inside texts names op → op_at end version texts names (op_bytes op ++ rest) ≡ Ok (op, rest)
+op_again : (end : ℕ) (version : Version) (texts names : ℕ) (op : Op) (rest : List ℕ) → texts ≤ most_code_entries → names ≤ most_code_entries → IsOf version op → InRange op × Inside texts names op → op_at end version texts names (op_bytes op ++ rest) ≡ Ok (op, rest)
 unfolding op_at
 op_again end version texts names op rest few_texts few_names of (range, inside) = rw (op_found version op of, fields_again end (place end (op_bytes op ++ rest)) texts names op rest few_texts few_names range inside) refl
 
 -- ---- texts
 
-count_again : (end n : ℕ) (rest : List ℕ) → n ≤ most_entries → count_at end (number n ++ rest) ≡ Ok (n, rest)
+count_again : (end n : ℕ) (rest : List ℕ) → n ≤ most_code_entries → count_at end (number n ++ rest) ≡ Ok (n, rest)
 unfolding count_at
-count_again end n rest few = rw (wide_again end n rest (omega (arith, few)), le-ltb most_entries n few) refl
+count_again end n rest few = rw (wide_again end n rest (omega (arith, few)), le-ltb most_code_entries n few) refl
 
 text_again : (end : ℕ) (text rest : List ℕ) → IsEntry text → IsText text → text_at end (string text ++ rest) ≡ Ok (text, rest)
 unfolding text_at
@@ -237,7 +238,7 @@ many_again image P Q one many reads each [] rest p q = reads.none rest
 many_again image P Q one many reads each (x ∷ xs) rest p q =
     rw (reads.more (length xs) (flat_map image (x ∷ xs) ++ rest), append_assoc (image x) (flat_map image xs) rest, each x (flat_map image xs ++ rest) p.0 q.0, many_again image P Q one many reads each xs rest p.1 q.1) refl
 
-table_again : (end : ℕ) (texts : List (List ℕ)) (rest : List ℕ) → length texts ≤ most_entries → All IsEntry texts → All IsText texts → texts_at end (strings texts ++ rest) ≡ Ok (texts, rest)
+table_again : (end : ℕ) (texts : List (List ℕ)) (rest : List ℕ) → length texts ≤ most_code_entries → All IsEntry texts → All IsText texts → texts_at end (strings texts ++ rest) ≡ Ok (texts, rest)
 unfolding texts_at
 table_again end texts rest few short utf8 =
     let each = many_again string IsEntry IsText (text_at end) (so_many_texts end) (texts_read end) (text_again end) texts rest (recursion_from_All IsEntry texts short) (recursion_from_All IsText texts utf8) in
@@ -249,7 +250,7 @@ both_of_all : {A : Type 0} (P Q : A → Type 0) (xs : List A) → AllByRecursion
 both_of_all P Q [] p q = tt
 both_of_all P Q (x ∷ xs) p q = ((p.0, q.0), both_of_all P Q xs p.1 q.1)
 
-ops_again : (end texts names : ℕ) (ops : List Op) (rest : List ℕ) → texts ≤ most_entries → names ≤ most_entries → All InRange ops → All (Inside texts names) ops
+ops_again : (end texts names : ℕ) (ops : List Op) (rest : List ℕ) → texts ≤ most_code_entries → names ≤ most_code_entries → All InRange ops → All (Inside texts names) ops
     → so_many_ops end (version_of ops) texts names (length ops) (flat_map op_bytes ops ++ rest) ≡ Ok (ops, rest)
 ops_again end texts names ops rest few_texts few_names ranges inside =
     let version = version_of ops in

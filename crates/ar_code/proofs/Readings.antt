@@ -10,7 +10,8 @@ use Rattle.std.proofs.lemmas.List.Elements.{All-from_recursion}
 use Rattle.std.proofs.lemmas.Slice.Eq.{bytes_eq-Decides}
 use Rattle.ar_value.specs.Answer.{◌>>=◌, holds_or}
 use Rattle.ar_value.specs.declared.operator.Scalar.{Scalar}
-use Rattle.ar_op.specs.Code.{Code, Inside, IsCode, IsEntry, code_of_parts, most_entries, most_items}
+use Rattle.ar_value.specs.Limits.{most_code_entries, most_literal_items}
+use Rattle.ar_op.specs.Code.{Code, Inside, IsCode, IsEntry, code_of_parts}
 use Rattle.ar_op.specs.declared.op.Op.{Op}
 use Rattle.ar_op.specs.declared.op.Op.TheVariants.{Push, MakeList, Field, Jump, Enter, Step}
 use Rattle.ar_op.specs.declared.op.Source.{Source}
@@ -96,10 +97,10 @@ abbrev IsNumber : (ℕ → Type 0) → List ℕ → ℕ × List ℕ → Type 0
 IsNumber P bytes n = Takes number bytes n × P n.0
 
 abbrev IsCount : List ℕ → ℕ × List ℕ → Type 0
-IsCount = IsNumber (λ n. n ≤ most_entries)
+IsCount = IsNumber (λ n. n ≤ most_code_entries)
 
 abbrev IsItems : List ℕ → ℕ × List ℕ → Type 0
-IsItems = IsNumber (λ n. n ≤ most_items)
+IsItems = IsNumber (λ n. n ≤ most_literal_items)
 
 abbrev IsEntryOf : ℕ → List ℕ → ℕ × List ℕ → Type 0
 IsEntryOf count = IsNumber (λ n. n < count)
@@ -107,12 +108,12 @@ IsEntryOf count = IsNumber (λ n. n < count)
 count_read : (end : ℕ) (bytes : List ℕ) → Holds (IsCount bytes) (count_at end bytes)
 unfolding count_at
 count_read end bytes =
-    and_then (Takes number bytes) (IsCount bytes) (number_at end wide bytes) _ (number_read end wide bytes) (λ n is. unless (IsCount bytes) (ltb most_entries n.0) _ _ refl (λ few. (is, ltb-false most_entries n.0 few)))
+    and_then (Takes number bytes) (IsCount bytes) (number_at end wide bytes) _ (number_read end wide bytes) (λ n is. unless (IsCount bytes) (ltb most_code_entries n.0) _ _ refl (λ few. (is, ltb-false most_code_entries n.0 few)))
 
 items_read : (end : ℕ) (bytes : List ℕ) → Holds (IsItems bytes) (items_at end bytes)
 unfolding items_at
 items_read end bytes =
-    and_then (Takes number bytes) (IsItems bytes) (number_at end wide bytes) _ (number_read end wide bytes) (λ n is. unless (IsItems bytes) (ltb most_items n.0) _ _ refl (λ few. (is, ltb-false most_items n.0 few)))
+    and_then (Takes number bytes) (IsItems bytes) (number_at end wide bytes) _ (number_read end wide bytes) (λ n is. unless (IsItems bytes) (ltb most_literal_items n.0) _ _ refl (λ few. (is, ltb-false most_literal_items n.0 few)))
 
 entry_read : (end at count : ℕ) (bytes : List ℕ) → Holds (IsEntryOf count bytes) (entry_at end at count bytes)
 unfolding entry_at
@@ -165,7 +166,7 @@ many_read image P one many reads each (suc count) bytes =
 
 -- a table of texts: few, and short
 abbrev IsTable : List ℕ → List (List ℕ) × List ℕ → Type 0
-IsTable bytes texts = Takes strings bytes texts × (length texts.0 ≤ most_entries) × All IsEntry texts.0
+IsTable bytes texts = Takes strings bytes texts × (length texts.0 ≤ most_code_entries) × All IsEntry texts.0
 
 table_read : (end : ℕ) (bytes : List ℕ) → Holds (IsTable bytes) (texts_at end bytes)
 unfolding texts_at

@@ -14,7 +14,8 @@ use Rattle.ar_value.specs.declared.operator.Scalar.{Scalar}
 use Rattle.ar_value.specs.declared.operator.Scalar.TheVariants as scalars
 use Rattle.ar_value.specs.declared.operator.TextTest.TheVariants as tests
 use Rattle.ar_value.specs.declared.operator.UnaryOperator.TheVariants as unary
-use Rattle.ar_op.specs.Code.{Code, most_entries, most_items}
+use Rattle.ar_value.specs.Limits.{most_code_entries, most_literal_items}
+use Rattle.ar_op.specs.Code.{Code}
 use Rattle.ar_op.specs.declared.op.Jump.TheVariants as jumps
 use Rattle.ar_op.specs.declared.op.Op.{Op}
 use Rattle.ar_op.specs.declared.op.Op.TheVariants.{Push, MakeList, Field, Unary, Binary, Jump, Enter, Step, Return}
@@ -79,7 +80,7 @@ signed n = if n % 2 == 0 then pos (n / 2) else negsuc (n / 2)
 unfoldable pub count_at : ℕ → List ℕ → Reading ℕ
 count_at end bytes = do
   count ← number_at end wide bytes
-  if nat_lt most_entries count.0 then Err TooLarge else Ok count
+  if nat_lt most_code_entries count.0 then Err TooLarge else Ok count
 
 -- ---- texts
 
@@ -162,7 +163,7 @@ scalar_at end bytes = number_at end wide bytes >>= λ n. where_scalar (place end
 unfoldable pub items_at : ℕ → List ℕ → Reading ℕ
 items_at end bytes = do
   n ← number_at end wide bytes
-  if nat_lt most_items n.0 then Err (BadNumber (place end bytes)) else Ok n
+  if nat_lt most_literal_items n.0 then Err (BadNumber (place end bytes)) else Ok n
 
 -- a number of something that there are so many of, in an operation at a place
 unfoldable pub entry_at : ℕ → (at count : ℕ) → List ℕ → Reading ℕ

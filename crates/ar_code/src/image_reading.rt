@@ -13,11 +13,9 @@ use crate::reader::{byte_at, count_at, narrow_at, place, signed, wide_at};
 use crate::version::{Version, version_of};
 use ar_op::code::Code;
 use ar_op::op::{Op, Source};
+use ar_value::limits::MOST_LITERAL_ITEMS;
 use ar_value::operator::Scalar;
 use std::alloc::Global;
-
-/// How many items a list literal may have.
-const MOST_ITEMS: u64 = 16;
 
 fn bit_at(end: usize, bytes: &[u8]) -> Result<(bool, &[u8]), ImageError>
     requires { length bytes.now ≤ end }
@@ -65,7 +63,7 @@ fn items_at(end: usize, bytes: &[u8]) -> Result<(u8, &[u8]), ImageError>
     ensures shorter { IfOk result (λ read. length read.1.now ≤ length bytes.now) }
 {
     let (count, rest) = wide_at(end, bytes)?;
-    if count > MOST_ITEMS {
+    if count > MOST_LITERAL_ITEMS as u64 {
         return Err(ImageError::BadNumber(place(end, bytes)));
     }
     Ok((count as u8, rest))

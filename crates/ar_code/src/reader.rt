@@ -4,14 +4,12 @@
 ghost use Rattle.std.specs.Prelude.{◌≡◌, ◌≤◌, drop, false, length, option_map, suc, take, IfNone, IfOk, IfSome};
 ghost use Rattle.std.specs.Str.{bytes_eq};
 ghost use Rattle.ar_value.specs.Answer.{Gives};
-ghost use Rattle.ar_op.specs.Code.{most_entries};
+ghost use Rattle.ar_value.specs.Limits.{most_code_entries};
 ghost use Rattle.ar_code.specs.Image.{groups};
 ghost use Rattle.ar_code.specs.Decoding.{byte_at, count_at, cut_number, narrow, number_at, place, signed, spelled, sum_of, wide};
 
 use crate::error::ImageError;
-
-/// How many operations, texts, names and bytes of a text there may be.
-pub(crate) const MOST_ENTRIES: u64 = 4096;
+use ar_value::limits::MOST_CODE_ENTRIES;
 
 /// How many bytes a number of 64 bits has at most.
 const MOST_NUMBER_BYTES: usize = 10;
@@ -136,11 +134,11 @@ pub(crate) fn narrow_at(end: usize, bytes: &[u8]) -> Result<(u32, &[u8]), ImageE
 pub(crate) fn count_at(end: usize, bytes: &[u8]) -> Result<(usize, &[u8]), ImageError>
     requires { length bytes.now ≤ end }
     ensures exact { Gives (λ _. false) (λ read. (read.0, read.1.now)) result (count_at end bytes.now) }
-    ensures bound { IfOk result (λ read. read.0 ≤ most_entries) }
+    ensures bound { IfOk result (λ read. read.0 ≤ most_code_entries) }
     ensures shorter { IfOk result (λ read. length read.1.now ≤ length bytes.now) }
 {
     let (count, rest) = wide_at(end, bytes)?;
-    if count > MOST_ENTRIES {
+    if count > MOST_CODE_ENTRIES as u64 {
         return Err(ImageError::TooLarge);
     }
     Ok((count as usize, rest))

@@ -4,6 +4,7 @@ use Rattle.std.specs.Prelude.{IfOk}
 use Rattle.std.specs.Option.{option_map_or}
 use Rattle.std.specs.Str.{bytes_eq}
 use Rattle.std.specs.Str.Parse.{digits_value, without_leading_plus}
+use Rattle.ar_value.specs.Limits.{most_workers}
 use Rattle.clap.specs.Words.{Row, Text, first_of}
 use Rattle.clap.specs.ValueTests.{is_unsigned_in}
 use Rattle.clap.specs.declared.builder.value_parser.ValueParser.TheVariants as vp
@@ -15,14 +16,14 @@ use Rattle.ar_command_line.specs.declared.command_line.UsageError.{UsageError}
 use Rattle.ar_command_line.specs.declared.command_line.UsageError.TheVariants.{Words, Workers}
 
 abbrev Bounds : ℕ → Type 0
-Bounds n = (1 ≤ n) × (n ≤ 16)
+Bounds n = (1 ≤ n) × (n ≤ most_workers)
 
 number_bounds : (text : Text) (n : ℕ) → number_of_workers text ≡ Some n → Bounds n
-number_bounds text n = go (is_unsigned_in 1 16 text) refl
+number_bounds text n = go (is_unsigned_in 1 most_workers text) refl
   where
-    go : (b : Bool) → is_unsigned_in 1 16 text ≡ b → cond b (Some (digits_value 10 (without_leading_plus text))) None ≡ Some n → Bounds n
+    go : (b : Bool) → is_unsigned_in 1 most_workers text ≡ b → cond b (Some (digits_value 10 (without_leading_plus text))) None ≡ Some n → Bounds n
     go true inside is =
-        let bounds = accepts-Accepts false (vp.Unsigned 1 16) text inside in
+        let bounds = accepts-Accepts false (vp.Unsigned 1 most_workers) text inside in
         let least = bounds.2 in
         let most = bounds.3 in
         let same : digits_value 10 (without_leading_plus text) ≡ n = cc in

@@ -9,6 +9,7 @@ use Rattle.std.specs.Str.Parse.{ParsesBool, ParsesUnsigned, digits_value, true_t
 use Rattle.std.specs.declared.str.ParseBoolError.{ParseBoolError}
 use Rattle.std.specs.declared.num.ParseIntError.{ParseIntError}
 use Rattle.std.proofs.lemmas.Slice.Eq.{bytes_eq-Decides}
+use Rattle.ar_value.specs.Limits.{most_workers}
 use Rattle.clap.specs.Words.{Accepts, ReadsOne, Row, Text, first_of, first_value, one_text, rows_of, subcommand_name_of, subcommand_rows_of}
 use Rattle.clap.specs.Simple.{subcommand_rows}
 use Rattle.clap.specs.ValueTests.{is_unsigned_in}
@@ -22,26 +23,26 @@ use Rattle.ar_command_line.specs.CommandLine.{command_named, has_flag, named, nu
 
 -- ---- the number of workers
 
-pub number_read : (text : Text) (n : ℕ) → ParsesUnsigned {E = ParseIntError} 64 10 text (Ok n) → 1 ≤ n → n ≤ 16 → number_of_workers text ≡ Some n
+pub number_read : (text : Text) (n : ℕ) → ParsesUnsigned {E = ParseIntError} 64 10 text (Ok n) → 1 ≤ n → n ≤ most_workers → number_of_workers text ≡ Some n
 number_read text n parsed one most =
     let value = digits_value 10 (without_leading_plus text) in
     let same : n ≡ value = parsed.1 in
-    let is_in : is_unsigned_in 1 16 text ≡ true =
-    Accepts-accepts false (vp.Unsigned 1 16) text (parsed.0.0, parsed.0.1, subst (λ (k : ℕ). 1 ≤ k) same one, subst (λ (k : ℕ). k ≤ 16) same most) in
+    let is_in : is_unsigned_in 1 most_workers text ≡ true =
+    Accepts-accepts false (vp.Unsigned 1 most_workers) text (parsed.0.0, parsed.0.1, subst (λ (k : ℕ). 1 ≤ k) same one, subst (λ (k : ℕ). k ≤ 16) same most) in
     ap (λ b. cond b (Some value) None) is_in ∙ ap Some (sym same)
 
 -- a text whose number doesn't lie in the range
-named_none : (text : Text) → (Accepts false (vp.Unsigned 1 16) text → ⊥) → number_of_workers text ≡ None
-named_none text outside = go (is_unsigned_in 1 16 text) refl
+named_none : (text : Text) → (Accepts false (vp.Unsigned 1 most_workers) text → ⊥) → number_of_workers text ≡ None
+named_none text outside = go (is_unsigned_in 1 most_workers text) refl
   where
-    go : (b : Bool) → is_unsigned_in 1 16 text ≡ b → number_of_workers text ≡ None
-    go true is = absurd (outside (accepts-Accepts false (vp.Unsigned 1 16) text is))
+    go : (b : Bool) → is_unsigned_in 1 most_workers text ≡ b → number_of_workers text ≡ None
+    go true is = absurd (outside (accepts-Accepts false (vp.Unsigned 1 most_workers) text is))
     go false is = ap (λ b. cond b (Some (digits_value 10 (without_leading_plus text))) None) is
 
 pub too_few : (text : Text) (n : ℕ) → ParsesUnsigned {E = ParseIntError} 64 10 text (Ok n) → n < 1 → number_of_workers text ≡ None
 too_few text n parsed few = named_none text (λ inside. let least = inside.2 in let same = parsed.1 in omega (arith, least, same, few))
 
-pub too_many : (text : Text) (n : ℕ) → ParsesUnsigned {E = ParseIntError} 64 10 text (Ok n) → 16 < n → number_of_workers text ≡ None
+pub too_many : (text : Text) (n : ℕ) → ParsesUnsigned {E = ParseIntError} 64 10 text (Ok n) → most_workers < n → number_of_workers text ≡ None
 too_many text n parsed many = named_none text (λ inside. let most = inside.3 in let same = parsed.1 in omega (arith, most, same, many))
 
 pub no_number : (text : Text) (error : ParseIntError) → ParsesUnsigned 64 10 text (Err error) → number_of_workers text ≡ None

@@ -4,6 +4,7 @@ use Rattle.std.specs.declared.alloc.Global.{Global}
 use Rattle.std.specs.Option.{option_map_or}
 use Rattle.std.specs.Str.{bytes_eq}
 use Rattle.std.specs.Str.Parse.{digits_value, without_leading_plus}
+use Rattle.ar_value.specs.Limits.{most_workers}
 use Rattle.clap.specs.Words.{App, Kinds, Row, Rule, Text, first_of, new_app, new_rule, one_of, with_rule, with_subcommand}
 use Rattle.clap.specs.Simple.{new_shape}
 use Rattle.clap.specs.ValueTests.{is_unsigned_in}
@@ -46,9 +47,6 @@ unfoldable pub application : App
 application = with_subcommand without_run run_app.top
 
 -- ---- what is asked for
-
-abbrev pub most_workers : ℕ
-most_workers = 16
 
 abbrev pub default_workers : ℕ
 default_workers = 4

@@ -1,17 +1,16 @@
 //! The command line, read with `clap`.
 
 ghost use Rattle.std.specs.Prelude.{◌≡◌, ◌≢◌, ◌≤◌, ℕ, [], codes, false, is_some, Err, IfOk, IsErr, Ok};
+ghost use Rattle.ar_value.specs.Limits.{most_workers};
 ghost use Rattle.clap.specs.Words.{app_of, fault_of, found_of, kind_of, new_app, rows_of, rule_of, subcommand_of, subcommand_rows_of, with_rule};
-ghost use Rattle.ar_command_line.specs.CommandLine.{AsksForText, application, command_named, flag_named, has_flag, is_request, most_workers, named, number_of_workers, program, run_app, run_command, texts_of, without_run, workers_of, workers_option};
+ghost use Rattle.ar_command_line.specs.CommandLine.{AsksForText, application, command_named, flag_named, has_flag, is_request, named, number_of_workers, program, run_app, run_command, texts_of, without_run, workers_of, workers_option};
 
 use crate::help::{CHECK_HELP, EVAL_HELP, HELP, LIST_HELP, RUN_HELP};
+use ar_value::limits::MOST_WORKERS;
 use clap::error::ErrorKind;
 use clap::{Arg, ArgAction, ArgMatches};
 use std::alloc::{AllocError, Global};
 use thiserror::Error;
-
-/// The greatest number of workers that may be asked for.
-const MOST_WORKERS: usize = 16;
 
 /// How many workers judge where the words name no number.
 pub const DEFAULT_WORKERS: usize = 4;

@@ -9,6 +9,7 @@ use Rattle.ar_value.specs.declared.operator.Predicate.{Predicate}
 use Rattle.ar_value.specs.declared.operator.Predicate.TheVariants as predicates
 use Rattle.ar_value.specs.declared.operator.Scalar.{Scalar}
 use Rattle.ar_value.specs.declared.operator.Scalar.TheVariants as scalars
+use Rattle.ar_value.specs.Limits.{most_loops}
 use Rattle.ar_tree.specs.Expression.{Expression}
 use Rattle.ar_tree.specs.Typed.{Typed, Typeds, how_many}
 use Rattle.ar_tree.specs.Typed as typed
@@ -24,7 +25,6 @@ use Rattle.ar_op.specs.declared.op.Source.TheVariants as sources
 use Rattle.ar_safety.specs.Arrivals.{Around, answer_kind, item_of, lacks, operands}
 use Rattle.ar_safety.specs.Effects.{decimal_kind, decimal_shape, effect, is_family, is_scalar, list_made, of_one_family, truth}
 use Rattle.ar_safety.specs.Effects as effects
-use Rattle.ar_safety.specs.Places.{most_loops}
 use Rattle.ar_safety.specs.Arrivals.{Sent, all_sent}
 use Rattle.ar_safety.specs.declared.error.Cause.{Cause}
 use Rattle.ar_safety.specs.declared.error.Cause.TheVariants.{Fault}

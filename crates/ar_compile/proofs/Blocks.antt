@@ -6,11 +6,12 @@ use Rattle.std.proofs.lemmas.Bool.{le-leb}
 use Rattle.std.proofs.lemmas.Bool.Decides.{leb_tells, nat_tests}
 use Rattle.ar_value.specs.declared.operator.Predicate.{Predicate}
 use Rattle.ar_value.proofs.Predicates.{itself as same_predicate}
+use Rattle.ar_value.specs.Limits.{most_loops}
 use Rattle.ar_op.specs.Machine.{nth}
 use Rattle.ar_op.specs.declared.op.Op.{Op}
 use Rattle.ar_op.specs.declared.op.Jump.TheVariants as jumps
 use Rattle.ar_op.specs.declared.op.Op.TheVariants.{Jump, Enter, Step, Return}
-use Rattle.ar_safety.specs.Places.{forward, has_ops, held, in_innermost, most_loops, names_well, nests_well, places_pass, same_loops, stays}
+use Rattle.ar_safety.specs.Places.{forward, has_ops, held, in_innermost, names_well, nests_well, places_pass, same_loops, stays}
 use Rattle.ar_safety.proofs.Nesting.{IsNoLoop, all_pass_each, begins, behind_step, reaches_less, stands_below, stays_around}
 
 -- an operation that goes on to the next place alone

@@ -17,9 +17,10 @@ use Rattle.ar_value.specs.declared.operator.Order.TheVariants.{Less, LessOrEqual
 use Rattle.ar_value.specs.declared.operator.Predicate.{Predicate}
 use Rattle.ar_value.specs.declared.operator.Scalar.{Scalar}
 use Rattle.ar_value.specs.declared.operator.Scalar.TheVariants as scalars
+use Rattle.ar_value.specs.Limits.{most_literal_items}
 use Rattle.ar_tree.specs.Expression.{Expression, Expressions, count, place_of}
 use Rattle.ar_tree.specs.Expression as trees
-use Rattle.ar_tree.specs.Limits.{AllInLimits, AllWrittenInLimits, InLimits, IsShort, WrittenInLimits, most_items}
+use Rattle.ar_tree.specs.Limits.{AllInLimits, AllWrittenInLimits, InLimits, IsShort, WrittenInLimits}
 use Rattle.ar_tree.specs.declared.tree.Binary.{Binary}
 use Rattle.ar_tree.specs.declared.tree.Binary.TheVariants as binaries
 use Rattle.ar_tree.specs.declared.tree.Comparison.{Comparison}
@@ -216,11 +217,11 @@ as_many : (found : Scalar) (items : List Item) → how_many (turned_items found 
 as_many found [] = refl
 as_many found (item ∷ items) = ap suc (as_many found items)
 
-in_common_within : (at : ℕ) (items : List Item) (found : Option Scalar) → length items ≤ most_items → AllWithin items → IfOk (list_in_common at items found) Within
+in_common_within : (at : ℕ) (items : List Item) (found : Option Scalar) → length items ≤ most_literal_items → AllWithin items → IfOk (list_in_common at items found) Within
 in_common_within at items (Some found) few h = (all_turned found items h, rw (as_many found items) few)
 in_common_within at items None few h = tt
 
-list_within : (at : ℕ) (items : List Item) (place : Option ℕ) → length items ≤ most_items → AllWithin items → IfOk (list_of at items place) Within
+list_within : (at : ℕ) (items : List Item) (place : Option ℕ) → length items ≤ most_literal_items → AllWithin items → IfOk (list_of at items place) Within
 list_within at items (Some place) few h = tt
 list_within at items None few h = in_common_within at items (common_of items) few h
 
@@ -266,7 +267,7 @@ module _ (wanted : Shape) where
         (λ b k. answers Within Within (typed_of wanted inner around unmet) (choice_of at a b) (tree_within inner around unmet few.2) (λ c l. choice_within at a b c h k l)))
     tree_within inner around (trees.ListAt at items) few =
         answers (Found items) Within (items_typed wanted inner around items) (λ found. list_of at found (no_scalar found)) (items_within inner around items few.0)
-        (λ found h. list_within at found (no_scalar found) (subst (λ many. many ≤ most_items) (sym h.1) few.1) h.0)
+        (λ found h. list_within at found (no_scalar found) (subst (λ many. many ≤ most_literal_items) (sym h.1) few.1) h.0)
     tree_within inner around (trees.LenAt at list) few = answers Within Within (typed_of wanted inner around list) (len_of at) (tree_within inner around list few) (len_within at)
     tree_within inner around (trees.IsNilAt at operand) few = answers Within Within (typed_of wanted inner around operand) (λ operand. given (typed.unary unary.IsNil operand.tree) truth_kind) (tree_within inner around operand few) (λ operand h. h)
     tree_within inner around (trees.DefaultAt at operand otherwise) few =

@@ -10,14 +10,14 @@ use Rattle.ar_value.specs.Kind.{Kind, merge, shaped}
 use Rattle.ar_value.specs.Shape.{Shape, list}
 use Rattle.ar_value.specs.declared.operator.Predicate.{Predicate}
 use Rattle.ar_value.proofs.Merges.{merge_with_itself}
+use Rattle.ar_value.specs.Limits.{most_loops, most_operands}
 use Rattle.ar_op.specs.Code.{Code}
 use Rattle.ar_op.specs.Machine.{nth}
 use Rattle.ar_op.specs.declared.op.Op.{Op}
 use Rattle.ar_op.specs.declared.op.Jump.TheVariants as jumps
 use Rattle.ar_op.specs.declared.op.Op.TheVariants.{Jump, Enter, Step, Return}
-use Rattle.ar_safety.specs.Arrivals.{Around, Operands, Sent, all_sent, answer_kind, arrived, at_place, deepest, item_of, joined, lacks, merged, most_operands, operands, passed_on, sent, sent_on, sent_to, to_next}
+use Rattle.ar_safety.specs.Arrivals.{Around, Operands, Sent, all_sent, answer_kind, arrived, at_place, deepest, item_of, joined, lacks, merged, operands, passed_on, sent, sent_on, sent_to, to_next}
 use Rattle.ar_safety.specs.Effects.{effect, truth}
-use Rattle.ar_safety.specs.Places.{most_loops}
 use Rattle.ar_safety.specs.declared.error.Cause.{Cause}
 use Rattle.ar_safety.specs.declared.error.Cause.TheVariants.{Fault}
 use Rattle.ar_safety.specs.declared.error.Reason.TheVariants.{StackTooDeep}

@@ -20,6 +20,7 @@ use Rattle.ar_value.specs.declared.operator.Order.TheVariants.{Less, LessOrEqual
 use Rattle.ar_value.specs.declared.operator.Predicate.{Predicate}
 use Rattle.ar_value.specs.declared.operator.Scalar.{Scalar}
 use Rattle.ar_value.specs.declared.operator.Scalar.TheVariants as scalars
+use Rattle.ar_value.specs.Limits.{most_loops}
 use Rattle.ar_tree.specs.Expression.{Expression, Expressions, place_of}
 use Rattle.ar_tree.specs.Expression as trees
 use Rattle.ar_tree.specs.declared.tree.Binary.{Binary}
@@ -30,7 +31,6 @@ use Rattle.ar_tree.specs.declared.tree.Unary.{Unary}
 use Rattle.ar_tree.specs.declared.tree.Unary.TheVariants as unaries
 use Rattle.ar_tree.specs.Typed.{Typed, Typeds, typeds, how_many}
 use Rattle.ar_tree.specs.Typed as typed
-use Rattle.ar_check.specs.Basics.{most_predicates}
 use Rattle.ar_check.specs.Check.{Answer, Item, arithmetic_kind, arithmetic_on, binary_of, body_of, calculation_of, checked, choice_in, choice_of, common_of, comparison_of, condition_of, default_kind, default_of, entered, equal_of, equality_of, field_of, field_shape, found_field, given, in_common, in_of, index_of, innermost as innermost_of, is_nil_literal, is_whole_number, item_of, item_shape, items_typed, len_of, list_in_common, list_of, member_of, negated, negation_of, no_scalar, number_kind, ordered_of, ordering_of, over_items, plain_kind, plus_of, predicate_kind, predicate_of, same_family, scalar_shape, arithmetic_in, compared_of, where_there, truth_kind, turned_item, typed_of, unary_of, where_wanted, widened}
 use Rattle.ar_check.specs.Operand.{Operand, among, family_in, is_text, is_text_scalar, is_truth, is_bool, is_whole, made_plain, numbers, numbers_in, plain_of, plain_tree, scalar, scalar_of, turned}
 use Rattle.ar_check.specs.declared.error.TypeError.TheVariants.{NotTruth, PredicatesTooDeep}
@@ -414,15 +414,15 @@ module _ (wanted : Shape) (inner : Option Shape) (around : ℕ) where
   record Body (list : Kind) (body : Bool × Typed) : Type 0 where
     shape : Shape
     of : ListOf list shape
-    within : around < most_predicates
+    within : around < most_loops
     has : body.0 ≡ true → Kinded wanted (Some shape) (suc around) body.1 truth_kind
 
   record Inside (shape inside : Shape) : Type 0 where
     same : inside ≡ shape
-    within : around < most_predicates
+    within : around < most_loops
 
-  entered_by : (at : ℕ) (shape : Shape) (less : Bool) → nat_lt around most_predicates ≡ less → IfOk (if less then Ok shape else Err (PredicatesTooDeep at)) (Inside shape)
-  entered_by at shape true is = record { same = refl; within = ltb-true around most_predicates is }
+  entered_by : (at : ℕ) (shape : Shape) (less : Bool) → nat_lt around most_loops ≡ less → IfOk (if less then Ok shape else Err (PredicatesTooDeep at)) (Inside shape)
+  entered_by at shape true is = record { same = refl; within = ltb-true around most_loops is }
   entered_by at shape false is = tt
 
   predicate_kinded : (at : ℕ) (predicate : Predicate) (list : Operand) (body : Bool × Typed) → Is list → Body list.kind body → IfOk (predicate_of at predicate list body.0 body.1) Is
@@ -439,7 +439,7 @@ module _ (wanted : Shape) where
   unfolding over_items
   over_kinded inner around at kind found has =
       answers (ListOf kind) (Body wanted inner around kind) (item_shape at (plain_of kind)) (λ shape. entered at around shape >>= λ inside. found inside >>= body_of) (is_list at kind)
-      (λ shape of. answers (Inside wanted inner around shape) (Body wanted inner around kind) (entered at around shape) (λ inside. found inside >>= body_of) (entered_by wanted inner around at shape (nat_lt around most_predicates) refl)
+      (λ shape of. answers (Inside wanted inner around shape) (Body wanted inner around kind) (entered at around shape) (λ inside. found inside >>= body_of) (entered_by wanted inner around at shape (nat_lt around most_loops) refl)
       (λ inside enters. answers (Typing (Some inside) (suc around)) (Body wanted inner around kind) (found inside) body_of (has inside)
       (λ body h. record { shape = shape; of = of; within = enters.within; has = λ is. subst (λ (s : Shape). Kinded wanted (Some s) (suc around) (made_plain body) truth_kind) enters.same (is_true wanted (Some inside) (suc around) body h is) })))
 

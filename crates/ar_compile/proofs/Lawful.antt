@@ -4,11 +4,12 @@ use Rattle.std.specs.List.{AllByRecursion}
 use Rattle.std.specs.Str.{bytes_eq}
 use Rattle.std.proofs.lemmas.List.{length-append}
 use Rattle.std.proofs.lemmas.List.Elements.{All-from_recursion}
+use Rattle.ar_value.specs.Limits.{most_code_entries}
 use Rattle.ar_tree.specs.Typed.{Typed, Typeds, how_many}
 use Rattle.ar_tree.specs.Typed as typed
 use Rattle.ar_tree.specs.declared.tree.Literal.{Literal}
 use Rattle.ar_tree.specs.declared.tree.Literal.TheVariants as literals
-use Rattle.ar_op.specs.Code.{Inside, IsCode, IsEntry, most_entries}
+use Rattle.ar_op.specs.Code.{Inside, IsCode, IsEntry}
 use Rattle.ar_op.specs.Machine.{nth}
 use Rattle.ar_op.specs.declared.op.Op.{Op}
 use Rattle.ar_op.specs.declared.op.Jump.TheVariants as jumps
@@ -209,7 +210,7 @@ module _ (final : Tables) where
 
 -- ---- conditions
 
-pub compiled_is_code : (condition : Typed) → InLimits condition → length_of condition ≤ most_entries → IsCode (compiled condition)
+pub compiled_is_code : (condition : Typed) → InLimits condition → length_of condition ≤ most_code_entries → IsCode (compiled condition)
 unfolding compiled
 compiled_is_code condition h few =
     let tables = tables_with condition no_tables in

@@ -4,6 +4,7 @@ ghost use Rattle.std.specs.Prelude.{◌≡◌, ◌+◌, ◌<◌, ◌≤◌, Err,
 ghost use Rattle.ar_value.specs.Fits.{fits};
 ghost use Rattle.ar_value.specs.Shape.{Shape};
 ghost use Rattle.ar_value.specs.Value.{Value};
+ghost use Rattle.ar_value.specs.Limits.{most_code_entries, most_literal_items};
 ghost use Rattle.ar_tree.specs.Expression.{Expression};
 ghost use Rattle.ar_tree.specs.Limits.{AllInLimits, InLimits};
 ghost use Rattle.ar_tree.specs.Meaning.{answer_of, mean};
@@ -11,7 +12,6 @@ ghost use Rattle.ar_tree.specs.Typed.{how_many};
 ghost use Rattle.ar_tree.specs.Typed as typed;
 ghost use Rattle.ar_tree.specs.Views.{typed_view};
 ghost use Rattle.ar_check.specs.Check.{checked};
-ghost use Rattle.ar_op.specs.Code.{most_entries};
 ghost use Rattle.ar_op.specs.declared.op.Op.TheVariants.{MakeList, Jump as JumpTo};
 ghost use Rattle.ar_compile.specs.Acceptance.{OnlyTooLarge};
 ghost use Rattle.ar_compile.specs.Compiled.{compiled};
@@ -21,18 +21,19 @@ ghost use Rattle.ar_compile.specs.declared.error.CompileError.TheVariants.{TooMa
 ghost use Rattle.ar_compile.specs.Private.Drafts.{drafted, drafted_items, jumps_on, place_of, with_field, with_literal, with_op};
 ghost use Rattle.ar_compile.specs.Private.Trees.{items_view};
 
-use crate::draft::{Draft, MOST_OPS};
+use crate::draft::Draft;
 use crate::error::CompileError;
 use crate::length::room_after;
 use ar_op::op::{Jump, Source};
 use ar_op::{Code, Op};
 use ar_tree::Typed;
 use ar_tree::tree::Literal;
+use ar_value::limits::MOST_CODE_ENTRIES;
 use ar_value::operator::{Predicate, Scalar};
 use std::alloc::{AllocError, Global};
 
 fn put_literal(alloc: Global, draft: &mut Draft, literal: &Literal) -> Result<(), AllocError>
-    requires { place_of draft.old ≤ 4096 }
+    requires { place_of draft.old ≤ most_code_entries }
     ensures { OnOk result (draft.new ≡ with_literal literal.now draft.old) }
 {
     match literal {
@@ -47,7 +48,7 @@ fn put_literal(alloc: Global, draft: &mut Draft, literal: &Literal) -> Result<()
 /// The code of a tree, after what is there.
 #[cycle(compiler)]
 pub(crate) fn put(alloc: Global, draft: &mut Draft, tree: &Typed) -> Result<(), AllocError>
-    requires { (InLimits (typed_view tree.now)) × (place_of draft.old + operations (typed_view tree.now) ≤ 4096) }
+    requires { (InLimits (typed_view tree.now)) × (place_of draft.old + operations (typed_view tree.now) ≤ most_code_entries) }
     ensures { OnOk result (draft.new ≡ drafted (typed_view tree.now) draft.old) }
 {
     match tree {
@@ -79,7 +80,7 @@ pub(crate) fn put(alloc: Global, draft: &mut Draft, tree: &Typed) -> Result<(), 
 #[cycle(compiler)]
 #[tactic(auto, using(crate::proofs::Drafts::drafted_length))]
 fn put_field(alloc: Global, draft: &mut Draft, owner: &Typed, name: &str) -> Result<(), AllocError>
-    requires { (InLimits (typed_view owner.now)) × (place_of draft.old + operations (typed_view owner.now) ≤ 4096) }
+    requires { (InLimits (typed_view owner.now)) × (place_of draft.old + operations (typed_view owner.now) ≤ most_code_entries) }
     ensures { OnOk result (draft.new ≡ with_field name.now (drafted (typed_view owner.now) draft.old)) }
 {
     put(alloc, draft, owner)?;
@@ -89,7 +90,7 @@ fn put_field(alloc: Global, draft: &mut Draft, owner: &Typed, name: &str) -> Res
 /// An operand, and the operation on it.
 #[cycle(compiler)]
 fn put_one(alloc: Global, draft: &mut Draft, operand: &Typed, op: Op) -> Result<(), AllocError>
-    requires { (InLimits (typed_view operand.now)) × (place_of draft.old + operations (typed_view operand.now) ≤ 4096) }
+    requires { (InLimits (typed_view operand.now)) × (place_of draft.old + operations (typed_view operand.now) ≤ most_code_entries) }
     ensures { OnOk result (draft.new ≡ with_op op (drafted (typed_view operand.now) draft.old)) }
 {
     put(alloc, draft, operand)?;
@@ -107,7 +108,7 @@ fn put_two(
     op: Op,
 ) -> Result<(), AllocError>
     requires { (InLimits (typed_view left.now)) × (InLimits (typed_view right.now))
-        × (place_of draft.old + operations (typed_view left.now) + operations (typed_view right.now) ≤ 4096) }
+        × (place_of draft.old + operations (typed_view left.now) + operations (typed_view right.now) ≤ most_code_entries) }
     ensures { OnOk result
         (draft.new ≡ with_op op (drafted (typed_view right.now) (drafted (typed_view left.now) draft.old))) }
 {
@@ -127,7 +128,7 @@ fn put_sides(
     right: &Typed,
 ) -> Result<(), AllocError>
     requires { (InLimits (typed_view left.now)) × (InLimits (typed_view right.now))
-        × (place_of draft.old + operations (typed_view left.now) + 1 + operations (typed_view right.now) ≤ 4096) }
+        × (place_of draft.old + operations (typed_view left.now) + 1 + operations (typed_view right.now) ≤ most_code_entries) }
     ensures { OnOk result (draft.new ≡ jumps_on jump (place_of (drafted (typed_view left.now) draft.old))
         (drafted (typed_view right.now) (with_op (JumpTo jump 0) (drafted (typed_view left.now) draft.old)))) }
 {
@@ -153,7 +154,7 @@ fn put_choice(
     requires { (InLimits (typed_view condition.now)) × (InLimits (typed_view met.now))
         × (InLimits (typed_view unmet.now))
         × (place_of draft.old + operations
-        (typed.choice (typed_view condition.now) (typed_view met.now) (typed_view unmet.now)) ≤ 4096) }
+        (typed.choice (typed_view condition.now) (typed_view met.now) (typed_view unmet.now)) ≤ most_code_entries) }
     ensures { OnOk result (draft.new
         ≡ drafted (typed.choice (typed_view condition.now) (typed_view met.now) (typed_view unmet.now)) draft.old) }
 {
@@ -180,8 +181,8 @@ fn put_list(
     scalar: Scalar,
     items: &[Typed],
 ) -> Result<(), AllocError>
-    requires { (AllInLimits (items_view items.now)) × (how_many (items_view items.now) ≤ 16)
-        × (place_of draft.old + operations_of_items (items_view items.now) ≤ 4096) }
+    requires { (AllInLimits (items_view items.now)) × (how_many (items_view items.now) ≤ most_literal_items)
+        × (place_of draft.old + operations_of_items (items_view items.now) ≤ most_code_entries) }
     ensures { OnOk result (draft.new
         ≡ with_op (MakeList scalar (how_many (items_view items.now)))
         (drafted_items (items_view items.now) draft.old)) }
@@ -195,7 +196,7 @@ fn put_list(
 #[tactic(auto, using(crate::proofs::Sequences::next_operations, crate::proofs::Sequences::no_operations, crate::proofs::Sequences::next_limits, crate::proofs::Sequences::next_drafted, crate::proofs::Sequences::none_drafted, crate::proofs::Drafts::drafted_length))]
 fn put_items(alloc: Global, draft: &mut Draft, items: &[Typed]) -> Result<(), AllocError>
     requires { (AllInLimits (items_view items.now))
-        × (place_of draft.old + operations_of_items (items_view items.now) ≤ 4096) }
+        × (place_of draft.old + operations_of_items (items_view items.now) ≤ most_code_entries) }
     ensures { OnOk result (draft.new ≡ drafted_items (items_view items.now) draft.old) }
 {
     for item in items {
@@ -215,7 +216,7 @@ fn put_loop(
     body: &Typed,
 ) -> Result<(), AllocError>
     requires { (InLimits (typed_view list.now)) × (InLimits (typed_view body.now))
-        × (place_of draft.old + operations (typed_view list.now) + 1 + operations (typed_view body.now) + 1 ≤ 4096) }
+        × (place_of draft.old + operations (typed_view list.now) + 1 + operations (typed_view body.now) + 1 ≤ most_code_entries) }
     ensures { OnOk result
         (draft.new ≡ drafted (typed.predicate predicate (typed_view list.now) (typed_view body.now)) draft.old) }
 {
@@ -254,10 +255,10 @@ pub fn compile(alloc: Global, condition: &Typed) -> Result<Code, CompileError>
         → checked shape tree ≡ Ok (typed_view condition.now) → OnlyTooLarge code shape) }
 
     // Too many operations, or out of memory, which is answered nowhere else.
-    ensures refused { result ≡ Err TooManyOps → most_entries < length_of (typed_view condition.now) }
-    ensures too_many { most_entries < length_of (typed_view condition.now) → result ≡ Err TooManyOps }
+    ensures refused { result ≡ Err TooManyOps → most_code_entries < length_of (typed_view condition.now) }
+    ensures too_many { most_code_entries < length_of (typed_view condition.now) → result ≡ Err TooManyOps }
 {
-    if room_after(MOST_OPS - 1, condition).is_none() {
+    if room_after(MOST_CODE_ENTRIES - 1, condition).is_none() {
         return Err(CompileError::TooManyOps);
     }
     Ok(code_of(alloc, condition)?)
@@ -265,7 +266,7 @@ pub fn compile(alloc: Global, condition: &Typed) -> Result<Code, CompileError>
 
 #[tactic(auto, using(crate::proofs::Drafts::whole_is, crate::proofs::Lawful::compiled_is_code))]
 fn code_of(alloc: Global, condition: &Typed) -> Result<Code, AllocError>
-    requires { (InLimits (typed_view condition.now)) × (length_of (typed_view condition.now) ≤ 4096) }
+    requires { (InLimits (typed_view condition.now)) × (length_of (typed_view condition.now) ≤ most_code_entries) }
     ensures { IfOk result (λ code. code ≡ compiled (typed_view condition.now)) }
 {
     let mut draft = Draft::new(alloc);

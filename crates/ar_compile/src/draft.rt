@@ -1,6 +1,7 @@
 //! Code that grows.
 
 ghost use Rattle.std.specs.Prelude.{◌≡◌, ◌<◌, ◌≤◌, ◌^◌, [], OnOk, length, map, string_bytes};
+ghost use Rattle.ar_value.specs.Limits.{most_code_entries};
 ghost use Rattle.ar_op.specs.Code.{IsCode, code_of_parts};
 ghost use Rattle.ar_compile.specs.Private.Drafts.{no_code, place_of, with_field, with_op, with_push_text, with_set};
 
@@ -9,9 +10,6 @@ use ar_op::op::Source;
 use ar_op::{Code, Op};
 use std::alloc::{AllocError, Global};
 use std::marker::Model;
-
-/// The most operations that code has.
-pub(crate) const MOST_OPS: usize = 4096;
 
 /// Operations, texts and names so far. There is an operation for each text and each name.
 #[derive(Drop)]
@@ -60,7 +58,7 @@ impl Draft {
 
     /// Adds the operation that pushes a text, with the text's number.
     pub(crate) fn push_text(&mut self, alloc: Global, text: &str) -> Result<(), AllocError>
-        requires { place_of self.old ≤ 4096 }
+        requires { place_of self.old ≤ most_code_entries }
         ensures { OnOk result (self.new ≡ with_push_text text.now self.old) }
     {
         let number = number_of(&self.texts, text);
@@ -70,7 +68,7 @@ impl Draft {
 
     /// Adds the operation that takes a record's field, with its name's number.
     pub(crate) fn push_field(&mut self, alloc: Global, name: &str) -> Result<(), AllocError>
-        requires { place_of self.old ≤ 4096 }
+        requires { place_of self.old ≤ most_code_entries }
         ensures { OnOk result (self.new ≡ with_field name.now self.old) }
     {
         let number = number_of(&self.names, name);

@@ -2,25 +2,21 @@
 
 ghost use Rattle.std.specs.Prelude.{◌≤◌};
 ghost use Rattle.std.specs.Bool.{Decides};
-ghost use Rattle.ar_tree.specs.Limits.{AllInLimits, InLimits, IsShortLiteral, most_items};
+ghost use Rattle.ar_value.specs.Limits.{most_literal_items};
+ghost use Rattle.ar_tree.specs.Limits.{AllInLimits, InLimits, IsShortLiteral};
 ghost use Rattle.ar_tree.specs.Typed.{how_many};
 ghost use Rattle.ar_tree.specs.Views.{typed_view};
 ghost use Rattle.ar_compile.specs.Private.Trees.{items_view};
 
 use ar_tree::Typed;
 use ar_tree::tree::Literal;
-
-/// The most items of a list literal.
-const MOST_ITEMS: usize = 16;
-
-/// The most bytes of a text or name.
-const MOST_BYTES: usize = 4096;
+use ar_value::limits::{MOST_LITERAL_ITEMS, MOST_TEXT_BYTES};
 
 fn is_short(literal: &Literal) -> bool
     ensures { Decides result (IsShortLiteral literal.now) }
 {
     match literal {
-        Literal::Text(text) => text.as_str().len() <= MOST_BYTES,
+        Literal::Text(text) => text.as_str().len() <= MOST_TEXT_BYTES,
         Literal::Nil | Literal::Bool(_) | Literal::Whole(_) | Literal::Decimal(_) => true,
     }
 }
@@ -33,7 +29,7 @@ pub fn in_limits(tree: &Typed) -> bool
     match tree {
         Typed::Result | Typed::Item => true,
         Typed::Literal(literal) => is_short(literal),
-        Typed::Field { owner, name } => in_limits(owner) && name.as_str().len() <= MOST_BYTES,
+        Typed::Field { owner, name } => in_limits(owner) && name.as_str().len() <= MOST_TEXT_BYTES,
         Typed::Unary { operand, .. } => in_limits(operand),
         Typed::Binary { left, right, .. } => in_limits(left) && in_limits(right),
         Typed::And { left, right } | Typed::Or { left, right } => {
@@ -49,9 +45,9 @@ pub fn in_limits(tree: &Typed) -> bool
 
 #[tactic(auto, using(crate::proofs::Sequences::as_many))]
 fn is_few(items: &[Typed]) -> bool
-    ensures { Decides result (how_many (items_view items.now) ≤ most_items) }
+    ensures { Decides result (how_many (items_view items.now) ≤ most_literal_items) }
 {
-    items.len() <= MOST_ITEMS
+    items.len() <= MOST_LITERAL_ITEMS
 }
 
 #[cycle(limits)]

@@ -5,6 +5,7 @@ use Rattle.std.specs.List.{AllByRecursion}
 use Rattle.serde_json.specs.Data.{Data}
 use Rattle.ar_value.specs.Answer.{Gives, Unless}
 use Rattle.ar_value.proofs.Steps.{leads}
+use Rattle.ar_value.specs.Limits.{most_runs}
 use Rattle.ar_document.specs.Entries.{Entry, entries_in}
 use Rattle.ar_document.specs.Private.Parts.{IfRefused}
 use Rattle.ar_bundle.specs.Bundle.{IsBundle, IsEntry, bundle_of, most_events}
@@ -32,7 +33,7 @@ parts_are_bundle opened parts entries is are few all =
     let many = as_many_parts opened opened.runs.items parts are in
     record {
       few_metrics = is.few_metrics;
-      few_runs = subst (λ n. n ≤ 64) (sym many) is.few_runs;
+      few_runs = subst (λ n. n ≤ most_runs) (sym many) is.few_runs;
       few_events = few;
       runs = are_runs opened opened.runs.items parts are;
       entries = subst (λ n. AllByRecursion (IsEntry opened.metrics.items n) entries) (sym many) all;

@@ -3,6 +3,8 @@ use Rattle.std.proofs.Common.{◌≡◌, ◌≤◌, ◌<◌, true, false, List, 
 use Rattle.std.specs.Prelude.{nat_lt}
 use Rattle.std.proofs.lemmas.List.{length-map}
 use Rattle.std.proofs.lemmas.Bool.Decides.{nat_tests}
+use Rattle.ar_value.specs.Limits.{most_runs}
+use Rattle.ar_bundle.specs.Bundle.{most_events}
 use Rattle.serde_json.specs.View.{view}
 use Rattle.serde_json.specs.declared.value.Value.{Value}
 use Rattle.ar_document.specs.Entries.{few_entries}
@@ -13,24 +15,24 @@ pub no_runs : (list : List Value) → length list ≡ 0 → few_runs (map (λ js
 no_runs [] none = refl
 no_runs (json ∷ list) none = absurd (omega (arith, none))
 
-pub many_runs : (list : List Value) → 64 < length list → few_runs (map (λ json. view json) list) ≡ Err Runs
+pub many_runs : (list : List Value) → most_runs < length list → few_runs (map (λ json. view json) list) ≡ Err Runs
 many_runs [] many = absurd (omega arith)
 many_runs (json ∷ list) many =
-    let longer : nat_lt 64 (length (map (λ json. view json) (json ∷ list))) ≡ true = rw (length-map (json ∷ list) (λ json. view json)) (grind (arith, nat_tests)) in
+    let longer : nat_lt most_runs (length (map (λ json. view json) (json ∷ list))) ≡ true = rw (length-map (json ∷ list) (λ json. view json)) (grind (arith, nat_tests)) in
     rw longer refl
 
-pub some_runs : (list : List Value) → 0 < length list → length list ≤ 64 → few_runs (map (λ json. view json) list) ≡ Ok (map (λ json. view json) list)
+pub some_runs : (list : List Value) → 0 < length list → length list ≤ most_runs → few_runs (map (λ json. view json) list) ≡ Ok (map (λ json. view json) list)
 some_runs [] some few = absurd (omega arith)
 some_runs (json ∷ list) some few =
-    let fewer : nat_lt 64 (length (map (λ json. view json) (json ∷ list))) ≡ false = rw (length-map (json ∷ list) (λ json. view json)) (grind (arith, nat_tests)) in
+    let fewer : nat_lt most_runs (length (map (λ json. view json) (json ∷ list))) ≡ false = rw (length-map (json ∷ list) (λ json. view json)) (grind (arith, nat_tests)) in
     rw fewer refl
 
-pub many_entries : (list : List Value) → 100000 < length list → few_entries (map (λ json. view json) list) ≡ Err TooManyMeasurements
+pub many_entries : (list : List Value) → most_events < length list → few_entries (map (λ json. view json) list) ≡ Err TooManyMeasurements
 many_entries list many =
-    let longer : nat_lt 100000 (length (map (λ json. view json) list)) ≡ true = rw (length-map list (λ json. view json)) (grind (arith, nat_tests)) in
+    let longer : nat_lt most_events (length (map (λ json. view json) list)) ≡ true = rw (length-map list (λ json. view json)) (grind (arith, nat_tests)) in
     rw longer refl
 
-pub few_entries_are : (list : List Value) → length list ≤ 100000 → few_entries (map (λ json. view json) list) ≡ Ok (map (λ json. view json) list)
+pub few_entries_are : (list : List Value) → length list ≤ most_events → few_entries (map (λ json. view json) list) ≡ Ok (map (λ json. view json) list)
 few_entries_are list few =
-    let fewer : nat_lt 100000 (length (map (λ json. view json) list)) ≡ false = rw (length-map list (λ json. view json)) (grind (arith, nat_tests)) in
+    let fewer : nat_lt most_events (length (map (λ json. view json) list)) ≡ false = rw (length-map list (λ json. view json)) (grind (arith, nat_tests)) in
     rw fewer refl

@@ -19,6 +19,7 @@ use Rattle.ar_manifest.specs.declared.template.Metric.{Metric}
 use Rattle.ar_document.proofs.Growing.{one_more}
 use Rattle.ar_manifest.specs.declared.bound.BoundMetric.{BoundMetric}
 use Rattle.ar_value.specs.Answer.{◌>>=◌, each_behind, there_or}
+use Rattle.ar_value.specs.Limits.{most_metrics}
 use Rattle.ar_json.specs.Members.{member_of_member, list_of}
 use Rattle.ar_manifest.specs.declared.error.ManifestError.{ManifestError}
 use Rattle.ar_manifest.specs.declared.error.ManifestError.TheVariants.{IntervalMissing, NoMetrics}
@@ -38,11 +39,11 @@ as_many {B = B} step earlier (item ∷ items) all is =
     let made = first_answers (λ made. each_behind step (earlier ++ made ∷ []) items) all (step earlier item) is in
     as_many step (earlier ++ made.0 ∷ []) items all made.2 ∙ rw (length-append {A = B} earlier (made.0 ∷ [])) (omega arith)
 
-few_items : (items some : List Data) → counted items ≡ Ok some → length some ≤ 64
+few_items : (items some : List Data) → counted items ≡ Ok some → length some ≤ most_metrics
 few_items [] some is = absurd cc
-few_items (item ∷ items) some is = by_test (nat_lt 64 (length (item ∷ items))) refl
+few_items (item ∷ items) some is = by_test (nat_lt most_metrics (length (item ∷ items))) refl
   where
-    by_test : (many : Bool) → nat_lt 64 (length (item ∷ items)) ≡ many → length some ≤ 64
+    by_test : (many : Bool) → nat_lt most_metrics (length (item ∷ items)) ≡ many → length some ≤ most_metrics
     by_test true test = absurd (let no = rw test at is in cc)
     by_test false test = let same : item ∷ items ≡ some = let yes = rw test at is in cc in rw (← same) (grind (arith, nat_tests, test))
 
@@ -57,7 +58,7 @@ as_many_dry found metrics marked is =
     rw (← same) (length-map metrics (with_dry named.0))
 
 -- a template has at most 64 metrics
-pub few_metrics : (document : Data) (template : Template) → template_of document ≡ Ok template → length template.metrics ≤ 64
+pub few_metrics : (document : Data) (template : Template) → template_of document ≡ Ok template → length template.metrics ≤ most_metrics
 unfolding template_of
 few_metrics document template is =
     let named = first_answers _ template (head_of document) is in
@@ -76,7 +77,7 @@ answered : (answer : Result Template ManifestError) (template : Template) → re
 answered (Ok made) template is = let same : made ≡ template = cc in ap (λ (template : Template). Ok template) same
 answered (Err refusal) template is = absurd cc
 
-pub few_metrics_in : (document : Data) (template : Template) → template_in document ≡ Ok template → length template.metrics ≤ 64
+pub few_metrics_in : (document : Data) (template : Template) → template_in document ≡ Ok template → length template.metrics ≤ most_metrics
 few_metrics_in document template is = few_metrics (unwrap_or (get (codes "manifest") document) null) template (answered (template_of (unwrap_or (get (codes "manifest") document) null)) template is)
 
 -- as many metrics are bound as the template has

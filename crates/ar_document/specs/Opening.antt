@@ -8,6 +8,7 @@ use Rattle.ar_value.specs.Answer.{◌>>=◌, there_or, holds_or, each_behind}
 use Rattle.ar_json.specs.Declaration.{shape_of}
 use Rattle.ar_value.specs.Shape.{Shape}
 use Rattle.ar_value.specs.View.{shape_view}
+use Rattle.ar_value.specs.Limits.{most_runs}
 use Rattle.ar_manifest.specs.Arguments.{with_value}
 use Rattle.ar_manifest.specs.Binding.{RunArguments}
 use Rattle.ar_json.specs.Members.{list_of}
@@ -15,7 +16,6 @@ use Rattle.ar_manifest.specs.Template.{template_of}
 use Rattle.ar_manifest.specs.declared.template.Template.{Template}
 use Rattle.ar_manifest.specs.declared.template.Metric as templates
 use Rattle.ar_judge.specs.Condition.{refused_as}
-use Rattle.ar_bundle.specs.Bundle.{most_runs}
 use Rattle.ar_bundle.specs.declared.bundle.MetricPart.{MetricPart}
 use Rattle.ar_document.specs.declared.error.BundleError.{BundleError}
 use Rattle.ar_document.specs.declared.error.BundleError.TheVariants.{Manifest, ShapeMissing, Shapes, Runs, DoubleRun}

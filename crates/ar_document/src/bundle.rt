@@ -15,7 +15,7 @@ use crate::opening::{Opened, open};
 use crate::parts::parts_of;
 use ar_bundle::{Bundle, EventPart, RunPart};
 use ar_json::read_json;
-use ar_value::holding::beside;
+use ar_value::holding::zip_ok;
 use serde_json::Value as Json;
 use std::alloc::Global;
 
@@ -29,8 +29,8 @@ fn parts_and_entries(
     ensures made { IfOk result (λ made. IsMade opened.now (view document) made.0.items made.1.items) }
     ensures refused { IfRefused result (RefusesMade (opened_view opened.now) (view document)) }
 {
-    let (document, parts) = beside(document, parts_of(alloc, opened))?;
-    beside(parts, read_entries(alloc, opened, document))
+    let (document, parts) = zip_ok(document, parts_of(alloc, opened))?;
+    zip_ok(parts, read_entries(alloc, opened, document))
 }
 
 /// The bundle of a JSON document, which is dropped as it is read, so that it isn't kept beside the bundle.
@@ -39,7 +39,7 @@ fn bundle_of(alloc: Global, document: Json) -> Result<Bundle, BundleError>
 {
     let opened = open(alloc, &document)?;
     let made = parts_and_entries(alloc, &opened, document);
-    let (opened, (parts, entries)) = beside(opened, made)?;
+    let (opened, (parts, entries)) = zip_ok(opened, made)?;
     Ok(Bundle::of_parts(opened.into_metrics(), parts, entries))
 }
 

@@ -24,13 +24,11 @@ use ar_bundle::{EventPart, What};
 use ar_json::Reader;
 use ar_json::value_reading::ShapeFault;
 use ar_judge::Sample;
-use ar_value::holding::add;
+use ar_limits::MOST_EVENTS;
+use ar_value::holding::try_push;
 use serde_json::Value as Json;
 use std::alloc::Global;
 use std::mem;
-
-/// How many entries a document may have.
-const MOST_ENTRIES: usize = 100_000;
 
 /// The number of a name.
 fn number_of(numbers: &Numbers, name: &str) -> Option<usize>
@@ -217,7 +215,7 @@ fn entry_items(alloc: Global, document: Json) -> Result<Vec<Json>, BundleError>
     ensures few { IfOk result (λ items. length items.items ≤ most_events) }
 {
     let items = listed_entries(alloc, taken_measurements(document))?;
-    if items.len() > MOST_ENTRIES {
+    if items.len() > MOST_EVENTS as usize {
         return Err(BundleError::TooManyMeasurements);
     }
     Ok(items)
@@ -241,7 +239,7 @@ fn entries_of(
         let read = entry_of(alloc, opened, entries.len(), &item);
         mem::drop(item);
         let entry = read?;
-        add(&mut entries, entry)?;
+        try_push(&mut entries, entry)?;
     }
     Ok(entries)
 }

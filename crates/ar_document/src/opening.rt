@@ -20,7 +20,7 @@ use ar_bundle::MetricPart;
 use ar_json::Reader;
 use ar_json::shape_reading::{ShapeError, read_shape};
 use ar_manifest::{ManifestError, Metric, Template};
-use ar_value::holding::{add, beside};
+use ar_value::holding::{try_push, zip_ok};
 use ar_value::shared_shape::SharedShape;
 use ar_value::text::Text;
 use serde_json::Value as Json;
@@ -115,7 +115,7 @@ fn metrics_of(
     let mut parts = Vec::with_capacity(alloc, metrics.len())?;
     for (number, metric) in metrics.iter().enumerate() {
         let part = metric_of(alloc, shapes, metric, number)?;
-        add(&mut parts, part)?;
+        try_push(&mut parts, part)?;
     }
     Ok(parts)
 }
@@ -139,7 +139,7 @@ fn readers_of(alloc: Global, metrics: &[MetricPart]) -> Result<Vec<Reader>, Allo
     for metric in metrics {
         let shape = metric.shape.share()?;
         let reader = Reader::new(alloc, shape)?;
-        add(&mut readers, reader)?;
+        try_push(&mut readers, reader)?;
     }
     Ok(readers)
 }
@@ -153,7 +153,7 @@ fn numbers_and_readers(
     ensures readers { IfOk result (λ made. made.1.items ≡ map (λ metric. metric.shape) metrics.now) }
 {
     let numbers = numbers_of(alloc, metrics)?;
-    beside(numbers, readers_of(alloc, metrics))
+    zip_ok(numbers, readers_of(alloc, metrics))
 }
 
 /// The metrics of a template with their shapes, their numbers by their names, and what reads their values.
@@ -170,7 +170,7 @@ fn numbered_metrics(
 {
     let parts = metrics_of(alloc, shapes, metrics)?;
     let found = numbers_and_readers(alloc, &parts);
-    Ok(beside(parts, found)?)
+    Ok(zip_ok(parts, found)?)
 }
 
 /// A document's template, metrics and runs.
@@ -181,8 +181,8 @@ pub(crate) fn open(alloc: Global, document: &Json) -> Result<Opened, BundleError
 {
     let template = template_of(alloc, document)?;
     let metrics = numbered_metrics(alloc, document.get("shapes"), template.metrics.as_slice());
-    let held = beside(template, metrics)?;
-    let (held, runs) = beside(held, read_runs(alloc, document))?;
+    let held = zip_ok(template, metrics)?;
+    let (held, runs) = zip_ok(held, read_runs(alloc, document))?;
     let (template, (metrics, (metric_numbers, readers))) = held;
     let (runs, run_numbers) = runs;
     Ok(Opened {

@@ -24,7 +24,7 @@ use ar_bundle::{Judges, MetricPart, RunLimits, RunPart};
 use ar_judge::{BuildError, Judge, SharedCondition, Which};
 use ar_limits::Limits;
 use ar_manifest::{Bound, BoundMetric, ManifestError, Template};
-use ar_value::holding::{add, beside};
+use ar_value::holding::{try_push, zip_ok};
 use ar_value::text::Text;
 use std::alloc::{AllocError, Global};
 
@@ -117,7 +117,7 @@ fn judges_of(
     let mut judges = Vec::with_capacity(alloc, metrics.len())?;
     for (number, metric) in metrics.iter().enumerate() {
         let judge = judge_of(alloc, run, number, metric, &bound[number], earlier)?;
-        add(&mut judges, judge)?;
+        try_push(&mut judges, judge)?;
     }
     Ok(Judges::from(judges))
 }
@@ -160,7 +160,7 @@ fn judges_and_limits(
     ensures refused { IfRefused result (RefusesJudges run metrics.now bound.now) }
 {
     let judges = judges_of(alloc, run, metrics, bound, earlier)?;
-    Ok(beside(judges, all_limits(alloc, bound))?)
+    Ok(zip_ok(judges, all_limits(alloc, bound))?)
 }
 
 /// The part of the run with a number, after those of earlier runs.
@@ -178,7 +178,7 @@ fn part_of(
 {
     let bound = bound(alloc, &opened.template, run, number)?;
     let judged = judges_and_limits(alloc, number, &opened.metrics, bound.metrics(), earlier)?;
-    let (judged, name) = beside(judged, Text::of(alloc, run.name.as_str()))?;
+    let (judged, name) = zip_ok(judged, Text::of(alloc, run.name.as_str()))?;
     Ok(RunPart {
         name,
         judges: judged.0,
@@ -195,7 +195,7 @@ pub(crate) fn parts_of(alloc: Global, opened: &Opened) -> Result<Vec<RunPart>, B
     let mut parts = Vec::with_capacity(alloc, opened.runs.len())?;
     for (number, run) in opened.runs.iter().enumerate() {
         let part = part_of(alloc, opened, run, number, &parts)?;
-        add(&mut parts, part)?;
+        try_push(&mut parts, part)?;
     }
     Ok(parts)
 }

@@ -3,7 +3,7 @@
 ghost use Rattle.std.specs.Prelude.{◌≡◌, ◌≤◌, ◌++◌, ◌∷◌, ℕ, List, [], IfOk, OnOk, false, is_none, length, map, option_map};
 ghost use Rattle.serde_json.specs.View.{members_view, view};
 ghost use Rattle.ar_value.specs.Answer.{Gives, each_behind, holds_or};
-ghost use Rattle.ar_bundle.specs.Bundle.{most_runs};
+ghost use Rattle.ar_value.specs.Limits.{most_runs};
 ghost use Rattle.ar_document.specs.Document.{is_memory};
 ghost use Rattle.ar_document.specs.Opening.{are_new, names_of, number_of, own_arguments, run_items, run_of, runs_in, texts_by_name};
 ghost use Rattle.ar_document.specs.Private.Made.{with_text};
@@ -14,13 +14,11 @@ use crate::error::BundleError;
 use crate::names::{Numbers, add_name};
 use ar_json::members::list_of;
 use ar_manifest::Args;
-use ar_value::holding::{add, beside};
+use ar_value::holding::{try_push, zip_ok};
+use ar_value::limits::MOST_RUNS;
 use ar_value::text::Text;
 use serde_json::{Map, Value as Json};
 use std::alloc::Global;
-
-/// How many runs a document may have.
-const MOST_RUNS: usize = 64;
 
 /// A run as a document writes it.
 #[derive(Drop)]
@@ -75,7 +73,7 @@ fn run_of(alloc: Global, item: &Json) -> Result<Run, BundleError>
         .and_then(Json::as_str)
         .ok_or(BundleError::Runs)?;
     let own = own_arguments(alloc, item.get("args"))?;
-    let (own, name) = beside(own, Text::of(alloc, name))?;
+    let (own, name) = zip_ok(own, Text::of(alloc, name))?;
     Ok(Run { name, own })
 }
 
@@ -105,7 +103,7 @@ fn runs_of(alloc: Global, items: &[Json]) -> Result<Vec<Run>, BundleError>
     let mut runs = Vec::with_capacity(alloc, items.len())?;
     for item in items {
         let made = run_of(alloc, item)?;
-        add(&mut runs, made)?;
+        try_push(&mut runs, made)?;
     }
     Ok(runs)
 }
@@ -150,5 +148,5 @@ pub(crate) fn read_runs(alloc: Global, document: &Json) -> Result<(Vec<Run>, Num
     let items = run_items(document)?;
     let runs = runs_of(alloc, items)?;
     let numbers = numbers_of(alloc, &runs);
-    beside(runs, numbers)
+    zip_ok(runs, numbers)
 }

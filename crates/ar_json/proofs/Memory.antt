@@ -9,7 +9,7 @@ use Rattle.ar_value.specs.Answer.{◌>>=◌}
 use Rattle.ar_value.specs.Decimal.{is_i64}
 use Rattle.ar_value.specs.DecimalText.{decimal_of}
 use Rattle.ar_json.specs.Declaration as declaration
-use Rattle.ar_json.specs.Declaration.{scalar_named, max_of, declares_optional, fields_declared, record_declared, optional_declared, list_declared, object_declared, shape_within, shape_of}
+use Rattle.ar_json.specs.Declaration.{scalar_named, max_of, declares_optional, fields_declared, record_declared, optional_declared, list_declared, object_declared, most_shape_levels, shape_within, shape_of}
 use Rattle.ar_json.specs.Reading as reading
 use Rattle.ar_json.specs.Reading.{read, whole_of, decimal_of_whole, decimal_of_text, item_count, items_read, absent_read, field_read, fields_read}
 use Rattle.ar_value.specs.Shape.{Shape, FieldShapes}
@@ -85,7 +85,7 @@ within_judged (suc levels) d = refl
 
 pub shape_not_memory : (d : Data) → shape_of d ≢ Err error.OutOfMemory
 unfolding shape_of
-shape_not_memory d h = let judged : Declares (shape_within 16 d) = within_judged 16 d in let no : true ≡ false = rw h at judged in cc
+shape_not_memory d h = let judged : Declares (shape_within most_shape_levels d) = within_judged most_shape_levels d in let no : true ≡ false = rw h at judged in cc
 
 -- ---- Values
 

@@ -73,9 +73,11 @@ shape_within (suc levels) (string name) = scalar_named name
 shape_within (suc levels) (object members) = object_declared (shape_within levels) members
 shape_within (suc levels) json = Err UnknownShape
 
--- a shape has at most 16 levels
+abbrev pub most_shape_levels : ℕ
+most_shape_levels = 16
+
 unfoldable pub shape_of : Data → Result Shape ShapeError
-shape_of json = shape_within 16 json
+shape_of json = shape_within most_shape_levels json
 
 abbrev pub is_memory : ShapeError → Bool
 is_memory OutOfMemory = true

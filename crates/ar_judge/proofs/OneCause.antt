@@ -2,7 +2,7 @@
 use Rattle.std.proofs.Common.{◌≡◌, ◌≢◌, ℕ, List, Option, Some, None, refl, sym, subst, ◌∙◌, ap, arith}
 use Rattle.std.specs.Prelude.{◌<◌, ◌≤◌}
 use Rattle.ar_value.specs.Shape.{Shape}
-use Rattle.ar_op.specs.Code.{most_entries}
+use Rattle.ar_value.specs.Limits.{most_code_entries}
 use Rattle.ar_compile.specs.Compiled.{compiled}
 use Rattle.ar_compile.specs.Length.{length_of}
 use Rattle.ar_safety.specs.Verdict.{IsFault}
@@ -24,7 +24,7 @@ built_alone shape text condition (Compiler error) own built refused =
     let typed = built.typed in
     let also = refused.1.typed in
     let same : refused.1.tree ≡ built.tree = cc in
-    let long = subst (λ tree. most_entries < length_of tree) same refused.1.long in
+    let long = subst (λ tree. most_code_entries < length_of tree) same refused.1.long in
     let short = built.short in
     omega arith
 built_alone shape text condition (Verifier place reason) own built refused =
@@ -39,7 +39,7 @@ long_alone shape text place reason long unsafe =
     let typed = long.typed in
     let also = unsafe.typed in
     let same : unsafe.tree ≡ long.tree = cc in
-    let short = subst (λ tree. length_of tree ≤ most_entries) same unsafe.short in
+    let short = subst (λ tree. length_of tree ≤ most_code_entries) same unsafe.short in
     let too_long = long.long in
     omega arith
 

@@ -6,13 +6,14 @@ use Rattle.ar_value.specs.declared.shape.Shape.{Shape as Declared}
 use Rattle.ar_value.specs.Value.{Value}
 use Rattle.ar_value.specs.View.{shape_view}
 use Rattle.ar_value.specs.declared.fault.Fault.{Fault}
+use Rattle.ar_value.specs.Limits.{most_code_entries}
 use Rattle.ar_tree.specs.Expression.{Expression}
 use Rattle.ar_tree.specs.Limits.{InLimits, WrittenInLimits}
 use Rattle.ar_tree.specs.Meaning.{answer_of, mean}
 use Rattle.ar_tree.specs.Typed.{Typed}
 use Rattle.ar_syntax.specs.Parse.{parse_of}
 use Rattle.ar_check.specs.Check.{checked}
-use Rattle.ar_op.specs.Code.{Code, most_entries}
+use Rattle.ar_op.specs.Code.{Code}
 use Rattle.ar_compile.proofs.Checked.{checked_in_limits}
 use Rattle.ar_compile.specs.Compiled.{compiled}
 use Rattle.ar_compile.specs.Ends.{EndsWith}
@@ -36,13 +37,13 @@ pub in_limits : (shape : Shape) (tree : Expression) (condition : Typed) → Writ
 in_limits shape tree condition written is = checked_in_limits shape tree condition is written
 
 -- the code of a text's tree, which isn't too long for it
-pub has_code : (shape : Shape) (text : List ℕ) (tree : Expression) (condition : Typed) (code : Code) → parse_of text ≡ Ok tree → checked shape tree ≡ Ok condition → (most_entries < length_of condition → Ok code ≡ Err TooManyOps) → code ≡ compiled condition → Means shape condition code → IsCodeOf shape text code
+pub has_code : (shape : Shape) (text : List ℕ) (tree : Expression) (condition : Typed) (code : Code) → parse_of text ≡ Ok tree → checked shape tree ≡ Ok condition → (most_code_entries < length_of condition → Ok code ≡ Err TooManyOps) → code ≡ compiled condition → Means shape condition code → IsCodeOf shape text code
 has_code shape text tree condition code parsed is too_long code_is means =
-    let few : most_entries < length_of condition → ⊥ = λ long. let same = too_long long in absurd cc in
+    let few : most_code_entries < length_of condition → ⊥ = λ long. let same = too_long long in absurd cc in
     record { tree = condition; typed = typed_as shape text tree condition parsed is; short = omega (arith, few); code_is = code_is; means = means }
 
 -- a tree that is too long
-pub has_no_code : (shape : Shape) (text : List ℕ) (tree : Expression) (condition : Typed) (error : CompileError) → parse_of text ≡ Ok tree → checked shape tree ≡ Ok condition → (error ≡ TooManyOps → most_entries < length_of condition) → IsRefused shape text (of_compiler error)
+pub has_no_code : (shape : Shape) (text : List ℕ) (tree : Expression) (condition : Typed) (error : CompileError) → parse_of text ≡ Ok tree → checked shape tree ≡ Ok condition → (error ≡ TooManyOps → most_code_entries < length_of condition) → IsRefused shape text (of_compiler error)
 has_no_code shape text tree condition TooManyOps parsed is long = (refl, record { tree = condition; typed = typed_as shape text tree condition parsed is; long = long refl })
 has_no_code shape text tree condition OutOfMemory parsed is long = tt
 

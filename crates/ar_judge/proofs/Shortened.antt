@@ -5,8 +5,9 @@ use Rattle.std.specs.List.{repeat}
 use Rattle.std.proofs.lemmas.Bool.Decides.{nat_tests}
 use Rattle.std.proofs.lemmas.List.{length-append}
 use Rattle.ar_value.specs.Shape.{Shape}
+use Rattle.ar_value.specs.Limits.{most_text_bytes}
 use Rattle.ar_syntax.specs.Parse.{parse_of}
-use Rattle.ar_syntax.specs.Tokens.{most_condition_bytes, tokens_of}
+use Rattle.ar_syntax.specs.Tokens.{tokens_of}
 use Rattle.ar_syntax.specs.declared.error.SyntaxError.TheVariants.{TooLong}
 use Rattle.ar_manifest.specs.Shortened.{shortened, spaces}
 use Rattle.ar_judge.specs.Condition.{Condition, IsBuilt, IsRefused, typed_of}
@@ -19,10 +20,10 @@ use Rattle.ar_judge.specs.declared.error.BuildError.TheVariants as errors
 -- ---- one text
 
 -- a text that is too long is refused for that alone
-long_parse : (text : List ℕ) → most_condition_bytes < length text → parse_of text ≡ Err TooLong
+long_parse : (text : List ℕ) → most_text_bytes < length text → parse_of text ≡ Err TooLong
 unfolding parse_of tokens_of
 long_parse text long =
-    let test : nat_lt most_condition_bytes (length text) ≡ true = grind (arith, nat_tests, long) in
+    let test : nat_lt most_text_bytes (length text) ≡ true = grind (arith, nat_tests, long) in
     rw test refl
 
 length-repeat : (n : ℕ) (text : List ℕ) → length text ≡ 1 → length (repeat n text) ≡ n
@@ -36,15 +37,15 @@ length-spaces n = length-repeat n (codes " ") refl
 -- what becomes of a text is one of two
 data Shortens (text : List ℕ) : Type 0 where
   stays : shortened text ≡ text → Shortens text
-  gives_way : most_condition_bytes < length text → most_condition_bytes < length (shortened text) → Shortens text
+  gives_way : most_text_bytes < length text → most_text_bytes < length (shortened text) → Shortens text
 
 shortens : (text : List ℕ) → Shortens text
 unfolding shortened
-shortens text = by_test (nat_le (length text) most_condition_bytes) refl
+shortens text = by_test (nat_le (length text) most_text_bytes) refl
   where
-    by_test : (short : Bool) → nat_le (length text) most_condition_bytes ≡ short → Shortens text
+    by_test : (short : Bool) → nat_le (length text) most_text_bytes ≡ short → Shortens text
     by_test true short = stays (rw short refl)
-    by_test false long = gives_way (grind (arith, nat_tests, long)) (rw (long, length-spaces (most_condition_bytes + 1)) (omega arith))
+    by_test false long = gives_way (grind (arith, nat_tests, long)) (rw (long, length-spaces (most_text_bytes + 1)) (omega arith))
 
 -- it has the same tree, or the same refusal
 same_typed : (shape : Shape) (text : List ℕ) → typed_of shape (shortened text) ≡ typed_of shape text

@@ -5,6 +5,7 @@ use Rattle.ar_value.specs.Shape.{Shape}
 use Rattle.ar_value.specs.Value.{Value}
 use Rattle.ar_value.specs.View.{shape_view}
 use Rattle.ar_value.specs.declared.fault.Fault.{Fault}
+use Rattle.ar_value.specs.Limits.{most_code_entries}
 use Rattle.ar_tree.specs.Meaning.{answer_of, mean}
 use Rattle.ar_tree.specs.Typed.{Typed}
 use Rattle.ar_syntax.specs.Parse.{parse_of}
@@ -13,7 +14,6 @@ use Rattle.ar_syntax.specs.declared.error.SyntaxError.TheVariants as syntax
 use Rattle.ar_check.specs.Check.{checked}
 use Rattle.ar_check.specs.declared.error.TypeError.{TypeError}
 use Rattle.ar_check.specs.declared.error.TypeError.TheVariants as types
-use Rattle.ar_op.specs.Code.{most_entries}
 use Rattle.ar_compile.specs.Compiled.{compiled}
 use Rattle.ar_compile.specs.Length.{length_of}
 use Rattle.ar_compile.specs.declared.error.CompileError.{CompileError}
@@ -61,7 +61,7 @@ pub record IsBuilt (shape : Shape) (text : List ℕ) (condition : Condition) : T
   pub shape_is : shape_view condition.verified.shape ≡ shape
   pub tree : Typed
   pub typed : typed_of shape text ≡ Ok tree
-  pub short : length_of tree ≤ most_entries
+  pub short : length_of tree ≤ most_code_entries
   pub code_is : condition.verified.code ≡ compiled tree
   pub accepted : IsVerified (compiled tree) shape condition.verified.budget condition.verified.depth
 
@@ -69,13 +69,13 @@ pub record IsBuilt (shape : Shape) (text : List ℕ) (condition : Condition) : T
 pub record IsTooLong (shape : Shape) (text : List ℕ) : Type 0 where
   pub tree : Typed
   pub typed : typed_of shape text ≡ Ok tree
-  pub long : most_entries < length_of tree
+  pub long : most_code_entries < length_of tree
 
 -- the verifier refuses the code of a text's typed tree at a place
 pub record IsUnsafe (shape : Shape) (text : List ℕ) (place : ℕ) (reason : Reason) : Type 0 where
   pub tree : Typed
   pub typed : typed_of shape text ≡ Ok tree
-  pub short : length_of tree ≤ most_entries
+  pub short : length_of tree ≤ most_code_entries
   pub fault : IsFault (compiled tree) shape place reason
 
 -- why a text is no condition that can be run, if it isn't out of memory

@@ -6,9 +6,8 @@ use Rattle.ar_value.specs.Fits.{fits}
 use Rattle.ar_value.specs.Shape.{Shape}
 use Rattle.ar_value.specs.Value.{Value}
 use Rattle.ar_value.specs.declared.fault.Fault.{Fault}
+use Rattle.ar_value.specs.Limits.{most_loops, most_operands}
 use Rattle.ar_op.specs.Machine.{Next, State, after, begin, ends, goes, stuck}
-use Rattle.ar_safety.specs.Arrivals.{most_operands}
-use Rattle.ar_safety.specs.Places.{most_loops}
 use Rattle.ar_safety.specs.Verdict.{Verified, greatest_budget}
 use Rattle.ar_judge.specs.Condition.{Condition, said}
 use Rattle.ar_judge.specs.Verdict.{Judge, measured, verdict, verdict_by}

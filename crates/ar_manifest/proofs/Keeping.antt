@@ -6,13 +6,14 @@ use Rattle.std.specs.List.{list_all}
 use Rattle.std.proofs.lemmas.List.{length-map, map-append}
 use Rattle.ar_value.specs.Answer.{◌>>=◌, Gives, Unless, each_behind}
 use Rattle.ar_value.proofs.Steps.{refuses_first, refuses_same}
+use Rattle.ar_value.specs.Limits.{most_text_bytes}
 use Rattle.ar_json.specs.Members.{unless_empty}
 use Rattle.ar_manifest.specs.Binding.{RunArguments, bound_text}
 use Rattle.ar_manifest.specs.Bound.{bound_condition, bound_metric, bound_of, is_limit_text, limit_of_text, next_bound}
 use Rattle.ar_manifest.specs.Private.BoundParts.{limit_in}
 use Rattle.ar_manifest.specs.Private.Within.{condition_within, kept, kept_condition, kept_metric, limit_within, most_kept, next_kept, text_within, within}
 use Rattle.ar_manifest.specs.Refusals.{is_memory}
-use Rattle.ar_manifest.specs.Shortened.{most_condition_bytes, shortened, shortened_of, spaces}
+use Rattle.ar_manifest.specs.Shortened.{shortened, shortened_of, spaces}
 use Rattle.ar_manifest.specs.Template.{TemplateArguments}
 use Rattle.ar_manifest.specs.declared.bound.BoundMetric.{BoundMetric}
 use Rattle.ar_manifest.specs.declared.error.ManifestError.{ManifestError}
@@ -70,10 +71,10 @@ condition_of_within : (shortens : Bool) (text : List ℕ) → condition_within (
 unfolding within condition_within shortened
 condition_of_within false text = refl
 condition_of_within true [] = refl
-condition_of_within true (byte ∷ text) = by_test (nat_le (length (byte ∷ text)) most_condition_bytes)
+condition_of_within true (byte ∷ text) = by_test (nat_le (length (byte ∷ text)) most_text_bytes)
   where
     by_test : (short : Bool)
-        → condition_within (if short then Some (byte ∷ text) else None) ≡ Some (if short then byte ∷ text else spaces (most_condition_bytes + 1))
+        → condition_within (if short then Some (byte ∷ text) else None) ≡ Some (if short then byte ∷ text else spaces (most_text_bytes + 1))
     by_test true = refl
     by_test false = refl
 

@@ -5,6 +5,7 @@ use Rattle.std.specs.List.{list_any}
 use Rattle.std.specs.Option.{option_or}
 use Rattle.serde_json.specs.Data.{Data, null, boolean, number, string, array, object}
 use Rattle.ar_value.specs.Answer.{◌>>=◌, Gives, Unless, each_behind, holds_or, there_or}
+use Rattle.ar_value.specs.Limits.{most_metrics}
 use Rattle.ar_manifest.specs.Refusals.{is_memory}
 use Rattle.ar_manifest.specs.Arguments.{value_of}
 use Rattle.ar_manifest.specs.Binding.{RunArguments, argument_name, bound_text, filled, referred_value, trimmed}
@@ -189,7 +190,7 @@ counted_is found refusal other e = by_list (option_and_then list_of found) e
     by_list : (list : Option (List Data)) → (there_or NoMetrics list >>= counted) ≡ Err refusal → ⊥
     by_list None e = let same : refusal ≡ NoMetrics = cc in other (rw same tt)
     by_list (Some []) e = let same : refusal ≡ NoMetrics = cc in other (rw same tt)
-    by_list (Some (d ∷ ds)) e = by_test (nat_lt 64 (length (d ∷ ds))) e
+    by_list (Some (d ∷ ds)) e = by_test (nat_lt most_metrics (length (d ∷ ds))) e
       where
         by_test : (test : Bool) → cond test (Err TooManyMetrics) (Ok (d ∷ ds)) ≡ Err refusal → ⊥
         by_test true e = let same : refusal ≡ TooManyMetrics = cc in other (rw same tt)

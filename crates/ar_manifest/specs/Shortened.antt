@@ -5,15 +5,12 @@
 use Rattle.std.specs.Prelude.{ℕ, ◌+◌, nat_le, if◌then◌else◌, List, length, map, codes, option_map, Result, Ok}
 use Rattle.std.specs.List.{repeat}
 use Rattle.ar_value.specs.Answer.{◌>>=◌}
+use Rattle.ar_value.specs.Limits.{most_text_bytes}
 use Rattle.ar_manifest.specs.Binding.{RunArguments}
 use Rattle.ar_manifest.specs.Bound.{bound_of}
 use Rattle.ar_manifest.specs.declared.bound.BoundMetric.{BoundMetric}
 use Rattle.ar_manifest.specs.declared.error.ManifestError.{ManifestError}
 use Rattle.ar_manifest.specs.declared.template.Template.{Template}
-
--- how many bytes a condition may have
-abbrev pub most_condition_bytes : ℕ
-most_condition_bytes = 4096
 
 -- a text of n spaces
 unfoldable pub spaces : ℕ → List ℕ
@@ -21,7 +18,7 @@ spaces n = repeat n (codes " ")
 
 -- a condition's text where it has few enough bytes, and otherwise one space more than a condition may have
 unfoldable pub shortened : List ℕ → List ℕ
-shortened text = if nat_le (length text) most_condition_bytes then text else spaces (most_condition_bytes + 1)
+shortened text = if nat_le (length text) most_text_bytes then text else spaces (most_text_bytes + 1)
 
 -- a bound metric, its conditions shortened
 abbrev pub shortened_metric : BoundMetric → BoundMetric

@@ -5,6 +5,7 @@ use Rattle.std.specs.Str.{bytes_eq}
 use Rattle.serde_json.specs.Data.{Data, number, string}
 use Rattle.serde_json.specs.Find.{as_str, as_u64}
 use Rattle.ar_value.specs.Answer.{◌>>=◌, there_or, holds_or, each_behind}
+use Rattle.ar_value.specs.Limits.{most_metrics}
 use Rattle.ar_manifest.specs.Arguments.{value_of}
 use Rattle.ar_manifest.specs.DryRun.{with_dry_run}
 use Rattle.ar_json.specs.Members.{list_of, member, member_of_member, text_member, text_or, unless_empty}
@@ -89,7 +90,7 @@ metric_of earlier d = do
 -- there are 1 to 64 metrics
 abbrev pub counted : List Data → Result (List Data) ManifestError
 counted [] = Err NoMetrics
-counted (d ∷ ds) = if nat_lt 64 (length (d ∷ ds)) then Err TooManyMetrics else Ok (d ∷ ds)
+counted (d ∷ ds) = if nat_lt most_metrics (length (d ∷ ds)) then Err TooManyMetrics else Ok (d ∷ ds)
 
 abbrev pub counted_metrics : Option Data → Result (List Data) ManifestError
 counted_metrics found = there_or NoMetrics (option_and_then list_of found) >>= counted

@@ -15,7 +15,8 @@ use crate::error::ManifestError;
 use crate::limit::{MOST_LIMIT_DIGITS, effective_count, limit_of_number, limit_within};
 use crate::template::{Limit, Metric, Template};
 use ar_value::Text;
-use ar_value::holding::{add, beside};
+use ar_value::holding::{try_push, zip_ok};
+use ar_value::limits::MOST_TEXT_BYTES;
 use std::alloc::{AllocError, Global};
 
 /// `failureLimit`, where a metric has none.
@@ -26,9 +27,6 @@ const INCONCLUSIVE: u32 = 0;
 
 /// `consecutiveErrorLimit`, where a metric has none.
 const CONSECUTIVE_ERRORS: u32 = 4;
-
-/// How many bytes a condition may have.
-const MOST_CONDITION_BYTES: usize = 4096;
 
 /// The limits of a metric, bound.
 #[derive(Clone, Copy)]
@@ -52,7 +50,7 @@ fn most_kept(shortens: bool) -> Option<usize>
     ensures { result ≡ most_kept shortens }
 {
     if shortens {
-        Some(MOST_CONDITION_BYTES)
+        Some(MOST_TEXT_BYTES)
     } else {
         None
     }
@@ -65,7 +63,7 @@ fn condition_within(alloc: Global, bound: Option<Text>) -> Result<Option<Text>, 
     ensures { IfOk result (λ condition. condition ≡ condition_within bound) }
 {
     let Some(bound) = bound else {
-        return Ok(Some(spaces(alloc, MOST_CONDITION_BYTES + 1)?));
+        return Ok(Some(spaces(alloc, MOST_TEXT_BYTES + 1)?));
     };
     if bound.as_str().is_empty() {
         Ok(None)
@@ -128,7 +126,7 @@ fn conditions(
         → result ≡ Ok (None, None) }
 {
     let success = condition(alloc, scope, &metric.success_condition)?;
-    beside(success, condition(alloc, scope, &metric.failure_condition))
+    zip_ok(success, condition(alloc, scope, &metric.failure_condition))
 }
 
 /// The limits of a metric, bound.
@@ -159,8 +157,8 @@ fn metric(alloc: Global, scope: &Scope, metric: &Metric) -> Result<BoundMetric, 
         → Refuses result (bound_metric scope.now.arguments.now scope.now.own.now scope.now.metric metric.now) }
 {
     let held = conditions(alloc, scope, metric)?;
-    let (held, limits) = beside(held, limits(alloc, scope, metric))?;
-    let (held, name) = beside(held, Text::of(alloc, metric.name.as_str()))?;
+    let (held, limits) = zip_ok(held, limits(alloc, scope, metric))?;
+    let (held, name) = zip_ok(held, Text::of(alloc, metric.name.as_str()))?;
     Ok(BoundMetric {
         name,
         success_condition: held.0,
@@ -194,7 +192,7 @@ fn metrics(
             shortens,
         };
         let bound = self::metric(alloc, &scope, metric)?;
-        add(&mut metrics, bound)?;
+        try_push(&mut metrics, bound)?;
     }
     Ok(Bound::from(metrics))
 }

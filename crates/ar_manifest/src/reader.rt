@@ -17,7 +17,8 @@ use crate::error::ManifestError;
 use crate::template::{Limit, Metric, MetricLimits, Metrics, Template};
 use ar_json::members::{list_of, member, member_of_member, text_member, text_or};
 use ar_value::Text;
-use ar_value::holding::{add, beside};
+use ar_value::holding::{try_push, zip_ok};
+use ar_value::limits::MOST_METRICS;
 use serde_json::{Number, Value as Json};
 use std::alloc::{AllocError, Global};
 
@@ -29,9 +30,6 @@ const NAMESPACED: &str = "AnalysisTemplate";
 
 /// The `kind` of a template of a cluster.
 const OF_CLUSTER: &str = "ClusterAnalysisTemplate";
-
-/// How many metrics a template may have.
-const MOST_METRICS: usize = 64;
 
 fn number_limit(number: &Number) -> Limit
     ensures { result ≡ number_limit (as_u64 (number_view number.now)) }
@@ -82,7 +80,7 @@ fn two_limits(
     ensures { Gives is_memory (λ made. made) result (two_limits refusal first.now second.now (view json.now)) }
 {
     let held = limit_or(alloc, member(json, first), refusal)?;
-    beside(held, limit_or(alloc, member(json, second), refusal))
+    zip_ok(held, limit_or(alloc, member(json, second), refusal))
 }
 
 /// The limits of a metric.
@@ -99,7 +97,7 @@ fn metric_limits(alloc: Global, json: &Json, i: usize) -> Result<MetricLimits, M
         "consecutiveErrorLimit",
         refusal,
     );
-    let (held, others) = beside(held, others)?;
+    let (held, others) = zip_ok(held, others)?;
     Ok(MetricLimits {
         count: held.0,
         failure: held.1,
@@ -124,8 +122,8 @@ fn copied_texts(
     )) }
 {
     let success = copied(alloc, success)?;
-    let conditions = beside(success, copied(alloc, failure))?;
-    let (conditions, name) = beside(conditions, Text::of(alloc, name))?;
+    let conditions = zip_ok(success, copied(alloc, failure))?;
+    let (conditions, name) = zip_ok(conditions, Text::of(alloc, name))?;
     Ok((name, conditions))
 }
 
@@ -139,7 +137,7 @@ fn named_metric(alloc: Global, json: &Json, name: &str, i: usize) -> Result<Metr
     let failure = text_or(member(json, "failureCondition"), refusal)?;
     let has_interval = has_text_or(member(json, "interval"), refusal)?;
     let limits = metric_limits(alloc, json, i)?;
-    let (limits, texts) = beside(limits, copied_texts(alloc, name, success, failure))?;
+    let (limits, texts) = zip_ok(limits, copied_texts(alloc, name, success, failure))?;
     let (name, (success_condition, failure_condition)) = texts;
     Ok(Metric {
         name,
@@ -179,11 +177,11 @@ fn metric(alloc: Global, json: &Json, earlier: &[Metric]) -> Result<Metric, Mani
     let name = new_name(json, earlier)?;
     let metric = named_metric(alloc, json, name, i)?;
     let is_refused = member(json, "consecutiveSuccessLimit").is_some();
-    unless(metric, is_refused, ManifestError::Unsupported(i))
+    refuse_if(is_refused, metric, ManifestError::Unsupported(i))
 }
 
-/// What is held, unless it is refused. It is of any type here, so that it is dropped in one step.
-fn unless<A: Drop, E: Drop>(held: A, is_refused: bool, refusal: E) -> Result<A, E>
+/// What is held, or the refusal. Either is of any type here, so that it is dropped in one step.
+fn refuse_if<A: Drop, E: Drop>(is_refused: bool, held: A, refusal: E) -> Result<A, E>
     ensures { result ≡ (if is_refused then Err refusal else Ok held) }
 {
     if is_refused { Err(refusal) } else { Ok(held) }
@@ -197,7 +195,7 @@ fn metrics(alloc: Global, list: &[Json]) -> Result<Vec<Metric>, ManifestError>
     let mut metrics = Vec::new(alloc);
     for json in list {
         let metric = metric(alloc, json, &metrics)?;
-        add(&mut metrics, metric)?;
+        try_push(&mut metrics, metric)?;
     }
     Ok(metrics)
 }
@@ -356,8 +354,8 @@ pub(crate) fn template(alloc: Global, json: &Json) -> Result<Template, ManifestE
 {
     let name = head(json)?;
     let arguments = arguments_of(alloc, member_of_member(json, "spec", "args"))?;
-    let held = beside(arguments, marked_metrics(alloc, json))?;
-    let (held, name) = beside(held, Text::of(alloc, name))?;
+    let held = zip_ok(arguments, marked_metrics(alloc, json))?;
+    let (held, name) = zip_ok(held, Text::of(alloc, name))?;
     Ok(Template {
         name,
         arguments: held.0,

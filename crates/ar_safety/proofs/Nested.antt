@@ -3,10 +3,11 @@ use Rattle.std.proofs.Common.{◌≡◌, ◌≤◌, ℕ, zero, suc, Bool, true, 
 use Rattle.std.specs.Prelude.{if◌then◌else◌, nat_le}
 use Rattle.std.proofs.lemmas.Bool.Decides.{nat_tests}
 use Rattle.ar_value.specs.declared.operator.Predicate.{Predicate}
+use Rattle.ar_value.specs.Limits.{most_loops}
 use Rattle.ar_op.specs.Machine.{nth}
 use Rattle.ar_op.specs.declared.op.Op.{Op}
 use Rattle.ar_op.specs.declared.op.Op.TheVariants.{Enter}
-use Rattle.ar_safety.specs.Places.{held, holding, in_innermost, most_loops, names_well, nests_well, reaches, unless}
+use Rattle.ar_safety.specs.Places.{held, holding, in_innermost, names_well, nests_well, reaches, unless}
 use Rattle.ar_safety.proofs.Nesting.{begins, no_reason, none_of_both, reaches_less, reaching}
 
 module _ (ops : List Op) where

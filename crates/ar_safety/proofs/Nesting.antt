@@ -7,11 +7,12 @@ use Rattle.std.proofs.lemmas.Bool.Decides.{leb_tells}
 use Rattle.ar_value.specs.declared.operator.Predicate.{Predicate}
 use Rattle.ar_value.specs.Predicates.{is_same}
 use Rattle.ar_value.proofs.Predicates.{same_predicate}
+use Rattle.ar_value.specs.Limits.{most_loops}
 use Rattle.ar_op.specs.Machine.{begins_loop, nth}
 use Rattle.ar_op.specs.declared.op.Op.{Op}
 use Rattle.ar_op.specs.declared.op.Op.TheVariants.{Jump, Enter, Step}
 use Rattle.ar_safety.specs.Budget.{JumpsTo}
-use Rattle.ar_safety.specs.Places.{Pass, all_pass, ends_loop, forward, found, held, holding, in_innermost, inside, most_loops, names_well, nests_well, or_else, reaches, same_loops, stays, unless}
+use Rattle.ar_safety.specs.Places.{Pass, all_pass, ends_loop, forward, found, held, holding, in_innermost, inside, names_well, nests_well, or_else, reaches, same_loops, stays, unless}
 use Rattle.ar_safety.specs.declared.error.Cause.{Cause}
 use Rattle.ar_safety.specs.declared.error.Reason.{Reason}
 

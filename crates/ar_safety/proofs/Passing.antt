@@ -9,12 +9,13 @@ use Rattle.ar_value.specs.Kind.{Kind, shaped}
 use Rattle.ar_value.specs.Shape.{Shape, list}
 use Rattle.ar_value.specs.Shape as shapes
 use Rattle.ar_value.specs.declared.operator.Predicate.{Predicate}
+use Rattle.ar_value.specs.Limits.{most_operands}
 use Rattle.ar_op.specs.Code.{Code}
 use Rattle.ar_op.specs.Machine.{nth}
 use Rattle.ar_op.specs.declared.op.Op.{Op}
 use Rattle.ar_op.specs.declared.op.Jump.TheVariants as jumps
 use Rattle.ar_op.specs.declared.op.Op.TheVariants.{Jump, Enter, Step, Return}
-use Rattle.ar_safety.specs.Arrivals.{Around, Operands, Sent, answer_kind, arrival, arrived, at_place, deepest, ended, entered, item_of, lacks, most_operands, on_truth, passed_on, sends, sent, sent_on, sent_to, to_next, where_shallow}
+use Rattle.ar_safety.specs.Arrivals.{Around, Operands, Sent, answer_kind, arrival, arrived, at_place, deepest, ended, entered, item_of, lacks, on_truth, passed_on, sends, sent, sent_on, sent_to, to_next, where_shallow}
 use Rattle.ar_safety.specs.Effects.{effect, truth}
 use Rattle.ar_safety.specs.Places.{all_pass, ends_loop, forward, names_well, unless}
 use Rattle.ar_safety.specs.declared.error.Reason.{Reason}

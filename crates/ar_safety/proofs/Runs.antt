@@ -6,12 +6,13 @@ use Rattle.ar_value.specs.Fits.{fits}
 use Rattle.ar_value.specs.Shape.{Shape}
 use Rattle.ar_value.specs.Value.{Value}
 use Rattle.ar_value.specs.declared.fault.Fault.{Fault}
+use Rattle.ar_value.specs.Limits.{most_loops}
 use Rattle.ar_op.specs.Code.{Code, Inside}
 use Rattle.ar_op.specs.Machine.{Loop, Next, State, after, begin, ends, follow, goes, nth, step, stuck}
 use Rattle.ar_op.specs.declared.op.Op.{Op}
 use Rattle.ar_safety.specs.Arrivals.{Around, Operands, Sent, deepest, height, sent, sent_to}
 use Rattle.ar_safety.specs.Arrivals as arrivals
-use Rattle.ar_safety.specs.Places.{held, most_loops}
+use Rattle.ar_safety.specs.Places.{held}
 use Rattle.ar_safety.specs.Safety.{IsSafe}
 use Rattle.ar_safety.proofs.Arriving.{all_more, arrives, of_place}
 use Rattle.ar_safety.proofs.Effects.{fit_length}

@@ -5,9 +5,10 @@ use Rattle.std.proofs.lemmas.List.Elements.{recursion_from_All}
 use Rattle.ar_value.specs.Fits.{fits}
 use Rattle.ar_value.specs.Shape.{Shape}
 use Rattle.ar_value.specs.Value.{Value}
+use Rattle.ar_value.specs.Limits.{most_operands}
 use Rattle.ar_op.specs.Code.{Code, Inside, IsCode}
 use Rattle.ar_op.specs.Machine.{nth}
-use Rattle.ar_safety.specs.Arrivals.{Sent, deepest, height, most_operands, sent}
+use Rattle.ar_safety.specs.Arrivals.{Sent, deepest, height, sent}
 use Rattle.ar_safety.specs.Safety.{IsSafe}
 use Rattle.ar_safety.specs.Verdict.{IsVerified}
 use Rattle.ar_safety.proofs.Arriving.{all_more}

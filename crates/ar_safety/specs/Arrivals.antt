@@ -7,6 +7,7 @@ use Rattle.ar_value.specs.Kind.{Kind, shaped, merge}
 use Rattle.ar_value.specs.Shape.{Shape, bool, whole, list}
 use Rattle.ar_value.specs.declared.operator.Predicate.{Predicate}
 use Rattle.ar_value.specs.declared.operator.Predicate.TheVariants as predicates
+use Rattle.ar_value.specs.Limits.{most_operands}
 use Rattle.ar_op.specs.Code.{Code}
 use Rattle.ar_op.specs.Machine.{takes}
 use Rattle.ar_op.specs.declared.op.Jump.{Jump}
@@ -130,9 +131,6 @@ passed_on code result place (ops.Enter predicate step) kinds loops = entered pre
 passed_on code result place (ops.Step predicate enter) kinds loops = on_truth kinds (λ taken. ended predicate place taken loops)
 passed_on code result place ops.Return kinds loops = on_truth kinds (λ taken. Ok [])
 passed_on code result place op kinds loops = to_next place loops (effect code result (item_of loops) op kinds)
-
-abbrev pub most_operands : ℕ
-most_operands = 64
 
 -- the greatest number of operands on the way anywhere
 abbrev pub deepest : List Sent → ℕ

@@ -4,6 +4,7 @@ use Rattle.std.specs.Prelude.{ℕ, zero, suc, ◌-◌, ◌==◌, Bool, true, fal
 use Rattle.ar_value.specs.Answer.{◌>>=◌}
 use Rattle.ar_value.specs.Predicates.{is_same}
 use Rattle.ar_value.specs.declared.operator.Predicate.{Predicate}
+use Rattle.ar_value.specs.Limits.{most_loops}
 use Rattle.ar_op.specs.Machine.{begins_loop, nth}
 use Rattle.ar_op.specs.declared.op.Op.{Op}
 use Rattle.ar_op.specs.declared.op.Op.TheVariants.{Jump, Enter, Step, Return}
@@ -62,9 +63,6 @@ module _ (ops : List Op) where
   names_well place op = None
 
 -- ---- pass 3: loops lie one in another, at most four deep, and what is in one stays there
-
-abbrev pub most_loops : ℕ
-most_loops = 4
 
 -- whether an operation is the Enter of a loop that reaches up to a place
 abbrev pub reaches : Option Op → (place : ℕ) → Bool

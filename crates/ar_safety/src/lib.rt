@@ -16,4 +16,4 @@ pub mod laws;
 pub mod verified;
 
 pub use error::{Cause, Reason, Refused};
-pub use verified::Verified;
+pub use verified::{GREATEST_BUDGET, Verified};

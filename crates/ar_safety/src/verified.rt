@@ -2,8 +2,8 @@
 
 ghost use Rattle.std.specs.Prelude.{◌≡◌, ◌≤◌};
 ghost use Rattle.ar_value.specs.View.{shape_view};
+ghost use Rattle.ar_value.specs.Limits.{most_operands};
 ghost use Rattle.ar_op.specs.Code.{IsCode};
-ghost use Rattle.ar_safety.specs.Arrivals.{most_operands};
 ghost use Rattle.ar_safety.specs.Safety.{RunsSafely};
 ghost use Rattle.ar_safety.specs.Verdict.{greatest_budget, verified_of, IsVerified};
 
@@ -11,6 +11,9 @@ use ar_op::code::Code;
 use ar_value::shape::Shape;
 use ar_value::shared_shape::SharedShape;
 use std::marker::Model;
+
+/// The greatest budget that code is accepted with.
+pub const GREATEST_BUDGET: u64 = 1_000_000_000;
 
 /// Code that was verified for a shape of the measured value, with what a run may cost at most and
 /// how many operands it may have. Contracts see it as the `Verified` of `specs/Verdict`.

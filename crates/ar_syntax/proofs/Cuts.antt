@@ -6,6 +6,7 @@ use Rattle.std.specs.List.{AllByRecursion}
 use Rattle.std.proofs.lemmas.List.{drop-drop}
 use Rattle.std.proofs.lemmas.List.Elements.{All-from_recursion}
 use Rattle.ar_value.specs.Answer.{Gives}
+use Rattle.ar_value.specs.Limits.{most_text_bytes}
 use Rattle.ar_syntax.specs.Token.{takes_field}
 use Rattle.ar_syntax.specs.Tokens.{AreInOrder, IsGapBetween, IsSpelled, front_of, is_blank, is_memory, tokens_behind, tokens_of, with_front}
 use Rattle.ar_syntax.specs.declared.error.SyntaxError.{SyntaxError}
@@ -93,7 +94,7 @@ AreCut-chosen text false tokens e = AreCut-at text _ _ _ _ tokens refl (omega ar
 -- the tokens of a text are all of it but blanks
 pub AreCut-from_tokens_of : (text : List ℕ) (tokens : List Token) → tokens_of text ≡ Ok tokens → AreCut text 0 (length text) tokens
 unfolding tokens_of
-AreCut-from_tokens_of text tokens e = AreCut-chosen text (ltb 4096 (length text)) tokens e
+AreCut-from_tokens_of text tokens e = AreCut-chosen text (ltb most_text_bytes (length text)) tokens e
 
 abbrev items_of : Vec Token → List Token
 items_of tokens = tokens.items

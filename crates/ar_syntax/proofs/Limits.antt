@@ -6,7 +6,7 @@ use Rattle.std.proofs.lemmas.Bool.{ltb-false, ltb-true}
 use Rattle.std.proofs.lemmas.List.{length-take}
 use Rattle.ar_value.specs.Answer.{Gives}
 use Rattle.ar_tree.specs.Expression.{Expression, count, expressions}
-use Rattle.ar_tree.specs.Limits.{AllWrittenInLimits, IsShort, WrittenInLimits, most_items}
+use Rattle.ar_tree.specs.Limits.{AllWrittenInLimits, IsShort, WrittenInLimits}
 use Rattle.ar_tree.specs.Views.{expression_of}
 use Rattle.ar_tree.specs.declared.tree.Tree.{Tree}
 use Rattle.ar_syntax.specs.Grammar.{Arguments, ArgumentsBehind, Further, Items, ItemsBehind, Phrase, Primary, Selections, may_continue}
@@ -15,7 +15,7 @@ use Rattle.ar_syntax.specs.Parse.{SaysTree, parse_of}
 use Rattle.ar_syntax.specs.Refusal.{strict}
 use Rattle.ar_syntax.specs.Roles.{Call, Len, IsNil, Default, Over, Start, Leaf, called, kind_name, kind_start, kind_text, name_of, sign_start, starts, text_value, word_start}
 use Rattle.ar_syntax.specs.Token.{Spells, escape_of, letters, predicate_letters, test_letters, text_at, unescaped, with_byte, with_escape}
-use Rattle.ar_syntax.specs.Tokens.{IsSpelled, is_memory, most_condition_bytes, tokens_behind, tokens_of}
+use Rattle.ar_syntax.specs.Tokens.{IsSpelled, is_memory, tokens_behind, tokens_of}
 use Rattle.ar_syntax.specs.declared.error.SyntaxError.{SyntaxError}
 use Rattle.ar_syntax.specs.declared.error.SyntaxError.TheVariants.{TooLong}
 use Rattle.ar_syntax.specs.declared.token.Sign.{Sign}
@@ -29,6 +29,7 @@ use Rattle.ar_value.specs.declared.operator.Predicate.{Predicate}
 use Rattle.ar_value.specs.declared.operator.Predicate.TheVariants as predicates
 use Rattle.ar_value.specs.declared.operator.TextTest.{TextTest}
 use Rattle.ar_value.specs.declared.operator.TextTest.TheVariants as tests
+use Rattle.ar_value.specs.Limits.{most_literal_items, most_text_bytes}
 use Rattle.ar_syntax.proofs.Cuts.{AreCut-from_tokens_of}
 use Rattle.ar_syntax.proofs.Texts.{SaysTree-from_parse_of}
 
@@ -88,13 +89,13 @@ module _ (text : List ℕ) (few : IsShort text) where
   tokens_short [] spelled = tt
   tokens_short (token ∷ tokens) spelled = (kind_short token.span.start (text_at text token.span) token.kind spelled.0 (part_short (token.span.end - token.span.start) token.span.start), tokens_short tokens spelled.1)
 
-condition_chosen : (text : List ℕ) (long : Bool) (answer : Result (List Token) SyntaxError) (tokens : List Token) → nat_lt most_condition_bytes (length text) ≡ long → (if long then Err TooLong else answer) ≡ Ok tokens → IsShort text
+condition_chosen : (text : List ℕ) (long : Bool) (answer : Result (List Token) SyntaxError) (tokens : List Token) → nat_lt most_text_bytes (length text) ≡ long → (if long then Err TooLong else answer) ≡ Ok tokens → IsShort text
 condition_chosen text true answer tokens is e = absurd cc
-condition_chosen text false answer tokens is e = ltb-false most_condition_bytes (length text) is
+condition_chosen text false answer tokens is e = ltb-false most_text_bytes (length text) is
 
 condition_short : (text : List ℕ) (tokens : List Token) → tokens_of text ≡ Ok tokens → IsShort text
 unfolding tokens_of
-condition_short text tokens e = condition_chosen text (nat_lt most_condition_bytes (length text)) (tokens_behind 0 0 false text) tokens refl e
+condition_short text tokens e = condition_chosen text (nat_lt most_text_bytes (length text)) (tokens_behind 0 0 false text) tokens refl e
 
 -- ---- what tokens begin
 
@@ -178,8 +179,8 @@ as_many : (trees : List Expression) → count (expressions trees) ≡ length tre
 as_many [] = refl
 as_many (first ∷ others) = ap suc (as_many others)
 
-may_chosen : (items : ℕ) (test : Bool) → nat_lt items most_items ≡ test → (test || false) ≡ true → items < most_items
-may_chosen items true is may = ltb-true items most_items is
+may_chosen : (items : ℕ) (test : Bool) → nat_lt items most_literal_items ≡ test → (test || false) ≡ true → items < most_literal_items
+may_chosen items true is may = ltb-true items most_literal_items is
 may_chosen items false is may = absurd cc
 
 called_in_limits : (at : ℕ) (function : Call) (arguments : List Expression) → AllWrittenInLimits (expressions arguments) → WrittenInLimits (called at function arguments)
@@ -224,16 +225,16 @@ mutual
       let all = arguments_within arguments tt short.1.1 in
       (called_in_limits token.span.start function trees all.0, all.1)
 
-  items_within : {inside : Bool} {left : ℕ} {so_far trees : List Expression} {tokens rest : List Token} → Items strict inside left so_far tokens trees rest → AllWrittenInLimits (expressions so_far) → length so_far < most_items → AreShort tokens
-      → (AllWrittenInLimits (expressions trees) × (length trees ≤ most_items)) × AreShort rest
+  items_within : {inside : Bool} {left : ℕ} {so_far trees : List Expression} {tokens rest : List Token} → Items strict inside left so_far tokens trees rest → AllWrittenInLimits (expressions so_far) → length so_far < most_literal_items → AreShort tokens
+      → (AllWrittenInLimits (expressions trees) × (length trees ≤ most_literal_items)) × AreShort rest
   items_within (grammar.item {so_far = so_far} {first = tree} phrase behind) all few short =
       let first = phrase_within phrase short in
       items_behind_within behind (one_more so_far tree all first.0) (omega (arith, few, length-append so_far (tree ∷ []))) first.1
 
-  items_behind_within : {inside : Bool} {left : ℕ} {so_far trees : List Expression} {tokens rest : List Token} → ItemsBehind strict inside left so_far tokens trees rest → AllWrittenInLimits (expressions so_far) → length so_far ≤ most_items → AreShort tokens
-      → (AllWrittenInLimits (expressions trees) × (length trees ≤ most_items)) × AreShort rest
+  items_behind_within : {inside : Bool} {left : ℕ} {so_far trees : List Expression} {tokens rest : List Token} → ItemsBehind strict inside left so_far tokens trees rest → AllWrittenInLimits (expressions so_far) → length so_far ≤ most_literal_items → AreShort tokens
+      → (AllWrittenInLimits (expressions trees) × (length trees ≤ most_literal_items)) × AreShort rest
   items_behind_within (grammar.last_item close) all few short = ((all, few), short.1)
-  items_behind_within (grammar.comma_item {so_far = so_far} comma may items) all few short = items_within items all (may_chosen (length so_far) (nat_lt (length so_far) most_items) refl may) short.1
+  items_behind_within (grammar.comma_item {so_far = so_far} comma may items) all few short = items_within items all (may_chosen (length so_far) (nat_lt (length so_far) most_literal_items) refl may) short.1
 
   arguments_within : {inside : Bool} {left : ℕ} {function : Call} {so_far trees : List Expression} {tokens rest : List Token} → Arguments strict inside left function so_far tokens trees rest → AllWrittenInLimits (expressions so_far) → AreShort tokens → AllWithin trees rest
   arguments_within (grammar.no_argument close takes) all short = (tt, short.1)

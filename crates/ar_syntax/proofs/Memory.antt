@@ -5,6 +5,7 @@ use Rattle.std.specs.Str.Parse.{digits_value}
 use Rattle.ar_value.specs.Decimal.{is_i64}
 use Rattle.ar_value.specs.Digits.{magnitude_of}
 use Rattle.ar_value.specs.Answer.{◌>>=◌}
+use Rattle.ar_value.specs.Limits.{most_text_bytes}
 use Rattle.ar_syntax.specs.Refusal.{IsNamedBehind, IsRefused, IsRefusedBehind}
 use Rattle.ar_syntax.specs.Refusal as refusal
 use Rattle.ar_syntax.specs.Parse.{IsRefusal, token_fault, grammar_fault, parse_of}
@@ -115,7 +116,7 @@ tokens_behind-defined zero at field (byte ∷ bytes) =
 
 tokens_of-defined : (text : List ℕ) → IsDefined (tokens_of text)
 unfolding tokens_of
-tokens_of-defined text = IsDefined-cond (ltb 4096 (length text)) _ _ (λ same. absurd cc) (tokens_behind-defined 0 0 false text)
+tokens_of-defined text = IsDefined-cond (ltb most_text_bytes (length text)) _ _ (λ same. absurd cc) (tokens_behind-defined 0 0 false text)
 
 not_memory : {A : Type 0} (r : Result A SyntaxError) → IsDefined r → r ≢ Err OutOfMemory
 not_memory (Ok x) r-is e = absurd cc

@@ -17,8 +17,8 @@
 -- A rule relates the tokens from a phrase's first on, what the phrase says, and the tokens after it, inside a predicate or
 -- not, where so many openers may still begin.
 use Rattle.std.specs.Prelude.{◌≡◌, ℕ, zero, suc, Bool, true, false, ◌||◌, nat_eq, nat_lt, List, [], ◌∷◌, ◌++◌, length, Option, Some, None, pred}
+use Rattle.ar_value.specs.Limits.{most_literal_items}
 use Rattle.ar_tree.specs.Expression.{Expression, FieldAt, IndexAt, ItemAt, UnaryAt, BinaryAt, ChoiceAt, ListAt, expressions}
-use Rattle.ar_tree.specs.Limits.{most_items}
 use Rattle.ar_syntax.specs.Roles.{Call, Follow, Ends, Comma, Colon, EndGroup, EndBracket, EndBrace, Operator, NotOf, Choose, Select, Open, Leaf, Prefix, Group, Bracket, Calls, ItemPoint, arity, called, follows, is_body, is_brace, is_group, is_in, looseness, name_of, starts, text_value}
 use Rattle.ar_syntax.specs.declared.token.Token.{Token}
 use Rattle.ar_tree.specs.declared.tree.Binary.{Binary}
@@ -42,7 +42,7 @@ may_open rules left = nat_lt 0 left || rules.any_depth
 
 -- one more item after so many
 abbrev pub may_continue : Rules → ℕ → Bool
-may_continue rules items = nat_lt items most_items || rules.any_items
+may_continue rules items = nat_lt items most_literal_items || rules.any_items
 
 -- one more argument after so many, and none after them
 abbrev pub takes_more : Rules → Call → ℕ → Bool

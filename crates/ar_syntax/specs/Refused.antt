@@ -1,11 +1,12 @@
 -- The byte of a text at which it stops being a condition.
 use Rattle.std.specs.Prelude.{ℕ, Option, Some, None}
+use Rattle.ar_value.specs.Limits.{most_text_bytes}
 use Rattle.ar_syntax.specs.declared.error.SyntaxError.{SyntaxError}
 use Rattle.ar_syntax.specs.declared.error.SyntaxError.TheVariants.{TooLong, BadCharacter, OpenText, OpenComment, BadEscape, LiteralTooFine, NumberTooLarge, Unexpected, UnknownName, WrongCount, ItemOutside, TooManyItems, TooDeep, OutOfMemory}
 
 -- a text that is too long is so at the first byte that is too many
 abbrev pub refused_at : SyntaxError → Option ℕ
-refused_at TooLong = Some 4096
+refused_at TooLong = Some most_text_bytes
 refused_at (BadCharacter at) = Some at
 refused_at (OpenText at) = Some at
 refused_at (OpenComment at) = Some at

@@ -6,6 +6,7 @@ use Rattle.std.specs.Str.Parse.{digits_value}
 use Rattle.ar_value.specs.Decimal.{is_i64}
 use Rattle.ar_value.specs.Digits.{magnitude_of}
 use Rattle.ar_value.specs.Answer.{◌>>=◌}
+use Rattle.ar_value.specs.Limits.{most_text_bytes}
 use Rattle.ar_syntax.specs.Token.{Spells, begins_word, continues_word, is_digit_in, is_quote, named, radix, spelling, takes_field, text_at, text_end, unescaped, word_of}
 use Rattle.ar_syntax.specs.declared.error.SyntaxError.{SyntaxError}
 use Rattle.ar_syntax.specs.declared.error.SyntaxError.TheVariants.{TooLong, BadCharacter, OpenText, OpenComment, LiteralTooFine, NumberTooLarge, OutOfMemory}
@@ -215,13 +216,9 @@ tokens_behind skip at field [] = Ok []
 tokens_behind (suc skip) at field (byte ∷ bytes) = tokens_behind skip (at + 1) field bytes
 tokens_behind zero at field (byte ∷ bytes) = front_of at field (byte ∷ bytes) >>= λ front. with_front at front (λ skip field. tokens_behind skip (at + 1) field bytes)
 
--- how many bytes a condition may have
-abbrev pub most_condition_bytes : ℕ
-most_condition_bytes = 4096
-
 -- the tokens of a text that isn't too long, or its first fault
 unfoldable pub tokens_of : List ℕ → Result (List Token) SyntaxError
-tokens_of text = if nat_lt most_condition_bytes (length text) then Err TooLong else tokens_behind 0 0 false text
+tokens_of text = if nat_lt most_text_bytes (length text) then Err TooLong else tokens_behind 0 0 false text
 
 -- ---- what tokens are, as parts of their text
 

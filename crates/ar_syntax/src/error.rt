@@ -4,6 +4,7 @@ ghost use Rattle.std.specs.Prelude.{◌≡◌};
 ghost use Rattle.ar_syntax.specs.Refused.{refused_at};
 ghost use Rattle.ar_syntax.specs.declared.error.SyntaxError.TheVariants.{OutOfMemory};
 
+use ar_value::limits::MOST_TEXT_BYTES;
 use std::alloc::{AllocError, AllocFailed};
 use std::fmt;
 use thiserror::Error;
@@ -49,7 +50,7 @@ impl SyntaxError {
         ensures { result ≡ refused_at self }
     {
         match self {
-            SyntaxError::TooLong => Some(4096),
+            SyntaxError::TooLong => Some(MOST_TEXT_BYTES),
             SyntaxError::BadCharacter(at)
             | SyntaxError::OpenText(at)
             | SyntaxError::OpenComment(at)

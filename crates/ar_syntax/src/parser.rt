@@ -2,12 +2,13 @@
 
 ghost use Rattle.std.specs.Prelude.{◌≡◌, ◌<◌, length, Err, IfOk, IfErr, false, option_map};
 ghost use Rattle.ar_value.specs.Answer.{Gives};
+ghost use Rattle.ar_value.specs.Limits.{most_text_bytes};
 ghost use Rattle.ar_syntax.specs.Machine.{Have, finished, step, whole};
 ghost use Rattle.ar_syntax.specs.Parse.{IsNoCondition, SaysTree, ended, limited, parse_of, stepped, tree_of};
 ghost use Rattle.ar_syntax.specs.Refusal.{strict};
 ghost use Rattle.ar_syntax.specs.declared.error.SyntaxError.TheVariants.{TooLong};
 ghost use Rattle.ar_syntax.specs.Private.Steps.{at_state};
-ghost use Rattle.ar_syntax.specs.Tokens.{is_memory, most_condition_bytes};
+ghost use Rattle.ar_syntax.specs.Tokens.{is_memory};
 ghost use Rattle.ar_syntax.specs.Private.Frames.{frames_of};
 ghost use Rattle.ar_tree.specs.Limits.{WrittenInLimits};
 ghost use Rattle.ar_tree.specs.Views.{expression_of};
@@ -43,7 +44,7 @@ pub fn parse(alloc: Global, text: &str) -> Result<Tree, SyntaxError>
     ensures exact { Gives is_memory expression_of result (parse_of text.now) }
 
     // A text that is too long is refused for that alone.
-    ensures too_long { most_condition_bytes < length text.now → result ≡ Err TooLong }
+    ensures too_long { most_text_bytes < length text.now → result ≡ Err TooLong }
 
     // The same in the grammar's words.
     ensures tree { IfOk result (λ tree. SaysTree text.now (expression_of tree)) }
@@ -58,7 +59,7 @@ pub fn parse(alloc: Global, text: &str) -> Result<Tree, SyntaxError>
 /// The tree of a text, or its first refusal: tokens come first, all of them.
 #[tactic(auto, unfolding(crate::specs::Parse::parse_of))]
 fn tree(alloc: Global, text: &str) -> Result<Tree, SyntaxError>
-    ensures too_long { most_condition_bytes < length text.now → result ≡ Err TooLong }
+    ensures too_long { most_text_bytes < length text.now → result ≡ Err TooLong }
     ensures exact { Gives is_memory expression_of result (parse_of text.now) }
 {
     let tokens = tokens(alloc, text)?;

@@ -2,7 +2,8 @@
 
 ghost use Rattle.std.specs.Prelude.{◌≡◌, ◌+◌, ◌^◌, ◌<◌, ◌≤◌, length, false, drop, All, Err, IfOk, Ok};
 ghost use Rattle.ar_value.specs.Answer.{Gives};
-ghost use Rattle.ar_syntax.specs.Tokens.{AreInOrder, IsGapBetween, IsSpelled, begins_block_comment, begins_line_comment, block_comment, comment_end, front_of, is_blank, line_comment, sign_at, sign_of, is_coalescing, is_memory, most_condition_bytes, token_of, tokens_behind, tokens_of, word_at, word_token};
+ghost use Rattle.ar_value.specs.Limits.{most_text_bytes};
+ghost use Rattle.ar_syntax.specs.Tokens.{AreInOrder, IsGapBetween, IsSpelled, begins_block_comment, begins_line_comment, block_comment, comment_end, front_of, is_blank, line_comment, sign_at, sign_of, is_coalescing, is_memory, token_of, tokens_behind, tokens_of, word_at, word_token};
 ghost use Rattle.ar_syntax.specs.declared.error.SyntaxError.TheVariants.{TooLong};
 ghost use Rattle.ar_syntax.specs.Token.{named, word_of};
 
@@ -11,11 +12,9 @@ use crate::number::{begins_number, number_token};
 use crate::quoted::{is_quote, text_token};
 use crate::token::{Sign, Token, TokenKind, Word, begins_word, continues_word, placed};
 use ar_tree::tree::Comparison;
+use ar_value::limits::MOST_TEXT_BYTES;
 use ar_value::text::Text;
 use std::alloc::{AllocError, Global};
-
-/// How many bytes a condition may have.
-const MOST_CONDITION_BYTES: usize = 4096;
 
 /// How many bytes begin a comment.
 const COMMENT_SIGN_LEN: usize = 2;
@@ -70,7 +69,7 @@ pub fn tokens(alloc: Global, text: &str) -> Result<Vec<Token>, SyntaxError>
     ensures exact { Gives is_memory (λ tokens. tokens.items) result (tokens_of text.now) }
 
     // A text that is too long is refused for that alone.
-    ensures too_long { most_condition_bytes < length text.now → result ≡ Err TooLong }
+    ensures too_long { most_text_bytes < length text.now → result ≡ Err TooLong }
 
     // They are the text's parts.
     ensures in_order { IfOk result (λ tokens. AreInOrder 0 (length text.now) tokens.items) }
@@ -83,10 +82,10 @@ pub fn tokens(alloc: Global, text: &str) -> Result<Vec<Token>, SyntaxError>
 /// The tokens of a text that is short enough.
 #[tactic(auto, unfolding(crate::specs::Tokens::tokens_of))]
 fn limited_tokens(alloc: Global, text: &str) -> Result<Vec<Token>, SyntaxError>
-    ensures too_long { most_condition_bytes < length text.now → result ≡ Err TooLong }
+    ensures too_long { most_text_bytes < length text.now → result ≡ Err TooLong }
     ensures exact { Gives is_memory (λ tokens. tokens.items) result (tokens_of text.now) }
 {
-    if text.len() > MOST_CONDITION_BYTES {
+    if text.len() > MOST_TEXT_BYTES {
         return Err(SyntaxError::TooLong);
     }
     scan(alloc, text)

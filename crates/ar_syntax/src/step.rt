@@ -21,12 +21,10 @@ use crate::start::{Begin, begin_of};
 use crate::state::{Refusal, State};
 use crate::token::{Token, TokenKind};
 use ar_tree::tree::{Binary, Literal, Tree, Trees};
+use ar_value::limits::MOST_LITERAL_ITEMS;
 use ar_value::text::Text;
 use std::alloc::{AllocError, Global};
 use std::mem;
-
-/// How many items a list may have.
-const MOST_ITEMS: usize = 16;
 
 /// The level of a choice's condition: all operators bind tighter.
 const CONDITION_LEVEL: usize = 5;
@@ -423,7 +421,7 @@ fn next_item(stack: &mut Vec<Frame>, at: usize, so_far: Vec<Tree>) -> Result<Sta
         (Want (Listed at (map expression_of so_far.items) ∷ frames_of stack.old.items)))
         (frames_of stack.new.items) result }
 {
-    if so_far.len() < MOST_ITEMS {
+    if so_far.len() < MOST_LITERAL_ITEMS {
         wait(stack, Frame::Listed { at, so_far })
     } else {
         Err(Refusal::Items)

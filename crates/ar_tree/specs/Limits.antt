@@ -1,5 +1,6 @@
 -- Trees whose list literals, texts and names are short enough.
 use Rattle.std.specs.Prelude.{◌≤◌, ℕ, List, length}
+use Rattle.ar_value.specs.Limits.{most_literal_items, most_text_bytes}
 use Rattle.ar_tree.specs.Expression.{Expression, Expressions, count}
 use Rattle.ar_tree.specs.Expression as trees
 use Rattle.ar_tree.specs.Typed.{Typed, Typeds, how_many}
@@ -7,15 +8,8 @@ use Rattle.ar_tree.specs.Typed as typed
 use Rattle.ar_tree.specs.declared.tree.Literal.{Literal}
 use Rattle.ar_tree.specs.declared.tree.Literal.TheVariants as literals
 
--- how many items a list literal may have, and how many bytes a text or name
-abbrev pub most_items : ℕ
-most_items = 16
-
-abbrev pub most_bytes : ℕ
-most_bytes = 4096
-
 abbrev pub IsShort : List ℕ → Type 0
-IsShort text = length text ≤ most_bytes
+IsShort text = length text ≤ most_text_bytes
 
 abbrev pub IsShortLiteral : Literal → Type 0
 IsShortLiteral (literals.Text letters) = IsShort letters
@@ -31,7 +25,7 @@ abbrev mutual
   WrittenInLimits (trees.UnaryAt at operator operand) = WrittenInLimits operand
   WrittenInLimits (trees.BinaryAt at operator left right) = WrittenInLimits left × WrittenInLimits right
   WrittenInLimits (trees.ChoiceAt at condition met unmet) = WrittenInLimits condition × WrittenInLimits met × WrittenInLimits unmet
-  WrittenInLimits (trees.ListAt at items) = AllWrittenInLimits items × (count items ≤ most_items)
+  WrittenInLimits (trees.ListAt at items) = AllWrittenInLimits items × (count items ≤ most_literal_items)
   WrittenInLimits (trees.LenAt at list) = WrittenInLimits list
   WrittenInLimits (trees.IsNilAt at operand) = WrittenInLimits operand
   WrittenInLimits (trees.DefaultAt at operand other) = WrittenInLimits operand × WrittenInLimits other
@@ -53,7 +47,7 @@ abbrev mutual
   InLimits (typed.both left right) = InLimits left × InLimits right
   InLimits (typed.either left right) = InLimits left × InLimits right
   InLimits (typed.choice condition met unmet) = InLimits condition × InLimits met × InLimits unmet
-  InLimits (typed.listed scalar items) = AllInLimits items × (how_many items ≤ most_items)
+  InLimits (typed.listed scalar items) = AllInLimits items × (how_many items ≤ most_literal_items)
   InLimits (typed.predicate predicate list body) = InLimits list × InLimits body
 
   pub AllInLimits : Typeds → Type 0

@@ -13,9 +13,12 @@ use Rattle.ar_value.specs.declared.decimal_text.Scale.{Scale}
 abbrev pub is_not_finite : List ℕ → Bool
 is_not_finite text = list_any (bytes_eq text) (codes "NaN" ∷ codes "Inf" ∷ codes "+Inf" ∷ codes "-Inf" ∷ [])
 
--- the digits of a mantissa, those before its point and after it together: 1 to 64, and nothing but digits
+abbrev pub most_mantissa_digits : ℕ
+most_mantissa_digits = 64
+
+-- the digits of a mantissa, those before its point and after it together: one at least, and nothing but digits
 abbrev pub is_mantissa : List ℕ → Bool
-is_mantissa digits = nat_le 1 (length digits) && nat_le (length digits) 64 && list_all is_ascii_digit digits
+is_mantissa digits = nat_le 1 (length digits) && nat_le (length digits) most_mantissa_digits && list_all is_ascii_digit digits
 
 -- an exponent has one to three digits
 abbrev pub is_exponent : List ℕ → Bool

@@ -6,7 +6,7 @@ ghost use Rattle.std.specs.Prelude.{◌≡◌, ◌++◌, ◌∷◌, [], Err, IfE
 use std::alloc::AllocError;
 
 /// What is held, with another value, if that could be made.
-pub fn beside<A: Drop, B: Drop, E: Drop>(held: A, made: Result<B, E>) -> Result<(A, B), E>
+pub fn zip_ok<A: Drop, B: Drop, E: Drop>(held: A, made: Result<B, E>) -> Result<(A, B), E>
     ensures ok { IfOk result (λ both. (made ≡ Ok both.1) × (both.0 ≡ held)) }
     ensures err { IfErr result (λ refusal. made ≡ Err refusal) }
 {
@@ -21,7 +21,7 @@ pub fn beside<A: Drop, B: Drop, E: Drop>(held: A, made: Result<B, E>) -> Result<
 /// # Errors
 ///
 /// A refused allocation.
-pub fn add<T: Drop>(list: &mut Vec<T>, item: T) -> Result<(), AllocError>
+pub fn try_push<T: Drop>(list: &mut Vec<T>, item: T) -> Result<(), AllocError>
     ensures { OnOk result (list.new.items ≡ list.old.items ++ item ∷ []) }
 {
     list.push(item)?;

@@ -24,6 +24,7 @@
 //! - [`kind`]: kinds of expressions; `widening` joins shapes; [`sameness`]: which are the same;
 //!   [`shared_shape`]: shapes with several owners
 //! - [`holding`]: values that are held while others are made
+//! - [`limits`]: limits that several crates keep to
 //! - [`laws`]: what holds of kinds
 #![tactic(auto)]
 
@@ -36,6 +37,7 @@ pub mod fitting;
 pub mod holding;
 pub mod kind;
 pub mod laws;
+pub mod limits;
 pub mod names;
 pub mod operator;
 pub mod places;

@@ -3,9 +3,10 @@ use Rattle.std.proofs.Common.{◌≡◌, ◌+◌, ◌<◌, ◌≤◌, ℕ, List,
 use Rattle.std.specs.Prelude.{max, slice_index_or, slice_set}
 use Rattle.std.proofs.lemmas.List.{get_or-map, map-append, map-set, replicate-append-replicate, set-set}
 use Rattle.ar_value.specs.Shape.{Shape}
+use Rattle.ar_value.specs.Limits.{most_operands}
 use Rattle.ar_op.specs.Code.{Code}
 use Rattle.ar_op.specs.declared.op.Op.{Op}
-use Rattle.ar_safety.specs.Arrivals.{Operands, Sent, deepest, most_operands, operands}
+use Rattle.ar_safety.specs.Arrivals.{Operands, Sent, deepest, operands}
 use Rattle.ar_verify.specs.Private.Held.{arrival_view, counted, operands_view}
 use Rattle.ar_verify.specs.Private.Sending.{sends_by}
 use Rattle.ar_verify.specs.Private.Table.{State, Table, added, entry, table_view, with_all, without}

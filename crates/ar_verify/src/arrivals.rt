@@ -20,11 +20,11 @@ use crate::failure::Failure;
 use crate::kind::{Kind, as_list};
 use crate::operands::{Operands, join};
 use crate::sending::{Sends, Sent, send_on};
-use crate::stack::add;
 use crate::whole::{ShapeName, Whole};
 use ar_op::code::Code;
 use ar_op::op::Op;
 use ar_safety::{Cause, Reason};
+use ar_value::holding::try_push;
 use ar_value::shared_shape::SharedShape;
 use std::alloc::{AllocError, Global};
 use std::marker::Brand;
@@ -69,9 +69,9 @@ fn table<M: ShapeName>(
         (λ arrived. table_view arrived.items ≡ Ok (operands [] []) ∷ replicate count (Err Unreachable)) }
 {
     let mut arrived = Vec::new(alloc);
-    add(&mut arrived, Ok(Operands::none(alloc)))?;
+    try_push(&mut arrived, Ok(Operands::none(alloc)))?;
     for _place in 0..count {
-        add(&mut arrived, Err(Reason::Unreachable))?;
+        try_push(&mut arrived, Err(Reason::Unreachable))?;
     }
     Ok(arrived)
 }
@@ -144,7 +144,7 @@ impl Arrivals {
         ensures depth { self.new.depth ≡ self.old.depth }
         ensures items { OnOk result (self.new.most_items.items ≡ self.old.most_items.items ++ most ∷ []) }
     {
-        add(&mut self.most_items, most)
+        try_push(&mut self.most_items, most)
     }
 }
 

@@ -6,11 +6,9 @@ ghost use Rattle.ar_safety.specs.Verdict.{greatest_budget};
 
 use ar_op::code::Code;
 use ar_op::op::{Jump, Op};
+use ar_safety::GREATEST_BUDGET;
 use ar_value::operator::BinaryOperator;
 use std::alloc::{AllocError, Global};
-
-/// The greatest budget that code is accepted with.
-const GREATEST_BUDGET: u64 = 1_000_000_000;
 
 /// What all costs above the greatest budget count as. Where a part of code is too expensive, so is the
 /// code, unless the part is in a loop over no items, which then costs nothing of it. So this changes

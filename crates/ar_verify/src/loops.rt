@@ -13,10 +13,8 @@ ghost use Rattle.ar_verify.specs.Private.Depths.{depth_behind, depths, is_inside
 use crate::places::unless;
 use ar_op::op::Op;
 use ar_safety::{Cause, Reason};
+use ar_value::limits::MOST_LOOPS;
 use std::alloc::{AllocError, Global};
-
-/// How many loops may be around an operation.
-const MOST_LOOPS: usize = 4;
 
 /// How many loops are around the place after an operation.
 fn depth_behind(op: Op, depth: usize) -> usize

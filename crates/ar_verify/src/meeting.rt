@@ -15,8 +15,8 @@ use crate::alike::are_of_one_form;
 use crate::part::{INNER, are_one};
 use crate::parts::Parts;
 use crate::root::Part;
-use crate::stack::add;
 use crate::whole::{ShapeName, Whole};
+use ar_value::holding::try_push;
 use ar_value::kind;
 use ar_value::shape::Shape;
 use std::alloc::{AllocError, Global};
@@ -112,7 +112,7 @@ fn children<M: ShapeName>(
 {
     let mut children = Vec::with_capacity(alloc, parts.len())?;
     for part in parts {
-        add(&mut children, part.child(alloc, number)?)?;
+        try_push(&mut children, part.child(alloc, number)?)?;
     }
     Ok(children)
 }
@@ -173,7 +173,7 @@ fn add_part<M: ShapeName>(
     if is_there(first, others, part) {
         Ok(())
     } else {
-        add(others, part.clone()?)
+        try_push(others, part.clone()?)
     }
 }
 

@@ -8,9 +8,9 @@ ghost use Rattle.ar_verify.specs.Private.Stacks.{from_top};
 
 use crate::kind::{Kind, merge};
 use crate::list::ListShape;
-use crate::stack::add;
 use crate::whole::ShapeName;
 use ar_safety::Reason;
+use ar_value::holding::try_push;
 use std::alloc::{AllocError, Global};
 
 /// A loop around a place.
@@ -34,7 +34,7 @@ fn copy_onto<M: ShapeName>(copies: &mut Vec<Kind<M>>, kind: &Kind<M>) -> Result<
     ensures { OnOk result
         (map kind_view copies.new.items ≡ map kind_view copies.old.items ++ kind_view kind.now ∷ []) }
 {
-    add(copies, kind.share()?)
+    try_push(copies, kind.share()?)
 }
 
 fn copy_kinds<M: ShapeName>(alloc: Global, kinds: &[Kind<M>]) -> Result<Vec<Kind<M>>, AllocError>
@@ -65,7 +65,7 @@ fn copy_loops<M: ShapeName>(
 {
     let mut copies = Vec::with_capacity(alloc, loops.len())?;
     for around in loops {
-        add(&mut copies, around.copy(alloc)?)?;
+        try_push(&mut copies, around.copy(alloc)?)?;
     }
     Ok(copies)
 }
@@ -124,7 +124,7 @@ fn merge_all<M: ShapeName>(
     let mut kinds = Vec::with_capacity(alloc, lefts.len())?;
     for (index, left) in lefts.iter().enumerate() {
         match merge(alloc, left, &rights[index])? {
-            Some(kind) => add(&mut kinds, kind)?,
+            Some(kind) => try_push(&mut kinds, kind)?,
             None => return Ok(None),
         }
     }

@@ -82,7 +82,7 @@ impl<M: ShapeName> Part<M> {
     pub(crate) fn measured(alloc: Global, whole: &Whole<M>) -> Result<Rc<Part<M>>, AllocError>
         ensures { IfOk result (λ measured. part_view measured.value ≡ shape_view M.shape) }
     {
-        Part::whole(alloc, Root::Measured(whole.again()?))
+        Part::whole(alloc, Root::Measured(whole.try_clone()?))
     }
 
     /// A shape that stands alone.

@@ -38,7 +38,7 @@ impl<M: ShapeName> Root<M> {
         ensures { IfOk result (λ shared. root_view shared ≡ root_view self.now) }
     {
         match self {
-            Root::Measured(whole) => Ok(Root::Measured(whole.again()?)),
+            Root::Measured(whole) => Ok(Root::Measured(whole.try_clone()?)),
             Root::Made(shape) => Ok(Root::Made(shape.clone()?)),
         }
     }

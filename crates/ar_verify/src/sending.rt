@@ -2,7 +2,8 @@
 
 ghost use Rattle.std.specs.Prelude.{◌≡◌, ◌+◌, ◌<◌, ◌≤◌, ◌∷◌, [], IfOk, MatchOption, Ok, OnOk, option_map};
 ghost use Rattle.ar_value.specs.View.{shape_view};
-ghost use Rattle.ar_safety.specs.Arrivals.{answer_kind, deepest, item_of, lacks, most_operands, operands};
+ghost use Rattle.ar_value.specs.Limits.{most_operands};
+ghost use Rattle.ar_safety.specs.Arrivals.{answer_kind, deepest, item_of, lacks, operands};
 ghost use Rattle.ar_safety.specs.Effects.{effect};
 ghost use Rattle.ar_verify.specs.Private.Failures.{Meets};
 ghost use Rattle.ar_verify.specs.Private.Held.{around_view, counted, from_innermost, operands_view};
@@ -17,17 +18,16 @@ use crate::kind::{Kind, into_list, kind_of_list};
 use crate::list::ListShape;
 use crate::operands::{Around, Operands};
 use crate::parts::Parts;
-use crate::stack::{add, pop, push};
+use crate::stack::{pop, push};
 use crate::whole::{ShapeName, Whole};
 use ar_op::code::Code;
 use ar_op::op::{Jump, Op, Source};
 use ar_safety::Reason;
+use ar_value::holding::try_push;
+use ar_value::limits::MOST_OPERANDS;
 use ar_value::operator::{Predicate, Scalar};
 use ar_value::shape::Shape;
 use std::alloc::{AllocError, Global};
-
-/// How many operands there may be, those below the floor too.
-const MOST_OPERANDS: usize = 64;
 
 /// Operands on the way to a place.
 #[derive(Drop)]
@@ -91,7 +91,7 @@ fn push_loop<M: ShapeName>(
     ensures { OnOk result
         (from_innermost loops.new.items ≡ around_view innermost ∷ from_innermost loops.old.items) }
 {
-    add(loops, innermost)
+    try_push(loops, innermost)
 }
 
 fn pop_loop<M: ShapeName>(loops: &mut Vec<Around<M>>) -> Option<Around<M>>

@@ -6,20 +6,13 @@ ghost use Rattle.ar_verify.specs.Private.Stacks.{from_top};
 
 use crate::kind::Kind;
 use crate::whole::ShapeName;
-use std::alloc::{AllocError, Global};
-
-/// Adds an item to a list, or lets it go where there is no memory for it.
-pub(crate) fn add<T: Drop>(list: &mut Vec<T>, item: T) -> Result<(), AllocError>
-    ensures { OnOk result (list.new.items ≡ list.old.items ++ item ∷ []) }
-{
-    list.push(item)?;
-    Ok(())
-}
+use ar_value::holding::try_push;
+use std::alloc::AllocError;
 
 pub(crate) fn push<M: ShapeName>(kinds: &mut Vec<Kind<M>>, kind: Kind<M>) -> Result<(), AllocError>
     ensures { OnOk result (from_top kinds.new.items ≡ kind_view kind ∷ from_top kinds.old.items) }
 {
-    add(kinds, kind)
+    try_push(kinds, kind)
 }
 
 pub(crate) fn pop<M: ShapeName>(kinds: &mut Vec<Kind<M>>) -> Option<Kind<M>>

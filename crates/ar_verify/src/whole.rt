@@ -47,8 +47,8 @@ impl<M: ShapeName> Whole<M> {
         self.shape.get()
     }
 
-    /// The same once more, which takes no memory.
-    pub(crate) fn again(&self) -> Result<Whole<M>, AllocError> {
+    /// One owner more, which takes no memory.
+    pub(crate) fn try_clone(&self) -> Result<Whole<M>, AllocError> {
         Ok(Whole {
             shape: self.shape.clone()?,
             name: PhantomData,

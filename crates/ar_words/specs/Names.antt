@@ -27,8 +27,8 @@ item_text kind number item = numbered kind number ++ after_blank (name_of item)
 -- ---- lists
 
 -- how many items' names are listed
-abbrev pub most_items : ℕ
-most_items = 8
+abbrev pub most_listed : ℕ
+most_listed = 8
 
 -- the names of the items that have one, each but the first after a comma
 abbrev pub names_listed : List Data → List ℕ
@@ -36,8 +36,8 @@ names_listed items = join_by quoted (codes ", ") (filter_map name_of items)
 
 -- how many items stand after those that are listed
 abbrev pub others_counted : (count : ℕ) → List ℕ
-others_counted count = if nat_lt most_items count then codes " and " ++ (decimal (count - most_items) ++ codes " more") else []
+others_counted count = if nat_lt most_listed count then codes " and " ++ (decimal (count - most_listed) ++ codes " more") else []
 
 -- the names of the first items, and how many items more there are
 abbrev pub names_text : List Data → List ℕ
-names_text items = names_listed (take most_items items) ++ others_counted (length items)
+names_text items = names_listed (take most_listed items) ++ others_counted (length items)

@@ -2,7 +2,7 @@
 
 ghost use Rattle.std.specs.Prelude.{◌≡◌, ◌++◌, IfOk, OnOk, map, option_map, string_bytes, take};
 ghost use Rattle.serde_json.specs.View.{view};
-ghost use Rattle.ar_words.specs.Names.{after_blank, item_text, most_items, name_of, names_listed, names_text, others_counted};
+ghost use Rattle.ar_words.specs.Names.{after_blank, item_text, most_listed, name_of, names_listed, names_text, others_counted};
 ghost use Rattle.ar_words.specs.Private.Listed.{name_listed};
 
 use ar_json::members::text_member;
@@ -12,7 +12,7 @@ use std::alloc::{AllocError, Global};
 use std::fmt::Write;
 
 /// How many items' names are listed.
-const MOST_ITEMS: usize = 8;
+const MOST_LISTED: usize = 8;
 
 pub(crate) fn name_of(item: &Json) -> Option<&str>
     ensures { option_map (λ name. name.now) result ≡ name_of (view item.now) }
@@ -77,17 +77,17 @@ fn push_all(out: &mut String, items: &[Json]) -> Result<(), AllocError>
 
 /// The first items.
 fn first(items: &[Json]) -> &[Json]
-    ensures { map (λ item. view item) result.now ≡ take most_items (map (λ item. view item) items.now) }
+    ensures { map (λ item. view item) result.now ≡ take most_listed (map (λ item. view item) items.now) }
 {
-    items.get(..MOST_ITEMS).unwrap_or(items)
+    items.get(..MOST_LISTED).unwrap_or(items)
 }
 
 /// How many items there are after the first.
 fn push_others(out: &mut String, count: usize) -> Result<(), AllocError>
     ensures { OnOk result (string_bytes out.new ≡ string_bytes out.old ++ others_counted count) }
 {
-    if count > MOST_ITEMS {
-        write!(out, " and {} more", count - MOST_ITEMS)?;
+    if count > MOST_LISTED {
+        write!(out, " and {} more", count - MOST_LISTED)?;
     }
     Ok(())
 }

@@ -11,7 +11,7 @@ use ar_machine::{Outcome, run};
 use ar_safety::Verified;
 use ar_tested::{Ended, run_tested};
 use ar_value::Value;
-use ar_value::holding::add;
+use ar_value::holding::try_push;
 use ar_verify::verify;
 use cases_of_values::fault::{CaseFault, Written};
 use cases_of_values::members;
@@ -63,7 +63,7 @@ fn outcomes_of(alloc: Global, case: &Json, image: &[u8]) -> Result<Vec<String>, 
     let mut outcomes = Vec::new(alloc);
     for byte in 0..=u8::MAX {
         let outcome = changed_outcome(alloc, case, image, place, byte)?;
-        add(&mut outcomes, outcome)?;
+        try_push(&mut outcomes, outcome)?;
     }
     Ok(outcomes)
 }

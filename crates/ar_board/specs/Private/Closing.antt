@@ -1,7 +1,8 @@
 -- How a board is closed.
 use Rattle.std.specs.Prelude.{◌≡◌, ◌⊎◌, ◌<◌, ◌≤◌, ℕ, Bool, true, false, List, length, Option, Some, None, IfSome, slice_get, take}
 use Rattle.std.specs.List.{AllByRecursion}
-use Rattle.ar_bundle.specs.Bundle.{Bundle, most_runs, run_of}
+use Rattle.ar_value.specs.Limits.{most_runs}
+use Rattle.ar_bundle.specs.Bundle.{Bundle, run_of}
 use Rattle.ar_bundle.specs.Lawful.{times}
 use Rattle.ar_bundle.specs.declared.history.Entry.{Entry}
 use Rattle.ar_board.specs.Cell.{ArePut, Cell, IsCell, histories_of, history_at, lock_of}

@@ -6,10 +6,11 @@ use Rattle.ar_value.specs.declared.operator.BinaryOperator.{BinaryOperator}
 use Rattle.ar_value.specs.declared.operator.Predicate.{Predicate}
 use Rattle.ar_value.specs.declared.operator.Scalar.{Scalar}
 use Rattle.ar_value.specs.declared.operator.UnaryOperator.{UnaryOperator}
+use Rattle.ar_value.specs.Limits.{most_loops}
 use Rattle.ar_tree.specs.Typed.{Typed, Typeds, how_many}
 use Rattle.ar_tree.specs.Typed as typed
 use Rattle.ar_tree.specs.declared.tree.Literal.{Literal}
-use Rattle.ar_check.specs.Basics.{literal_kind, most_predicates}
+use Rattle.ar_check.specs.Basics.{literal_kind}
 use Rattle.ar_check.specs.Check.{predicate_kind, scalar_shape, truth_kind}
 use Rattle.ar_safety.specs.Effects.{binary_kind, unary_kind}
 
@@ -36,7 +37,7 @@ mutual
     of_list : {item : Option Shape} {around : ℕ} {items : Typeds} {scalar : Scalar}
         → AllKinded result item around items scalar → Kinded result item around (typed.listed scalar items) (shaped (list (scalar_shape scalar) (how_many items)))
     of_predicate : {item : Option Shape} {around max : ℕ} {predicate : Predicate} {items body : Typed} {shape : Shape}
-        → Kinded result item around items (shaped (list shape max)) → around < most_predicates → Kinded result (Some shape) (suc around) body truth_kind
+        → Kinded result item around items (shaped (list shape max)) → around < most_loops → Kinded result (Some shape) (suc around) body truth_kind
         → Kinded result item around (typed.predicate predicate items body) (predicate_kind predicate (shaped (list shape max)))
 
   -- items that are all one kind of scalar

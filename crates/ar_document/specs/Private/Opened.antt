@@ -1,6 +1,6 @@
 -- What was opened of a document, as the code keeps it.
 use Rattle.std.specs.Prelude.{◌≡◌, ◌≤◌, ℕ, List, length, map}
-use Rattle.ar_bundle.specs.Bundle.{most_metrics, most_runs}
+use Rattle.ar_value.specs.Limits.{most_metrics, most_runs}
 use Rattle.ar_document.specs.Opening.{Metric, Opened as Parts, metric_view, names_of, opened_as}
 use Rattle.ar_document.specs.Private.Naming.{AreNumbers}
 use Rattle.ar_document.specs.declared.opening.Opened.{Opened}

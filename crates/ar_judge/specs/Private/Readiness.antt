@@ -4,9 +4,10 @@ use Rattle.ar_value.specs.Fits.{fits}
 use Rattle.ar_value.specs.Shape.{Shape}
 use Rattle.ar_value.specs.Value.{Value}
 use Rattle.ar_value.specs.View.{shape_view}
+use Rattle.ar_value.specs.Limits.{most_code_entries}
 use Rattle.ar_tree.specs.Meaning.{answer_of, mean}
 use Rattle.ar_tree.specs.Typed.{Typed}
-use Rattle.ar_op.specs.Code.{Code, most_entries}
+use Rattle.ar_op.specs.Code.{Code}
 use Rattle.ar_compile.specs.Compiled.{compiled}
 use Rattle.ar_compile.specs.Ends.{EndsWith}
 use Rattle.ar_compile.specs.Length.{length_of}
@@ -28,7 +29,7 @@ pub record IsReady (text : List ℕ) (verified : Verified) : Type 0 where
 pub record IsCodeOf (shape : Shape) (text : List ℕ) (code : Code) : Type 0 where
   pub tree : Typed
   pub typed : typed_of shape text ≡ Ok tree
-  pub short : length_of tree ≤ most_entries
+  pub short : length_of tree ≤ most_code_entries
   pub code_is : code ≡ compiled tree
   pub means : Means shape tree code
 

@@ -1,10 +1,11 @@
 -- Texts that are kept while they have few enough bytes, and bound metrics of such texts.
 use Rattle.std.specs.Prelude.{ℕ, nat_le, Bool, true, false, if◌then◌else◌, List, ◌++◌, length, Option, Some, None, option_map, Result, Ok, Err}
 use Rattle.ar_value.specs.Answer.{◌>>=◌}
+use Rattle.ar_value.specs.Limits.{most_text_bytes}
 use Rattle.ar_json.specs.Members.{unless_empty}
 use Rattle.ar_manifest.specs.Binding.{RunArguments, bound_text}
 use Rattle.ar_manifest.specs.Bound.{bound_condition, bound_metric, limit_of_text}
-use Rattle.ar_manifest.specs.Shortened.{most_condition_bytes, shortened, shortened_metric, spaces}
+use Rattle.ar_manifest.specs.Shortened.{shortened, shortened_metric, spaces}
 use Rattle.ar_manifest.specs.Template.{TemplateArguments}
 use Rattle.ar_manifest.specs.declared.bound.BoundMetric.{BoundMetric}
 use Rattle.ar_manifest.specs.declared.error.ManifestError.{ManifestError}
@@ -43,7 +44,7 @@ limit_within i (Some text) = limit_of_text i text
 -- how many bytes of a condition are kept, where it is shortened
 abbrev pub most_kept : Bool → Option ℕ
 most_kept false = None
-most_kept true = Some most_condition_bytes
+most_kept true = Some most_text_bytes
 
 -- a bound text as a condition, and one of too many bytes as spaces
 unfoldable pub condition_within : Option (List ℕ) → Option (List ℕ)

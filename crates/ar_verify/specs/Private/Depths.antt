@@ -1,10 +1,11 @@
 -- Pass 3 as the code makes it, from the number of loops around each place and the Steps of the loops that are open at the
 -- operation at hand, the outermost first.
 use Rattle.std.specs.Prelude.{◌≡◌, ℕ, ◌+◌, ◌-◌, ◌==◌, ◌<◌, Bool, true, ◌&&◌, nat_le, nat_lt, List, [], ◌∷◌, ◌++◌, length, drop, take, Option, Some, None, slice_get, slice_index_or}
+use Rattle.ar_value.specs.Limits.{most_loops}
 use Rattle.ar_op.specs.Machine.{nth}
 use Rattle.ar_op.specs.declared.op.Op.{Op}
 use Rattle.ar_op.specs.declared.op.Op.TheVariants.{Jump, Enter, Step, Return}
-use Rattle.ar_safety.specs.Places.{all_pass, held, most_loops, nests_well, or_else, unless}
+use Rattle.ar_safety.specs.Places.{all_pass, held, nests_well, or_else, unless}
 use Rattle.ar_safety.specs.declared.error.Reason.{Reason}
 use Rattle.ar_safety.specs.declared.error.Reason.TheVariants.{CrossesLoop, LoopsTooDeep}
 

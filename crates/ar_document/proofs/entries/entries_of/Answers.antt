@@ -24,16 +24,16 @@ loop-item-preserved c =
     let step = entry_in (opened_view c.args.opened.now) in
     let made = c.loop-item.entries.items in
     let makes = c.in_ok-entry.ensures.exact (map entry_view made) (length-map made entry_view ∙ sym c.loop-item.entries.ok.0 ∙ sym c.len-in-loop-item.ensures) in
-    let grown : length c.add.new.list.items ≡ length made + 1 = rw c.in_ok-add.ensures (length-append _ _) in
+    let grown : length c.try_push.new.list.items ≡ length made + 1 = rw c.in_ok-try_push.ensures (length-append _ _) in
     let fewer = ap length c.in-Some.ensures.steps.0 in
     let each = c.loop-item.invariant.each in
     let left = c.loop-item.invariant.left in
     let gone = c.in-Some.ensures.steps.1 in
     record {
-      made = next_more (λ json. view json) entry_view step (into_iter_items c.loop-item.item-iterator) made _ c.in-Some.item (into_iter_items c.next.new.self) c.in_ok-entry.entry c.add.new.list.items c.in-Some.ensures.steps.0 makes c.in_ok-add.ensures c.loop-item.invariant.made;
+      made = next_more (λ json. view json) entry_view step (into_iter_items c.loop-item.item-iterator) made _ c.in-Some.item (into_iter_items c.next.new.self) c.in_ok-entry.entry c.try_push.new.list.items c.in-Some.ensures.steps.0 makes c.in_ok-try_push.ensures c.loop-item.invariant.made;
       left = omega (arith, fewer, left, gone);
       each = omega (arith, grown, fewer, each);
-      entries = rw c.in_ok-add.ensures (one_more _ made c.in_ok-entry.entry c.loop-item.invariant.entries c.in_ok-entry.ensures.entry);
+      entries = rw c.in_ok-try_push.ensures (one_more _ made c.in_ok-entry.entry c.loop-item.invariant.entries c.in_ok-entry.ensures.entry);
     }
 
 pub returns-clause-exact : goal.returns-clause-exact

@@ -22,9 +22,9 @@ pub loop-number-preserved : goal.loop-number-preserved
 loop-number-preserved c =
     let step = with_shape (option_map (λ json. view json.now) c.args.shapes) in
     let makes = c.in_ok-part.ensures (map metric_view c.loop-number.parts.items) (length-map c.loop-number.parts.items metric_view ∙ c.loop-number.invariant.each) in
-    let grown : length c.add.new.list.items ≡ length c.loop-number.parts.items + 1 = rw c.in_ok-add.ensures (length-append _ _) in
+    let grown : length c.try_push.new.list.items ≡ length c.loop-number.parts.items + 1 = rw c.in_ok-try_push.ensures (length-append _ _) in
     record {
-      made = step_more (λ (metric : Metric). metric) metric_view step c.args.metrics.now c.loop-number.number c.loop-number.parts.items _ c.index-metrics-number.result c.in_ok-part.part c.add.new.list.items c.loop-number-test.true c.index-metrics-number.is makes c.in_ok-add.ensures c.loop-number.invariant.made;
+      made = step_more (λ (metric : Metric). metric) metric_view step c.args.metrics.now c.loop-number.number c.loop-number.parts.items _ c.index-metrics-number.result c.in_ok-part.part c.try_push.new.list.items c.loop-number-test.true c.index-metrics-number.is makes c.in_ok-try_push.ensures c.loop-number.invariant.made;
       each = omega (arith, grown, c.loop-number.invariant.each);
     }
 

@@ -1,4 +1,5 @@
 use Rattle.std.proofs.Common.{◌≡◌, ◌≤◌, length, ◌∙◌, ap, subst, sym}
+use Rattle.ar_value.specs.Limits.{most_metrics}
 use Rattle.serde_json.specs.View.{view}
 use Rattle.ar_document.proofs.Templates.{few_metrics_in}
 use Rattle.ar_document.proofs.opening.open.Goals as goal
@@ -14,7 +15,7 @@ returns-clause-opened c =
     rw (c.in_ok-held-2.ensures.ok.1, c.in_ok-held.ensures.ok.1)
     (record {
       each = each;
-      few_metrics = subst (λ n. n ≤ 64) (sym each) (few_metrics_in (view c.args.document.now) c.in_ok-template.template c.in_ok-template.ensures);
+      few_metrics = subst (λ n. n ≤ most_metrics) (sym each) (few_metrics_in (view c.args.document.now) c.in_ok-template.template c.in_ok-template.ensures);
       readers = readers;
       few_runs = few_runs;
       run_numbers = run_numbers;

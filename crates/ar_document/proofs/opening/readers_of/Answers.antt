@@ -9,7 +9,7 @@ pub loop-metric-preserved : goal.loop-metric-preserved
 loop-metric-preserved c =
     let metrics = c.args.metrics.now in
     let taken = ap (map (λ (metric : MetricPart). metric.shape)) (taken_next metrics c.loop-metric.metric-index c.metric-item.result c.loop-metric-test.true c.metric-item.is) ∙ map-append (λ (metric : MetricPart). metric.shape) (take c.loop-metric.metric-index metrics) (c.metric-item.result ∷ []) in
-    c.in_ok-add.ensures ∙ rw (c.loop-metric.invariant, c.in_ok-reader.ensures, c.in_ok-shape.ensures) (sym taken)
+    c.in_ok-try_push.ensures ∙ rw (c.loop-metric.invariant, c.in_ok-reader.ensures, c.in_ok-shape.ensures) (sym taken)
 
 pub returns : goal.returns
 returns c = grind (arith, common_steps)

@@ -25,7 +25,7 @@ returns-in_err-judge-clause-refused c =
 pub loop-number-preserved : goal.loop-number-preserved
 loop-number-preserved c =
     let inside : c.loop-number.number < length c.args.bound.now = omega (arith, c.requires.many, c.loop-number-test.true) in
-    rw c.in_ok-add.ensures
+    rw c.in_ok-try_push.ensures
     (next_judge c.args.metrics.now c.args.bound.now c.loop-number.judges.items c.loop-number.number c.index-metrics-number.result c.index-bound-number.result c.in_ok-judge.judge c.loop-number-test.true inside c.index-metrics-number.is c.index-bound-number.is c.loop-number.invariant c.in_ok-judge.ensures.built)
 
 pub returns-clause-built : goal.returns-clause-built

@@ -24,7 +24,7 @@ pub loop-number-preserved : goal.loop-number-preserved
 loop-number-preserved c =
     let inside = rw c.deref-run-items.ensures.value at c.loop-number-test.true in
     let is = rw c.deref-run-items.ensures.value at c.run-item.is in
-    rw c.in_ok-add.ensures
+    rw c.in_ok-try_push.ensures
     (next_part (opened_view c.args.opened.now) c.args.opened.now.runs.items c.loop-number.parts.items c.loop-number.number c.run-item.result c.in_ok-part.part inside is c.loop-number.invariant c.in_ok-part.ensures.part)
 
 pub returns-clause-parts : goal.returns-clause-parts

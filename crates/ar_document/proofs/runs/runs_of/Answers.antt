@@ -14,9 +14,9 @@ returns-in_err-made-clause-exact c =
 
 pub loop-item-preserved : goal.loop-item-preserved
 loop-item-preserved c =
-    let grown : length c.add.new.list.items ≡ length c.loop-item.runs.items + 1 = rw c.in_ok-add.ensures (length-append _ _) in
+    let grown : length c.try_push.new.list.items ≡ length c.loop-item.runs.items + 1 = rw c.in_ok-try_push.ensures (length-append _ _) in
     record {
-      made = step_more (λ json. view json) (λ (run : Run). run) (λ earlier. run_of) c.args.items.now c.loop-item.item-index c.loop-item.runs.items _ c.item-item.result c.in_ok-made.made c.add.new.list.items c.loop-item-test.true c.item-item.is c.in_ok-made.ensures c.in_ok-add.ensures c.loop-item.invariant.made;
+      made = step_more (λ json. view json) (λ (run : Run). run) (λ earlier. run_of) c.args.items.now c.loop-item.item-index c.loop-item.runs.items _ c.item-item.result c.in_ok-made.made c.try_push.new.list.items c.loop-item-test.true c.item-item.is c.in_ok-made.ensures c.in_ok-try_push.ensures c.loop-item.invariant.made;
       each = omega (arith, grown, c.loop-item.invariant.each);
     }
 

@@ -15,7 +15,7 @@ returns-in_err-metric c =
 pub loop-json-preserved : goal.loop-json-preserved
 loop-json-preserved c =
     let makes = rw c.deref.ensures.value at c.in_ok-metric.ensures in
-    step_more (λ json. view json) metric_of c.args.list.now c.loop-json.json-index c.loop-json.metrics.items _ c.json-item.result c.in_ok-metric.metric c.add.new.list.items c.loop-json-test.true c.json-item.is makes c.in_ok-add.ensures c.loop-json.invariant
+    step_more (λ json. view json) metric_of c.args.list.now c.loop-json.json-index c.loop-json.metrics.items _ c.json-item.result c.in_ok-metric.metric c.try_push.new.list.items c.loop-json-test.true c.json-item.is makes c.in_ok-try_push.ensures c.loop-json.invariant
 
 pub returns : goal.returns
 returns c = step_end (λ json. view json) metric_of c.args.list.now c.loop-json.json-index c.loop-json.metrics.items _ c.loop-json.metrics.items c.loop-json-test.false refl c.loop-json.invariant

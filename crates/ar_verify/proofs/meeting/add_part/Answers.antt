@@ -11,7 +11,7 @@ returns-then-is_there-clause-wider g c = rw (← c.deref.ensures.value, ← c.de
 pub returns-in_ok-clone-clause-wider : goal.returns-in_ok-clone-clause-wider
 returns-in_ok-clone-clause-wider g c =
     let same : part_view c.in_ok-clone.field-0.value ≡ part_view c.args.part.now.value = search rules in
-    on_ok_weaker c.add.result
-    (λ longer. one_added (λ other. part_view other.value) (part_view c.args.first.now) c.args.others.now.items c.add.new.list.items c.in_ok-clone.field-0 longer
+    on_ok_weaker c.try_push.result
+    (λ longer. one_added (λ other. part_view other.value) (part_view c.args.first.now) c.args.others.now.items c.try_push.new.list.items c.in_ok-clone.field-0 longer
     ∙ ap (wider (widest_of (part_view c.args.first.now) (map (λ other. part_view other.value) c.args.others.now.items))) same)
-    c.add.ensures
+    c.try_push.ensures

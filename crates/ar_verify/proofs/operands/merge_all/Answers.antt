@@ -10,8 +10,8 @@ returns-in-None g c =
 
 pub loop-index-preserved : goal.loop-index-preserved
 loop-index-preserved g c =
-    one_merged kind_view kind_view kind_view c.args.lefts.now c.args.rights.now _ c.loop-index.index c.loop-index.kinds.items c.add.new.list.items c.index-lefts-index.result
-    c.index-rights-index.result c.in-Some.kind c.loop-index-test.true (omega arith) c.index-lefts-index.is c.index-rights-index.is (sym (ap (option_map kind_view) c.in-Some.is) ∙ c.in_ok-kind.ensures) c.in_ok-add-in-Some.ensures c.loop-index.invariant
+    one_merged kind_view kind_view kind_view c.args.lefts.now c.args.rights.now _ c.loop-index.index c.loop-index.kinds.items c.try_push.new.list.items c.index-lefts-index.result
+    c.index-rights-index.result c.in-Some.kind c.loop-index-test.true (omega arith) c.index-lefts-index.is c.index-rights-index.is (sym (ap (option_map kind_view) c.in-Some.is) ∙ c.in_ok-kind.ensures) c.in_ok-try_push-in-Some.ensures c.loop-index.invariant
 
 pub returns : goal.returns
 returns g c =
