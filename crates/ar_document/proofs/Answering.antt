@@ -3,15 +3,14 @@ use Rattle.std.proofs.Common.{◌≡◌, ◌≤◌, List, length, Result, Ok, Er
 use Rattle.std.specs.Prelude.{IfErr}
 use Rattle.std.specs.List.{AllByRecursion}
 use Rattle.serde_json.specs.Data.{Data}
-use Rattle.ar_value.specs.Answer.{Gives, Unless}
+use Rattle.ar_value.specs.Answer.{Gives, Unless, UnlessMemory, IfRefused}
 use Rattle.ar_value.proofs.Steps.{leads}
 use Rattle.ar_value.specs.Limits.{most_runs}
 use Rattle.ar_document.specs.Entries.{Entry, entries_in}
-use Rattle.ar_document.specs.Private.Parts.{IfRefused}
 use Rattle.ar_bundle.specs.Bundle.{IsBundle, IsEntry, bundle_of, most_events}
 use Rattle.ar_bundle.specs.declared.bundle.EventPart.{EventPart}
 use Rattle.ar_bundle.specs.declared.bundle.RunPart.{RunPart}
-use Rattle.ar_document.specs.Document.{IsFaultOf, Reads, UnlessMemory, is_memory}
+use Rattle.ar_document.specs.Document.{IsFaultOf, Reads, is_memory}
 use Rattle.ar_document.specs.Document as documents
 use Rattle.ar_document.specs.Opening.{Opened as Parts, opened_of}
 use Rattle.ar_document.specs.Private.Made.{RefusesMade, of_entry, of_run}
@@ -23,7 +22,7 @@ use Rattle.ar_document.specs.declared.opening.Opened.{Opened}
 use Rattle.ar_document.proofs.Bundling.{are_runs, as_many_parts}
 
 -- a refusal that isn't out of memory, where it is the document's first fault
-pub refuses : (document : Data) (error : BundleError) → Unless (is_memory error) (IsFaultOf document error) → UnlessMemory (Err error) (Reads document)
+pub refuses : (document : Data) (error : BundleError) → Unless (is_memory error) (IsFaultOf document error) → UnlessMemory is_memory (Err error) (Reads document)
 refuses document OutOfMemory fault = tt
 refuses document error fault = fault
 
@@ -46,7 +45,7 @@ made_refused opened document opens error (of_entry parts are refused) = document
 
 -- what refuses the entries, where all runs have their parts
 pub entries_refused : {A B : Type 0} (opened : Parts) (document : Data) (parts : List RunPart) → AreParts opened opened.runs parts → (seen : B → List Entry) (read : Result B BundleError)
-    → Gives is_memory seen read (entries_in opened document) → (result : Result A BundleError) → IfErr result (λ refusal. read ≡ Err refusal) → IfRefused result (RefusesMade opened document)
+    → Gives is_memory seen read (entries_in opened document) → (result : Result A BundleError) → IfErr result (λ refusal. read ≡ Err refusal) → IfRefused is_memory result (RefusesMade opened document)
 entries_refused opened document parts are seen read gives (Ok made) refused = tt
 entries_refused {B = B} opened document parts are seen read gives (Err refusal) refused =
     leads (is_memory refusal) (of_entry parts are) (subst (λ (answer : Result B BundleError). Gives is_memory seen answer (entries_in opened document)) refused gives)

@@ -48,12 +48,6 @@ Follows (Err error) answer = answer ≡ Err (of_json error)
 pub record ReadsInput (input : List ℕ) (answer : Result Bundle BundleError) : Type 0 where
   pub follows : Follows (json_in input) answer
 
--- what a function answered is what is defined, unless memory ran out
-abbrev pub UnlessMemory : Result Bundle BundleError → (Result Bundle BundleError → Type 0) → Type 0
-UnlessMemory (Ok bundle) P = P (Ok bundle)
-UnlessMemory (Err errors.OutOfMemory) P = Unit {0}
-UnlessMemory (Err error) P = P (Err error)
-
 abbrev pub is_memory : BundleError → Bool
 is_memory errors.OutOfMemory = true
 is_memory error = false

@@ -6,7 +6,7 @@ ghost use Rattle.ar_limits.specs.Metric.{HasPositiveCounts};
 ghost use Rattle.ar_judge.specs.Verdict.{IsJudge};
 ghost use Rattle.ar_manifest.specs.Shortened.{shortened_of};
 ghost use Rattle.ar_bundle.specs.Bundle.{IsRun, JudgesEach};
-ghost use Rattle.ar_value.specs.Answer.{Gives};
+ghost use Rattle.ar_value.specs.Answer.{Gives, IfRefused};
 ghost use Rattle.ar_value.specs.View.{shape_view};
 ghost use Rattle.ar_judge.specs.Condition.{refused_as};
 ghost use Rattle.ar_document.specs.Document.{is_memory};
@@ -14,7 +14,7 @@ ghost use Rattle.ar_document.specs.Opening.{metric_view};
 ghost use Rattle.ar_document.specs.Parts.{AreJudges, AreParts, IsPart, RefusesRun, RefusesRuns, limits_of};
 ghost use Rattle.ar_document.specs.Private.Opened.{IsOpened, opened_view};
 ghost use Rattle.ar_document.specs.Private.Earlier.{AllOfTheirTexts, AreOfTheirTexts, IsOfEarlier, IsOfRun};
-ghost use Rattle.ar_document.specs.Private.Parts.{IfRefused, RefusesJudge, RefusesJudges};
+ghost use Rattle.ar_document.specs.Private.Parts.{RefusesJudge, RefusesJudges};
 ghost use Rattle.ar_document.specs.declared.error.BundleError.TheVariants.{Bind};
 
 use crate::error::BundleError;
@@ -90,7 +90,7 @@ fn judge_of(
     requires { AreOfTheirTexts number metric.now earlier.now }
     ensures built { IfOk result
         (IsJudge (shape_view metric.now.shape) bound.now.success_condition bound.now.failure_condition) }
-    ensures refused { IfRefused result (RefusesJudge run number metric.now bound.now) }
+    ensures refused { IfRefused is_memory result (RefusesJudge run number metric.now bound.now) }
 {
     let success = earlier_condition(earlier, Which::Success, number, &bound.success_condition);
     let failure = earlier_condition(earlier, Which::Failure, number, &bound.failure_condition);
@@ -112,7 +112,7 @@ fn judges_of(
     requires many { length bound.now ≡ length metrics.now }
     requires earlier { AllOfTheirTexts metrics.now earlier.now }
     ensures built { IfOk result (AreJudges (map metric_view metrics.now) bound.now) }
-    ensures refused { IfRefused result (RefusesJudges run metrics.now bound.now) }
+    ensures refused { IfRefused is_memory result (RefusesJudges run metrics.now bound.now) }
 {
     let mut judges = Vec::with_capacity(alloc, metrics.len())?;
     for (number, metric) in metrics.iter().enumerate() {
@@ -157,7 +157,7 @@ fn judges_and_limits(
     requires earlier { AllOfTheirTexts metrics.now earlier.now }
     ensures built { IfOk result (λ made. AreJudges (map metric_view metrics.now) bound.now made.0) }
     ensures limits { IfOk result (λ made. made.1 ≡ map limits_of bound.now) }
-    ensures refused { IfRefused result (RefusesJudges run metrics.now bound.now) }
+    ensures refused { IfRefused is_memory result (RefusesJudges run metrics.now bound.now) }
 {
     let judges = judges_of(alloc, run, metrics, bound, earlier)?;
     Ok(zip_ok(judges, all_limits(alloc, bound))?)
@@ -174,7 +174,7 @@ fn part_of(
     requires opened { IsOpened opened.now }
     requires earlier { AllOfTheirTexts opened.now.metrics.items earlier.now }
     ensures part { IfOk result (IsPart (opened_view opened.now) run.now) }
-    ensures refused { IfRefused result (RefusesRun (opened_view opened.now) number run.now) }
+    ensures refused { IfRefused is_memory result (RefusesRun (opened_view opened.now) number run.now) }
 {
     let bound = bound(alloc, &opened.template, run, number)?;
     let judged = judges_and_limits(alloc, number, &opened.metrics, bound.metrics(), earlier)?;
@@ -190,7 +190,7 @@ fn part_of(
 pub(crate) fn parts_of(alloc: Global, opened: &Opened) -> Result<Vec<RunPart>, BundleError>
     requires { IsOpened opened.now }
     ensures parts { IfOk result (λ parts. AreParts (opened_view opened.now) opened.now.runs.items parts.items) }
-    ensures refused { IfRefused result (RefusesRuns (opened_view opened.now)) }
+    ensures refused { IfRefused is_memory result (RefusesRuns (opened_view opened.now)) }
 {
     let mut parts = Vec::with_capacity(alloc, opened.runs.len())?;
     for (number, run) in opened.runs.iter().enumerate() {

@@ -1,7 +1,7 @@
 -- What a condition comes to on what was read.
 use Rattle.std.proofs.Common.{◌≡◌, ℕ, Bool, List, Some, Result, Ok, Err, refl, subst}
 use Rattle.serde_json.specs.Data.{Data}
-use Rattle.ar_value.specs.Answer.{Unless}
+use Rattle.ar_value.specs.Answer.{Unless, UnlessMemory}
 use Rattle.ar_json.specs.Reading.{is_memory, is_memory_under, read}
 use Rattle.ar_value.specs.Shape.{Shape}
 use Rattle.ar_value.specs.Value.{Value}
@@ -17,12 +17,12 @@ use Rattle.ar_judge.specs.declared.error.BuildCause.TheVariants as causes
 use Rattle.ar_json.specs.Document.{is_memory as is_json_memory, json_in}
 use Rattle.ar_json.specs.declared.document.JsonError.{JsonError}
 use Rattle.ar_json.specs.declared.document.JsonError.TheVariants as json_error
-use Rattle.ar_eval.specs.Evaluation.{Evaluates, Follows, Answers, UnlessMemory, prepared_of, of_build, of_json, of_misfit, prepared, prepared_input}
+use Rattle.ar_eval.specs.Evaluation.{is_memory as is_eval_memory, Evaluates, Follows, Answers, prepared_of, of_build, of_json, of_misfit, prepared, prepared_input}
 use Rattle.ar_eval.specs.declared.eval.EvalError.{EvalError}
 use Rattle.ar_eval.specs.declared.eval.EvalError.TheVariants.{OutOfMemory}
 
 -- a text that is no condition that can be run is refused for its cause
-pub not_built : (text : List ℕ) (shape : Shape) (measured : Data) (cause : BuildCause) → IsRefused shape text cause → UnlessMemory (Err (of_build cause)) (Answers (prepared_of text shape measured))
+pub not_built : (text : List ℕ) (shape : Shape) (measured : Data) (cause : BuildCause) → IsRefused shape text cause → UnlessMemory is_eval_memory (Err (of_build cause)) (Answers (prepared_of text shape measured))
 not_built text shape measured causes.OutOfMemory refused = tt
 not_built text shape measured (causes.Grammar error) refused = refused
 not_built text shape measured (causes.Kinds error) refused = refused
@@ -42,21 +42,21 @@ answered text shape measured condition value answer built is_read says =
 
 -- a misfit of what was measured is told, where the condition can be run
 pub misfit_told : (text : List ℕ) (shape : Shape) (measured : Data) (condition : Condition) (fault : ShapeFault) → IsBuilt shape text condition → Unless (is_memory fault) (read (shape_view condition.verified.shape) measured ≡ Err fault)
-    → UnlessMemory (Err (of_misfit fault)) (Answers (prepared_of text shape measured))
+    → UnlessMemory is_eval_memory (Err (of_misfit fault)) (Answers (prepared_of text shape measured))
 misfit_told text shape measured condition shape_fault.OutOfMemory built told = tt
 misfit_told text shape measured condition fault built told =
     let unread : read shape measured ≡ Err fault = rw built.shape_is at told in
     (record { condition = condition; built = built }, rw unread refl)
 
 -- an answer for a document is one for the input that it is
-pub of_document : (input : List ℕ) (document : Data) (answer : Result (Result Bool Fault) EvalError) → json_in input ≡ Ok document → UnlessMemory answer (Follows (prepared document)) → UnlessMemory answer (Evaluates input)
+pub of_document : (input : List ℕ) (document : Data) (answer : Result (Result Bool Fault) EvalError) → json_in input ≡ Ok document → UnlessMemory is_eval_memory answer (Follows (prepared document)) → UnlessMemory is_eval_memory answer (Evaluates input)
 unfolding prepared_input
 of_document input document (Ok said) is h = record { follows = rw is h }
 of_document input document (Err OutOfMemory) is h = tt
 of_document input document (Err fault) is h = record { follows = rw is h }
 
 -- an input that is no document is refused for that
-pub of_no_document : (input : List ℕ) (error : JsonError) → Unless (is_json_memory error) (json_in input ≡ Err error) → UnlessMemory (Err (of_json error)) (Evaluates input)
+pub of_no_document : (input : List ℕ) (error : JsonError) → Unless (is_json_memory error) (json_in input ≡ Err error) → UnlessMemory is_eval_memory (Err (of_json error)) (Evaluates input)
 unfolding prepared_input
 of_no_document input json_error.OutOfMemory none = tt
 of_no_document input json_error.TooLarge none = record { follows = rw none refl }

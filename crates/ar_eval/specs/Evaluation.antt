@@ -101,8 +101,3 @@ abbrev pub is_memory : EvalError → Bool
 is_memory OutOfMemory = true
 is_memory error = false
 
--- what a function answered is what is defined, unless memory ran out
-abbrev pub UnlessMemory : Result (Result Bool Fault) EvalError → (Result (Result Bool Fault) EvalError → Type 0) → Type 0
-UnlessMemory (Ok said) P = P (Ok said)
-UnlessMemory (Err OutOfMemory) P = Unit {0}
-UnlessMemory (Err fault) P = P (Err fault)

@@ -1,9 +1,10 @@
 //! `eval`: one condition, judged on one value.
 
 ghost use Rattle.std.specs.Prelude.{◌≡◌, ◌<◌, Err, List, false, length, ℕ};
+ghost use Rattle.ar_value.specs.Answer.{UnlessMemory};
 ghost use Rattle.serde_json.specs.View.{view};
 ghost use Rattle.ar_value.specs.Answer as answer;
-ghost use Rattle.ar_eval.specs.Evaluation.{Answers, Evaluates, Follows, UnlessMemory, prepared_of, parts_of, prepared};
+ghost use Rattle.ar_eval.specs.Evaluation.{Answers, Evaluates, Follows, is_memory, prepared_of, parts_of, prepared};
 ghost use Rattle.ar_value.specs.Shape.{Shape as Declared};
 ghost use Rattle.ar_value.specs.View.{shape_view};
 ghost use Rattle.ar_judge.specs.Condition.{IsBuilt};
@@ -129,7 +130,7 @@ impl From<JsonError> for EvalError {
 /// The first fault that stands in the input, in the order of `EvalError`.
 #[tactic(auto, using(crate::proofs::Judging::of_document, crate::proofs::Judging::of_no_document))]
 pub fn evaluate(alloc: Global, input: &[u8]) -> Result<Answer, EvalError>
-    ensures exact { UnlessMemory result (Evaluates input.now) }
+    ensures exact { UnlessMemory is_memory result (Evaluates input.now) }
 
     // An input that is too large is refused for that alone.
     ensures too_large { most_bytes < length input.now → result ≡ Err TooLarge }
@@ -141,7 +142,7 @@ pub fn evaluate(alloc: Global, input: &[u8]) -> Result<Answer, EvalError>
 /// What the condition of a document says of its value.
 #[tactic(auto, unfolding(crate::specs::Evaluation::prepared))]
 fn judge(alloc: Global, document: &Json) -> Result<Answer, EvalError>
-    ensures { UnlessMemory result (Follows (prepared (view document.now))) }
+    ensures { UnlessMemory is_memory result (Follows (prepared (view document.now))) }
 {
     let (text, declared, measured) = parts_of(document)?;
     let shape = SharedShape::new(alloc, read_shape(alloc, declared)?)?;
@@ -156,7 +157,7 @@ fn judge_text(
     shape: SharedShape,
     measured: &Json,
 ) -> Result<Answer, EvalError>
-    ensures { UnlessMemory result (Answers (prepared_of text.now (shape_view shape) (view measured.now))) }
+    ensures { UnlessMemory is_memory result (Answers (prepared_of text.now (shape_view shape) (view measured.now))) }
 {
     let condition = Condition::build(alloc, text, shape)?;
     answer(alloc, &condition, measured)
@@ -166,7 +167,7 @@ fn judge_text(
 #[tactic(auto, using(crate::proofs::Judging::answered))]
 fn answer(alloc: Global, condition: &Condition, measured: &Json) -> Result<Answer, EvalError>
     ensures { (text : List ℕ) (shape : Declared) → IsBuilt shape text condition.now
-        → UnlessMemory result (Answers (prepared_of text shape (view measured.now))) }
+        → UnlessMemory is_memory result (Answers (prepared_of text shape (view measured.now))) }
 {
     let value = read_value(alloc, measured, condition.verified().shape())?;
     Ok(condition.answer(alloc, &value)?)

@@ -31,6 +31,16 @@ abbrev pub Gives : {X Y E : Type 0} → (E → Bool) → (X → Y) → Result X 
 Gives is_memory view (Ok x) answer = answer ≡ Ok (view x)
 Gives is_memory view (Err e) answer = Unless (is_memory e) (answer ≡ Err e)
 
+-- what is true of what a function returned, unless it is out of memory
+abbrev pub UnlessMemory : {X E : Type 0} → (E → Bool) → Result X E → (Result X E → Type 0) → Type 0
+UnlessMemory is_memory (Ok x) P = P (Ok x)
+UnlessMemory is_memory (Err e) P = Unless (is_memory e) (P (Err e))
+
+-- what is true of a refusal, unless it is out of memory
+abbrev pub IfRefused : {X E : Type 0} → (E → Bool) → Result X E → (E → Type 0) → Type 0
+IfRefused is_memory (Ok x) P = Unit {0}
+IfRefused is_memory (Err e) P = Unless (is_memory e) (P e)
+
 -- Each refusal that is defined is returned: out of memory is never returned in its place.
 abbrev pub Refuses : {X Y E : Type 0} → Result X E → Result Y E → Type 0
 Refuses {E = E} result answer = (refusal : E) → answer ≡ Err refusal → result ≡ Err refusal

@@ -5,17 +5,10 @@ use Rattle.ar_manifest.specs.declared.bound.BoundMetric.{BoundMetric}
 use Rattle.ar_judge.specs.Verdict.{Judge, RefusesTexts}
 use Rattle.ar_judge.specs.declared.error.BuildError.TheVariants as build
 use Rattle.ar_bundle.specs.declared.bundle.MetricPart.{MetricPart}
-use Rattle.ar_value.specs.Answer.{Unless}
-use Rattle.ar_document.specs.Document.{is_memory}
 use Rattle.ar_document.specs.Opening.{metric_view}
 use Rattle.ar_document.specs.Parts.{AreJudges}
 use Rattle.ar_document.specs.declared.error.BundleError.{BundleError}
 use Rattle.ar_document.specs.declared.error.BundleError.TheVariants.{Build}
-
--- what a refusal says, unless memory ran out
-abbrev pub IfRefused : {A : Type 0} → Result A BundleError → (BundleError → Type 0) → Type 0
-IfRefused (Ok x) P = Unit {0}
-IfRefused (Err error) P = Unless (is_memory error) (P error)
 
 -- the conditions of the metric with a number can't be built
 abbrev pub RefusesJudge : (run number : ℕ) → MetricPart → BoundMetric → BundleError → Type 0
