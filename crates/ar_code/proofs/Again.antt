@@ -30,7 +30,8 @@ use Rattle.ar_value.specs.Limits.{most_code_entries, most_literal_items}
 use Rattle.ar_code.specs.declared.version.Version.{Version}
 use Rattle.ar_code.specs.declared.version.Version.TheVariants.{First, Second}
 use Rattle.ar_code.specs.Decoding.{Reading, all_ops, among, count_at, decoded, parts_at, whole, cut_number, so_many_ops, so_many_texts, text_at, texts_at, entry_at, op_at, op_of, place, fields_at, items_at, list_at, narrow, number_at, scalar_at, signed, source_at, spelled, sum_of, version_at, wide}
-use Rattle.ar_code.specs.Image.{body, code_of, image, is_new, last_code, magic, version_byte, version_of, fields_of, groups, number, op_bytes, scalar_number, source_fields, string, strings, zigzag}
+use Rattle.ar_code.specs.Image.{body, image, is_new, last_code, magic, version_byte, version_of, fields_of, groups, number, op_bytes, scalar_number, source_fields, string, strings, zigzag}
+use Rattle.ar_code.specs.Forms.{code_of}
 use Rattle.ar_code.proofs.Loops.{Reads, ops_read, texts_read}
 
 -- ---- numbers

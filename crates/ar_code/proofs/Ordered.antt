@@ -4,7 +4,7 @@ use Rattle.std.specs.List.{slice_get}
 use Rattle.std.proofs.lemmas.Bool.{eqb-true, eq-eqb, ne_eqb}
 use Rattle.ar_op.specs.declared.op.Op.{Op}
 use Rattle.ar_code.specs.Decoding.{all_ops, among}
-use Rattle.ar_code.specs.Image.{code_of}
+use Rattle.ar_code.specs.Forms.{code_of}
 
 and_left : (a b : Bool) → (a && b) ≡ true → a ≡ true
 and_left true b e = refl

@@ -17,7 +17,8 @@ use Rattle.ar_op.specs.declared.op.Op.TheVariants.{Push, MakeList, Field, Jump, 
 use Rattle.ar_op.specs.declared.op.Source.{Source}
 use Rattle.ar_op.specs.declared.op.Source.TheVariants as sources
 use Rattle.ar_code.specs.Decoding.{Reading, all_ops, among, bit_at, coded, count_at, cut_number, decoded, entry_at, expected, fields_at, is_memory, items_at, letters_at, list_at, narrow, number_at, op_at, of_version, op_of, parts_at, place, scalar_at, scalar_of, signed, so_many_ops, so_many_texts, source_at, spelled, sum_of, text_at, texts_at, version_at, where_scalar, where_spelled, where_text, whole, whole_number, wide}
-use Rattle.ar_code.specs.Image.{bit, body, code_of, fields_of, image, last_code, magic, number, op_bytes, scalar_number, string, strings, version_byte, version_of, zigzag}
+use Rattle.ar_code.specs.Image.{bit, body, fields_of, image, last_code, magic, number, op_bytes, scalar_number, string, strings, version_byte, version_of, zigzag}
+use Rattle.ar_code.specs.Forms.{code_of}
 use Rattle.ar_code.specs.declared.version.Version.{Version}
 use Rattle.ar_code.specs.declared.error.ImageError.{ImageError}
 use Rattle.ar_code.specs.declared.error.ImageError.TheVariants.{BadMagic, BadVersion, OutOfMemory}

@@ -21,7 +21,8 @@ use Rattle.ar_op.specs.declared.op.Op.{Op}
 use Rattle.ar_op.specs.declared.op.Op.TheVariants.{Push, MakeList, Field, Unary, Binary, Jump, Enter, Step, Return}
 use Rattle.ar_op.specs.declared.op.Source.{Source}
 use Rattle.ar_op.specs.declared.op.Source.TheVariants as sources
-use Rattle.ar_code.specs.Image.{code_of, last_code, magic, number, version_byte, version_of}
+use Rattle.ar_code.specs.Image.{last_code, magic, number, version_byte, version_of}
+use Rattle.ar_code.specs.Forms.{code_of}
 use Rattle.ar_code.specs.declared.version.Version.{Version}
 use Rattle.ar_code.specs.declared.version.Version.TheVariants.{First, Second}
 use Rattle.ar_code.specs.declared.error.ImageError.{ImageError}

@@ -2,8 +2,7 @@
 
 ghost use Rattle.std.specs.Prelude.{◌≡◌};
 ghost use Rattle.ar_code.specs.Decoding.{all_ops, among, op_of};
-ghost use Rattle.ar_code.specs.Image.{binary_code, code_of, comparison_code, decimals_code, enter_code, equality_code, jump_code, source_code, step_code, text_test_code, unary_code, wholes_code};
-ghost use Rattle.ar_code.specs.Listing.{binary_name, comparison_name, decimals_name, enter_name, equality_name, jump_name, name_of, source_name, step_name, text_test_name, unary_name, wholes_name};
+ghost use Rattle.ar_code.specs.Forms.{binary_row, code_of, comparison_row, decimals_row, enter_row, equality_row, jump_row, name_of, source_row, step_row, text_test_row, unary_row, wholes_row};
 
 use crate::version::Version;
 use ar_op::op::{Jump, Op, Source};
@@ -46,8 +45,8 @@ pub(crate) fn form_of(op: Op) -> Form
 }
 
 fn of_source(source: Source) -> Form
-    ensures code { result.code ≡ source_code source }
-    ensures name { result.name.now ≡ source_name source }
+    ensures code { result.code ≡ (source_row source).code }
+    ensures name { result.name.now ≡ (source_row source).name }
 {
     match source {
         Source::Bool(_) => Form::new(1, "PushBool"),
@@ -61,8 +60,8 @@ fn of_source(source: Source) -> Form
 }
 
 fn of_unary(operator: UnaryOperator) -> Form
-    ensures code { result.code ≡ unary_code operator }
-    ensures name { result.name.now ≡ unary_name operator }
+    ensures code { result.code ≡ (unary_row operator).code }
+    ensures name { result.name.now ≡ (unary_row operator).name }
 {
     match operator {
         UnaryOperator::Len => Form::new(11, "Len"),
@@ -76,8 +75,8 @@ fn of_unary(operator: UnaryOperator) -> Form
 }
 
 fn of_binary(operator: BinaryOperator) -> Form
-    ensures code { result.code ≡ binary_code operator }
-    ensures name { result.name.now ≡ binary_name operator }
+    ensures code { result.code ≡ (binary_row operator).code }
+    ensures name { result.name.now ≡ (binary_row operator).name }
 {
     match operator {
         BinaryOperator::Index => Form::new(10, "Index"),
@@ -92,8 +91,8 @@ fn of_binary(operator: BinaryOperator) -> Form
 }
 
 fn of_wholes(operator: Arithmetic) -> Form
-    ensures code { result.code ≡ wholes_code operator }
-    ensures name { result.name.now ≡ wholes_name operator }
+    ensures code { result.code ≡ (wholes_row operator).code }
+    ensures name { result.name.now ≡ (wholes_row operator).name }
 {
     match operator {
         Arithmetic::Add => Form::new(18, "AddW"),
@@ -105,8 +104,8 @@ fn of_wholes(operator: Arithmetic) -> Form
 }
 
 fn of_decimals(operator: DecimalArithmetic) -> Form
-    ensures code { result.code ≡ decimals_code operator }
-    ensures name { result.name.now ≡ decimals_name operator }
+    ensures code { result.code ≡ (decimals_row operator).code }
+    ensures name { result.name.now ≡ (decimals_row operator).name }
 {
     match operator {
         DecimalArithmetic::Add => Form::new(24, "AddD"),
@@ -117,8 +116,8 @@ fn of_decimals(operator: DecimalArithmetic) -> Form
 }
 
 fn of_comparison(compared: Compared, order: Order) -> Form
-    ensures code { result.code ≡ comparison_code compared order }
-    ensures name { result.name.now ≡ comparison_name compared order }
+    ensures code { result.code ≡ (comparison_row compared order).code }
+    ensures name { result.name.now ≡ (comparison_row compared order).name }
 {
     match (compared, order) {
         (Compared::Wholes, Order::Less) => Form::new(29, "LtW"),
@@ -137,8 +136,8 @@ fn of_comparison(compared: Compared, order: Order) -> Form
 }
 
 fn of_equality(family: Family) -> Form
-    ensures code { result.code ≡ equality_code family }
-    ensures name { result.name.now ≡ equality_name family }
+    ensures code { result.code ≡ (equality_row family).code }
+    ensures name { result.name.now ≡ (equality_row family).name }
 {
     match family {
         Family::Truth => Form::new(41, "EqBool"),
@@ -148,8 +147,8 @@ fn of_equality(family: Family) -> Form
 }
 
 fn of_text_test(test: TextTest) -> Form
-    ensures code { result.code ≡ text_test_code test }
-    ensures name { result.name.now ≡ text_test_name test }
+    ensures code { result.code ≡ (text_test_row test).code }
+    ensures name { result.name.now ≡ (text_test_row test).name }
 {
     match test {
         TextTest::Contains => Form::new(61, "Contains"),
@@ -159,8 +158,8 @@ fn of_text_test(test: TextTest) -> Form
 }
 
 fn of_jump(jump: Jump) -> Form
-    ensures code { result.code ≡ jump_code jump }
-    ensures name { result.name.now ≡ jump_name jump }
+    ensures code { result.code ≡ (jump_row jump).code }
+    ensures name { result.name.now ≡ (jump_row jump).name }
 {
     match jump {
         Jump::And => Form::new(44, "AndJump"),
@@ -171,8 +170,8 @@ fn of_jump(jump: Jump) -> Form
 }
 
 fn of_enter(predicate: Predicate) -> Form
-    ensures code { result.code ≡ enter_code predicate }
-    ensures name { result.name.now ≡ enter_name predicate }
+    ensures code { result.code ≡ (enter_row predicate).code }
+    ensures name { result.name.now ≡ (enter_row predicate).name }
 {
     match predicate {
         Predicate::All => Form::new(48, "AllEnter"),
@@ -185,8 +184,8 @@ fn of_enter(predicate: Predicate) -> Form
 }
 
 fn of_step(predicate: Predicate) -> Form
-    ensures code { result.code ≡ step_code predicate }
-    ensures name { result.name.now ≡ step_name predicate }
+    ensures code { result.code ≡ (step_row predicate).code }
+    ensures name { result.name.now ≡ (step_row predicate).name }
 {
     match predicate {
         Predicate::All => Form::new(49, "AllStep"),
