@@ -8,34 +8,29 @@
 //! - `verifier`: the passes, one after the other
 //! - `places`: whether the places that operations name are as they should be; `loops`: whether loops
 //!   lie one in another
-//! - `whole`: the shape of the measured value; `root`, `part`: parts of shapes, which share the whole
-//! - `parts`, `list`: the shapes of operands, which are those of parts that met; `meeting`: how they meet, and what
-//!   is known of them; `alike`: whether shapes differ in greatest lengths only
+//! - `path`: shapes by the way to them; `shape_ref`: the shapes of operands, as those that met in them; `join`: how
+//!   they meet
 //! - `kind`, `stack`: kinds of operands; `operators`, `effect`: what operations give of them
 //! - `operands`, `sending`, `arrivals`: what operations send on, and what arrives at each place
 //! - `budget`: what a run may cost at most
 //! - `failure`: why an operation sends nothing on
 #![tactic(auto)]
 
-mod alike;
 mod arrivals;
 mod budget;
 mod effect;
 mod failure;
+mod join;
 mod kind;
-mod list;
 mod loops;
-mod meeting;
 mod operands;
 mod operators;
-mod part;
-mod parts;
+mod path;
 mod places;
-mod root;
 mod sending;
+mod shape_ref;
 mod stack;
 mod verifier;
-mod whole;
 
 pub use ar_safety::{Cause, Reason, Refused, Verified};
 pub use verifier::verify;

@@ -13,10 +13,8 @@ use crate::kind::{
     Kind, as_list, family_in, family_of, given_again, given_any, given_part, given_shape,
     is_scalar, merge,
 };
-use crate::meeting::plain;
-use crate::part::{INNER, child, field_number};
-use crate::parts::Parts;
-use crate::whole::ShapeName;
+use crate::path::{INNER, ShapeName, child, field_number};
+use crate::shape_ref::{Parts, plain};
 use ar_value::kind;
 use ar_value::operator::{
     Arithmetic, BinaryOperator, Compared, Family, Numbers, Scalar, UnaryOperator,

@@ -3,9 +3,9 @@ use Rattle.std.specs.Prelude.{ℕ, zero, suc, if◌then◌else◌, List, [], ◌
 use Rattle.std.specs.Str.{bytes_eq}
 use Rattle.ar_value.specs.Shape.{Shape, FieldShapes, list, object, optional, no_fields, field}
 use Rattle.ar_value.specs.View.{shape_view}
-use Rattle.ar_verify.specs.declared.root.Root.{Root}
-use Rattle.ar_verify.specs.declared.root.Root.TheVariants as roots
-use Rattle.ar_verify.specs.declared.whole.ShapeName as ShapeName
+use Rattle.ar_verify.specs.declared.path.Root.{Root}
+use Rattle.ar_verify.specs.declared.path.Root.TheVariants as roots
+use Rattle.ar_verify.specs.declared.path.ShapeName as ShapeName
 
 abbrev pub nth_field : ℕ → FieldShapes → Option Shape
 nth_field n no_fields = None

@@ -1,0 +1,11 @@
+use Rattle.std.proofs.Common.{arith}
+use Rattle.ar_value.proofs.FieldLists.{unlike}
+use Rattle.ar_verify.proofs.OneForm.{other_name}
+use Rattle.ar_verify.proofs.join.+is_alike.Goals as goal
+
+pub are_fields_alike-returns-then-ne : goal.are_fields_alike-returns-then-ne
+are_fields_alike-returns-then-ne t c =
+    other_name c.args.names.now c.args.shapes.now c.args.of.now c.args.others.now c.loop-place.place c.index-names-place.result c.index-of-place.result _
+    (omega (arith, c.loop-place-test.true, c.min-count.ensures)) (omega (arith, c.loop-place-test.true, c.min-count.ensures))
+    (omega (arith, c.loop-place-test.true, c.if-count-min.false, c.min.ensures)) (omega (arith, c.loop-place-test.true, c.if-count-min.false, c.min.ensures))
+    c.index-names-place.is c.index-of-place.is (unlike c.ne.result _ c.ne.ensures c.if-ne.true) c.loop-place.invariant

@@ -1,0 +1,199 @@
+//! How the shapes of operands meet: two of one form, which differ in the greatest lengths of lists only, are joined.
+
+ghost use Rattle.std.specs.Bool.{Decides};
+ghost use Rattle.std.specs.Prelude.{◌≡◌, map, true, IfOk, OnOk, option_map};
+ghost use Rattle.ar_value.specs.Private.Same.{same_fields, same_shape};
+ghost use Rattle.ar_value.specs.Shape.{field_shapes_of};
+ghost use Rattle.ar_value.specs.View.{shape_view};
+ghost use Rattle.ar_verify.specs.Private.Forms.{field_forms, form, all_alike, wider, widest_of};
+ghost use Rattle.ar_value.specs.Kind.{plain, widest};
+ghost use Rattle.ar_verify.specs.Private.Parts.{part_view};
+ghost use Rattle.ar_verify.specs.Private.Shapes.{parts_view};
+ghost use Rattle.ar_value.specs.Shape as shapes;
+
+use crate::path::{Part, ShapeName, are_one};
+use crate::shape_ref::Parts;
+use ar_value::holding::try_push;
+use ar_value::shape::Shape;
+use ar_value::text::Text;
+use std::alloc::{AllocError, Global};
+use std::rc::Rc;
+
+pub(crate) fn are_of_one_form(left: &Shape, right: &Shape) -> bool
+    ensures { Decides result (form (shape_view left.now) ≡ form (shape_view right.now)) }
+{
+    is_alike(left, right)
+}
+
+#[cycle(is_alike)]
+fn is_alike(left: &Shape, right: &Shape) -> bool
+    ensures { result ≡ same_shape (form (shape_view left.now)) (form (shape_view right.now)) }
+{
+    match left {
+        Shape::Bool => matches!(right, Shape::Bool),
+        Shape::Whole => matches!(right, Shape::Whole),
+        Shape::Decimal => matches!(right, Shape::Decimal),
+        Shape::Text => matches!(right, Shape::Text),
+        Shape::List { item, .. } => match right {
+            Shape::List { item: other, .. } => is_alike(item, other),
+            Shape::Bool
+            | Shape::Whole
+            | Shape::Decimal
+            | Shape::Text
+            | Shape::Object(_)
+            | Shape::Optional(_) => false,
+        },
+        Shape::Object(fields) => match right {
+            Shape::Object(others) => are_fields_alike(
+                &fields.shapes,
+                fields.names.as_slice(),
+                &others.shapes,
+                others.names.as_slice(),
+            ),
+            Shape::Bool
+            | Shape::Whole
+            | Shape::Decimal
+            | Shape::Text
+            | Shape::List { .. }
+            | Shape::Optional(_) => false,
+        },
+        Shape::Optional(plain) => match right {
+            Shape::Optional(other) => is_alike(plain, other),
+            Shape::Bool
+            | Shape::Whole
+            | Shape::Decimal
+            | Shape::Text
+            | Shape::List { .. }
+            | Shape::Object(_) => false,
+        },
+    }
+}
+
+/// Whether fields of the same names have shapes of one form.
+#[cycle(is_alike)]
+#[tactic(auto, using(crate::proofs::OneForm::lengths_differ, crate::proofs::OneForm::next, crate::proofs::OneForm::none_left))]
+fn are_fields_alike(shapes: &[Shape], names: &[Text], others: &[Shape], of: &[Text]) -> bool
+    ensures { result ≡ same_fields (field_forms (field_shapes_of names.now (map shape_view shapes.now)))
+        (field_forms (field_shapes_of of.now (map shape_view others.now))) }
+{
+    let count = names.len().min(shapes.len());
+    if count != of.len().min(others.len()) {
+        return false;
+    }
+    for place in 0..count {
+        if names[place] != of[place] {
+            return false;
+        }
+        if !is_alike(&shapes[place], &others[place]) {
+            return false;
+        }
+    }
+    true
+}
+
+/// Whether a part is among others.
+fn is_among<M: ShapeName>(part: &Part<M>, others: &[Rc<Part<M>>]) -> bool
+    ensures { result ≡ true → (shape : shapes.Shape) →
+        wider (widest_of shape (map (λ other. part_view other.value) others.now)) (part_view part.now)
+        ≡ widest_of shape (map (λ other. part_view other.value) others.now) }
+{
+    for other in others {
+        if are_one(other, part) {
+            return true;
+        }
+    }
+    false
+}
+
+/// Whether a part is the first or among the others.
+#[tactic(auto, using(crate::proofs::Meets::met_already))]
+fn is_there<M: ShapeName>(first: &Part<M>, others: &[Rc<Part<M>>], part: &Part<M>) -> bool
+    ensures { result ≡ true →
+        wider (widest_of (part_view first.now) (map (λ other. part_view other.value) others.now)) (part_view part.now)
+        ≡ widest_of (part_view first.now) (map (λ other. part_view other.value) others.now) }
+{
+    are_one(first, part) || is_among(part, others)
+}
+
+/// Adds a part to others of its form, unless it is one of them.
+#[tactic(auto, using(crate::proofs::Meets::alike_added))]
+fn add_part<M: ShapeName>(
+    first: &Part<M>,
+    others: &mut Vec<Rc<Part<M>>>,
+    part: &Rc<Part<M>>,
+) -> Result<(), AllocError>
+    requires alike { all_alike (part_view first.now) (map (λ other. part_view other.value) others.old.items) ≡ true }
+    requires form { form (part_view first.now) ≡ form (part_view part.now.value) }
+    ensures wider { OnOk result (widest_of (part_view first.now) (map (λ other. part_view other.value) others.new.items)
+        ≡ wider (widest_of (part_view first.now) (map (λ other. part_view other.value) others.old.items))
+        (part_view part.now.value)) }
+    ensures alike { OnOk result
+        (all_alike (part_view first.now) (map (λ other. part_view other.value) others.new.items) ≡ true) }
+{
+    if is_there(first, others, part) {
+        Ok(())
+    } else {
+        try_push(others, part.clone()?)
+    }
+}
+
+/// Adds parts to others of their form.
+fn add_parts<M: ShapeName>(
+    first: &Part<M>,
+    others: &mut Vec<Rc<Part<M>>>,
+    parts: &[Rc<Part<M>>],
+) -> Result<(), AllocError>
+    requires alike { all_alike (part_view first.now) (map (λ other. part_view other.value) others.old.items) ≡ true }
+    requires parts { all_alike (part_view first.now) (map (λ part. part_view part.value) parts.now) ≡ true }
+    ensures wider { OnOk result (widest_of (part_view first.now) (map (λ other. part_view other.value) others.new.items)
+        ≡ widest_of (widest_of (part_view first.now) (map (λ other. part_view other.value) others.old.items))
+        (map (λ part. part_view part.value) parts.now)) }
+    ensures alike { OnOk result
+        (all_alike (part_view first.now) (map (λ other. part_view other.value) others.new.items) ≡ true) }
+{
+    for part in parts {
+        add_part(first, others, part)?;
+    }
+    Ok(())
+}
+
+/// The shape of parts that met in two shapes of one form.
+#[tactic(auto, using(crate::proofs::Meets::all_together))]
+fn together<M: ShapeName>(
+    alloc: Global,
+    left: &Parts<M>,
+    right: &Parts<M>,
+) -> Result<Rc<Parts<M>>, AllocError>
+    requires { form (parts_view left.now) ≡ form (parts_view right.now) }
+    ensures { IfOk result (λ both. parts_view both.value ≡ wider (parts_view left.now) (parts_view right.now)) }
+{
+    let mut others = Vec::new(alloc);
+    add_parts(&left.first, &mut others, &left.others)?;
+    add_part(&left.first, &mut others, &right.first)?;
+    add_parts(&left.first, &mut others, &right.others)?;
+    Parts::new(alloc, left.first.clone()?, others)
+}
+
+/// Whether shapes are of one form. Those of which the first part is one are not looked at.
+fn are_alike<M: ShapeName>(left: &Parts<M>, right: &Parts<M>) -> bool
+    ensures { Decides result (form (parts_view left.now) ≡ form (parts_view right.now)) }
+{
+    are_one(&left.first, &right.first)
+        || are_of_one_form(left.representative(), right.representative())
+}
+
+/// The shape of what has the one shape or the other, where they differ in greatest lengths only.
+pub(crate) fn meet<M: ShapeName>(
+    alloc: Global,
+    left: &Parts<M>,
+    right: &Parts<M>,
+) -> Result<Option<Rc<Parts<M>>>, AllocError>
+    ensures { IfOk result (λ met. option_map (λ met. parts_view met.value) met
+        ≡ widest (parts_view left.now) (parts_view right.now)) }
+{
+    if are_alike(left, right) {
+        Ok(Some(together(alloc, left, right)?))
+    } else {
+        Ok(None)
+    }
+}
