@@ -17,7 +17,7 @@ pub(crate) enum Connective {
     Or,
 }
 
-/// A tree in a box of its own, which is let go in one step.
+/// A tree in a box of its own.
 pub(crate) fn node(alloc: Global, tree: Typed) -> Result<Box<Typed>, AllocError>
     ensures { IfOk result (λ node. typed_view node.value ≡ typed_view tree) }
 {

@@ -38,7 +38,7 @@ pub(crate) struct Operand<'s> {
     pub kind: Kind<'s>,
 }
 
-/// A tree with its kind, in a box, which is let go in one step where a tree beside it has a fault.
+/// A tree with its kind, in a box.
 pub(crate) fn given<'s>(
     alloc: Global,
     tree: Box<Typed>,

@@ -105,7 +105,6 @@ fn code_of(alloc: Global, text: &str, shape: &Shape) -> Result<Code, BuildCause>
 {
     let tree = check(alloc, parse(alloc, text)?, shape)?;
     let code = compile(alloc, &tree);
-    // By a call, which lets go of any tree in one step: here each kind of it would be a step of its own.
     mem::drop(tree);
     Ok(code?)
 }

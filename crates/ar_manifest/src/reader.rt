@@ -180,7 +180,7 @@ fn metric(alloc: Global, json: &Json, earlier: &[Metric]) -> Result<Metric, Mani
     refuse_if(is_refused, metric, ManifestError::Unsupported(i))
 }
 
-/// What is held, or the refusal. Either is of any type here, so that it is dropped in one step.
+/// What is held, or the refusal.
 fn refuse_if<A: Drop, E: Drop>(is_refused: bool, held: A, refusal: E) -> Result<A, E>
     ensures { result ≡ (if is_refused then Err refusal else Ok held) }
 {

@@ -48,7 +48,6 @@ fn open(stack: &mut Vec<Frame>, frame: Frame) -> Result<State, Refusal>
         (frames_of stack.new.items) result }
 {
     if left(stack) == 0 {
-        // In one call, which is proved once: here each kind of frame would have its own way out.
         mem::drop(frame);
         Err(Refusal::Depth)
     } else {

@@ -1,11 +1,10 @@
-//! Holding values while others are made. What is held is of any type here, so that it is dropped in
-//! one step where another can't be made, and not once for each of its variants.
+//! Holding values while others are made.
 
 ghost use Rattle.std.specs.Prelude.{◌≡◌, ◌++◌, ◌∷◌, [], Err, IfErr, IfOk, Ok, OnOk};
 
 use std::alloc::AllocError;
 
-/// What is held, with another value, if that could be made.
+/// What is held together with another value, if that could be made; otherwise what is held is dropped.
 pub fn zip_ok<A: Drop, B: Drop, E: Drop>(held: A, made: Result<B, E>) -> Result<(A, B), E>
     ensures ok { IfOk result (λ both. (made ≡ Ok both.1) × (both.0 ≡ held)) }
     ensures err { IfErr result (λ refusal. made ≡ Err refusal) }
@@ -16,7 +15,7 @@ pub fn zip_ok<A: Drop, B: Drop, E: Drop>(held: A, made: Result<B, E>) -> Result<
     }
 }
 
-/// Adds an item to a list, or lets it go where there is no memory for it.
+/// Adds an item to a list, or drops it where there is no memory for it.
 ///
 /// # Errors
 ///

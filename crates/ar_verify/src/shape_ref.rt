@@ -18,8 +18,7 @@ use std::alloc::{AllocError, Global};
 use std::rc::Rc;
 
 /// The shape of an operand: that of a part, or of parts that met, which differ in greatest lengths only. Of
-/// these the greatest count; no shape is made of them. It is held in an [`Rc`], which is shared and let go in
-/// one step.
+/// these the greatest count; no shape is made of them.
 #[derive(Drop)]
 pub(crate) struct Parts<M: ShapeName> {
     pub first: Rc<Part<M>>,
