@@ -7,5 +7,6 @@ pub mod Operand
 pub mod Check
 pub mod Found
 pub mod Typing
+pub mod Answer
 pub mod Private
 pub mod Refused

@@ -1,21 +1,18 @@
 //! From the tree of a condition to its typed tree.
 
-ghost use Rattle.std.specs.Prelude.{◌≡◌, false, IfErr, IfOk, map, None, Some, option_map, true};
+ghost use Rattle.std.specs.Prelude.{◌≡◌, false, IfOk, map, None, Some, option_map};
 ghost use Rattle.ar_value.specs.declared.operator.BinaryOperator.TheVariants as binary;
-ghost use Rattle.ar_value.specs.Answer.{Gives, Unless};
-ghost use Rattle.ar_value.specs.Fits.{fits};
+ghost use Rattle.ar_value.specs.Answer.{Gives};
 ghost use Rattle.ar_value.specs.Kind.{shaped};
-ghost use Rattle.ar_value.specs.Value.{Value};
 ghost use Rattle.ar_value.specs.View.{shape_view};
 ghost use Rattle.ar_tree.specs.Expression.{expressions, BinaryAt, ChoiceAt, DefaultAt, FieldAt, IndexAt, IsNilAt, LenAt, ListAt, PredicateAt, UnaryAt};
 ghost use Rattle.ar_tree.specs.Views.{expression_of};
+ghost use Rattle.ar_check.specs.Answer.{ChecksTo};
 ghost use Rattle.ar_check.specs.Basics.{literal_kind};
-ghost use Rattle.ar_check.specs.Check.{checked, choice_of, choice_tree, default_kind, default_of, default_tree, field_of, given, index_of, innermost, is_nil_literal, len_of, over_items, plain_kind, predicate_kind, predicate_of};
-ghost use Rattle.ar_tree.specs.Meaning.{IsTruthOrFault, mean};
+ghost use Rattle.ar_check.specs.Check.{choice_of, choice_tree, default_kind, default_of, default_tree, field_of, given, index_of, innermost, is_nil_literal, len_of, over_items, plain_kind, predicate_kind, predicate_of};
 ghost use Rattle.ar_check.specs.Operand.{made_plain, operand};
 ghost use Rattle.ar_check.specs.Private.Inside.{boxed_view, inside, item_in, item_view, items_in, kind_view, operand_view, turned_where, typed_in};
 ghost use Rattle.ar_tree.specs.Typed as typed;
-ghost use Rattle.ar_check.specs.Typing.{IsCondition};
 ghost use Rattle.ar_tree.specs.Views.{typed_view};
 ghost use Rattle.ar_check.specs.Memory.{is_memory};
 
@@ -45,17 +42,7 @@ use std::alloc::{AllocError, Global};
 /// `NotAList`, `NoSuchField`, `NotScalar` and `NoCommonKind` go before `WrongOperand`. `NotTruth`
 /// where the whole is no boolean.
 pub fn check(alloc: Global, tree: Tree, shape: &Shape) -> Result<Typed, TypeError>
-    // This typed tree, or this fault.
-    ensures exact { Gives is_memory typed_view result (checked (shape_view shape.now) (expression_of tree)) }
-
-    // The same by the table of kinds: a boolean, plain or optional, or none.
-    ensures condition { IfOk result (λ _. IsCondition (shape_view shape.now) (expression_of tree)) }
-    ensures refused { IfErr result
-        (λ error. Unless (is_memory error) (¬ (IsCondition (shape_view shape.now) (expression_of tree)))) }
-
-    // On each value of the shape the condition is true or false or meets a fault.
-    ensures answers { IfOk result (λ condition. (value : Value) → fits value (shape_view shape.now) ≡ true
-        → IsTruthOrFault (mean value None (typed_view condition))) }
+    ensures { ChecksTo (shape_view shape.now) (expression_of tree) result }
 {
     let at = tree.place();
     let scope = Scope {

@@ -12,10 +12,11 @@ use Rattle.clap.specs.declared.error.Error.{Error}
 use Rattle.clap.specs.declared.error.kind.ErrorKind.{ErrorKind}
 use Rattle.clap.specs.declared.error.kind.ErrorKind.TheVariants.{OutOfMemory}
 use Rattle.clap.specs.declared.parser.matches.ArgMatches.{ArgMatches}
-use Rattle.ar_command_line.specs.CommandLine.{AsksForText, application, command_named, has_flag, is_request, named, of_kind, run_command, run_of, workers_of}
+use Rattle.ar_command_line.proofs.Bounds.{ordered_in_bounds, run_in_bounds}
+use Rattle.ar_command_line.specs.CommandLine.{AsksForCommand, AsksForText, application, command_named, has_flag, is_request, named, of_kind, run_command, run_of, workers_of}
 use Rattle.ar_command_line.specs.declared.command_line.Command.{Command}
 use Rattle.ar_command_line.specs.declared.command_line.UsageError.{UsageError}
-use Rattle.ar_command_line.specs.declared.command_line.UsageError.TheVariants.{Words, Workers, Conflict}
+use Rattle.ar_command_line.specs.declared.command_line.UsageError.TheVariants.{Words}
 
 -- ---- the command line is one of those of which `clap` tells what a parse gives
 
@@ -121,24 +122,22 @@ pub refused_words : (a : App) (words : List Text) (e : Error) → a ≡ applicat
     → fault_of application words ≢ []
 refused_words a words e is parses answer = refused a words e is parses (λ memory. let bad = rw memory at answer in cc)
 
--- and where it takes them
-pub record Answers (given : List Text) (r : Result Command UsageError) : Type 0 where
-  pub named : IfOk r (λ command. (fault_of application given ≡ []) × (command_named (subcommand_of application given) ≡ Ok command))
-  pub words : r ≡ Err Words → fault_of application given ≢ []
-  pub workers : r ≡ Err Workers → (fault_of application given ≡ []) × (command_named (subcommand_of application given) ≡ Err Workers)
-  pub conflict : r ≡ Err Conflict → (fault_of application given ≡ []) × (command_named (subcommand_of application given) ≡ Err Conflict)
-
 if_named : {P : Type 0} (x r : Result Command UsageError) → r ≡ x → P → IfOk r (λ command. P × (x ≡ Ok command))
 if_named x (Ok command) is p = (p, sym is)
 if_named x (Err error) is p = tt
 
+-- and where it takes them
 pub answers : (a : App) (words : List Text) (m : ArgMatches) (r : Result Command UsageError) → a ≡ application → Parses a words (Ok m)
-    → HasMatchesOf a words m → r ≡ command_named (subcommand_rows_of m) → Answers words r
+    → HasMatchesOf a words m → r ≡ command_named (subcommand_rows_of m) → AsksForCommand words r
 answers a words m r is parses matches answer =
     let free = taken a words m is parses in
     let same : r ≡ command_named (subcommand_of application words) = answer ∙ ap command_named (subcommand_is a words m is matches) in
+    let named : IfOk r (λ command. (fault_of application words ≡ []) × (command_named (subcommand_of application words) ≡ Ok command)) = if_named _ r same free in
+    let told : IfOk r (λ command. command_named (subcommand_of application words) ≡ Ok command) = IfOk-weaker r _ _ (λ command both. both.1) named in
     record {
-      named = if_named _ r same free;
+      named = named;
+      bounds = λ n. run_in_bounds (subcommand_of application words) r n told;
+      ordered_bounds = λ n. ordered_in_bounds (subcommand_of application words) r n told;
       words = λ bad _. named_or_workers words free (sym same ∙ bad);
       workers = λ bad. (free, sym same ∙ bad);
       conflict = λ bad. (free, sym same ∙ bad);

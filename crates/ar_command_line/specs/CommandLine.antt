@@ -1,11 +1,11 @@
 -- The command line, and what its words ask for.
-use Rattle.std.specs.Prelude.{◌≡◌, ◌⊎◌, ℕ, Bool, true, false, List, [], ◌∷◌, fold, map, codes, Option, Some, None, if◌then◌else◌, Result, Ok, Err, String, string_bytes}
+use Rattle.std.specs.Prelude.{◌≡◌, ◌⊎◌, ℕ, Bool, true, false, List, [], ◌∷◌, fold, map, codes, Option, Some, None, if◌then◌else◌, Result, Ok, Err, String, string_bytes, ◌≢◌, ◌≤◌, IfOk}
 use Rattle.std.specs.declared.alloc.Global.{Global}
 use Rattle.std.specs.Option.{option_map_or}
 use Rattle.std.specs.Str.{bytes_eq}
 use Rattle.std.specs.Str.Parse.{digits_value, without_leading_plus}
 use Rattle.ar_value.specs.Limits.{most_workers}
-use Rattle.clap.specs.Words.{App, Kinds, Row, Rule, Text, first_of, new_app, new_rule, one_of, with_rule, with_subcommand}
+use Rattle.clap.specs.Words.{App, Kinds, Row, Rule, Text, first_of, new_app, new_rule, one_of, with_rule, with_subcommand, fault_of, subcommand_of}
 use Rattle.clap.specs.Simple.{new_shape}
 use Rattle.clap.specs.ValueTests.{is_unsigned_in}
 use Rattle.clap.specs.declared.builder.action.ArgAction.TheVariants.{SetTrue}
@@ -91,6 +91,20 @@ command_named (Some subcommand) = named subcommand.0 subcommand.1
 -- the words as texts
 abbrev pub texts_of : List (String Global) → List Text
 texts_of = map string_bytes
+
+-- what the words of a command line ask for
+pub record AsksForCommand (given : List Text) (result : Result Command UsageError) : Type 0 where
+  -- the command is the one that the words name, and `clap` finds no fault in them
+  pub named : IfOk result (λ command. (fault_of application given ≡ []) × (command_named (subcommand_of application given) ≡ Ok command))
+  -- a command's number of workers is from 1 to 16
+  pub bounds : (n : ℕ) → result ≡ Ok (Run n) → (1 ≤ n) × (n ≤ most_workers)
+  pub ordered_bounds : (n : ℕ) → result ≡ Ok (Ordered n) → (1 ≤ n) × (n ≤ most_workers)
+  -- words are refused only where `clap` finds a fault
+  pub words : result ≡ Err Words → fault_of application given ≢ []
+  -- a number of workers is refused only where the words are good but for that
+  pub workers : result ≡ Err Workers → (fault_of application given ≡ []) × (command_named (subcommand_of application given) ≡ Err Workers)
+  -- two ways to run are refused only where the words are good but for that
+  pub conflict : result ≡ Err Conflict → (fault_of application given ≡ []) × (command_named (subcommand_of application given) ≡ Err Conflict)
 
 -- an error of `clap`, as it is answered: out of memory, or else that it refuses the words
 abbrev pub of_kind : ErrorKind → UsageError

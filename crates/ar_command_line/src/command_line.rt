@@ -1,9 +1,8 @@
 //! The command line, read with `clap`.
 
-ghost use Rattle.std.specs.Prelude.{◌≡◌, ◌≢◌, ◌≤◌, ℕ, [], codes, false, is_some, Err, IfOk, IsErr, Ok};
-ghost use Rattle.ar_value.specs.Limits.{most_workers};
-ghost use Rattle.clap.specs.Words.{app_of, fault_of, found_of, kind_of, new_app, rows_of, rule_of, subcommand_of, subcommand_rows_of, with_rule};
-ghost use Rattle.ar_command_line.specs.CommandLine.{AsksForText, application, command_named, flag_named, has_flag, is_request, named, number_of_workers, program, run_app, run_command, texts_of, without_run, workers_of, workers_option};
+ghost use Rattle.std.specs.Prelude.{◌≡◌, ◌≢◌, ◌≤◌, [], codes, false, is_some, Err, IfOk, IsErr, Ok};
+ghost use Rattle.clap.specs.Words.{app_of, fault_of, found_of, kind_of, new_app, rows_of, rule_of, subcommand_rows_of, with_rule};
+ghost use Rattle.ar_command_line.specs.CommandLine.{AsksForText, application, command_named, flag_named, has_flag, is_request, named, number_of_workers, program, run_app, run_command, texts_of, without_run, workers_of, workers_option, AsksForCommand};
 
 use crate::help::{CHECK_HELP, EVAL_HELP, HELP, LIST_HELP, RUN_HELP};
 use ar_value::limits::MOST_WORKERS;
@@ -81,23 +80,7 @@ impl From<clap::Error> for UsageError {
 /// `--version`; then `Workers` where `--workers` names no number from 1 to 16; then `Conflict` where both
 /// `--ordered` and `--plain` are given; `OutOfMemory` for out of memory.
 pub fn command_of(alloc: Global, words: Vec<String>) -> Result<Command, UsageError>
-    // The command is the one that the words name, and `clap` finds no fault in them.
-    ensures named { IfOk result (λ command. (fault_of application (texts_of words.items) ≡ [])
-        × (command_named (subcommand_of application (texts_of words.items)) ≡ Ok command)) }
-
-    ensures bounds { (n : ℕ) → result ≡ Ok (Command.Run n) → (1 ≤ n) × (n ≤ most_workers) }
-    ensures ordered_bounds { (n : ℕ) → result ≡ Ok (Command.Ordered n) → (1 ≤ n) × (n ≤ most_workers) }
-
-    // Words are refused only where `clap` finds a fault.
-    ensures words { result ≡ Err UsageError.Words → fault_of application (texts_of words.items) ≢ [] }
-
-    // A number of workers is refused only where the words are good but for that.
-    ensures workers { result ≡ Err UsageError.Workers → (fault_of application (texts_of words.items) ≡ [])
-        × (command_named (subcommand_of application (texts_of words.items)) ≡ Err UsageError.Workers) }
-
-    // Two ways to run are refused only where the words are good but for that.
-    ensures conflict { result ≡ Err UsageError.Conflict → (fault_of application (texts_of words.items) ≡ [])
-        × (command_named (subcommand_of application (texts_of words.items)) ≡ Err UsageError.Conflict) }
+    ensures { AsksForCommand (texts_of words.items) result }
 {
     let command_line = application(alloc)?;
     let matches = command_line.try_get_matches_from(words.as_slice())?;

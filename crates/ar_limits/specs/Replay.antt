@@ -1,11 +1,12 @@
 -- Which lists of events lead to a state.
-use Rattle.std.specs.Prelude.{ℕ, ◌≡◌, ◌<◌, List, length}
+use Rattle.std.specs.Prelude.{ℕ, ◌≡◌, ◌+◌, ◌<◌, List, [], ◌∷◌, ◌++◌, length}
 use Rattle.ar_limits.specs.declared.counts.Counts.{Counts}
 use Rattle.ar_limits.specs.declared.event.Event.{Event}
 use Rattle.ar_limits.specs.declared.event.Event.TheVariants as event
+use Rattle.ar_limits.specs.declared.event.Effect.{Effect}
 use Rattle.ar_limits.specs.declared.limits.Limits.{Limits}
 use Rattle.ar_limits.specs.declared.phase.Phase.{Phase}
-use Rattle.ar_limits.specs.Run.{run_phase, metric_phases, metric_counts}
+use Rattle.ar_limits.specs.Run.{run_phase, metric_phases, metric_counts, effect_of}
 
 -- the most events that a run takes, late ones included
 abbrev pub most_events : ℕ
@@ -39,3 +40,14 @@ ForEachReplay state P =
 abbrev pub IsOfMetricBelow : ℕ → Event → Type 0
 IsOfMetricBelow metrics (event.Mark number mark) = number < metrics
 IsOfMetricBelow metrics event.Stop = Unit {0}
+
+-- a run took one event more and told this effect
+pub record TakesEvent (event : Event) (told : Effect) (before after : Standing) : Type 0 where
+  -- each list of events that led to where it stood leads, with this event at its end, to where it stands
+  pub replays : ForEachReplay before (λ limits events. Replays limits (events ++ event ∷ []) after)
+  -- the effect is that of this event after each such list
+  pub effect : ForEachReplay before (λ limits events. told ≡ effect_of limits events event)
+  -- whichever events came before, the limits stay
+  pub limits : after.limits ≡ before.limits
+  -- and the number of events goes up by one
+  pub handed : after.handed ≡ before.handed + 1

@@ -1,9 +1,9 @@
 //! A run, as callers see it.
 
-ghost use Rattle.std.specs.Prelude.{◌≡◌, ◌+◌, ◌<◌, [], ◌∷◌, ◌++◌, length, slice_get, IfOk};
+ghost use Rattle.std.specs.Prelude.{◌≡◌, ◌<◌, [], length, slice_get, IfOk};
 ghost use Rattle.ar_limits.specs.Metric.{HasPositiveCounts};
-ghost use Rattle.ar_limits.specs.Replay.{Replays, ForEachReplay, IsOfMetricBelow, most_events};
-ghost use Rattle.ar_limits.specs.Run.{effect_of, metric_counts, metric_phases, run_phase};
+ghost use Rattle.ar_limits.specs.Replay.{Replays, ForEachReplay, TakesEvent, IsOfMetricBelow, most_events};
+ghost use Rattle.ar_limits.specs.Run.{metric_counts, metric_phases, run_phase};
 
 use crate::counts::Counts;
 use crate::event::{Effect, Event};
@@ -55,15 +55,7 @@ impl RunState {
     pub fn apply(&mut self, event: Event) -> Effect
         requires room { self.old.handed < most_events }
         requires metric { IsOfMetricBelow (length self.old.limits) event }
-
-        ensures replays { ForEachReplay self.old (λ limits events.
-            Replays limits (events ++ event ∷ []) self.new) }
-        ensures effect { ForEachReplay self.old (λ limits events.
-            result ≡ effect_of limits events event) }
-
-        // What stays, and what goes up, whichever events came before.
-        ensures limits { self.new.limits ≡ self.old.limits }
-        ensures handed { self.new.handed ≡ self.old.handed + 1 }
+        ensures { TakesEvent event result self.old self.new }
     {
         self.handed += 1;
         self.progress.apply(event)

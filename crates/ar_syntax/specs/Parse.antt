@@ -1,13 +1,17 @@
 -- The tree of a text, or its refusal.
-use Rattle.std.specs.Prelude.{◌≡◌, ℕ, true, nat_le, if◌then◌else◌, List, [], ◌∷◌, length, Option, Some, None, Result, Ok, Err}
-use Rattle.ar_value.specs.Answer.{◌>>=◌}
+use Rattle.std.specs.Prelude.{◌≡◌, ℕ, ◌<◌, true, nat_le, if◌then◌else◌, List, [], ◌∷◌, length, Option, Some, None, Result, Ok, Err, IfOk, IfErr}
+use Rattle.ar_value.specs.Answer.{◌>>=◌, Gives}
+use Rattle.ar_value.specs.Limits.{most_text_bytes}
 use Rattle.ar_tree.specs.Expression.{Expression}
+use Rattle.ar_tree.specs.Limits.{WrittenInLimits}
+use Rattle.ar_tree.specs.Views.{expression_of}
+use Rattle.ar_tree.specs.declared.tree.Tree.{Tree}
 use Rattle.ar_syntax.specs.Fault.{fault_of}
 use Rattle.ar_syntax.specs.Machine.{State, finished, start_state, step}
 use Rattle.ar_syntax.specs.Refusal.{Derives, IsRefused, depth, most_depth, strict}
-use Rattle.ar_syntax.specs.Tokens.{tokens_of}
+use Rattle.ar_syntax.specs.Tokens.{is_memory, tokens_of}
 use Rattle.ar_syntax.specs.declared.error.SyntaxError.{SyntaxError}
-use Rattle.ar_syntax.specs.declared.error.SyntaxError.TheVariants.{Unexpected, TooDeep, OutOfMemory}
+use Rattle.ar_syntax.specs.declared.error.SyntaxError.TheVariants.{TooLong, Unexpected, TooDeep, OutOfMemory}
 use Rattle.ar_syntax.specs.declared.token.Token.{Token}
 
 -- a tree that isn't too deep
@@ -53,3 +57,16 @@ pub data IsRefusal (text : List ℕ) (error : SyntaxError) : Type 0 where
 abbrev pub IsNoCondition : List ℕ → SyntaxError → Type 0
 IsNoCondition text OutOfMemory = Unit {0}
 IsNoCondition text error = ((tree : Expression) → ¬ SaysTree text tree) × IsRefusal text error
+
+-- what parsing a text answers
+pub record ParsesTo (text : List ℕ) (result : Result Tree SyntaxError) : Type 0 where
+  -- this tree, or this refusal
+  pub exact : Gives is_memory expression_of result (parse_of text)
+  -- a text that is too long is refused for that alone
+  pub too_long : most_text_bytes < length text → result ≡ Err TooLong
+  -- the same in the grammar's words: the text is a condition, which the tree says,
+  pub tree : IfOk result (λ tree. SaysTree text (expression_of tree))
+  -- or it is none, and why
+  pub refused : IfErr result (IsNoCondition text)
+  -- list literals have at most 16 items, texts and names at most 4,096 bytes
+  pub limits : IfOk result (λ tree. WrittenInLimits (expression_of tree))

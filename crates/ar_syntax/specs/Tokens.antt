@@ -1,11 +1,12 @@
 -- Cutting a text into tokens, from left to right; each is the longest that stands there.
-use Rattle.std.specs.Prelude.{◌≡◌, ℕ, zero, suc, ◌+◌, ◌-◌, ◌<◌, ◌≤◌, pos, Bool, false, true, ◌&&◌, ◌||◌, not, ◌==◌, nat_eq, nat_lt, if◌then◌else◌, List, [], ◌∷◌, ◌++◌, length, take, drop, slice_index, find, take_while, Option, Some, None, Result, Ok, Err}
+use Rattle.std.specs.Prelude.{◌≡◌, ℕ, zero, suc, ◌+◌, ◌-◌, ◌<◌, ◌≤◌, pos, Bool, false, true, ◌&&◌, ◌||◌, not, ◌==◌, nat_eq, nat_lt, if◌then◌else◌, List, [], ◌∷◌, ◌++◌, length, take, drop, slice_index, find, take_while, Option, Some, None, Result, Ok, Err, IfOk, All, Vec}
+use Rattle.std.specs.declared.alloc.Global.{Global}
 use Rattle.std.specs.Char.{is_ascii_digit}
 use Rattle.std.specs.List.{starts_with}
 use Rattle.std.specs.Str.Parse.{digits_value}
 use Rattle.ar_value.specs.Decimal.{is_i64}
 use Rattle.ar_value.specs.Digits.{magnitude_of}
-use Rattle.ar_value.specs.Answer.{◌>>=◌}
+use Rattle.ar_value.specs.Answer.{◌>>=◌, Gives}
 use Rattle.ar_value.specs.Limits.{most_text_bytes}
 use Rattle.ar_syntax.specs.Token.{Spells, begins_word, continues_word, is_digit_in, is_quote, named, radix, spelling, takes_field, text_at, text_end, unescaped, word_of}
 use Rattle.ar_syntax.specs.declared.error.SyntaxError.{SyntaxError}
@@ -246,3 +247,16 @@ pub data IsGap : List ℕ → List ℕ → Type 0 where
 abbrev pub IsGapBetween : List ℕ → ℕ → List Token → Type 0
 IsGapBetween text place [] = IsGap (drop place text) []
 IsGapBetween text place (token ∷ tokens) = IsGap (drop place text) (drop token.span.start text) × IsGapBetween text token.span.end tokens
+
+-- what cutting a text into tokens answers
+pub record CutsTo (text : List ℕ) (result : Result (Vec Token Global) SyntaxError) : Type 0 where
+  -- these tokens, or this fault
+  pub exact : Gives is_memory (λ tokens. tokens.items) result (tokens_of text)
+  -- a text that is too long is refused for that alone
+  pub too_long : most_text_bytes < length text → result ≡ Err TooLong
+  -- the tokens are the text's parts: they stand in order,
+  pub in_order : IfOk result (λ tokens. AreInOrder 0 (length text) tokens.items)
+  -- the text at each of them spells it,
+  pub spelled : IfOk result (λ tokens. All (IsSpelled text) tokens.items)
+  -- and all else in the text is blanks and comments
+  pub gap_between : IfOk result (λ tokens. IsGapBetween text 0 tokens.items)

@@ -1,16 +1,15 @@
 //! From a text's tokens to the tree of a condition.
 
-ghost use Rattle.std.specs.Prelude.{◌≡◌, ◌<◌, length, Err, IfOk, IfErr, false, option_map};
+ghost use Rattle.std.specs.Prelude.{◌≡◌, ◌<◌, length, Err, IfOk, false, option_map};
 ghost use Rattle.ar_value.specs.Answer.{Gives};
 ghost use Rattle.ar_value.specs.Limits.{most_text_bytes};
 ghost use Rattle.ar_syntax.specs.Machine.{Have, finished, step, whole};
-ghost use Rattle.ar_syntax.specs.Parse.{IsNoCondition, SaysTree, ended, limited, parse_of, stepped, tree_of};
+ghost use Rattle.ar_syntax.specs.Parse.{ParsesTo, ended, limited, parse_of, stepped, tree_of};
 ghost use Rattle.ar_syntax.specs.Refusal.{strict};
 ghost use Rattle.ar_syntax.specs.declared.error.SyntaxError.TheVariants.{TooLong};
 ghost use Rattle.ar_syntax.specs.Private.Steps.{at_state};
 ghost use Rattle.ar_syntax.specs.Tokens.{is_memory};
 ghost use Rattle.ar_syntax.specs.Private.Frames.{frames_of};
-ghost use Rattle.ar_tree.specs.Limits.{WrittenInLimits};
 ghost use Rattle.ar_tree.specs.Views.{expression_of};
 
 use crate::climb::{Reach, climb};
@@ -40,18 +39,7 @@ const MOST_TREE_LEVELS: usize = 64;
 /// name where an operand is wanted, `TooDeep` for the opener after 64 unfinished ones, else
 /// `Unexpected`. Last, `TooDeep` at byte 0 for a tree of more than 64 levels.
 pub fn parse(alloc: Global, text: &str) -> Result<Tree, SyntaxError>
-    // This tree, or this refusal.
-    ensures exact { Gives is_memory expression_of result (parse_of text.now) }
-
-    // A text that is too long is refused for that alone.
-    ensures too_long { most_text_bytes < length text.now → result ≡ Err TooLong }
-
-    // The same in the grammar's words.
-    ensures tree { IfOk result (λ tree. SaysTree text.now (expression_of tree)) }
-    ensures refused { IfErr result (IsNoCondition text.now) }
-
-    // List literals have at most 16 items, texts and names at most 4,096 bytes.
-    ensures limits { IfOk result (λ tree. WrittenInLimits (expression_of tree)) }
+    ensures { ParsesTo text.now result }
 {
     tree(alloc, text)
 }

@@ -1,9 +1,9 @@
 //! Cutting a text into tokens.
 
-ghost use Rattle.std.specs.Prelude.{◌≡◌, ◌+◌, ◌^◌, ◌<◌, ◌≤◌, length, false, drop, All, Err, IfOk, Ok};
+ghost use Rattle.std.specs.Prelude.{◌≡◌, ◌+◌, ◌^◌, ◌<◌, ◌≤◌, length, false, drop, Err, IfOk, Ok};
 ghost use Rattle.ar_value.specs.Answer.{Gives};
 ghost use Rattle.ar_value.specs.Limits.{most_text_bytes};
-ghost use Rattle.ar_syntax.specs.Tokens.{AreInOrder, IsGapBetween, IsSpelled, begins_block_comment, begins_line_comment, block_comment, comment_end, front_of, is_blank, line_comment, sign_at, sign_of, is_coalescing, is_memory, token_of, tokens_behind, tokens_of, word_at, word_token};
+ghost use Rattle.ar_syntax.specs.Tokens.{begins_block_comment, begins_line_comment, block_comment, comment_end, front_of, is_blank, line_comment, sign_at, sign_of, is_coalescing, is_memory, token_of, tokens_behind, tokens_of, word_at, word_token, CutsTo};
 ghost use Rattle.ar_syntax.specs.declared.error.SyntaxError.TheVariants.{TooLong};
 ghost use Rattle.ar_syntax.specs.Token.{named, word_of};
 
@@ -65,16 +65,7 @@ enum Piece {
 /// faults before that of the byte after it, and `OpenText` before an escape of the text.
 /// `OutOfMemory` where a growth was refused.
 pub fn tokens(alloc: Global, text: &str) -> Result<Vec<Token>, SyntaxError>
-    // These tokens, or this fault.
-    ensures exact { Gives is_memory (λ tokens. tokens.items) result (tokens_of text.now) }
-
-    // A text that is too long is refused for that alone.
-    ensures too_long { most_text_bytes < length text.now → result ≡ Err TooLong }
-
-    // They are the text's parts.
-    ensures in_order { IfOk result (λ tokens. AreInOrder 0 (length text.now) tokens.items) }
-    ensures spelled { IfOk result (λ tokens. All (IsSpelled text.now) tokens.items) }
-    ensures gap_between { IfOk result (λ tokens. IsGapBetween text.now 0 tokens.items) }
+    ensures { CutsTo text.now result }
 {
     limited_tokens(alloc, text)
 }

@@ -10,23 +10,33 @@ use Rattle.ar_check.proofs.Conditions.{is_condition, is_none, refuses_none}
 use Rattle.ar_check.proofs.Sound.{is_truth_or_fault}
 use Rattle.ar_check.proofs.typing.check.Goals as goal
 
-pub returns-in_ok-made_plain-clause-condition : goal.returns-in_ok-made_plain-clause-condition
-returns-in_ok-made_plain-clause-condition c =
+pub returns-in_ok-made_plain : goal.returns-in_ok-made_plain
+returns-in_ok-made_plain c =
     let is : checked (shape_view c.args.shape.now) (expression_of c.args.tree) ≡ Ok (typed_view c.into_inner.result) = search rules in
-    is_condition (shape_view c.args.shape.now) (expression_of c.args.tree) (typed_view c.into_inner.result) is
+    record {
+      exact = is;
+      condition = is_condition (shape_view c.args.shape.now) (expression_of c.args.tree) (typed_view c.into_inner.result) is;
+      refused = tt;
+      answers = λ value fit. is_truth_or_fault (shape_view c.args.shape.now) (expression_of c.args.tree) (typed_view c.into_inner.result) value is fit
+    }
 
-pub returns-in_ok-made_plain-clause-answers : goal.returns-in_ok-made_plain-clause-answers
-returns-in_ok-made_plain-clause-answers c =
-    let is : checked (shape_view c.args.shape.now) (expression_of c.args.tree) ≡ Ok (typed_view c.into_inner.result) = search rules in
-    λ value fit. is_truth_or_fault (shape_view c.args.shape.now) (expression_of c.args.tree) (typed_view c.into_inner.result) value is fit
-
-pub returns-else-is_truth-clause-refused : goal.returns-else-is_truth-clause-refused
-returns-else-is_truth-clause-refused c =
+pub returns-else-is_truth : goal.returns-else-is_truth
+returns-else-is_truth c =
     let is : checked (shape_view c.args.shape.now) (expression_of c.args.tree) ≡ Err (NotTruth c.place-at.result) = search rules in
-    is_none (shape_view c.args.shape.now) (expression_of c.args.tree) (NotTruth c.place-at.result) is
+    record {
+      exact = is;
+      condition = tt;
+      refused = is_none (shape_view c.args.shape.now) (expression_of c.args.tree) (NotTruth c.place-at.result) is;
+      answers = tt
+    }
 
-pub returns-in_err-condition-clause-refused : goal.returns-in_err-condition-clause-refused
-returns-in_err-condition-clause-refused c =
+pub returns-in_err-condition : goal.returns-in_err-condition
+returns-in_err-condition c =
     let p = err_from_is_err_and c.from_residual.result c.from_residual.ensures.1 in
-    rw (p.1, p.2)
-    (refuses_none (is_memory c.in_err-condition.field-0.0) (shape_view c.args.shape.now) (expression_of c.args.tree) c.in_err-condition.field-0.0 c.in_err-condition.ensures)
+    record {
+      exact = search rules;
+      condition = search rules;
+      refused = rw (p.1, p.2)
+          (refuses_none (is_memory c.in_err-condition.field-0.0) (shape_view c.args.shape.now) (expression_of c.args.tree) c.in_err-condition.field-0.0 c.in_err-condition.ensures);
+      answers = search rules
+    }
