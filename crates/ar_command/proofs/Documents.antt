@@ -18,7 +18,8 @@ use Rattle.ar_command.specs.declared.serving.Closing.{Closing}
 use Rattle.ar_command_line.specs.declared.command_line.Command.{Command}
 use Rattle.ar_command_line.specs.declared.command_line.Command.TheVariants as commands
 use Rattle.ar_command.specs.declared.serving.Refusal.{Refusal}
-use Rattle.ar_command.specs.Private.Refusing.{IfUnanswered}
+use Rattle.ar_value.specs.Answer.{IfRefused}
+use Rattle.ar_command.specs.Private.Refusing.{Tells, is_memory}
 use Rattle.ar_command.specs.declared.serving.ServeError.{ServeError}
 use Rattle.ar_command.specs.declared.serving.ServeError.TheVariants.{OutOfMemory, Read, Refused, Work, Write}
 use Rattle.ar_workers.specs.declared.error.WorkError.{WorkError}
@@ -87,7 +88,7 @@ said_of_whole known after bytes command text closing reads says = of_known (λ i
 refused_of_whole : (known after : Option (List ℕ)) (bytes : List ℕ) (command : Command) (refusal : Refusal) → ReadsUpToLimit known after bytes → Refuses command bytes refusal → IfSome known (λ input. Refuses command input refusal)
 refused_of_whole known after bytes command refusal reads refuses = of_known (λ input. Refuses command input refusal) bytes known (same_json known after bytes reads) (λ input same. refuses_too input bytes same command refusal refuses)
 
-pub refused_by : (known after : Option (List ℕ)) (bytes : List ℕ) (command : Command) (Q : WorkError → Type 0) (error : ServeError) (refusal : Refusal) → ReadsUpToLimit known after bytes → IfUnanswered {A = Bool} (Err error) (Refuses command bytes) Q → error ≡ Refused refusal → IfSome known (λ input. Refuses command input refusal)
+pub refused_by : (known after : Option (List ℕ)) (bytes : List ℕ) (command : Command) (Q : WorkError → Type 0) (error : ServeError) (refusal : Refusal) → ReadsUpToLimit known after bytes → IfRefused {X = Bool} is_memory (Err error) (Tells (Refuses command bytes) Q) → error ≡ Refused refusal → IfSome known (λ input. Refuses command input refusal)
 refused_by known after bytes command Q (Refused own) refusal reads refuses same = let is : own ≡ refusal = cc in refused_of_whole known after bytes command refusal reads (subst (Refuses command bytes) is refuses)
 refused_by known after bytes command Q (Work own) refusal reads refuses same = absurd cc
 refused_by known after bytes command Q OutOfMemory refusal reads refuses same = absurd cc
