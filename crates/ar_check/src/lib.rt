@@ -1,7 +1,7 @@
 //! The kinds of conditions: from the tree of a condition to its typed tree, where `result` has a
 //! declared shape.
 //!
-//! [`check`] answers the typed tree, in which each operand that is made plain or turned into decimal
+//! [`check`] answers the typed tree, in which each operand that is unwrapped or converted to decimal
 //! is marked, or the first fault of kinds with its place. Only out of memory can keep it from that.
 //! A checked condition, on a value of its shape, is true or false or meets one of four faults.
 //!

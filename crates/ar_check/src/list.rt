@@ -18,7 +18,7 @@ use ar_value::operator::{Scalar, UnaryOperator};
 use ar_value::shape::Shape;
 use std::alloc::{AllocError, Global};
 
-/// An item of a list literal, made plain.
+/// An item of a list literal, unwrapped.
 #[derive(Drop)]
 pub(crate) struct Item {
     pub at: usize,
@@ -43,7 +43,7 @@ pub(crate) fn list<'s>(
         return Err(TypeError::NoCommonKind(at));
     };
     let max = items.len();
-    let tree = build::node(alloc, listed(scalar, turned(alloc, scalar, items)?))?;
+    let tree = build::node(alloc, listed(scalar, converted(alloc, scalar, items)?))?;
     given(alloc, tree, list_kind(alloc, scalar, max)?)
 }
 
@@ -59,7 +59,7 @@ fn no_scalar(items: &[Item]) -> Option<usize>
     None
 }
 
-/// What scalar all items are, once wholes beside decimals are turned.
+/// What scalar all items are, once wholes next to decimals are converted.
 fn common_of(items: &[Item]) -> Option<Scalar>
     ensures { result ≡ common_of (map item_view items.now) }
 {
@@ -92,7 +92,7 @@ fn common_scalar(left: Option<Scalar>, right: Option<Scalar>) -> Option<Scalar>
 }
 
 /// The trees of items in a list of scalars.
-fn turned(alloc: Global, scalar: Scalar, items: Vec<Item>) -> Result<Vec<Typed>, AllocError>
+fn converted(alloc: Global, scalar: Scalar, items: Vec<Item>) -> Result<Vec<Typed>, AllocError>
     ensures { IfOk result (λ trees. map typed_view trees.items
         ≡ map (λ item. turned_item scalar item.scalar item.tree) (map item_view items.items)) }
 {

@@ -74,8 +74,8 @@ pub(crate) fn plain_shape<'a>(kind: &'a Kind<'_>) -> Option<&'a Shape>
     }
 }
 
-/// A tree made plain, where its kind says that it may be nil.
-pub(crate) fn plain_tree(
+/// A tree unwrapped, where its kind says that it may be nil.
+pub(crate) fn unwrapped_tree(
     alloc: Global,
     kind: &Kind<'_>,
     tree: Box<Typed>,
@@ -94,12 +94,12 @@ pub(crate) fn plain_tree(
     }
 }
 
-/// An operand made plain.
-pub(crate) fn made_plain(alloc: Global, operand: Box<Operand<'_>>) -> Result<Box<Typed>, AllocError>
+/// An operand unwrapped.
+pub(crate) fn unwrapped(alloc: Global, operand: Box<Operand<'_>>) -> Result<Box<Typed>, AllocError>
     ensures { IfOk result (λ made. typed_view made.value ≡ made_plain (operand_view operand.entry.value)) }
 {
     let Operand { tree, kind } = Box::into_inner(operand);
-    plain_tree(alloc, &kind, tree)
+    unwrapped_tree(alloc, &kind, tree)
 }
 
 /// An operand's tree, where its kind is known.
@@ -109,7 +109,7 @@ pub(crate) fn into_tree(operand: Box<Operand<'_>>) -> Box<Typed>
     Box::into_inner(operand).tree
 }
 
-/// Whether an operand is a boolean once it is plain, and its tree made plain.
+/// Whether an operand is a boolean once it is plain, and its tree unwrapped.
 pub(crate) fn as_truth(
     alloc: Global,
     operand: Box<Operand<'_>>,
@@ -118,7 +118,7 @@ pub(crate) fn as_truth(
     ensures tree { IfOk result (λ made. typed_view made.1.value ≡ made_plain (operand_view operand.entry.value)) }
 {
     let is_truth = is_truth(&operand);
-    Ok((is_truth, made_plain(alloc, operand)?))
+    Ok((is_truth, unwrapped(alloc, operand)?))
 }
 
 pub(crate) fn scalar_of(shape: &Shape) -> Option<Scalar>
@@ -329,8 +329,8 @@ pub(crate) fn common<'s>(
     }
 }
 
-/// Whether a tree of a kind is a whole beside a decimal.
-pub(crate) fn turns(other: &Kind<'_>, kind: &Kind<'_>) -> bool
+/// Whether a tree of a kind is a whole next to a decimal.
+pub(crate) fn converts(other: &Kind<'_>, kind: &Kind<'_>) -> bool
     ensures { result ≡ turns (kind_view other.now) (kind_view kind.now) }
 {
     let (Some(other), Some(shape)) = (plain_shape(other), plain_shape(kind)) else {
@@ -339,19 +339,23 @@ pub(crate) fn turns(other: &Kind<'_>, kind: &Kind<'_>) -> bool
     matches!(other, Shape::Decimal) && matches!(shape, Shape::Whole)
 }
 
-/// A tree as a decimal, where it turns.
-pub(crate) fn turned(alloc: Global, turns: bool, tree: Box<Typed>) -> Result<Box<Typed>, AllocError>
-    ensures { IfOk result (λ made. typed_view made.value ≡ turned_where turns (typed_view tree.value)) }
+/// A tree converted to a decimal, where it is to be.
+pub(crate) fn converted(
+    alloc: Global,
+    converts: bool,
+    tree: Box<Typed>,
+) -> Result<Box<Typed>, AllocError>
+    ensures { IfOk result (λ made. typed_view made.value ≡ turned_where converts (typed_view tree.value)) }
 {
-    if turns {
+    if converts {
         build::unary(alloc, UnaryOperator::ToDecimal, tree)
     } else {
         Ok(tree)
     }
 }
 
-/// The trees of two operands, made plain.
-pub(crate) fn both_plain(
+/// The trees of two operands, unwrapped.
+pub(crate) fn both_unwrapped(
     alloc: Global,
     left: Box<Operand<'_>>,
     right: Box<Operand<'_>>,
@@ -359,13 +363,13 @@ pub(crate) fn both_plain(
     ensures left { IfOk result (λ trees. typed_view trees.0.value ≡ made_plain (operand_view left.entry.value)) }
     ensures right { IfOk result (λ trees. typed_view trees.1.value ≡ made_plain (operand_view right.entry.value)) }
 {
-    let first = made_plain(alloc, left)?;
-    let second = made_plain(alloc, right)?;
+    let first = unwrapped(alloc, left)?;
+    let second = unwrapped(alloc, right)?;
     Ok((first, second))
 }
 
-/// The trees of two operands, each turned beside the other.
-pub(crate) fn turned_both(
+/// The trees of two operands, each converted where the other is a decimal.
+pub(crate) fn converted_both(
     alloc: Global,
     left: Box<Operand<'_>>,
     right: Box<Operand<'_>>,
@@ -377,11 +381,11 @@ pub(crate) fn turned_both(
         ≡ turned (operand_view left.entry.value).kind (operand_view right.entry.value).kind
         (operand_view right.entry.value).tree) }
 {
-    let turns_left = turns(&right.kind, &left.kind);
-    let turns_right = turns(&left.kind, &right.kind);
+    let converts_left = converts(&right.kind, &left.kind);
+    let converts_right = converts(&left.kind, &right.kind);
     let (left, right) = (into_tree(left), into_tree(right));
-    let left = turned(alloc, turns_left, left)?;
-    let right = turned(alloc, turns_right, right)?;
+    let left = converted(alloc, converts_left, left)?;
+    let right = converted(alloc, converts_right, right)?;
     Ok((left, right))
 }
 

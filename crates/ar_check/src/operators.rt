@@ -13,8 +13,8 @@ ghost use Rattle.ar_check.specs.Private.Inside.{boxed_view, connected_of, item_s
 use crate::build::{self, Connective};
 use crate::error::TypeError;
 use crate::operand::{
-    Kind, Operand, both_plain, given, given_unary, into_tree, is_text, is_truth, item_shape,
-    made_plain, numbers, scalar, scalar_of,
+    Kind, Operand, both_unwrapped, given, given_unary, into_tree, is_text, is_truth, item_shape,
+    numbers, scalar, scalar_of, unwrapped,
 };
 use ar_tree::tree::{Binary, Comparison, Unary};
 use ar_tree::typed::Typed;
@@ -71,7 +71,7 @@ pub(crate) fn unary<'s>(
 {
     let is_truth = is_truth(&operand);
     let numbers = numbers(&operand);
-    let tree = made_plain(alloc, operand)?;
+    let tree = unwrapped(alloc, operand)?;
     match operator {
         Unary::Not if is_truth => given_unary(alloc, UnaryOperator::Not, tree, truth()),
         Unary::Not => Err(TypeError::WrongOperand(at)),
@@ -129,7 +129,7 @@ fn connect<'s>(
         (connected_of at by (operand_view left.entry.value) (operand_view right.entry.value)) }
 {
     let wanted = is_truth(&left) && is_truth(&right);
-    let (left, right) = both_plain(alloc, left, right)?;
+    let (left, right) = both_unwrapped(alloc, left, right)?;
     let tree = build::connected(alloc, by, left, right)?;
     where_wanted(alloc, at, wanted, tree, truth())
 }
@@ -225,7 +225,7 @@ fn order<'s>(
         (ordering_of at order (operand_view left.entry.value) (operand_view right.entry.value)) }
 {
     let sides = (numbers(&left), numbers(&right));
-    let (left, right) = both_plain(alloc, left, right)?;
+    let (left, right) = both_unwrapped(alloc, left, right)?;
     let (Some(of), Some(beside)) = sides else {
         return Err(TypeError::WrongOperand(at));
     };
@@ -247,7 +247,7 @@ fn contains<'s>(
     let item = item_scalar(at, &list.kind);
     let of = scalar(&operand);
     let operand = into_tree(operand);
-    let list = made_plain(alloc, list)?;
+    let list = unwrapped(alloc, list)?;
     member(alloc, at, (of, item?), operand, list)
 }
 
@@ -288,7 +288,7 @@ fn test_texts<'s>(
         (text_test_of at test (operand_view left.entry.value) (operand_view right.entry.value)) }
 {
     let wanted = is_text(&left) && is_text(&right);
-    let (left, right) = both_plain(alloc, left, right)?;
+    let (left, right) = both_unwrapped(alloc, left, right)?;
     let tree = build::binary(alloc, BinaryOperator::TextTest(test), left, right)?;
     where_wanted(alloc, at, wanted, tree, truth())
 }
@@ -304,7 +304,7 @@ fn calculate<'s>(
         (calculation_of at operator (operand_view left.entry.value) (operand_view right.entry.value)) }
 {
     let sides = (numbers(&left), numbers(&right));
-    let (left, right) = both_plain(alloc, left, right)?;
+    let (left, right) = both_unwrapped(alloc, left, right)?;
     let (Some(of), Some(beside)) = sides else {
         return Err(TypeError::WrongOperand(at));
     };

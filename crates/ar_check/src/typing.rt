@@ -20,8 +20,8 @@ use crate::build::{self, node};
 use crate::error::TypeError;
 use crate::list::{Item, list};
 use crate::operand::{
-    Kind, Operand, as_truth, common, field_kind, given, given_unary, is_truth, item_kind,
-    item_shape, made_plain, plain_kind, scalar, turned, turned_both, turns, without_nil,
+    Kind, Operand, as_truth, common, converted, converted_both, converts, field_kind, given,
+    given_unary, is_truth, item_kind, item_shape, plain_kind, scalar, unwrapped, without_nil,
 };
 use crate::operators::{binary, is_nil_of, truth, unary, where_wanted};
 use ar_tree::tree::{Binary, Literal, Tree, Unary};
@@ -52,7 +52,7 @@ pub fn check(alloc: Global, tree: Tree, shape: &Shape) -> Result<Typed, TypeErro
     };
     let condition = typed(alloc, tree, &scope)?;
     if is_truth(&condition) {
-        Ok(Box::into_inner(made_plain(alloc, condition)?))
+        Ok(Box::into_inner(unwrapped(alloc, condition)?))
     } else {
         Err(TypeError::NotTruth(at))
     }
@@ -295,7 +295,7 @@ fn typed_predicate<'s>(
     predicate_of(alloc, at, predicate, list, body)
 }
 
-/// The items of a list literal, made plain.
+/// The items of a list literal, unwrapped.
 #[cycle(typed)]
 #[tactic(auto, using(crate::proofs::Items::all_left))]
 fn typed_items(alloc: Global, trees: Vec<Tree>, scope: &Scope<'_>) -> Result<Vec<Item>, TypeError>
@@ -309,7 +309,7 @@ fn typed_items(alloc: Global, trees: Vec<Tree>, scope: &Scope<'_>) -> Result<Vec
     Ok(items)
 }
 
-/// An item of a list literal, made plain.
+/// An item of a list literal, unwrapped.
 #[cycle(typed)]
 fn typed_item(alloc: Global, tree: Tree, scope: &Scope<'_>) -> Result<Item, TypeError>
     ensures { Gives is_memory item_view result (item_in scope.now (expression_of tree)) }
@@ -317,7 +317,7 @@ fn typed_item(alloc: Global, tree: Tree, scope: &Scope<'_>) -> Result<Item, Type
     let at = tree.place();
     let operand = typed(alloc, tree, scope)?;
     let scalar = scalar(&operand);
-    let tree = made_plain(alloc, operand)?;
+    let tree = unwrapped(alloc, operand)?;
     Ok(Item { at, scalar, tree })
 }
 
@@ -428,7 +428,7 @@ fn field_tree(alloc: Global, owner: Box<Operand<'_>>, name: Text) -> Result<Box<
     ensures { IfOk result (λ tree. typed_view tree.value
         ≡ typed.field (made_plain (operand_view owner.entry.value)) name) }
 {
-    let owner = made_plain(alloc, owner)?;
+    let owner = unwrapped(alloc, owner)?;
     node(alloc, Typed::Field { owner, name })
 }
 
@@ -457,12 +457,12 @@ fn index_tree(
         ≡ typed.binary binary.Index (made_plain (operand_view list.entry.value))
         (made_plain (operand_view position.entry.value))) }
 {
-    let list = made_plain(alloc, list)?;
+    let list = unwrapped(alloc, list)?;
     build::binary(
         alloc,
         BinaryOperator::Index,
         list,
-        made_plain(alloc, position)?,
+        unwrapped(alloc, position)?,
     )
 }
 
@@ -475,7 +475,7 @@ fn len_of<'s>(
     ensures { Gives is_memory boxed_view result (len_of at (operand_view list.entry.value)) }
 {
     item_shape(at, &list.kind)?;
-    let list = made_plain(alloc, list)?;
+    let list = unwrapped(alloc, list)?;
     given_unary(alloc, UnaryOperator::Len, list, Kind::Made(Shape::Whole))
 }
 
@@ -500,7 +500,7 @@ fn choice_of<'s>(
     }
 }
 
-/// The tree of a choice, whose branches are turned beside one another.
+/// The tree of a choice, whose branches are converted to the kind that both have.
 fn choice_tree(
     alloc: Global,
     condition: Box<Operand<'_>>,
@@ -511,8 +511,8 @@ fn choice_tree(
         ≡ choice_tree (made_plain (operand_view condition.entry.value))
         (operand_view yes.entry.value) (operand_view no.entry.value)) }
 {
-    let condition = made_plain(alloc, condition)?;
-    let (yes, no) = turned_both(alloc, yes, no)?;
+    let condition = unwrapped(alloc, condition)?;
+    let (yes, no) = converted_both(alloc, yes, no)?;
     node(alloc, Typed::Choice { condition, yes, no })
 }
 
@@ -528,14 +528,14 @@ fn default_of<'s>(
 {
     let Operand { tree, kind } = Box::into_inner(first);
     let plain = without_nil(kind);
-    let turns_first = turns(&other.kind, &plain);
-    let turns_other = turns(&plain, &other.kind);
+    let converts_first = converts(&other.kind, &plain);
+    let converts_other = converts(&plain, &other.kind);
     let Operand {
         tree: other,
         kind: of_other,
     } = Box::into_inner(other);
     let kind = default_kind(alloc, plain, of_other)?;
-    let made = default_tree(alloc, turns_first, tree, turns_other, other);
+    let made = default_tree(alloc, converts_first, tree, converts_other, other);
     let (kind, tree) = zip_ok(kind, made)?;
     match kind {
         Some(kind) => given(alloc, tree, kind),
@@ -543,20 +543,20 @@ fn default_of<'s>(
     }
 }
 
-/// The tree of a default, each side of which is turned where it turns.
+/// The tree of a default, each side of which is converted where it is a whole next to a decimal.
 fn default_tree(
     alloc: Global,
-    turns_first: bool,
+    converts_first: bool,
     first: Box<Typed>,
-    turns_other: bool,
+    converts_other: bool,
     other: Box<Typed>,
 ) -> Result<Box<Typed>, AllocError>
     ensures { IfOk result (λ tree. typed_view tree.value
-        ≡ typed.binary binary.Default (turned_where turns_first (typed_view first.value))
-        (turned_where turns_other (typed_view other.value))) }
+        ≡ typed.binary binary.Default (turned_where converts_first (typed_view first.value))
+        (turned_where converts_other (typed_view other.value))) }
 {
-    let first = turned(alloc, turns_first, first)?;
-    let other = turned(alloc, turns_other, other)?;
+    let first = converted(alloc, converts_first, first)?;
+    let other = converted(alloc, converts_other, other)?;
     build::binary(alloc, BinaryOperator::Default, first, other)
 }
 
@@ -601,7 +601,7 @@ fn predicate_tree(
     ensures { IfOk result (λ tree. typed_view tree.value
         ≡ typed.predicate over (made_plain (operand_view list.entry.value)) (typed_view body.value)) }
 {
-    let list = made_plain(alloc, list)?;
+    let list = unwrapped(alloc, list)?;
     node(
         alloc,
         Typed::Predicate {

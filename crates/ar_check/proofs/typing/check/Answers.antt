@@ -10,8 +10,8 @@ use Rattle.ar_check.proofs.Conditions.{is_condition, is_none, refuses_none}
 use Rattle.ar_check.proofs.Sound.{is_truth_or_fault}
 use Rattle.ar_check.proofs.typing.check.Goals as goal
 
-pub returns-in_ok-made_plain : goal.returns-in_ok-made_plain
-returns-in_ok-made_plain c =
+pub returns-in_ok-unwrapped : goal.returns-in_ok-unwrapped
+returns-in_ok-unwrapped c =
     let is : checked (shape_view c.args.shape.now) (expression_of c.args.tree) ≡ Ok (typed_view c.into_inner.result) = search rules in
     record {
       exact = is;

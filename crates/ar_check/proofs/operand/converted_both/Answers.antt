@@ -1,6 +1,6 @@
 use Rattle.std.proofs.Common.{arith}
 use Rattle.ar_check.proofs.Turns.{turned_is}
-use Rattle.ar_check.proofs.operand.turned_both.Goals as goal
+use Rattle.ar_check.proofs.operand.converted_both.Goals as goal
 
 pub returns-clause-left : goal.returns-clause-left
 returns-clause-left c = grind (arith, turned_is)
