@@ -8,7 +8,7 @@ use Rattle.ar_tree.specs.Typed.{Typed}
 use Rattle.ar_tree.specs.Views.{typed_view}
 use Rattle.ar_tree.specs.declared.typed.Typed.{Typed as TypedCode}
 use Rattle.ar_check.proofs.Items.{len_next}
-use Rattle.ar_check.proofs.list.turned.Goals as goal
+use Rattle.ar_check.proofs.list.converted.Goals as goal
 
 -- the tree of an item goes after those that stand before it
 turned_next : (step : Item → Typed) (all : List Typed) (made : List TypedCode) (left others : List ItemCode) (first : ItemCode) (tree : TypedCode)

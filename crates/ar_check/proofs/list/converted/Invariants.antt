@@ -3,7 +3,7 @@ use Rattle.std.specs.Vec.Iter.{into_iter_items, into_iter_len}
 use Rattle.ar_check.specs.Check.{turned_item}
 use Rattle.ar_check.specs.Private.Inside.{item_view}
 use Rattle.ar_tree.specs.Views.{typed_view}
-use Rattle.ar_check.proofs.list.turned.Given as goal
+use Rattle.ar_check.proofs.list.converted.Given as goal
 
 -- the items so far are turned, before those that are left
 abbrev pub invariant-loop-item : goal.invariant-loop-item
