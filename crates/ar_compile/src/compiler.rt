@@ -1,23 +1,15 @@
 //! Compiling a typed tree, operands in order.
 
-ghost use Rattle.std.specs.Prelude.{◌≡◌, ◌+◌, ◌<◌, ◌≤◌, Err, IfOk, None, Ok, OnOk, length, true};
-ghost use Rattle.ar_value.specs.Fits.{fits};
-ghost use Rattle.ar_value.specs.Shape.{Shape};
-ghost use Rattle.ar_value.specs.Value.{Value};
+ghost use Rattle.std.specs.Prelude.{◌≡◌, ◌+◌, ◌<◌, ◌≤◌, IfOk, OnOk};
 ghost use Rattle.ar_value.specs.Limits.{most_code_entries, most_literal_items};
-ghost use Rattle.ar_tree.specs.Expression.{Expression};
 ghost use Rattle.ar_tree.specs.Limits.{AllInLimits, InLimits};
-ghost use Rattle.ar_tree.specs.Meaning.{answer_of, mean};
 ghost use Rattle.ar_tree.specs.Typed.{how_many};
 ghost use Rattle.ar_tree.specs.Typed as typed;
 ghost use Rattle.ar_tree.specs.Views.{typed_view};
-ghost use Rattle.ar_check.specs.Check.{checked};
 ghost use Rattle.ar_op.specs.declared.op.Op.TheVariants.{MakeList, Jump as JumpTo};
-ghost use Rattle.ar_compile.specs.Acceptance.{OnlyTooLarge};
+ghost use Rattle.ar_compile.specs.Answer.{CompilesTo};
 ghost use Rattle.ar_compile.specs.Compiled.{compiled};
-ghost use Rattle.ar_compile.specs.Ends.{EndsWith};
 ghost use Rattle.ar_compile.specs.Length.{length_of, operations, operations_of_items};
-ghost use Rattle.ar_compile.specs.declared.error.CompileError.TheVariants.{TooManyOps};
 ghost use Rattle.ar_compile.specs.Private.Drafts.{drafted, drafted_items, jumps_on, place_of, with_field, with_literal, with_op};
 ghost use Rattle.ar_compile.specs.Private.Trees.{items_view};
 
@@ -238,25 +230,7 @@ fn put_loop(
 pub fn compile(alloc: Global, condition: &Typed) -> Result<Code, CompileError>
     // Its list literals have at most 16 items, its texts and names at most 4,096 bytes.
     requires { InLimits (typed_view condition.now) }
-
-    // This code.
-    ensures exact { IfOk result (λ code. code ≡ compiled (typed_view condition.now)) }
-
-    // As many operations as the length says.
-    ensures length { IfOk result (λ code. length code.ops ≡ length_of (typed_view condition.now)) }
-
-    // On each value of the shape that the condition was checked for, the machine ends with what the condition means.
-    ensures means { IfOk result (λ code. (shape : Shape) (tree : Expression) (value : Value)
-        → checked shape tree ≡ Ok (typed_view condition.now) → fits value shape ≡ true
-        → EndsWith code value (answer_of (mean value None (typed_view condition.now)))) }
-
-    // Under that shape the verifier refuses it only where a run of it may have too many operands or cost too much.
-    ensures accepted { IfOk result (λ code. (shape : Shape) (tree : Expression)
-        → checked shape tree ≡ Ok (typed_view condition.now) → OnlyTooLarge code shape) }
-
-    // Too many operations, or out of memory, which is answered nowhere else.
-    ensures refused { result ≡ Err TooManyOps → most_code_entries < length_of (typed_view condition.now) }
-    ensures too_many { most_code_entries < length_of (typed_view condition.now) → result ≡ Err TooManyOps }
+    ensures { CompilesTo (typed_view condition.now) result }
 {
     if room_after(MOST_CODE_ENTRIES - 1, condition).is_none() {
         return Err(CompileError::TooManyOps);

@@ -20,7 +20,7 @@ use Rattle.ar_compile.specs.Ends.{EndsWith}
 use Rattle.ar_safety.proofs.Safe.{few_operands, verified_is_safe}
 use Rattle.ar_safety.specs.Safety.{IsSafe}
 use Rattle.ar_judge.specs.Condition.{Condition, IsBuilt, refused_as, said, typed_of}
-use Rattle.ar_judge.specs.Headline.{HeadlineHolds, HoldsWhereThere, JudgeHeadlineHolds, JudgesAsMeant, RunsAsMeant, run_answer}
+use Rattle.ar_judge.specs.Headline.{BuildsJudge, HeadlineHolds, HoldsWhereThere, JudgeHeadlineHolds, JudgesAsMeant, RunsAsMeant, run_answer}
 use Rattle.ar_judge.specs.Verdict.{AreBuilt, IsJudge, Judge, said_of, verdict_by}
 use Rattle.ar_judge.specs.declared.error.BuildCause.TheVariants.{Kinds}
 use Rattle.ar_judge.proofs.Running.{in_limits, one_answer}
@@ -131,3 +131,7 @@ judge_holds shape success failure judge is = record {
   failure_holds = each_holds shape failure judge.failure is.failure_is;
   verdicts = judges shape success failure judge is;
 }
+
+-- and so all that building it answers
+pub builds_judge : (shape : Shape) (success failure : Option (List ℕ)) (judge : Judge) → IsJudge shape success failure judge → BuildsJudge shape success failure (Ok judge)
+builds_judge shape success failure judge is = record { built = is; headline = judge_holds shape success failure judge is; refused = tt; without_memory = λ none. refl }

@@ -1,7 +1,7 @@
 -- The first half of the headline: a condition that the verifier accepts, run on any measurement of its declared shape, ends
 -- within its budget, never meets a missing or ill-kinded operand or a jump outside its code, and gives the verdict or named
 -- fault of its expression's definition.
-use Rattle.std.specs.Prelude.{◌≡◌, ◌≢◌, ◌≤◌, ℕ, Bool, true, List, length, Option, Some, None, option_and_then, Result}
+use Rattle.std.specs.Prelude.{◌≡◌, ◌≢◌, ◌≤◌, ℕ, Bool, true, List, length, Option, Some, None, option_and_then, Result, IfOk, IfErr, IsOk}
 use Rattle.ar_value.specs.Fits.{fits}
 use Rattle.ar_value.specs.Shape.{Shape}
 use Rattle.ar_value.specs.Value.{Value}
@@ -10,7 +10,8 @@ use Rattle.ar_value.specs.Limits.{most_loops, most_operands}
 use Rattle.ar_op.specs.Machine.{Next, State, after, begin, ends, goes, stuck}
 use Rattle.ar_safety.specs.Verdict.{Verified, greatest_budget}
 use Rattle.ar_judge.specs.Condition.{Condition, said}
-use Rattle.ar_judge.specs.Verdict.{Judge, measured, verdict, verdict_by}
+use Rattle.ar_judge.specs.Verdict.{HasNoText, IsJudge, Judge, RefusesTexts, measured, verdict, verdict_by}
+use Rattle.ar_judge.specs.declared.error.BuildError.{BuildError}
 
 -- ---- conditions
 
@@ -67,3 +68,15 @@ pub record JudgeHeadlineHolds (shape : Shape) (success failure : Option (List �
   pub success_holds : HoldsWhereThere shape success judge.success
   pub failure_holds : HoldsWhereThere shape failure judge.failure
   pub verdicts : (value : Value) → fits value shape ≡ true → JudgesAsMeant shape success failure judge value
+
+-- what building a judge of a metric's texts under a shape answers
+pub record BuildsJudge (shape : Shape) (success failure : Option (List ℕ)) (result : Result Judge BuildError) : Type 0 where
+  -- the judge of these texts
+  pub built : IfOk result (IsJudge shape success failure)
+  -- on each value of the shape the code of its conditions ends within its budget, is never stuck, and answers what the texts
+  -- mean; the verdict is by these answers
+  pub headline : IfOk result (JudgeHeadlineHolds shape success failure)
+  -- or the first text that is refused, and why
+  pub refused : IfErr result (RefusesTexts shape success failure)
+  -- where there is no text, out of memory is never answered
+  pub without_memory : HasNoText success failure → IsOk result

@@ -1,9 +1,9 @@
 //! The conditions of a metric.
 
-ghost use Rattle.std.specs.Prelude.{◌≡◌, IfErr, IfOk, IfSome, IsOk, None, Some, option_and_then, option_map};
+ghost use Rattle.std.specs.Prelude.{◌≡◌, IfOk, IfSome, IsOk, None, Some, option_and_then, option_map};
 ghost use Rattle.ar_value.specs.View.{shape_view, value_view};
-ghost use Rattle.ar_judge.specs.Headline.{JudgeHeadlineHolds};
-ghost use Rattle.ar_judge.specs.Verdict.{AreBuilt, FitsEach, BeginsNoFilterIfThere, HasNoText, IsJudge, RefusesTexts, Suits, TakesNoMemory, condition_of, said_of, sample_view, verdict, verdict_by};
+ghost use Rattle.ar_judge.specs.Headline.{BuildsJudge};
+ghost use Rattle.ar_judge.specs.Verdict.{AreBuilt, FitsEach, BeginsNoFilterIfThere, Suits, TakesNoMemory, condition_of, said_of, sample_view, verdict, verdict_by};
 ghost use Rattle.ar_judge.specs.Private.Building.{BuildsEach, failure_refused, success_refused};
 
 use crate::condition::Condition;
@@ -59,16 +59,8 @@ impl Judge {
         metric: &BoundMetric,
         shape: &SharedShape,
     ) -> Result<Judge, BuildError>
-        ensures built { IfOk result
-            (IsJudge (shape_view shape.now) metric.now.success_condition metric.now.failure_condition) }
-        // On each value of the shape the code of its conditions ends within its budget, is never stuck, and
-        // answers what the texts mean; the verdict is by these answers.
-        ensures headline { IfOk result
-            (JudgeHeadlineHolds (shape_view shape.now) metric.now.success_condition metric.now.failure_condition) }
-        ensures refused { IfErr result
-            (RefusesTexts (shape_view shape.now) metric.now.success_condition metric.now.failure_condition) }
-        // Where there is no text, out of memory is never answered.
-        ensures without_memory { HasNoText metric.now.success_condition metric.now.failure_condition → IsOk result }
+        ensures { BuildsJudge (shape_view shape.now)
+            metric.now.success_condition metric.now.failure_condition result }
     {
         Judge::build_with(alloc, metric, shape, None, None)
     }
@@ -90,13 +82,8 @@ impl Judge {
             (λ condition. AreBuilt (shape_view shape.now) metric.now.success_condition (Some condition.now)) }
         requires failure { IfSome known_failure
             (λ condition. AreBuilt (shape_view shape.now) metric.now.failure_condition (Some condition.now)) }
-        ensures built { IfOk result
-            (IsJudge (shape_view shape.now) metric.now.success_condition metric.now.failure_condition) }
-        ensures headline { IfOk result
-            (JudgeHeadlineHolds (shape_view shape.now) metric.now.success_condition metric.now.failure_condition) }
-        ensures refused { IfErr result
-            (RefusesTexts (shape_view shape.now) metric.now.success_condition metric.now.failure_condition) }
-        ensures without_memory { HasNoText metric.now.success_condition metric.now.failure_condition → IsOk result }
+        ensures { BuildsJudge (shape_view shape.now)
+            metric.now.success_condition metric.now.failure_condition result }
     {
         let success = built(alloc, &metric.success_condition, shape, known_success);
         let success = success.map_err(success_refused)?;

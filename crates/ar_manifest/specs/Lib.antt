@@ -2,6 +2,7 @@ pub mod Arguments
 pub mod Refusals
 pub mod DryRun
 pub mod Template
+pub mod Answer
 pub mod Cut
 pub mod Binding
 pub mod Bound

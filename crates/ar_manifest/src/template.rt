@@ -1,14 +1,13 @@
 //! Templates as they are read, before their arguments are bound.
 
-ghost use Rattle.std.specs.Prelude.{◌≡◌, ◌↔◌, Err, IfOk, option_map};
+ghost use Rattle.std.specs.Prelude.{◌≡◌, IfOk, option_map};
 ghost use Rattle.serde_json.specs.View.{view};
 ghost use Rattle.ar_value.specs.Answer.{Gives};
+ghost use Rattle.ar_manifest.specs.Answer.{ReadsTo};
 ghost use Rattle.ar_manifest.specs.Refusals.{is_memory};
 ghost use Rattle.ar_manifest.specs.Bound.{RefusesFirst, bound_of};
 ghost use Rattle.ar_manifest.specs.Found.{refused_limit, unbound_reference};
 ghost use Rattle.ar_manifest.specs.Shortened.{shortened_of};
-ghost use Rattle.ar_manifest.specs.Template.{HasNoArguments, template_of};
-ghost use Rattle.ar_manifest.specs.declared.error.ManifestError.TheVariants.{NameMissing, NoMetrics, TooManyMetrics, WrongKind, WrongVersion};
 
 use crate::arguments::{Args, Arguments};
 use crate::binder::{bound, shortened};
@@ -116,14 +115,7 @@ impl Template {
     /// `OutOfMemory` where a growth was refused: never in place of the first three, nor of
     /// `NoMetrics` and `TooManyMetrics` where there are no arguments.
     pub fn read(alloc: Global, json: &Json) -> Result<Template, ManifestError>
-        ensures exact { Gives is_memory (λ template. template) result (template_of (view json.now)) }
-        ensures version { (result ≡ Err WrongVersion) ↔ (template_of (view json.now) ≡ Err WrongVersion) }
-        ensures kind { (result ≡ Err WrongKind) ↔ (template_of (view json.now) ≡ Err WrongKind) }
-        ensures name { (result ≡ Err NameMissing) ↔ (template_of (view json.now) ≡ Err NameMissing) }
-        ensures no_metrics { HasNoArguments (view json.now)
-            → (result ≡ Err NoMetrics) ↔ (template_of (view json.now) ≡ Err NoMetrics) }
-        ensures too_many_metrics { HasNoArguments (view json.now)
-            → (result ≡ Err TooManyMetrics) ↔ (template_of (view json.now) ≡ Err TooManyMetrics) }
+        ensures { ReadsTo (view json.now) result }
     {
         template(alloc, json)
     }

@@ -1,16 +1,17 @@
 use Rattle.std.proofs.Common.{rules}
-use Rattle.ar_judge.proofs.Headline.{judge_holds}
+use Rattle.ar_value.specs.View.{shape_view}
+use Rattle.ar_judge.specs.Verdict.{IsJudge, judge_of}
+use Rattle.ar_judge.proofs.Headline.{builds_judge}
 use Rattle.ar_judge.proofs.Refusing.{failure_told, success_told}
 use Rattle.ar_judge.proofs.judge.Judge.build_with.Goals as goal
 
-pub returns-in_err-success-clause-refused : goal.returns-in_err-success-clause-refused
-returns-in_err-success-clause-refused c = search (rules, success_told)
+pub returns-in_err-success : goal.returns-in_err-success
+returns-in_err-success c = search (rules, success_told)
 
-pub returns-in_err-failure-clause-refused : goal.returns-in_err-failure-clause-refused
-returns-in_err-failure-clause-refused c = search (rules, failure_told)
+pub returns-in_err-failure : goal.returns-in_err-failure
+returns-in_err-failure c = search (rules, failure_told)
 
-pub returns-clause-built : goal.returns-clause-built
-returns-clause-built c = search rules
-
-pub returns-clause-headline : goal.returns-clause-headline
-returns-clause-headline c = judge_holds _ _ _ _ (returns-clause-built c)
+pub returns : goal.returns
+returns c =
+    let is : IsJudge (shape_view c.args.shape.now) c.args.metric.now.success_condition c.args.metric.now.failure_condition (judge_of c.in_ok-success.success c.in_ok-failure.failure) = search rules in
+    builds_judge _ _ _ _ is
