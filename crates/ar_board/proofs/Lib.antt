@@ -2,7 +2,7 @@
 pub mod Places
 pub mod Cells
 pub mod Shows
-pub mod Under
+pub mod FewEntries
 pub mod Opened
 pub mod Put
 pub mod ReceiptLemmas

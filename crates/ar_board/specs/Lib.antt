@@ -6,6 +6,7 @@ pub mod Cell
 -- the core, on plain lists
 pub mod Core
 -- boards
+pub mod Locks
 pub mod Seats
 pub mod Board
 pub mod Private

@@ -8,6 +8,5 @@ pub mod Kept
 pub mod Inside
 pub mod Posts
 -- boards
-pub mod Shares
 pub mod Seats
 pub mod Closing
