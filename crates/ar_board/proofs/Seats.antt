@@ -1,6 +1,6 @@
 -- What workers have of a board.
-use Rattle.std.proofs.Common.{◌≡◌, ◌<◌, ◌≤◌, ℕ, zero, suc, ◌+◌, ◌==◌, Bool, true, false, List, [], ◌∷◌, ◌++◌, length, get_or, set, Some, refl, sym, ◌∙◌, ap, subst, arith}
-use Rattle.std.specs.Prelude.{cond, slice_get}
+use Rattle.std.proofs.Common.{◌≡◌, ◌<◌, ◌≤◌, ℕ, zero, suc, ◌+◌, ◌==◌, Bool, true, false, List, [], ◌∷◌, ◌++◌, length, Some, refl, sym, ◌∙◌, ap, subst, arith}
+use Rattle.std.specs.Prelude.{slice_get}
 use Rattle.std.proofs.lemmas.Bool.Decides.{nat_tests}
 use Rattle.std.proofs.lemmas.List.{length_push, map_push}
 use Rattle.std.proofs.lemmas.List.Sums.{sum_by_push}
@@ -47,12 +47,6 @@ seated_next workers seats seat is before =
         at_before seats seat (seat_of worker []) worker (before.each worker below)
 
 -- ---- closing
-
--- a list is what it was where what was read is put back
-pub set_back : {A : Type 0} (xs : List A) (at : ℕ) (x : A) → at < length xs → x ≡ get_or xs at x → set xs at x ≡ xs
-set_back [] at x inside read = absurd (omega arith)
-set_back (first ∷ xs) zero x inside read = ap (λ (first : _). first ∷ xs) read
-set_back (first ∷ xs) (suc at) x inside read = ap (λ (rest : List _). first ∷ rest) (set_back xs at x (omega arith) read)
 
 -- how many receipts there are under a lock, with those of one seat more
 received_push : (lock : ℕ) (receipts : List (List Receipt)) (own : List Receipt) → received_under lock (receipts ++ own ∷ []) ≡ received_under lock receipts + receipts_under lock own

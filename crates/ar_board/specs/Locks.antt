@@ -1,5 +1,5 @@
 -- A number for each of the four locks of a board, and what their ledgers are made of.
-use Rattle.std.specs.Prelude.{◌≡◌, ◌+◌, ℕ, zero, suc}
+use Rattle.std.specs.Prelude.{◌≡◌, ℕ, zero, suc}
 use Rattle.std.specs.declared.sync.ledger.Blank.{Blank}
 use Rattle.ar_board.specs.declared.locks.Blanks.{Blanks}
 
