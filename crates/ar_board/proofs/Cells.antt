@@ -1,12 +1,12 @@
 -- A cell that gets one entry more.
 use Rattle.std.proofs.Common.{◌≡◌, ◌≢◌, ◌<◌, ◌≤◌, ℕ, zero, suc, ◌+◌, ◌==◌, Bool, true, false, List, [], ◌∷◌, ◌++◌, length, map, set, get_or, Some, refl, sym, ◌∙◌, ap, subst, arith}
-use Rattle.std.specs.Prelude.{cond, option_map, slice_get, vec_capacity}
+use Rattle.std.specs.Prelude.{cond, option_map, slice_get}
 use Rattle.std.specs.List.{AllByRecursion, count_by, sum_by}
 use Rattle.std.proofs.lemmas.Bool.Decides.{nat_tests}
 use Rattle.std.proofs.lemmas.List.{get_or-set_other, length-map, length-set, length_push, map-set}
 use Rattle.std.proofs.lemmas.List.Sums.{count_by-le-length, sum_by-set, sum_by_push}
 use Rattle.std.proofs.lemmas.Option.{get_or_from_slice_get, slice_get-map, slice_get_read, slice_get_within}
-use Rattle.ar_limits.specs.Replay.{ForEachReplay, IsOfMetricBelow, Replays}
+use Rattle.ar_limits.specs.Replay.{IsOfMetricBelow, Replays}
 use Rattle.ar_limits.specs.Run.{effect_of}
 use Rattle.ar_limits.specs.declared.event.Effect.{Effect}
 use Rattle.ar_limits.specs.declared.event.Event.{Event}
@@ -15,7 +15,7 @@ use Rattle.ar_bundle.specs.Bundle.{Bundle, IsRun, count_of, counts_of, entries_o
 use Rattle.ar_board.specs.Cell.{ArePosts, Cell, IsCell, IsKept, IsPosted, IsUnder, KeptRun, Stands, authors_at, authors_of, histories_of, history_at, lock_of}
 use Rattle.ar_board.specs.Posting.{added, posted}
 use Rattle.ar_bundle.specs.Lawful.{AreHistories, AtMostOnce, IsHistory, numbers_of, times_in}
-use Rattle.ar_board.specs.Private.KeptRuns.{CanTake, HasRoom, IsInside, IsTable, cell_of, is_among, kept_of}
+use Rattle.ar_board.specs.Private.KeptRuns.{CanTake, HasRoom, IsInside, IsPushed, IsTable, cell_of, is_among, kept_of}
 use Rattle.ar_bundle.specs.declared.bundle.EventPart.{EventPart}
 use Rattle.ar_bundle.specs.declared.bundle.RunPart.{RunPart}
 use Rattle.ar_bundle.specs.declared.finding.Finding.{Finding}
@@ -178,17 +178,6 @@ can_take bundle workers lock runs number run worker kept event ready inside metr
 
 -- ---- a run with one entry more
 
--- what `KeptRun::push` makes of a run
-pub record IsPushed (old new : Declared) (worker number : ℕ) (finding : Finding) (event : Event) (answer : Posted) : Type 0 where
-  pub place : answer.place ≡ length old.run.entries.items
-  pub entry : new.run.entries.items ≡ old.run.entries.items ++ record { number = number; finding = finding; effect = answer.effect } ∷ []
-  pub author : new.authors.items ≡ old.authors.items ++ worker ∷ []
-  pub posts : new.posts.items ≡ set old.posts.items worker (get_or old.posts.items worker 0 + 1)
-  pub replays : ForEachReplay old.run.state (λ limits events. Replays limits (events ++ event ∷ []) new.run.state)
-  pub effect : ForEachReplay old.run.state (λ limits events. answer.effect ≡ effect_of limits events event)
-  pub capacity : vec_capacity new.run.entries ≡ vec_capacity old.run.entries
-  pub author_capacity : vec_capacity new.authors ≡ vec_capacity old.authors
-
 abbrev one_if : Bool → ℕ
 one_if test = cond test 1 0
 
@@ -246,7 +235,7 @@ kept_push bundle workers lock runs worker number run old new finding event answe
     let limits : List Limits = ready.part.limits in
     let events : List Event = events_of bundle (numbers_of old.run.entries.items) in
     let last : Entry = record { number = number; finding = finding; effect = effect_of limits events event } in
-    let entries : new.run.entries.items ≡ old.run.entries.items ++ last ∷ [] = pushed.entry ∙ ap (λ (effect : Effect). old.run.entries.items ++ record { number = number; finding = finding; effect = effect } ∷ []) (pushed.effect limits events ready.is.state) in
+    let entries : new.run.entries.items ≡ old.run.entries.items ++ last ∷ [] = pushed.run.entry ∙ ap (λ (effect : Effect). old.run.entries.items ++ record { number = number; finding = finding; effect = effect } ∷ []) (pushed.run.has_effect limits events ready.is.state) in
     let numbers : numbers_of new.run.entries.items ≡ numbers_of old.run.entries.items ++ number ∷ [] = ap numbers_of entries ∙ numbers_push old.run.entries.items last in
     let more_entries = ap length entries ∙ length_push old.run.entries.items last in
     let more_authors = ap length pushed.author ∙ length_push old.authors.items worker in
@@ -258,7 +247,7 @@ kept_push bundle workers lock runs worker number run old new finding event answe
       authors = omega arith;
       are_workers = subst (AllByRecursion (λ (author : ℕ). author < workers)) (sym pushed.author) (all_push (λ (author : ℕ). author < workers) old.authors.items worker ready.is.are_workers inside);
       posts = subst (ArePosts workers new.authors.items) (sym pushed.posts) (subst (λ (authors : List ℕ). ArePosts workers authors (set old.posts.items worker (get_or old.posts.items worker 0 + 1))) (sym pushed.author) (posts_push workers worker old.authors.items old.posts.items inside ready.is.posts));
-      state = subst (λ (events : List Event). Replays limits events new.run.state) (sym (ap (events_of bundle) numbers ∙ events_push bundle (numbers_of old.run.entries.items) number event happens)) (pushed.replays limits events ready.is.state);
+      state = subst (λ (events : List Event). Replays limits events new.run.state) (sym (ap (events_of bundle) numbers ∙ events_push bundle (numbers_of old.run.entries.items) number event happens)) (pushed.run.replays limits events ready.is.state);
     }
 
 -- ---- a cell with one entry more
@@ -283,7 +272,7 @@ cell_push bundle workers lock runs total after worker number run old new finding
     let sums = sum_by-set (λ (kept : KeptRun). length kept.history) (map kept_of runs) run (kept_of new) (kept_of old) kept_inside in
     let before : get_or (map kept_of runs) run (kept_of old) ≡ kept_of old = get_or_from_slice_get (map kept_of runs) run (kept_of old) (kept_of old) (kept_at runs run old ready.kept_there) in
     let before_length : length (get_or (map kept_of runs) run (kept_of old)).history ≡ length old.run.entries.items = ap (λ (kept : KeptRun). length kept.history) before in
-    let longer : length new.run.entries.items ≡ length old.run.entries.items + 1 = ap length pushed.entry ∙ length_push old.run.entries.items (record { number = number; finding = finding; effect = answer.effect }) in
+    let longer : length new.run.entries.items ≡ length old.run.entries.items + 1 = ap length pushed.run.entry ∙ length_push old.run.entries.items (record { number = number; finding = finding; effect = answer.effect }) in
     let counted = is.counted in
     let summed : after ≡ sum_by (λ (kept : KeptRun). length kept.history) (set (map kept_of runs) run (kept_of new)) = omega arith in
     record {
@@ -308,7 +297,7 @@ table_push bundle workers lock runs stored total after worker number run old new
     last = record { number = number; finding = finding; effect = answer.effect }
 
     numbers : numbers_of new.run.entries.items ≡ numbers_of old.run.entries.items ++ number ∷ []
-    numbers = ap numbers_of pushed.entry ∙ numbers_push old.run.entries.items last
+    numbers = ap numbers_of pushed.run.entry ∙ numbers_push old.run.entries.items last
 
     at_run : history_at (cell_of (set runs run new) after) run ≡ new.run.entries.items
     at_run = history_is (set runs run new) after run new (at_set_same runs run new ready.inside)
@@ -349,7 +338,7 @@ table_push bundle workers lock runs stored total after worker number run old new
 room_push : (bundle : Bundle) (lock run : ℕ) (old new : Declared) (worker number : ℕ) (finding : Finding) (event : Event) (answer : Posted) → HasRoom bundle lock run old → IsPushed old new worker number finding event answer → HasRoom bundle lock run new
 room_push bundle lock run old new worker number finding event answer room pushed =
     record {
-      entries = λ under. subst (λ (capacity : ℕ). entries_of bundle run ≤ capacity) (sym pushed.capacity) (room.entries under);
+      entries = λ under. subst (λ (capacity : ℕ). entries_of bundle run ≤ capacity) (sym pushed.run.capacity) (room.entries under);
       authors = λ under. subst (λ (capacity : ℕ). entries_of bundle run ≤ capacity) (sym pushed.author_capacity) (room.authors under);
     }
 
@@ -378,10 +367,10 @@ is_posted named workers lock bundle runs total after worker number run old new f
     let here : history_at (cell_of runs total) run ≡ old.run.entries.items = history_is runs total run old ready.kept_there in
     let now : history_at (cell_of (set runs run new) after) run ≡ new.run.entries.items = history_is (set runs run new) after run new (at_set_same runs run new ready.inside) in
     let last : Entry = record { number = number; finding = finding; effect = answer.effect } in
-    let does : effect_of ready.part.limits (events_of bundle (numbers_of (history_at (cell_of runs total) run))) event ≡ answer.effect = ap (λ (history : List Entry). effect_of ready.part.limits (events_of bundle (numbers_of history)) event) here ∙ sym (pushed.effect ready.part.limits (events_of bundle (numbers_of old.run.entries.items)) ready.is.state) in
+    let does : effect_of ready.part.limits (events_of bundle (numbers_of (history_at (cell_of runs total) run))) event ≡ answer.effect = ap (λ (history : List Entry). effect_of ready.part.limits (events_of bundle (numbers_of history)) event) here ∙ sym (pushed.run.has_effect ready.part.limits (events_of bundle (numbers_of old.run.entries.items)) ready.is.state) in
     let core = core_push bundle number run before ready.part finding event ready.own finds happens ready.there in
     let by_core : posted bundle before number ≡ Some (added before run last) = core ∙ ap (λ (effect : Effect). Some (added before run (record { number = number; finding = finding; effect = effect }))) does in
-    let entries : history_at (cell_of runs total) run ++ last ∷ [] ≡ new.run.entries.items = ap (λ (history : List Entry). history ++ last ∷ []) here ∙ sym pushed.entry in
+    let entries : history_at (cell_of runs total) run ++ last ∷ [] ≡ new.run.entries.items = ap (λ (history : List Entry). history ++ last ∷ []) here ∙ sym pushed.run.entry in
     let histories : added before run last ≡ histories_of (cell_of (set runs run new) after) = ap (set before run) entries ∙ sym (histories_set runs after run new) in
     let authors : old.authors.items ++ worker ∷ [] ≡ authors_at (cell_of runs total) run ++ worker ∷ [] = ap (λ (authors : List ℕ). authors ++ worker ∷ []) (sym (authors_are runs total run old ready.kept_there)) in
     subst (λ (bundle : Bundle). IsPosted bundle worker number finding (cell_of runs total) (cell_of (set runs run new) after) answer) is_named (record {

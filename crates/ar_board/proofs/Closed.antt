@@ -1,5 +1,5 @@
 -- What a board's histories come to when it is closed.
-use Rattle.std.proofs.Common.{◌≡◌, ◌<◌, ℕ, zero, suc, Bool, true, false, List, [], length, replicate, Some, refl, sym, subst, arith, ⊎_elim, ◌⊎◌, inl, inr}
+use Rattle.std.proofs.Common.{◌≡◌, ◌<◌, ℕ, zero, suc, Bool, true, false, List, [], Vec, Global, length, replicate, Option, None, Some, refl, sym, subst, arith, ⊎_elim, ◌⊎◌, inl, inr}
 use Rattle.std.specs.Prelude.{slice_get}
 use Rattle.std.proofs.lemmas.Option.{get_or_from_slice_get}
 use Rattle.ar_bundle.specs.Bundle.{Bundle, IsBundle}
@@ -9,9 +9,9 @@ use Rattle.ar_bundle.proofs.Bundles.{entry_at, run_of_number}
 use Rattle.ar_board.specs.Receipts.{Hold}
 use Rattle.ar_board.specs.declared.cell.receipt.Receipt.{Receipt}
 use Rattle.ar_board.proofs.Places.{times_own}
-use Rattle.ar_board.specs.Board.{AreAsMany, IsClosed, IsUnmetAmong}
-use Rattle.ar_board.specs.Private.Closing.{AreAllMarked, AreMet, AreStored, IsThere, IsUnheld, StoredAs}
-use Rattle.ar_board.specs.Seats.{PerLock}
+use Rattle.ar_board.specs.Board.{AreAsMany, IsClosed, IsLost, IsUnmetAmong}
+use Rattle.ar_board.specs.Private.Closing.{AreAllMarked, AreMet, AreStored, FirstLost, FirstUnheld, IsThere, IsUnheld, StoredAs, lists_of}
+use Rattle.ar_board.specs.Locks.{PerLock}
 use Rattle.ar_board.proofs.Given.{AreOfCells, are_histories, so_far}
 use Rattle.ar_board.proofs.Marks.{of_all}
 
@@ -26,7 +26,7 @@ replicated_at (suc many) (suc at) x inside = replicated_at many at x (omega arit
 stored_where : (bundle : Bundle) (histories : List (List Entry)) (stored : List Bool) (number : ℕ) (is : Bool) → AreStored (λ number. times number histories) (replicate (length bundle.entries) false) stored → number < length bundle.entries → slice_get stored number ≡ Some is → StoredAs (times number histories) false is
 stored_where bundle histories stored number is are inside there = are.each number false is (replicated_at (length bundle.entries) number false inside) there
 
-pub holds : (bundle : Bundle) (histories : List (List Entry)) (receipts : List (List Receipt)) (unmet stored : List Bool) (number : ℕ) → AreAllMarked bundle histories receipts unmet → AreStored (λ number. times number histories) (replicate (length bundle.entries) false) stored → number < length bundle.entries → IsThere unmet stored number → Hold histories receipts number
+holds : (bundle : Bundle) (histories : List (List Entry)) (receipts : List (List Receipt)) (unmet stored : List Bool) (number : ℕ) → AreAllMarked bundle histories receipts unmet → AreStored (λ number. times number histories) (replicate (length bundle.entries) false) stored → number < length bundle.entries → IsThere unmet stored number → Hold histories receipts number
 holds bundle histories receipts unmet stored number marked are inside there =
     record {
       stands = stored_where bundle histories stored number true are inside there.stands;
@@ -34,16 +34,30 @@ holds bundle histories receipts unmet stored number marked are inside there =
     }
 
 -- a number that isn't held stands in no history, or a receipt for it isn't met
-pub why : (bundle : Bundle) (histories : List (List Entry)) (receipts : List (List Receipt)) (unmet stored : List Bool) (number : ℕ) → AreAllMarked bundle histories receipts unmet → AreStored (λ number. times number histories) (replicate (length bundle.entries) false) stored → number < length bundle.entries → IsUnheld unmet stored number → (times number histories ≡ 0) ⊎ IsUnmetAmong histories receipts number
+why : (bundle : Bundle) (histories : List (List Entry)) (receipts : List (List Receipt)) (unmet stored : List Bool) (number : ℕ) → AreAllMarked bundle histories receipts unmet → AreStored (λ number. times number histories) (replicate (length bundle.entries) false) stored → number < length bundle.entries → IsUnheld unmet stored number → (times number histories ≡ 0) ⊎ IsUnmetAmong histories receipts number
 why bundle histories receipts unmet stored number marked are inside unheld = ⊎_elim (λ there. inr (marked.each number true there)) (λ there. inl (stored_where bundle histories stored number false are inside there)) unheld
 
-pub not_held : (bundle : Bundle) (histories : List (List Entry)) (receipts : List (List Receipt)) (unmet stored : List Bool) (number : ℕ) → AreAllMarked bundle histories receipts unmet → AreStored (λ number. times number histories) (replicate (length bundle.entries) false) stored → number < length bundle.entries → IsUnheld unmet stored number → Hold histories receipts number → ⊥
+not_held : (bundle : Bundle) (histories : List (List Entry)) (receipts : List (List Receipt)) (unmet stored : List Bool) (number : ℕ) → AreAllMarked bundle histories receipts unmet → AreStored (λ number. times number histories) (replicate (length bundle.entries) false) stored → number < length bundle.entries → IsUnheld unmet stored number → Hold histories receipts number → ⊥
 not_held bundle histories receipts unmet stored number marked are inside unheld hold = ⊎_elim nowhere unmet_among (why bundle histories receipts unmet stored number marked are inside unheld) where
   unmet_among : IsUnmetAmong histories receipts number → ⊥
   unmet_among among = among.unmet.unmet (hold.met among.seat among.unmet.at among.own among.unmet.receipt among.there among.unmet.there among.unmet.for_it)
 
   nowhere : times number histories ≡ 0 → ⊥
   nowhere none = let some = hold.stands in absurd (omega arith)
+
+-- what is found by the marks is the least number that isn't held
+pub first_lost : (bundle : Bundle) (histories : List (List Entry)) (receipts : List (List Receipt)) (unmet stored : List Bool) (found : Option ℕ) → AreAllMarked bundle histories receipts unmet → AreStored (λ number. times number histories) (replicate (length bundle.entries) false) stored → FirstUnheld unmet stored found → FirstLost bundle histories receipts found
+first_lost bundle histories receipts unmet stored None marked are all = λ number inside. (let as_many = marked.as_many in holds bundle histories receipts unmet stored number marked are inside (all number (omega arith)))
+first_lost bundle histories receipts unmet stored (Some number) marked are first =
+    let as_many = marked.as_many in
+    let unmet_inside = first.there in
+    let inside : number < length bundle.entries = omega arith in
+    record {
+      there = inside;
+      not_held = not_held bundle histories receipts unmet stored number marked are inside first.unheld;
+      why = why bundle histories receipts unmet stored number marked are inside first.unheld;
+      least = λ other below. holds bundle histories receipts unmet stored other marked are (omega arith) (first.earlier other below);
+    }
 
 -- ---- histories that hold each number
 
@@ -66,12 +80,23 @@ is_lawful bundle workers whole histories is_bundle are stand =
           omega arith;
     }
 
-pub is_closed : (bundle : Bundle) (workers : ℕ) (whole : PerLock) (histories : List (List Entry)) (receipts : List (List Receipt)) (unmet stored : List Bool) → IsBundle bundle → AreOfCells bundle workers whole histories → AreAllMarked bundle histories receipts unmet
-    → AreStored (λ number. times number histories) (replicate (length bundle.entries) false) stored → ((number : ℕ) → number < length bundle.entries → IsThere unmet stored number) → AreAsMany receipts histories → IsClosed bundle receipts histories
-is_closed bundle workers whole histories receipts unmet stored is_bundle are marked stored_are there as_many =
-    let held : (number : ℕ) → number < length bundle.entries → Hold histories receipts number = λ number inside. holds bundle histories receipts unmet stored number marked stored_are inside (there number inside) in
+pub is_closed : (bundle : Bundle) (workers : ℕ) (whole : PerLock) (histories : List (List Entry)) (receipts : List (List Receipt)) → IsBundle bundle → AreOfCells bundle workers whole histories → FirstLost bundle histories receipts None → AreAsMany receipts histories → IsClosed bundle receipts histories
+is_closed bundle workers whole histories receipts is_bundle are hold as_many =
     record {
-      lawful = is_lawful bundle workers whole histories is_bundle are (λ number inside. (held number inside).stands);
-      held = held;
+      lawful = is_lawful bundle workers whole histories is_bundle are (λ number inside. (hold number inside).stands);
+      held = hold;
       as_many = as_many;
+    }
+
+pub is_lost : (bundle : Bundle) (workers : ℕ) (whole : PerLock) (histories : List (List Entry)) (given : List (List Receipt)) (receipts : Vec (Vec Receipt Global) Global) (number : ℕ) → AreOfCells bundle workers whole histories → lists_of receipts.items ≡ given → FirstLost bundle histories given (Some number) → AreAsMany given histories
+    → IsLost bundle given (record { number = number; histories = histories; receipts = receipts })
+is_lost bundle workers whole histories given receipts number are same first as_many =
+    record {
+      so_far = so_far bundle workers whole histories are;
+      same_receipts = same;
+      as_many = as_many;
+      there = first.there;
+      not_held = first.not_held;
+      why = first.why;
+      least = first.least;
     }

@@ -2,15 +2,13 @@
 use Rattle.std.proofs.Common.{◌≡◌, ◌<◌, ◌≤◌, ℕ, zero, suc, ◌+◌, Bool, false, List, [], ◌∷◌, ◌++◌, length, get_or, set, Option, Some, None, refl, sym, ◌∙◌, ap, subst, arith}
 use Rattle.std.specs.Prelude.{slice_get}
 use Rattle.std.specs.List.{cons_option}
-use Rattle.std.specs.Vec.{vec_capacity}
 use Rattle.std.proofs.lemmas.List.{get_or-map, length-map, map-set}
 use Rattle.std.proofs.lemmas.Option.{get_or_from_slice_get, slice_get-get_or, slice_get_read, slice_get_within}
-use Rattle.ar_limits.specs.Replay.{ForEachReplay, Replays}
-use Rattle.ar_limits.specs.Run.{effect_of}
+use Rattle.ar_limits.specs.Replay.{Replays}
 use Rattle.ar_limits.specs.declared.event.Effect.{Effect}
 use Rattle.ar_limits.specs.declared.event.Event.{Event}
 use Rattle.ar_bundle.specs.Bundle.{Bundle, IsBundle, IsRun, events_of, found, happened, run_of}
-use Rattle.ar_board.specs.Posting.{entry_with, posted}
+use Rattle.ar_board.specs.Posting.{HasOneMore, entry_with, posted}
 use Rattle.ar_board.specs.Core.{Core, State, after_step, emptied, held, post_of, stepped}
 use Rattle.ar_bundle.specs.Lawful.{IsHistory, numbers_of, times, times_in}
 use Rattle.ar_board.specs.Private.Inside.{AreJudged, AreKept, IsCore, IsKept, core_of, histories_of, state_of}
@@ -37,17 +35,16 @@ found_at bundle findings number d judged inside = judged.found number (get_or fi
 
 -- the entry, as it was appended
 pub is_appended : (bundle : Bundle) (findings : List Finding) (number : ℕ) (d : Finding) (event : Event) (effect : Effect) (old new : RunHistory) → AreJudged bundle findings → number < length bundle.entries → happened bundle number ≡ Some event
-    → new.entries.items ≡ old.entries.items ++ record { number = number; finding = get_or findings number d; effect = effect } ∷ [] → ForEachReplay old.state (λ limits events. effect ≡ effect_of limits events event) → ForEachReplay old.state (λ limits events. Replays limits (events ++ event ∷ []) new.state)
-    → vec_capacity new.entries ≡ vec_capacity old.entries → IsAppended bundle number old new
-is_appended bundle findings number d event effect old new judged inside happens entry effects replays capacity =
+    → HasOneMore number (get_or findings number d) event old new effect → IsAppended bundle number old new
+is_appended bundle findings number d event effect old new judged inside happens more =
     record {
       finding = get_or findings number d;
       event = event;
       finds = found_at bundle findings number d judged inside;
       happens = happens;
-      entries = λ limits events is. entry ∙ ap (λ (effect : Effect). old.entries.items ++ record { number = number; finding = get_or findings number d; effect = effect } ∷ []) (effects limits events is);
-      replays = replays;
-      capacity = capacity;
+      entries = λ limits events is. more.entry ∙ ap (λ (effect : Effect). old.entries.items ++ record { number = number; finding = get_or findings number d; effect = effect } ∷ []) (more.has_effect limits events is);
+      replays = more.replays;
+      capacity = more.capacity;
     }
 
 -- ---- runs

@@ -15,7 +15,7 @@ use Rattle.ar_board.specs.Cell.{ArePut, IsKept, KeptRun, histories_of, history_a
 use Rattle.ar_board.proofs.Cells.{histories_each}
 use Rattle.ar_board.specs.Board.{stored_from, stored_under}
 use Rattle.ar_board.specs.Private.Closing.{AreInside, AreOfCell, IsCellClosed}
-use Rattle.ar_board.specs.Seats.{PerLock, at_lock, per_lock}
+use Rattle.ar_board.specs.Locks.{PerLock, at_lock, per_lock}
 use Rattle.ar_board.proofs.UnderLocks.{under_four}
 
 pub all_each : {A : Type 0} (P : A → Type 0) (xs : List A) → ((at : ℕ) (x : A) → slice_get xs at ≡ Some x → P x) → AllByRecursion P xs

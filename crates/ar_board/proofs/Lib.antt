@@ -1,3 +1,12 @@
+-- cells
+pub mod Places
+pub mod Cells
+pub mod Shows
+pub mod FewEntries
+pub mod Opened
+pub mod Put
+pub mod ReceiptLemmas
+-- the core
 pub mod CoreSteps
 pub mod OwnNumbers
 pub mod NumberLists
@@ -10,12 +19,7 @@ pub mod CorePost
 pub mod CoreOpening
 pub mod CoreShown
 pub mod OrderedMemory
-pub mod Places
-pub mod Cells
-pub mod Shows
-pub mod Opened
-pub mod Put
-pub mod ReceiptLemmas
+-- boards
 pub mod UnderLocks
 pub mod Seats
 pub mod Marks

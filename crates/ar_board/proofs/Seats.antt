@@ -1,6 +1,6 @@
 -- What workers have of a board.
-use Rattle.std.proofs.Common.{◌≡◌, ◌<◌, ◌≤◌, ℕ, zero, suc, ◌+◌, ◌==◌, Bool, true, false, List, [], ◌∷◌, ◌++◌, length, get_or, set, Some, refl, sym, ◌∙◌, ap, subst, arith}
-use Rattle.std.specs.Prelude.{cond, slice_get}
+use Rattle.std.proofs.Common.{◌≡◌, ◌<◌, ◌≤◌, ℕ, zero, suc, ◌+◌, ◌==◌, Bool, true, false, List, [], ◌∷◌, ◌++◌, length, Some, refl, sym, ◌∙◌, ap, subst, arith}
+use Rattle.std.specs.Prelude.{slice_get}
 use Rattle.std.proofs.lemmas.Bool.Decides.{nat_tests}
 use Rattle.std.proofs.lemmas.List.{length_push, map_push}
 use Rattle.std.proofs.lemmas.List.Sums.{sum_by_push}
@@ -9,9 +9,10 @@ use Rattle.ar_bundle.specs.declared.bundle.EventPart.{EventPart}
 use Rattle.ar_board.specs.Board.{AreSeated, Seat, received_under, receipts_of, seat_of}
 use Rattle.ar_board.specs.Cell.{entries_under, lock_of}
 use Rattle.ar_board.specs.Private.Closing.{AreGiven, AreOwn}
-use Rattle.ar_board.specs.Seats.{PerLock, AllAre, IsSeat, at_lock, receipts_under}
+use Rattle.ar_board.specs.Locks.{at_lock}
+use Rattle.ar_board.specs.Seats.{Held, IsSeat, held, nothing, receipts_under, sums, together}
 use Rattle.ar_board.specs.Private.Seats.{IsOneMore, one_under}
-use Rattle.ar_board.proofs.UnderLocks.{by_four, none_of_each, one_in_all, under_four}
+use Rattle.ar_board.proofs.UnderLocks.{at_nothing, at_sums, by_four, one_in_all, under_four}
 use Rattle.ar_board.specs.declared.cell.receipt.Receipt.{Receipt}
 use Rattle.ar_bundle.proofs.HistoryLemmas.{all_push}
 
@@ -47,46 +48,38 @@ seated_next workers seats seat is before =
 
 -- ---- closing
 
--- a list is what it was where what was read is put back
-pub set_back : {A : Type 0} (xs : List A) (at : ℕ) (x : A) → at < length xs → x ≡ get_or xs at x → set xs at x ≡ xs
-set_back [] at x inside read = absurd (omega arith)
-set_back (first ∷ xs) zero x inside read = ap (λ (first : _). first ∷ xs) read
-set_back (first ∷ xs) (suc at) x inside read = ap (λ (rest : List _). first ∷ rest) (set_back xs at x (omega arith) read)
-
 -- how many receipts there are under a lock, with those of one seat more
 received_push : (lock : ℕ) (receipts : List (List Receipt)) (own : List Receipt) → received_under lock (receipts ++ own ∷ []) ≡ received_under lock receipts + receipts_under lock own
 received_push lock receipts own = sum_by_push (receipts_under lock) receipts own
 
 -- a seat more was emptied
-pub given_next : (bundle : Bundle) (seats : List Seat) (receipts : List (List Receipt)) (parts amounts part one after after_amounts : PerLock) (seat : Seat) (own : List Receipt) → AreGiven bundle seats receipts parts amounts → seat.receipts ≡ own → AreOwn bundle own → AllAre 1 part
-    → ((lock : ℕ) → at_lock one lock ≡ receipts_under lock own) → ((many more : ℕ) → AllAre many parts → AllAre more part → AllAre (many + more) after) → ((lock : ℕ) → at_lock after_amounts lock ≡ at_lock amounts lock + at_lock one lock)
-    → AreGiven bundle (seats ++ seat ∷ []) (receipts ++ own ∷ []) after after_amounts
-given_next bundle seats receipts parts amounts part one after after_amounts seat own before its_own are single many more_parts more =
+pub given_next : (bundle : Bundle) (seats : List Seat) (receipts : List (List Receipt)) (before one : Held) (seat : Seat) (own : List Receipt) → AreGiven bundle seats receipts before → seat.receipts ≡ own → AreOwn bundle own → one.parts ≡ 1 → ((lock : ℕ) → at_lock one.amounts lock ≡ receipts_under lock own)
+    → AreGiven bundle (seats ++ seat ∷ []) (receipts ++ own ∷ []) (together before one)
+given_next bundle seats receipts before one seat own given its_own are single many =
     let lists = map_push (λ (seat : Seat). seat.receipts) seats seat in
-    let all : receipts ++ own ∷ [] ≡ receipts_of (seats ++ seat ∷ []) = ap (λ (receipts : List (List Receipt)). receipts ++ own ∷ []) before.lists ∙ (ap (λ (own : List Receipt). receipts_of seats ++ own ∷ []) (sym its_own) ∙ sym lists) in
-    let longer : length (seats ++ seat ∷ []) ≡ length seats + 1 = (let pushed = length_push seats seat in omega arith) in
+    let all : receipts ++ own ∷ [] ≡ receipts_of (seats ++ seat ∷ []) = ap (λ (receipts : List (List Receipt)). receipts ++ own ∷ []) given.lists ∙ (ap (λ (own : List Receipt). receipts_of seats ++ own ∷ []) (sym its_own) ∙ sym lists) in
     record {
       lists = all;
-      own = all_push (AreOwn bundle) receipts own before.own are;
-      as_many = subst (λ (many : ℕ). AllAre many after) (sym longer) (more_parts (length seats) 1 before.as_many single);
+      own = all_push (AreOwn bundle) receipts own given.own are;
+      as_many = (let pushed = length_push seats seat in let as_many = given.as_many in omega arith);
       counted = λ lock.
-          let counted = before.counted lock in
+          let counted = given.counted lock in
           let own_counted = many lock in
-          let added = more lock in
+          let added = at_sums before.amounts one.amounts lock in
           let pushed = received_push lock (receipts_of seats) own in
-          let sum : at_lock after_amounts lock ≡ received_under lock (receipts_of seats ++ own ∷ []) = omega arith in
+          let sum : at_lock (sums before.amounts one.amounts) lock ≡ received_under lock (receipts_of seats ++ own ∷ []) = omega arith in
           sum ∙ (ap (λ (own : List Receipt). received_under lock (receipts_of seats ++ own ∷ [])) (sym its_own) ∙ ap (received_under lock) (sym lists));
     }
 
-pub none_given : (bundle : Bundle) (parts amounts : PerLock) → AllAre 0 parts → AllAre 0 amounts → AreGiven bundle [] [] parts amounts
-none_given bundle parts amounts no_part nothing = record { lists = refl; own = tt; as_many = no_part; counted = none_of_each amounts nothing }
+pub none_given : (bundle : Bundle) (shares : Held) → shares ≡ held 0 nothing → AreGiven bundle [] [] shares
+none_given bundle shares none = subst (AreGiven bundle [] []) (sym none) (record { lists = refl; own = tt; as_many = refl; counted = at_nothing })
 
 -- ---- posting
 
-few_now : (bundle : Bundle) (own : ℕ) (before after : PerLock) → IsOneMore bundle own before after → ((lock : ℕ) → at_lock before lock ≤ entries_under bundle lock) → (lock : ℕ) → at_lock after lock ≤ entries_under bundle lock
+few_now : (bundle : Bundle) (own : ℕ) (before after : Held) → IsOneMore bundle own before after → ((lock : ℕ) → at_lock before.amounts lock ≤ entries_under bundle lock) → (lock : ℕ) → at_lock after.amounts lock ≤ entries_under bundle lock
 few_now bundle own before after one few lock = by_test (own == lock) refl where
-  by_test : (test : Bool) → (own == lock) ≡ test → at_lock after lock ≤ entries_under bundle lock
-  by_test true is = let same : own ≡ lock = grind (arith, nat_tests) in subst (λ (lock : ℕ). at_lock after lock ≤ entries_under bundle lock) same one.few
+  by_test : (test : Bool) → (own == lock) ≡ test → at_lock after.amounts lock ≤ entries_under bundle lock
+  by_test true is = let same : own ≡ lock = grind (arith, nat_tests) in subst (λ (lock : ℕ). at_lock after.amounts lock ≤ entries_under bundle lock) same one.few
   by_test false is =
       let more = one.more lock in
       let none : one_under own lock ≡ 0 = rw is refl in
@@ -94,8 +87,8 @@ few_now bundle own before after one few lock = by_test (own == lock) refl where
       omega arith
 
 -- the seat has room for a receipt more
-pub has_room : (bundle : Bundle) (workers worker own capacity : ℕ) (receipts : List Receipt) (parts before after : PerLock) → IsSeat bundle workers worker receipts capacity parts before → own < 4 → IsOneMore bundle own before after → length receipts < capacity
-has_room bundle workers worker own capacity receipts parts before after seat below one =
+pub has_room : (bundle : Bundle) (workers worker own capacity : ℕ) (receipts : List Receipt) (before after : Held) → IsSeat bundle workers worker receipts capacity before → own < 4 → IsOneMore bundle own before after → length receipts < capacity
+has_room bundle workers worker own capacity receipts before after seat below one =
     let few = few_now bundle own before after one seat.few in
     let received = by_four (λ (receipt : Receipt). lock_of receipt.run) receipts (λ receipt. under_four receipt.run) in
     let entries = by_four (λ (entry : EventPart). lock_of entry.run) bundle.entries (λ entry. under_four entry.run) in

@@ -1,72 +1,66 @@
--- PerLock under the four locks.
-use Rattle.std.proofs.Common.{◌≡◌, ◌≢◌, ◌<◌, ◌≤◌, ℕ, zero, suc, ◌+◌, ◌==◌, false, List, [], ◌∷◌, length, refl, sym, subst, arith}
+-- Numbers for each of four locks.
+use Rattle.std.proofs.Common.{◌≡◌, ◌≢◌, ◌<◌, ◌≤◌, ℕ, zero, suc, ◌+◌, ◌==◌, Bool, true, false, if◌then◌else◌, List, [], ◌∷◌, length, refl, sym, subst, arith}
 use Rattle.std.specs.Prelude.{cond}
 use Rattle.std.specs.List.{count_by}
 use Rattle.std.proofs.lemmas.Bool.Decides.{nat_tests}
 use Rattle.std.proofs.lemmas.List.Sums.{sum_by-cons}
 use Rattle.ar_bundle.specs.Bundle.{Bundle}
 use Rattle.ar_board.specs.Cell.{entries_under, lock_of}
-use Rattle.ar_board.specs.Seats.{PerLock, AllAre, at_lock, per_lock}
+use Rattle.ar_board.specs.Locks.{PerLock, at_lock, per_lock}
+use Rattle.ar_board.specs.Seats.{Held, held, nothing, sums}
 use Rattle.ar_board.specs.Private.Seats.{IsOneMore, one_under}
 
 -- a run is under one of four locks
 pub under_four : (run : ℕ) → lock_of run < 4
 under_four run = omega arith
 
-pub amounts_added : (a b c d e f g h i j k l : ℕ) → i ≡ a + e → j ≡ b + f → k ≡ c + g → l ≡ d + h → (lock : ℕ) → at_lock (per_lock i j k l) lock ≡ at_lock (per_lock a b c d) lock + at_lock (per_lock e f g h) lock
-amounts_added a b c d e f g h i j k l first second third fourth zero = first
-amounts_added a b c d e f g h i j k l first second third fourth (suc zero) = second
-amounts_added a b c d e f g h i j k l first second third fourth (suc (suc zero)) = third
-amounts_added a b c d e f g h i j k l first second third fourth (suc (suc (suc zero))) = fourth
-amounts_added a b c d e f g h i j k l first second third fourth (suc (suc (suc (suc lock)))) = refl
+pub at_sums : (these more : PerLock) (lock : ℕ) → at_lock (sums these more) lock ≡ at_lock these lock + at_lock more lock
+at_sums these more zero = refl
+at_sums these more (suc zero) = refl
+at_sums these more (suc (suc zero)) = refl
+at_sums these more (suc (suc (suc zero))) = refl
+at_sums these more (suc (suc (suc (suc lock)))) = refl
 
-pub none_of_each : (parts : PerLock) → AllAre 0 parts → (lock : ℕ) → at_lock parts lock ≡ 0
-none_of_each parts none zero = none.first
-none_of_each parts none (suc zero) = none.second
-none_of_each parts none (suc (suc zero)) = none.third
-none_of_each parts none (suc (suc (suc zero))) = none.fourth
-none_of_each parts none (suc (suc (suc (suc lock)))) = refl
+pub at_nothing : (lock : ℕ) → at_lock nothing lock ≡ 0
+at_nothing zero = refl
+at_nothing (suc zero) = refl
+at_nothing (suc (suc zero)) = refl
+at_nothing (suc (suc (suc zero))) = refl
+at_nothing (suc (suc (suc (suc lock)))) = refl
 
 -- ---- one more under a lock
 
-not_under : (own lock : ℕ) → own ≢ lock → one_under own lock ≡ 0
-not_under own lock away = let is : (own == lock) ≡ false = grind (arith, nat_tests) in rw is refl
+-- the same numbers but for that of a lock
+abbrev pub with_lock : PerLock → (lock number : ℕ) → PerLock
+with_lock numbers lock number =
+    per_lock (if lock == 0 then number else numbers.first) (if lock == 1 then number else numbers.second) (if lock == 2 then number else numbers.third) (if lock == 3 then number else numbers.fourth)
 
-pub one_first : (bundle : Bundle) (own a b c d more : ℕ) → own ≡ 0 → more ≡ a + 1 → more ≤ entries_under bundle 0 → IsOneMore bundle own (per_lock a b c d) (per_lock more b c d)
-one_first bundle own a b c d more is one few = subst (λ (own : ℕ). IsOneMore bundle own (per_lock a b c d) (per_lock more b c d)) (sym is) (record { more = each; few = few }) where
-  each : (lock : ℕ) → at_lock (per_lock more b c d) lock ≡ at_lock (per_lock a b c d) lock + one_under 0 lock
-  each zero = one
-  each (suc zero) = omega arith
-  each (suc (suc zero)) = omega arith
-  each (suc (suc (suc zero))) = omega arith
-  each (suc (suc (suc (suc lock)))) = let none = not_under 0 (suc (suc (suc (suc lock)))) (λ same. absurd (omega arith)) in omega arith
+more_at : (own lock was more : ℕ) → (own ≡ lock → more ≡ was + 1) → (if own == lock then more else was) ≡ was + one_under own lock
+more_at own lock was more one = by_test (own == lock) refl where
+  by_test : (test : Bool) → (own == lock) ≡ test → (if own == lock then more else was) ≡ was + one_under own lock
+  by_test true is = let same : own ≡ lock = grind (arith, nat_tests) in let sum = one same in rw is (omega arith)
+  by_test false is = rw is (omega arith)
 
-pub one_second : (bundle : Bundle) (own a b c d more : ℕ) → own ≡ 1 → more ≡ b + 1 → more ≤ entries_under bundle 1 → IsOneMore bundle own (per_lock a b c d) (per_lock a more c d)
-one_second bundle own a b c d more is one few = subst (λ (own : ℕ). IsOneMore bundle own (per_lock a b c d) (per_lock a more c d)) (sym is) (record { more = each; few = few }) where
-  each : (lock : ℕ) → at_lock (per_lock a more c d) lock ≡ at_lock (per_lock a b c d) lock + one_under 1 lock
-  each zero = omega arith
-  each (suc zero) = one
-  each (suc (suc zero)) = omega arith
-  each (suc (suc (suc zero))) = omega arith
-  each (suc (suc (suc (suc lock)))) = let none = not_under 1 (suc (suc (suc (suc lock)))) (λ same. absurd (omega arith)) in omega arith
+more_under : (own more : ℕ) (numbers : PerLock) → own < 4 → more ≡ at_lock numbers own + 1 → (lock : ℕ) → at_lock (with_lock numbers own more) lock ≡ at_lock numbers lock + one_under own lock
+more_under own more numbers below one zero = more_at own 0 numbers.first more (λ same. subst (λ (own : ℕ). more ≡ at_lock numbers own + 1) same one)
+more_under own more numbers below one (suc zero) = more_at own 1 numbers.second more (λ same. subst (λ (own : ℕ). more ≡ at_lock numbers own + 1) same one)
+more_under own more numbers below one (suc (suc zero)) = more_at own 2 numbers.third more (λ same. subst (λ (own : ℕ). more ≡ at_lock numbers own + 1) same one)
+more_under own more numbers below one (suc (suc (suc zero))) = more_at own 3 numbers.fourth more (λ same. subst (λ (own : ℕ). more ≡ at_lock numbers own + 1) same one)
+more_under own more numbers below one (suc (suc (suc (suc lock)))) = let away : (own == suc (suc (suc (suc lock)))) ≡ false = grind (arith, nat_tests) in rw away refl
 
-pub one_third : (bundle : Bundle) (own a b c d more : ℕ) → own ≡ 2 → more ≡ c + 1 → more ≤ entries_under bundle 2 → IsOneMore bundle own (per_lock a b c d) (per_lock a b more d)
-one_third bundle own a b c d more is one few = subst (λ (own : ℕ). IsOneMore bundle own (per_lock a b c d) (per_lock a b more d)) (sym is) (record { more = each; few = few }) where
-  each : (lock : ℕ) → at_lock (per_lock a b more d) lock ≡ at_lock (per_lock a b c d) lock + one_under 2 lock
-  each zero = omega arith
-  each (suc zero) = omega arith
-  each (suc (suc zero)) = one
-  each (suc (suc (suc zero))) = omega arith
-  each (suc (suc (suc (suc lock)))) = let none = not_under 2 (suc (suc (suc (suc lock)))) (λ same. absurd (omega arith)) in omega arith
-
-pub one_fourth : (bundle : Bundle) (own a b c d more : ℕ) → own ≡ 3 → more ≡ d + 1 → more ≤ entries_under bundle 3 → IsOneMore bundle own (per_lock a b c d) (per_lock a b c more)
-one_fourth bundle own a b c d more is one few = subst (λ (own : ℕ). IsOneMore bundle own (per_lock a b c d) (per_lock a b c more)) (sym is) (record { more = each; few = few }) where
-  each : (lock : ℕ) → at_lock (per_lock a b c more) lock ≡ at_lock (per_lock a b c d) lock + one_under 3 lock
-  each zero = omega arith
-  each (suc zero) = omega arith
-  each (suc (suc zero)) = omega arith
-  each (suc (suc (suc zero))) = one
-  each (suc (suc (suc (suc lock)))) = let none = not_under 3 (suc (suc (suc (suc lock)))) (λ same. absurd (omega arith)) in omega arith
+-- shares of which that of one lock has got one more
+pub one_more : (bundle : Bundle) (own lock parts more : ℕ) (before : Held) → own ≡ lock → lock < 4 → parts ≡ before.parts → more ≡ at_lock before.amounts lock + 1 → more ≤ entries_under bundle lock → IsOneMore bundle own before (held parts (with_lock before.amounts lock more))
+one_more bundle own lock parts more before is below same one few =
+    subst (λ (own : ℕ). IsOneMore bundle own before (held parts (with_lock before.amounts lock more))) (sym is)
+    (record {
+      parts = same;
+      more = more_under lock more before.amounts below one;
+      few =
+          let sum = more_under lock more before.amounts below one lock in
+          let itself : (lock == lock) ≡ true = grind (arith, nat_tests) in
+          let single : one_under lock lock ≡ 1 = rw itself refl in
+          omega arith;
+    })
 
 -- what is neither of the first three is the fourth
 pub last_lock : (run lock : ℕ) → lock ≡ lock_of run → lock ≢ 0 → lock ≢ 1 → lock ≢ 2 → lock ≡ 3

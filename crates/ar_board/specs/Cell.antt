@@ -1,10 +1,11 @@
 -- A cell: what a board keeps under one of its locks. `IsCell` says what is true of it whenever the lock is free.
-use Rattle.std.specs.Prelude.{◌≡◌, ◌≢◌, ◌<◌, ◌==◌, ◌%◌, ◌++◌, ℕ, suc, List, [], ◌∷◌, length, map, set, Some, get_or, slice_get}
+use Rattle.std.specs.Prelude.{◌≡◌, ◌≢◌, ◌<◌, ◌+◌, ◌==◌, ◌%◌, ◌++◌, ℕ, suc, List, [], ◌∷◌, length, map, set, Some, get_or, slice_get}
 use Rattle.std.specs.List.{AllByRecursion, count_by, sum_by}
+use Rattle.std.specs.declared.sync.ledger.Share.{Share}
 use Rattle.ar_limits.specs.Replay.{Replays, Standing}
 use Rattle.ar_limits.specs.Run.{metric_phases, run_phase}
 use Rattle.ar_limits.specs.declared.limits.Limits.{Limits}
-use Rattle.ar_bundle.specs.Bundle.{Bundle, events_of, run_of}
+use Rattle.ar_bundle.specs.Bundle.{Bundle, events_of, found, run_of}
 use Rattle.ar_board.specs.Posting.{posted}
 use Rattle.ar_board.specs.Receipts.{posted_by, received}
 use Rattle.ar_bundle.specs.Lawful.{AtMostOnce, IsHistory, numbers_of, times}
@@ -98,6 +99,12 @@ IsUnder bundle lock number = (run : ℕ) → run_of bundle number ≡ Some run �
 abbrev pub Stands : (number : ℕ) → Cell → Type 0
 Stands number cell = 0 < times number (histories_of cell)
 
+-- a number of the bundle, of a run under the lock, with its finding
+pub record IsPostable (bundle : Bundle) (lock number : ℕ) (finding : Finding) : Type 0 where
+  pub there : number < length bundle.entries
+  pub under : IsUnder bundle lock number
+  pub finds : found bundle number ≡ Some finding
+
 -- one entry more, at the end of the history of its number's run: what the core does where a worker posts the number
 pub record IsPosted (bundle : Bundle) (worker number : ℕ) (finding : Finding) (before after : Cell) (answer : Posted) : Type 0 where
   pub core : posted bundle (histories_of before) number ≡ Some (histories_of after)
@@ -107,6 +114,11 @@ pub record IsPosted (bundle : Bundle) (worker number : ℕ) (finding : Finding) 
   pub place : answer.place ≡ length (history_at before run)
   pub author : authors_of after ≡ set (authors_of before) run (authors_at before run ++ worker ∷ [])
   pub total : after.total ≡ suc before.total
+
+-- so it is of a cell, and the amount of the worker's share is one more
+pub record IsAdded {L : Type 0} (bundle : Bundle) (worker number : ℕ) (finding : Finding) (before after : Cell) (had has : Share L) (answer : Posted) : Type 0 where
+  pub posted : IsPosted bundle worker number finding before after answer
+  pub share : has.amount ≡ had.amount + 1
 
 -- ---- a look
 
@@ -121,6 +133,15 @@ pub record IsSnapshot (bundle : Bundle) (workers run : ℕ) (cell : Cell) (shown
 -- the numbers and places of a worker's entries in a run's history are those of its receipts for the run
 abbrev pub IsFresh : Cell → (run worker : ℕ) → List Receipt → Type 0
 IsFresh cell run worker receipts = posted_by worker (history_at cell run) (authors_at cell run) ≡ received run receipts
+
+-- a run is shown to a worker whose entries in it are just those of its receipts
+pub record IsShown (bundle : Bundle) (workers run worker : ℕ) (cell : Cell) (receipts : List Receipt) (shown : Snapshot) : Type 0 where
+  pub snapshot : IsSnapshot bundle workers run cell shown
+  pub fresh : IsFresh cell run worker receipts
+
+-- the refusal where they aren't says how many entries by the worker there are
+abbrev pub stale : Cell → (run worker : ℕ) → LookFault
+stale cell run worker = Stale (posts_of worker (authors_at cell run))
 
 -- out of memory, or that there are so many entries by the worker
 abbrev pub CanBe : (worker : ℕ) → (authors : List ℕ) → LookFault → Type 0

@@ -5,7 +5,7 @@ use Rattle.std.specs.Prelude.{◌≡◌, ◌<◌, ◌+◌, ◌++◌, ◌==◌, �
 use Rattle.std.specs.List.{AllByRecursion, sum_by}
 use Rattle.ar_limits.specs.Replay.{Replays, Standing}
 use Rattle.ar_bundle.specs.Bundle.{Bundle, events_of, run_of}
-use Rattle.ar_bundle.specs.Lawful.{numbers_of, times, times_in}
+use Rattle.ar_bundle.specs.Lawful.{AreHistories, numbers_of, times, times_in}
 use Rattle.ar_board.specs.Posting.{posted}
 use Rattle.ar_board.specs.declared.core_steps.CoreStep.{CoreStep}
 use Rattle.ar_board.specs.declared.core_steps.CoreStep.TheVariants.{Put, Take, Post}
@@ -132,6 +132,12 @@ occurrences number state =
 
 abbrev pub HasEachOnce : Bundle → State → Type 0
 HasEachOnce bundle state = (number : ℕ) → number < length bundle.entries → occurrences number state ≡ 1
+
+-- no number is missing or there twice, and each run's history has its own numbers alone, each with its finding and the effect
+-- that it has there
+pub record HasAll (bundle : Bundle) (state : State) : Type 0 where
+  pub once : HasEachOnce bundle state
+  pub histories : AreHistories bundle 0 bundle.runs state.histories
 
 -- nothing is left to put, to take or to post, and nothing is parked
 pub record IsAtRest (bundle : Bundle) (state : State) : Type 0 where

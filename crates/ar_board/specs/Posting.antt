@@ -1,13 +1,17 @@
 -- What a post does to histories: a number goes to the end of its run's history, with its finding and the effect that it
 -- has there.
-use Rattle.std.specs.Prelude.{◌++◌, ℕ, List, [], ◌∷◌, set, get_or, Option, option_and_then, option_map, slice_get}
+use Rattle.std.specs.Prelude.{◌≡◌, ◌++◌, ℕ, List, [], ◌∷◌, set, get_or, Option, option_and_then, option_map, slice_get}
+use Rattle.std.specs.Vec.{vec_capacity}
+use Rattle.ar_limits.specs.Replay.{ForEachReplay, Replays}
 use Rattle.ar_limits.specs.Run.{effect_of}
+use Rattle.ar_limits.specs.declared.event.Effect.{Effect}
 use Rattle.ar_limits.specs.declared.event.Event.{Event}
 use Rattle.ar_limits.specs.declared.limits.Limits.{Limits}
 use Rattle.ar_bundle.specs.Bundle.{Bundle, events_of, found, happened, run_of}
 use Rattle.ar_bundle.specs.Lawful.{numbers_of}
 use Rattle.ar_bundle.specs.declared.finding.Finding.{Finding}
 use Rattle.ar_bundle.specs.declared.history.Entry.{Entry}
+use Rattle.ar_board.specs.declared.cell.run_history.RunHistory.{RunHistory}
 
 -- a number with its finding, and with its effect after events under its run's limits
 abbrev pub entry_with : (number : ℕ) → Finding → List Limits → List Event → Event → Entry
@@ -31,3 +35,12 @@ with_number bundle histories number run = option_map (added histories run) (entr
 
 abbrev pub posted : Bundle → List (List Entry) → (number : ℕ) → Option (List (List Entry))
 posted bundle histories number = option_and_then (with_number bundle histories number) (run_of bundle number)
+
+-- a run's history in memory has one entry more at its end, and as much room
+pub record HasOneMore (number : ℕ) (finding : Finding) (event : Event) (before after : RunHistory) (effect : Effect) : Type 0 where
+  pub entry : after.entries.items ≡ before.entries.items ++ record { number = number; finding = finding; effect = effect } ∷ []
+  -- what the event does after those that led to where the run stood
+  pub has_effect : ForEachReplay before.state (λ limits events. effect ≡ effect_of limits events event)
+  -- where the event leads to
+  pub replays : ForEachReplay before.state (λ limits events. Replays limits (events ++ event ∷ []) after.state)
+  pub capacity : vec_capacity after.entries ≡ vec_capacity before.entries

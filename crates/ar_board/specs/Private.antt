@@ -1,9 +1,12 @@
 -- How values of public types lie in memory (their views and what always holds of them), and what private contracts speak
 -- of. These follow the code.
+-- cells
+pub mod KeptRuns
+-- the core
 pub mod Own
+pub mod Kept
 pub mod Inside
 pub mod Posts
-pub mod KeptRuns
+-- boards
 pub mod Seats
 pub mod Closing
-pub mod Shares

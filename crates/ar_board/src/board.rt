@@ -1,16 +1,14 @@
 //! Boards, to which several workers post at the same time.
 
-ghost use Rattle.std.specs.Prelude.{◌≡◌, ◌<◌, ◌≤◌, [], false, IfErr, IfOk, OnErr, OnOk, Some, length, replicate};
+ghost use Rattle.std.specs.Prelude.{◌≡◌, ◌<◌, ◌≤◌, IfErr, IfOk, OnErr, OnOk, Some, length};
 ghost use Rattle.ar_bundle.specs.Bundle.{found, run_of};
-ghost use Rattle.std.specs.Vec.{vec_capacity};
 ghost use Rattle.ar_board.specs.Board.{AreSeated, IsClosed, IsLost, IsReceived, IsSeen, IsUnseen, receipts_of};
-ghost use Rattle.ar_board.specs.Seats.{AllAre};
-ghost use Rattle.ar_board.specs.Private.Shares.{amounts_of, parts_of};
-ghost use Rattle.ar_board.specs.Private.Seats.{IsOneMore};
 ghost use Rattle.ar_board.specs.Cell.{lock_of};
+ghost use Rattle.ar_board.specs.Locks.{AreOf};
+ghost use Rattle.ar_board.specs.Private.Closing.{IsReady};
+ghost use Rattle.ar_board.specs.Private.Seats.{IsOneMore};
 
-use crate::closing::{Room, first_unheld, note_all_stored, note_all_unmet};
-use crate::holding::both;
+use crate::closing::Room;
 use crate::locks::{Blanks, First, Fourth, LockNames, Second, Third};
 use crate::lost::Lost;
 use crate::seat::{Seat, gather, seats_of};
@@ -38,12 +36,7 @@ pub struct Board<'b, M: BundleName, L: LockNames> {
     pub fourth: Mutex<RunCell<'b, M, Fourth<L>>>,
     room: Room,
     ghost named: { bundle.now ≡ M.bundle },
-    ghost histories: { length room.histories.items ≡ length M.bundle.runs },
-    ghost no_receipts: { room.receipts.items ≡ [] },
-    ghost receipt_room: { M.workers ≤ vec_capacity room.receipts },
-    ghost none_unmet: { room.unmet.items ≡ replicate (length M.bundle.entries) false },
-    ghost none_stored: { room.stored.items ≡ replicate (length M.bundle.entries) false },
-    ghost some: { 1 ≤ M.workers },
+    ghost ready: { IsReady M.bundle M.workers room },
 }
 
 impl<'b, M: BundleName, L: LockNames> Board<'b, M, L> {
@@ -62,10 +55,7 @@ impl<'b, M: BundleName, L: LockNames> Board<'b, M, L> {
         requires bundle { bundle.now ≡ M.bundle }
         requires workers { workers ≡ M.workers }
         requires most { (1 ≤ workers) × (workers ≤ MOST_WORKERS) }
-        requires names { (blanks.first.name ≡ L.first) × (blanks.second.name ≡ L.second)
-            × (blanks.third.name ≡ L.third) × (blanks.fourth.name ≡ L.fourth) }
-        requires blanks { (blanks.first.parts ≡ L.parts) × (blanks.second.parts ≡ L.parts)
-            × (blanks.third.parts ≡ L.parts) × (blanks.fourth.parts ≡ L.parts) }
+        requires blanks { AreOf L.names L.parts blanks }
         requires parts { L.parts ≡ M.workers }
         ensures seats { IfOk result (λ made. AreSeated M.workers made.1.items) }
     {
@@ -80,22 +70,17 @@ impl<'b, M: BundleName, L: LockNames> Board<'b, M, L> {
             fourth: all_fourth,
         };
         let seats = seats_of(alloc, bundle, workers, all)?;
-        let (first, second) = both(
-            under::open(alloc, first, bundle, workers, 0),
-            under::open(alloc, second, bundle, workers, 1),
-        )?;
-        let (third, fourth) = both(
-            under::open(alloc, third, bundle, workers, 2),
-            under::open(alloc, fourth, bundle, workers, 3),
-        )?;
-        let room = Room::new(alloc, bundle, workers)?;
+        let first = RunCell::new(alloc, bundle, workers, 0, first)?;
+        let second = RunCell::new(alloc, bundle, workers, 1, second)?;
+        let third = RunCell::new(alloc, bundle, workers, 2, third)?;
+        let fourth = RunCell::new(alloc, bundle, workers, 3, fourth)?;
         let board = Board {
             bundle,
-            first,
-            second,
-            third,
-            fourth,
-            room,
+            first: Mutex::new(first),
+            second: Mutex::new(second),
+            third: Mutex::new(third),
+            fourth: Mutex::new(fourth),
+            room: Room::new(alloc, bundle, workers)?,
         };
         Ok((board, seats))
     }
@@ -134,7 +119,7 @@ impl<'b, M: BundleName, L: LockNames> Board<'b, M, L> {
         &self,
         rt: &R,
         run: usize,
-        shares: &mut Shares<L>,
+        held: &mut Shares<L>,
         worker: usize,
         number: u64,
         finding: Finding,
@@ -143,32 +128,15 @@ impl<'b, M: BundleName, L: LockNames> Board<'b, M, L> {
         requires run { run_of M.bundle number ≡ Some run }
         requires worker { worker < M.workers }
         requires finding { found M.bundle number ≡ Some finding }
-        requires part { AllAre 1 (parts_of shares.old) }
-        ensures more { OnOk result (IsOneMore M.bundle (lock_of run) (amounts_of shares.old)
-            (amounts_of shares.new)) }
-        ensures refused { OnErr result (
-            amounts_of shares.new ≡ amounts_of shares.old) }
-        ensures parts { AllAre 1 (parts_of shares.new) }
+        requires part { 0 < held.old.parts }
+        ensures more { OnOk result (IsOneMore M.bundle (lock_of run) held.old held.new) }
+        ensures refused { OnErr result (held.new ≡ held.old) }
     {
         match lock_of_run(run) {
-            0 => under::post(rt, &self.first, &mut shares.first, worker, number, finding),
-            1 => under::post(
-                rt,
-                &self.second,
-                &mut shares.second,
-                worker,
-                number,
-                finding,
-            ),
-            2 => under::post(rt, &self.third, &mut shares.third, worker, number, finding),
-            _ => under::post(
-                rt,
-                &self.fourth,
-                &mut shares.fourth,
-                worker,
-                number,
-                finding,
-            ),
+            0 => under::post(rt, &self.first, &mut held.first, worker, number, finding),
+            1 => under::post(rt, &self.second, &mut held.second, worker, number, finding),
+            2 => under::post(rt, &self.third, &mut held.third, worker, number, finding),
+            _ => under::post(rt, &self.fourth, &mut held.fourth, worker, number, finding),
         }
     }
 
@@ -205,42 +173,26 @@ impl<'b, M: BundleName, L: LockNames> Board<'b, M, L> {
     ///
     /// `Lost` where the histories don't hold each number: where one stands nowhere, not where its receipt
     /// says, or at no later place than an earlier receipt of the same seat for the run.
-    pub fn close(self, mut seats: Vec<Seat<M, L>>) -> Result<Histories, Lost>
+    pub fn close(self, seats: Vec<Seat<M, L>>) -> Result<Histories, Lost>
         requires all { length seats.items ≡ M.workers }
         requires parts { L.parts ≡ M.workers }
         ensures closed { IfOk result (IsClosed M.bundle (receipts_of seats.items)) }
         ensures lost { IfErr result (IsLost M.bundle (receipts_of seats.items)) }
     {
-        let Board {
-            bundle: _,
-            first,
-            second,
-            third,
-            fourth,
-            room,
-        } = self;
-        let Room {
-            mut histories,
-            mut receipts,
-            mut unmet,
-            mut stored,
-        } = room;
-        let mut all = seats[0].empty_shares();
-        gather(seats, &mut receipts, &mut all);
-        under::close_cell(first, 0, &mut all.first, &mut histories);
-        under::close_cell(second, 1, &mut all.second, &mut histories);
-        under::close_cell(third, 2, &mut all.third, &mut histories);
-        under::close_cell(fourth, 3, &mut all.fourth, &mut histories);
-        note_all_stored(histories.as_slice(), &mut stored);
-        note_all_unmet::<M>(histories.as_slice(), receipts.as_slice(), &mut unmet);
-        let unheld = first_unheld(unmet.as_slice(), stored.as_slice());
-        let histories = Histories::from(histories);
-        match unheld {
+        let mut room = self.room;
+        let mut all = gather(seats, &mut room.receipts);
+        under::close_cell(self.first, &mut all.first, &mut room.histories);
+        under::close_cell(self.second, &mut all.second, &mut room.histories);
+        under::close_cell(self.third, &mut all.third, &mut room.histories);
+        under::close_cell(self.fourth, &mut all.fourth, &mut room.histories);
+        let lost = room.first_lost::<M>();
+        let histories = Histories::from(room.histories);
+        match lost {
             None => Ok(histories),
             Some(number) => Err(Lost {
                 number,
                 histories,
-                receipts,
+                receipts: room.receipts,
             }),
         }
     }

@@ -1,11 +1,9 @@
 //! What a board keeps under one of its locks.
 
-ghost use Rattle.std.specs.Prelude.{◌≡◌, ◌+◌, ◌<◌, ◌≤◌, ◌==◌, ◌↔◌, if◌then◌else◌, [], Err, IfErr, IfOk, IsErr, IsTrue, None, OnErr, OnOk, Some, get_or, length};
-ghost use Rattle.ar_bundle.specs.Bundle.{IsBundle, found};
-ghost use Rattle.ar_board.specs.Cell.{ArePut, CanBe, IsCell, IsEmpty, IsFresh, IsPosted, IsSnapshot, IsUnder, Stands, authors_at, entries_under, histories_of, history_at, lock_of, posts_of};
+ghost use Rattle.std.specs.Prelude.{◌≡◌, ◌<◌, ◌≤◌, ◌==◌, ◌↔◌, if◌then◌else◌, Err, IfErr, IfOk, IsErr, OnErr, get_or, length};
+ghost use Rattle.ar_bundle.specs.Bundle.{IsBundle};
+ghost use Rattle.ar_board.specs.Cell.{ArePut, CanBe, IsAdded, IsCell, IsEmpty, IsFresh, IsPostable, IsShown, Stands, authors_at, entries_under, histories_of, history_at, lock_of, stale};
 ghost use Rattle.ar_board.specs.Private.KeptRuns.{AreOpened};
-ghost use Rattle.std.specs.Vec.{vec_capacity};
-ghost use Rattle.ar_board.specs.declared.cell.snapshot.LookFault.TheVariants as LookFault;
 
 use crate::cell::kept_run::KeptRun;
 use crate::cell::names::{LockName, lock_of_run};
@@ -132,7 +130,7 @@ impl<'b, M: BundleName, L: LockName> RunCell<'b, M, L> {
 
     /// Compares a share with the book, which changes nothing: its amount is at most the number of the
     /// bundle's entries under this lock, and where it has all parts it is that of the cell's entries.
-    #[tactic(auto, using(crate::proofs::Under::few_there))]
+    #[tactic(auto, using(crate::proofs::FewEntries::few_there))]
     pub fn audit(&mut self, share: &mut Share<L>)
         ensures same { self.new ≡ self.old }
         ensures amount { share.new.amount ≡ share.old.amount }
@@ -158,14 +156,11 @@ impl<'b, M: BundleName, L: LockName> RunCell<'b, M, L> {
         worker: usize,
         receipts: &[Receipt],
     ) -> Result<Snapshot, LookFault>
-        requires there { run < length M.bundle.runs }
-        requires under { lock_of run ≡ L.lock }
+        requires run { (run < length M.bundle.runs) × (lock_of run ≡ L.lock) }
         requires worker { worker < M.workers }
         ensures cell { IsCell M.bundle M.workers L.lock self.now }
-        ensures shown { IfOk result (IsSnapshot M.bundle M.workers run self.now) }
-        ensures fresh { IfOk result (λ _. IsFresh self.now run worker receipts.now) }
-        ensures stale { (IsFresh self.now run worker receipts.now → ⊥)
-            ↔ (result ≡ Err (LookFault.Stale (posts_of worker (authors_at self.now run)))) }
+        ensures shown { IfOk result (IsShown M.bundle M.workers run worker self.now receipts.now) }
+        ensures stale { (IsFresh self.now run worker receipts.now → ⊥) ↔ (result ≡ Err (stale self.now run worker)) }
         ensures fault { IfErr result (λ fault. CanBe worker (authors_at self.now run) fault) }
     {
         let kept = &self.runs[run];
@@ -214,16 +209,11 @@ impl<'b, M: BundleName, L: LockName> RunCell<'b, M, L> {
         number: u64,
         finding: Finding,
     ) -> Result<Posted, Double>
-        requires there { number < length M.bundle.entries }
-        requires under { IsUnder M.bundle L.lock number }
-        requires worker { worker < M.workers }
-        requires finding { found M.bundle number ≡ Some finding }
-        requires part { 0 < mine.old.parts }
-        ensures posted { IfOk result (IsPosted M.bundle worker number finding self.old self.new) }
-        ensures share { OnOk result (mine.new.amount ≡ mine.old.amount + 1) }
+        requires number { IsPostable M.bundle L.lock number finding }
+        requires worker { (worker < M.workers) × (0 < mine.old.parts) }
+        ensures added { IfOk result (IsAdded M.bundle worker number finding self.old self.new mine.old mine.new) }
         ensures double { IsErr result ↔ Stands number self.old }
-        ensures refused { OnErr result (self.new ≡ self.old) }
-        ensures kept { OnErr result (mine.new.amount ≡ mine.old.amount) }
+        ensures refused { OnErr result ((self.new ≡ self.old) × (mine.new.amount ≡ mine.old.amount)) }
         ensures parts { mine.new.parts ≡ mine.old.parts }
     {
         if self.stored[number as usize] {

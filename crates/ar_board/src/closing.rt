@@ -1,11 +1,10 @@
 //! How a board is closed: which numbers its histories don't hold.
 
-ghost use Rattle.std.specs.Prelude.{◌≡◌, ◌<◌, ◌≤◌, ◌↔◌, [], false, IfOk, IsTrue, length, map, replicate};
+ghost use Rattle.std.specs.Prelude.{◌≡◌, ◌<◌, ◌≤◌, ◌↔◌, false, IfOk, IsTrue, length, replicate};
 ghost use Rattle.std.specs.List.{AllByRecursion};
-ghost use Rattle.std.specs.Vec.{vec_capacity};
 ghost use Rattle.ar_bundle.specs.Bundle.{IsBundle};
 ghost use Rattle.ar_bundle.specs.Lawful.{numbers_of, times, times_in};
-ghost use Rattle.ar_board.specs.Private.Closing.{AreAllMarked, AreInside, AreMarked, AreOwn, AreStored, FirstUnheld, IsAt, IsBehind, IsLaterOf};
+ghost use Rattle.ar_board.specs.Private.Closing.{AreAllMarked, AreInside, AreMarked, AreOwn, AreStored, FirstLost, FirstUnheld, IsAt, IsBehind, IsLaterOf, IsReady, lists_of};
 
 use crate::Receipt;
 use ar_bundle::{Bundle, BundleName, Entry, History};
@@ -30,11 +29,8 @@ pub(crate) struct Room {
 impl Room {
     /// For the runs and numbers of a bundle and so many workers.
     pub(crate) fn new(alloc: Global, bundle: &Bundle, workers: usize) -> Result<Room, AllocError>
-        ensures histories { IfOk result (λ room. length room.histories.items ≡ length bundle.now.runs) }
-        ensures no_receipts { IfOk result (λ room. room.receipts.items ≡ []) }
-        ensures receipt_room { IfOk result (λ room. workers ≤ vec_capacity room.receipts) }
-        ensures none_unmet { IfOk result (λ room. room.unmet.items ≡ replicate (length bundle.now.entries) false) }
-        ensures none_stored { IfOk result (λ room. room.stored.items ≡ replicate (length bundle.now.entries) false) }
+        requires { 1 ≤ workers }
+        ensures { IfOk result (IsReady bundle.now workers) }
     {
         let numbers = bundle.events() as usize;
         Ok(Room {
@@ -43,6 +39,24 @@ impl Room {
             unmet: vec![in alloc; false; numbers]?,
             stored: vec![in alloc; false; numbers]?,
         })
+    }
+
+    /// The least number that the histories don't hold, by the receipts of all seats.
+    #[tactic(auto, using(crate::proofs::Closed::first_lost))]
+    pub(crate) fn first_lost<M: BundleName>(&mut self) -> Option<u64>
+        requires bundle { IsBundle M.bundle }
+        requires runs { length self.old.histories.items ≡ length M.bundle.runs }
+        requires inside { AllByRecursion (AreInside (length M.bundle.entries)) self.old.histories.items }
+        requires own { AllByRecursion (AreOwn M.bundle) (lists_of self.old.receipts.items) }
+        requires none_unmet { self.old.unmet.items ≡ replicate (length M.bundle.entries) false }
+        requires none_stored { self.old.stored.items ≡ replicate (length M.bundle.entries) false }
+        ensures least { FirstLost M.bundle self.old.histories.items (lists_of self.old.receipts.items) result }
+        ensures histories { self.new.histories ≡ self.old.histories }
+        ensures receipts { self.new.receipts ≡ self.old.receipts }
+    {
+        note_all_stored(&self.histories, &mut self.stored);
+        note_all_unmet::<M>(&self.histories, &self.receipts, &mut self.unmet);
+        first_unheld(&self.unmet, &self.stored)
     }
 }
 
@@ -70,7 +84,7 @@ fn note_stored(history: &[Entry], stored: &mut Vec<bool>)
 
 /// Notes the numbers of all histories as stored.
 #[tactic(auto, using(crate::proofs::Stored::all_stored_first, crate::proofs::Stored::all_stored_next, crate::proofs::Stored::inside_there))]
-pub(crate) fn note_all_stored(histories: &[History], stored: &mut Vec<bool>)
+fn note_all_stored(histories: &[History], stored: &mut Vec<bool>)
     requires inside { AllByRecursion (AreInside (length stored.old.items)) histories.now }
     ensures { AreStored (λ number. times number histories.now) stored.old.items stored.new.items }
 {
@@ -133,16 +147,16 @@ fn later(last: Option<usize>, place: usize) -> usize
 
 /// Notes the numbers for which one of the seats has a receipt that isn't met.
 #[tactic(auto, using(crate::proofs::Marks::all_marked_first, crate::proofs::Marks::all_marked_next, crate::proofs::Marks::own_there))]
-pub(crate) fn note_all_unmet<M: BundleName>(
+fn note_all_unmet<M: BundleName>(
     histories: &[History],
     receipts: &[Vec<Receipt>],
     unmet: &mut Vec<bool>,
 )
     requires bundle { IsBundle M.bundle }
     requires runs { length histories.now ≡ length M.bundle.runs }
-    requires own { AllByRecursion (AreOwn M.bundle) (map (λ own. own.items) receipts.now) }
+    requires own { AllByRecursion (AreOwn M.bundle) (lists_of receipts.now) }
     requires none_unmet { unmet.old.items ≡ replicate (length M.bundle.entries) false }
-    ensures { AreAllMarked M.bundle histories.now (map (λ own. own.items) receipts.now) unmet.new.items }
+    ensures { AreAllMarked M.bundle histories.now (lists_of receipts.now) unmet.new.items }
 {
     for own in receipts {
         note_unmet::<M>(histories, own.as_slice(), unmet);
@@ -151,7 +165,7 @@ pub(crate) fn note_all_unmet<M: BundleName>(
 
 /// The first number that is unmet, or that stands nowhere.
 #[tactic(auto, using(crate::proofs::Stored::first_unmet, crate::proofs::Stored::first_nowhere, crate::proofs::Stored::there_next))]
-pub(crate) fn first_unheld(unmet: &[bool], stored: &[bool]) -> Option<u64>
+fn first_unheld(unmet: &[bool], stored: &[bool]) -> Option<u64>
     requires { length stored.now ≡ length unmet.now }
     ensures { FirstUnheld unmet.now stored.now result }
 {

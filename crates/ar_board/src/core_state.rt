@@ -2,8 +2,8 @@
 
 ghost use Rattle.std.specs.Prelude.{◌≡◌, ◌<◌, ◌↔◌, true, false, [], IfOk, None, Some, length, replicate, slice_get};
 ghost use Rattle.ar_bundle.specs.Bundle.{IsBundle};
-ghost use Rattle.ar_board.specs.Core.{HasEachOnce, IsStateOf, core_after, held, stepped};
-ghost use Rattle.ar_bundle.specs.Lawful.{AllRise, AreHistories};
+ghost use Rattle.ar_board.specs.Core.{HasAll, IsStateOf, core_after, held, stepped};
+ghost use Rattle.ar_bundle.specs.Lawful.{AllRise};
 ghost use Rattle.ar_board.specs.Private.Inside.{AreJudged, AreOpened};
 ghost use Rattle.ar_board.specs.Private.Posts.{HasRoom, IsAppended, stepped_by};
 ghost use Rattle.ar_board.specs.declared.core_steps.CoreStep.TheVariants.{Put, Take, Post};
@@ -308,7 +308,6 @@ fn make_steps(core: &mut CoreState<'_>, steps: &[CoreStep])
 /// # Errors
 ///
 /// Out of memory alone.
-#[tactic(auto, using(crate::proofs::CoreLaws::each_once, crate::proofs::CoreLaws::histories_of_runs))]
 pub fn core_run<'b>(
     alloc: Global,
     bundle: &'b Bundle,
@@ -317,10 +316,9 @@ pub fn core_run<'b>(
     steps: &[CoreStep],
 ) -> Result<CoreState<'b>, AllocError>
     ensures exact { IfOk result (λ core. core ≡ core_after bundle.now workers places false steps.now) }
-    // Each number stands just once in what is still to put, the queue, the hands and the histories.
-    ensures once { IfOk result (λ core. HasEachOnce bundle.now core.state) }
-    // Each run's history has its own numbers, each with its finding and its effect there.
-    ensures histories { IfOk result (λ core. AreHistories bundle.now 0 bundle.now.runs core.state.histories) }
+    // Each number stands just once in what is still to put, the queue, the hands and the histories, and
+    // each run's history has its own numbers, each with its finding and its effect there.
+    ensures all { IfOk result (λ core. HasAll bundle.now core.state) }
 {
     let mut core = CoreState::new(alloc, bundle, workers, places)?;
     make_steps(&mut core, steps);
@@ -333,7 +331,6 @@ pub fn core_run<'b>(
 /// # Errors
 ///
 /// Out of memory alone.
-#[tactic(auto, using(crate::proofs::CoreLaws::each_once, crate::proofs::CoreLaws::histories_of_runs, crate::proofs::CoreLaws::histories_rise))]
 pub fn core_run_ordered<'b>(
     alloc: Global,
     bundle: &'b Bundle,
@@ -342,11 +339,8 @@ pub fn core_run_ordered<'b>(
     steps: &[CoreStep],
 ) -> Result<CoreState<'b>, AllocError>
     ensures exact { IfOk result (λ core. core ≡ core_after bundle.now workers places true steps.now) }
-    // Each number stands just once in what is still to put, the queue, the hands, the parked numbers
-    // and the histories.
-    ensures once { IfOk result (λ core. HasEachOnce bundle.now core.state) }
-    // Each run's history has its own numbers, each with its finding and its effect there.
-    ensures histories { IfOk result (λ core. AreHistories bundle.now 0 bundle.now.runs core.state.histories) }
+    // The same as of `core_run`, where parked numbers stand in the core, too.
+    ensures all { IfOk result (λ core. HasAll bundle.now core.state) }
     // In each history the numbers rise.
     ensures in_order { IfOk result (λ core. AllRise core.state.histories) }
 {

@@ -22,7 +22,7 @@
 //! - [`board`]: boards; `under`: what is done under a lock, over any of the four; [`seat`]: what a worker has
 //!   of a board
 //! - [`locks`]: the four locks, and what names their ledgers; `shares`: shares of these
-//! - `closing`, [`lost`]: which numbers are lost; `holding`: values that are made beside one another
+//! - `closing`, [`lost`]: which numbers are lost
 //! - [`cell`]: what is kept under a lock, and in its folder the histories and runs that it has, what posts and
 //!   looks answer, receipts, and the names of locks
 //! - [`core_state`]: the core in memory; [`core_steps`]: its steps
@@ -34,7 +34,6 @@ pub mod cell;
 mod closing;
 pub mod core_state;
 pub mod core_steps;
-mod holding;
 pub mod laws;
 pub mod locks;
 pub mod lost;

@@ -1,6 +1,7 @@
 //! The four locks of a board, and what names their ledgers.
 
-ghost use Rattle.std.specs.Prelude.{◌≡◌, ℕ};
+ghost use Rattle.std.specs.Prelude.{ℕ};
+ghost use Rattle.ar_board.specs.Locks.{AreOf, PerLock, at_lock, names_of, per_lock};
 
 use crate::LockName;
 use std::marker::{Brand, PhantomData};
@@ -19,10 +20,7 @@ pub struct Blanks {
 impl Blanks {
     /// Of ledgers with so many parts each.
     pub fn new(parts: u64) -> Blanks
-        ensures first { result.first.parts ≡ parts }
-        ensures second { result.second.parts ≡ parts }
-        ensures third { result.third.parts ≡ parts }
-        ensures fourth { result.fourth.parts ≡ parts }
+        ensures { AreOf (names_of result) parts result }
     {
         Blanks {
             first: Blank::new(parts),
@@ -36,86 +34,41 @@ impl Blanks {
 /// Names the ledgers of a board's four locks, and into how many parts each of them is cut. No value of
 /// such a type is wanted.
 pub trait LockNames {
-    ghost first: { ℕ };
-
-    ghost second: { ℕ };
-
-    ghost third: { ℕ };
-
-    ghost fourth: { ℕ };
+    ghost names: { PerLock };
 
     ghost parts: { ℕ };
 }
 
 // A caller that takes `Brand` says which ledgers it means; these stand where none does.
 impl LockNames for Brand {
-    ghost first = { 0 };
-
-    ghost second = { 0 };
-
-    ghost third = { 0 };
-
-    ghost fourth = { 0 };
+    ghost names = { per_lock 0 0 0 0 };
 
     ghost parts = { 0 };
 }
 
-/// The lock of runs 0, 4, 8 and so on.
-pub struct First<L: LockNames> {
+/// The lock with a number, counted from 0, of a board whose ledgers have these names.
+pub struct Lock<L: LockNames, const LOCK: usize> {
     names: PhantomData<L>,
 }
 
-impl<L: LockNames> Ledger for First<L> {
-    ghost name = { L.first };
+impl<L: LockNames, const LOCK: usize> Ledger for Lock<L, LOCK> {
+    ghost name = { at_lock L.names LOCK };
 
     ghost parts = { L.parts };
 }
 
-impl<L: LockNames> LockName for First<L> {
-    ghost lock = { 0 };
+impl<L: LockNames, const LOCK: usize> LockName for Lock<L, LOCK> {
+    ghost lock = { LOCK };
 }
+
+/// The lock of runs 0, 4, 8 and so on.
+pub type First<L> = Lock<L, 0>;
 
 /// The lock of runs 1, 5, 9 and so on.
-pub struct Second<L: LockNames> {
-    names: PhantomData<L>,
-}
-
-impl<L: LockNames> Ledger for Second<L> {
-    ghost name = { L.second };
-
-    ghost parts = { L.parts };
-}
-
-impl<L: LockNames> LockName for Second<L> {
-    ghost lock = { 1 };
-}
+pub type Second<L> = Lock<L, 1>;
 
 /// The lock of runs 2, 6, 10 and so on.
-pub struct Third<L: LockNames> {
-    names: PhantomData<L>,
-}
-
-impl<L: LockNames> Ledger for Third<L> {
-    ghost name = { L.third };
-
-    ghost parts = { L.parts };
-}
-
-impl<L: LockNames> LockName for Third<L> {
-    ghost lock = { 2 };
-}
+pub type Third<L> = Lock<L, 2>;
 
 /// The lock of runs 3, 7, 11 and so on.
-pub struct Fourth<L: LockNames> {
-    names: PhantomData<L>,
-}
-
-impl<L: LockNames> Ledger for Fourth<L> {
-    ghost name = { L.fourth };
-
-    ghost parts = { L.parts };
-}
-
-impl<L: LockNames> LockName for Fourth<L> {
-    ghost lock = { 3 };
-}
+pub type Fourth<L> = Lock<L, 3>;

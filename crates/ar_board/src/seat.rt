@@ -1,11 +1,10 @@
 //! Which worker of a board one is, and the receipts of its posts.
 
-ghost use Rattle.std.specs.Prelude.{◌≡◌, ◌<◌, ◌≤◌, [], IfOk, length, map};
+ghost use Rattle.std.specs.Prelude.{◌≡◌, ◌<◌, ◌≤◌, [], IfOk, length};
 ghost use Rattle.std.specs.Vec.{vec_capacity};
 ghost use Rattle.ar_board.specs.Board.{AreSeated, seat_of};
-ghost use Rattle.ar_board.specs.Private.Closing.{AreGiven};
-ghost use Rattle.ar_board.specs.Seats.{AllAre};
-ghost use Rattle.ar_board.specs.Private.Shares.{amounts_of, parts_of};
+ghost use Rattle.ar_board.specs.Private.Closing.{AreGiven, lists_of};
+ghost use Rattle.ar_board.specs.Seats.{held, nothing};
 
 use crate::Receipt;
 use crate::locks::LockNames;
@@ -24,8 +23,7 @@ pub(crate) fn seats_of<M: BundleName, L: LockNames>(
 ) -> Result<Vec<Seat<M, L>>, AllocError>
     requires bundle { bundle.now ≡ M.bundle }
     requires workers { workers ≡ M.workers }
-    requires parts { AllAre workers (parts_of all) }
-    requires without { AllAre 0 (amounts_of all) }
+    requires all { all ≡ held workers nothing }
     ensures { IfOk result (λ seats. AreSeated workers seats.items) }
 {
     let mut seats = Vec::with_capacity(alloc, workers)?;
@@ -39,27 +37,21 @@ pub(crate) fn seats_of<M: BundleName, L: LockNames>(
 /// Puts the receipts of seats into a list that has room for them, and their shares together.
 #[tactic(auto, using(crate::proofs::Seats::none_given, crate::proofs::Seats::given_next))]
 pub(crate) fn gather<M: BundleName, L: LockNames>(
-    seats: Vec<Seat<M, L>>,
+    mut seats: Vec<Seat<M, L>>,
     receipts: &mut Vec<Vec<Receipt>>,
-    all: &mut Shares<L>,
-)
+) -> Shares<L>
+    requires some { 1 ≤ length seats.items }
     requires empty { receipts.old.items ≡ [] }
     requires room { length seats.items ≤ vec_capacity receipts.old }
-    requires no_part { AllAre 0 (parts_of all.old) }
-    requires nothing { AllAre 0 (amounts_of all.old) }
-    ensures { AreGiven M.bundle seats.items (map (λ own. own.items) receipts.new.items)
-        (parts_of all.new) (amounts_of all.new) }
+    ensures { AreGiven M.bundle seats.items (lists_of receipts.new.items) result }
 {
+    let first = &mut seats[0];
+    let mut all = first.shares.empty();
     for seat in seats {
-        let Seat {
-            worker: _,
-            receipts: own,
-            shares,
-            name: _,
-        } = seat;
-        all.merge(shares);
-        receipts.push_reserved(own);
+        all.merge(seat.shares);
+        receipts.push_reserved(seat.receipts);
     }
+    all
 }
 
 /// A worker's seat at a board: which of the workers it is for, and the receipts of its posts. Contracts
@@ -78,14 +70,12 @@ impl<M: BundleName, L: LockNames> Model for Seat<M, L> {
     ghost use Rattle.std.specs.Vec.{vec_capacity};
     ghost use Rattle.ar_board.specs.Board.{Seat, seat_of};
     ghost use Rattle.ar_board.specs.Seats.{IsSeat};
-    ghost use Rattle.ar_board.specs.Private.Shares.{amounts_of, parts_of};
 
     ghost Value = { Seat };
 
     ghost view = { λ s. seat_of s.worker s.receipts.items };
 
-    ghost invariant = { λ s. IsSeat M.bundle M.workers s.worker s.receipts.items (vec_capacity s.receipts)
-        (parts_of s.shares) (amounts_of s.shares) };
+    ghost invariant = { λ s. IsSeat M.bundle M.workers s.worker s.receipts.items (vec_capacity s.receipts) s.shares };
 }
 
 impl<M: BundleName, L: LockNames> Seat<M, L> {
@@ -98,8 +88,7 @@ impl<M: BundleName, L: LockNames> Seat<M, L> {
     ) -> Result<Seat<M, L>, AllocError>
         requires bundle { bundle.now ≡ M.bundle }
         requires worker { worker < M.workers }
-        requires parts { AllAre 1 (parts_of shares) }
-        requires nothing { AllAre 0 (amounts_of shares) }
+        requires shares { shares ≡ held 1 nothing }
         ensures { IfOk result (λ seat. seat ≡ seat_of worker []) }
     {
         Ok(Seat {
@@ -108,15 +97,6 @@ impl<M: BundleName, L: LockNames> Seat<M, L> {
             shares,
             name: PhantomData,
         })
-    }
-
-    /// Shares of the ledgers that have no part of them.
-    pub(crate) fn empty_shares(&mut self) -> Shares<L>
-        ensures same { self.new ≡ self.old }
-        ensures no_part { AllAre 0 (parts_of result) }
-        ensures nothing { AllAre 0 (amounts_of result) }
-    {
-        self.shares.empty()
     }
 
     /// Which of the workers it is for, counted from 0.

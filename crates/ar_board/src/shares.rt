@@ -1,11 +1,14 @@
 //! Shares of the ledgers of a board's four locks.
 
-ghost use Rattle.std.specs.Prelude.{◌≡◌, ◌+◌, ◌≤◌, ℕ};
+ghost use Rattle.std.specs.Prelude.{◌≡◌, ◌-◌, ◌≤◌};
+ghost use Rattle.ar_board.specs.Seats.{held, nothing, together};
 
 use crate::locks::{First, Fourth, LockNames, Second, Third};
+use std::marker::Model;
 use std::sync::ledger::Share;
 
-/// A share of the ledger of each lock.
+/// A share of the ledger of each lock, all of as many parts. Contracts see them as the `Held` of
+/// `specs/Seats`.
 #[derive(Drop)]
 pub(crate) struct Shares<L: LockNames> {
     pub(crate) first: Share<First<L>>,
@@ -14,23 +17,26 @@ pub(crate) struct Shares<L: LockNames> {
     pub(crate) fourth: Share<Fourth<L>>,
 }
 
-impl<L: LockNames> Shares<L> {
-    ghost use Rattle.ar_board.specs.Seats.{AllAre, at_lock};
-    ghost use Rattle.ar_board.specs.Private.Shares.{amounts_of, parts_of};
+impl<L: LockNames> Model for Shares<L> {
+    ghost use Rattle.std.specs.Prelude.{◌≡◌};
+    ghost use Rattle.ar_board.specs.Locks.{per_lock};
+    ghost use Rattle.ar_board.specs.Seats.{Held, held};
 
+    ghost Value = { Held };
+
+    ghost view = { λ s. held s.first.parts (per_lock s.first.amount s.second.amount s.third.amount s.fourth.amount) };
+
+    ghost invariant = { λ s. (s.second.parts ≡ s.first.parts) × (s.third.parts ≡ s.first.parts)
+        × (s.fourth.parts ≡ s.first.parts) };
+}
+
+impl<L: LockNames> Shares<L> {
     /// One part of each ledger is split off; there is no amount.
     pub(crate) fn split_off(&mut self) -> Shares<L>
-        requires first { 1 ≤ self.old.first.parts }
-        requires second { 1 ≤ self.old.second.parts }
-        requires third { 1 ≤ self.old.third.parts }
-        requires fourth { 1 ≤ self.old.fourth.parts }
-        requires without { AllAre 0 (amounts_of self.old) }
-        ensures one { AllAre 1 (parts_of result) }
-        ensures nothing { AllAre 0 (amounts_of result) }
-        ensures left { (many : ℕ)
-            → AllAre (many + 1) (parts_of self.old)
-            → AllAre many (parts_of self.new) }
-        ensures still_without { AllAre 0 (amounts_of self.new) }
+        requires some { 1 ≤ self.old.parts }
+        requires nothing { self.old.amounts ≡ nothing }
+        ensures one { result ≡ held 1 nothing }
+        ensures left { self.new ≡ held (self.old.parts - 1) nothing }
     {
         Shares {
             first: self.first.split_off(1, 0),
@@ -40,12 +46,10 @@ impl<L: LockNames> Shares<L> {
         }
     }
 
-    /// Shares of the ledgers that have no part of them.
+    /// Shares that have no part of the ledgers.
     pub(crate) fn empty(&mut self) -> Shares<L>
-        ensures no_part { AllAre 0 (parts_of result) }
-        ensures nothing { AllAre 0 (amounts_of result) }
-        ensures parts { parts_of self.new ≡ parts_of self.old }
-        ensures sum { amounts_of self.new ≡ amounts_of self.old }
+        ensures none { result ≡ held 0 nothing }
+        ensures same { self.new ≡ self.old }
     {
         Shares {
             first: self.first.empty(),
@@ -56,25 +60,12 @@ impl<L: LockNames> Shares<L> {
     }
 
     /// Puts others to these, ledger by ledger.
-    #[tactic(auto, using(crate::proofs::UnderLocks::amounts_added))]
     pub(crate) fn merge(&mut self, other: Shares<L>)
-        ensures parts { (many more : ℕ)
-            → AllAre many (parts_of self.old)
-            → AllAre more (parts_of other)
-            → AllAre (many + more) (parts_of self.new) }
-        ensures amounts { (lock : ℕ) → at_lock (amounts_of self.new) lock
-            ≡ at_lock (amounts_of self.old) lock
-            + at_lock (amounts_of other) lock }
+        ensures { self.new ≡ together self.old other }
     {
-        let Shares {
-            first,
-            second,
-            third,
-            fourth,
-        } = other;
-        self.first.merge(first);
-        self.second.merge(second);
-        self.third.merge(third);
-        self.fourth.merge(fourth);
+        self.first.merge(other.first);
+        self.second.merge(other.second);
+        self.third.merge(other.third);
+        self.fourth.merge(other.fourth);
     }
 }

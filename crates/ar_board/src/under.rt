@@ -6,28 +6,12 @@ ghost use Rattle.ar_board.specs.Board.{IsSeen, IsUnseen, seat_of};
 ghost use Rattle.ar_board.specs.Private.Closing.{IsCellClosed};
 ghost use Rattle.ar_board.specs.Cell.{IsUnder, entries_under, lock_of};
 
+use crate::locks::{Lock, LockNames};
 use crate::{Double, LockName, LookFault, Posted, Receipt, RunCell, Snapshot};
-use ar_bundle::{Bundle, BundleName, Finding, History};
-use std::alloc::{AllocError, Global};
-use std::sync::ledger::{Book, Share};
+use ar_bundle::{BundleName, Finding, History};
+use std::alloc::Global;
+use std::sync::ledger::Share;
 use std::sync::{Mutex, Wait};
-
-/// A lock with its cell, to which nothing was posted, with the book of the lock's ledger.
-pub(crate) fn open<'b, M: BundleName, L: LockName>(
-    alloc: Global,
-    book: Book<L>,
-    bundle: &'b Bundle,
-    workers: usize,
-    lock: usize,
-) -> Result<Mutex<RunCell<'b, M, L>>, AllocError>
-    requires bundle { bundle.now ≡ M.bundle }
-    requires workers { workers ≡ M.workers }
-    requires lock { lock ≡ L.lock }
-    requires book { book.total ≡ 0 }
-{
-    let cell = RunCell::new(alloc, bundle, workers, lock, book)?;
-    Ok(Mutex::new(cell))
-}
 
 /// A worker's finding of a number goes to the end of its run's history, and its share is one more: no
 /// more than the bundle has entries under the lock.
@@ -76,19 +60,17 @@ pub(crate) fn look<M: BundleName, L: LockName, R: Wait>(
 
 /// A lock's cell is compared with the share that has all parts of its ledger, and its histories come to
 /// their places among others.
-pub(crate) fn close_cell<M: BundleName, L: LockName>(
-    lock: Mutex<RunCell<'_, M, L>>,
-    own: usize,
-    share: &mut Share<L>,
+pub(crate) fn close_cell<M: BundleName, L: LockNames, const LOCK: usize>(
+    lock: Mutex<RunCell<'_, M, Lock<L, LOCK>>>,
+    share: &mut Share<Lock<L, LOCK>>,
     histories: &mut Vec<History>,
 )
-    requires own { own ≡ L.lock }
     requires all { share.old.parts ≡ L.parts }
     requires as_many { length histories.old.items ≡ length M.bundle.runs }
-    ensures given { IsCellClosed M.bundle M.workers L.lock share.old.amount histories.old.items histories.new.items }
+    ensures given { IsCellClosed M.bundle M.workers LOCK share.old.amount histories.old.items histories.new.items }
     ensures bundle { IsBundle M.bundle }
 {
     let mut cell = lock.into_inner();
     cell.audit(share);
-    cell.put_histories(own, histories);
+    cell.put_histories(LOCK, histories);
 }

@@ -1,27 +1,46 @@
 -- How a board is closed.
-use Rattle.std.specs.Prelude.{◌≡◌, ◌⊎◌, ◌<◌, ◌≤◌, ℕ, Bool, true, false, List, length, Option, Some, None, IfSome, slice_get, take}
+use Rattle.std.specs.Prelude.{◌≡◌, ◌⊎◌, ◌<◌, ◌≤◌, ℕ, Bool, true, false, List, [], length, map, replicate, Option, Some, None, IfSome, slice_get, take, Vec, vec_capacity}
 use Rattle.std.specs.List.{AllByRecursion}
+use Rattle.std.specs.declared.alloc.Global.{Global}
 use Rattle.ar_value.specs.Limits.{most_runs}
 use Rattle.ar_bundle.specs.Bundle.{Bundle, run_of}
 use Rattle.ar_bundle.specs.Lawful.{times}
 use Rattle.ar_bundle.specs.declared.history.Entry.{Entry}
 use Rattle.ar_board.specs.Cell.{ArePut, Cell, IsCell, histories_of, history_at, lock_of}
-use Rattle.ar_board.specs.Receipts.{IsMet, numbers_at}
+use Rattle.ar_board.specs.Receipts.{Hold, IsMet, numbers_at}
 use Rattle.ar_board.specs.declared.cell.receipt.Receipt.{Receipt}
 use Rattle.ar_board.specs.Board.{IsUnmet, IsUnmetAmong, Seat, receipts_of, received_under}
-use Rattle.ar_board.specs.Seats.{AllAre, PerLock, at_lock}
+use Rattle.ar_board.specs.Locks.{at_lock}
+use Rattle.ar_board.specs.Seats.{Held}
+use Rattle.ar_board.specs.declared.closing.Room.{Room}
+
+-- ---- before it
+
+-- what closing wants, as it is reserved for a bundle and so many workers, of whom there is one at least
+pub record IsReady (bundle : Bundle) (workers : ℕ) (room : Room) : Type 0 where
+  pub one : 1 ≤ workers
+  pub histories : length room.histories.items ≡ length bundle.runs
+  pub no_receipts : room.receipts.items ≡ []
+  pub receipt_room : workers ≤ vec_capacity room.receipts
+  pub none_unmet : room.unmet.items ≡ replicate (length bundle.entries) false
+  pub none_stored : room.stored.items ≡ replicate (length bundle.entries) false
+
+-- ---- what seats and cells gave up
+
+abbrev pub lists_of : List (Vec Receipt Global) → List (List Receipt)
+lists_of receipts = map (λ own. own.items) receipts
 
 -- receipts of the runs of their numbers
 abbrev pub AreOwn : Bundle → List Receipt → Type 0
 AreOwn bundle receipts = AllByRecursion (λ receipt. run_of bundle receipt.number ≡ Some receipt.run) receipts
 
--- what seats had: a list of receipts each, one part of each lock's ledger each, and for each lock the number of the receipts for
+-- what seats had: a list of receipts each, and shares of one part each, which have for each lock the number of the receipts for
 -- runs under it
-pub record AreGiven (bundle : Bundle) (seats : List Seat) (receipts : List (List Receipt)) (parts amounts : PerLock) : Type 0 where
+pub record AreGiven (bundle : Bundle) (seats : List Seat) (receipts : List (List Receipt)) (shares : Held) : Type 0 where
   pub lists : receipts ≡ receipts_of seats
   pub own : AllByRecursion (AreOwn bundle) receipts
-  pub as_many : AllAre (length seats) parts
-  pub counted : (lock : ℕ) → at_lock amounts lock ≡ received_under lock (receipts_of seats)
+  pub as_many : shares.parts ≡ length seats
+  pub counted : (lock : ℕ) → at_lock shares.amounts lock ≡ received_under lock (receipts_of seats)
 
 -- the cell of a lock was closed: its entries are as many as the amount, and its histories came to their places among others
 pub record IsCellClosed (bundle : Bundle) (workers lock amount : ℕ) (before after : List (List Entry)) : Type 0 where
@@ -36,6 +55,8 @@ pub record AreOfCell (bundle : Bundle) (workers lock amount : ℕ) (histories : 
   pub is : IsCell bundle workers lock cell
   pub whole : amount ≡ cell.total
   pub each : (run : ℕ) → run < length histories → lock_of run ≡ lock → slice_get histories run ≡ Some (history_at cell run)
+
+-- ---- which receipts are met
 
 -- a receipt's number stands at its place
 abbrev pub IsAt : List (List Entry) → Receipt → Type 0
@@ -93,6 +114,8 @@ pub record AreAllMarked (bundle : Bundle) (histories : List (List Entry)) (recei
   pub as_many : length marks ≡ length bundle.entries
   pub each : (number : ℕ) (mark : Bool) → slice_get marks number ≡ Some mark → MarkedAmong histories receipts number mark
 
+-- ---- which numbers stand in a history
+
 -- numbers below one
 abbrev pub AreInside : (upto : ℕ) → List Entry → Type 0
 AreInside upto history = AllByRecursion (λ entry. entry.number < upto) history
@@ -106,6 +129,8 @@ StoredAs times false false = times ≡ 0
 pub record AreStored (times : (number : ℕ) → ℕ) (before after : List Bool) : Type 0 where
   pub as_many : length after ≡ length before
   pub each : (number : ℕ) (was is : Bool) → slice_get before number ≡ Some was → slice_get after number ≡ Some is → StoredAs (times number) was is
+
+-- ---- which numbers are lost
 
 -- a number that is unmet, or stands nowhere, by the marks of both
 abbrev pub IsUnheld : (unmet stored : List Bool) → (number : ℕ) → Type 0
@@ -124,3 +149,15 @@ pub record IsFirstUnheld (unmet stored : List Bool) (number : ℕ) : Type 0 wher
 abbrev pub FirstUnheld : (unmet stored : List Bool) → Option ℕ → Type 0
 FirstUnheld unmet stored None = (number : ℕ) → number < length unmet → IsThere unmet stored number
 FirstUnheld unmet stored (Some number) = IsFirstUnheld unmet stored number
+
+-- the least of the numbers that histories don't hold: it stands in none of them, or a receipt for it isn't met
+pub record IsFirstLost (bundle : Bundle) (histories : List (List Entry)) (receipts : List (List Receipt)) (number : ℕ) : Type 0 where
+  pub there : number < length bundle.entries
+  pub not_held : Hold histories receipts number → ⊥
+  pub why : (times number histories ≡ 0) ⊎ IsUnmetAmong histories receipts number
+  pub least : (other : ℕ) → other < number → Hold histories receipts other
+
+-- so it is where there is one, and else they hold each number
+abbrev pub FirstLost : Bundle → (histories : List (List Entry)) → (receipts : List (List Receipt)) → Option ℕ → Type 0
+FirstLost bundle histories receipts None = (number : ℕ) → number < length bundle.entries → Hold histories receipts number
+FirstLost bundle histories receipts (Some number) = IsFirstLost bundle histories receipts number

@@ -1,15 +1,18 @@
 -- How a cell keeps runs, and how contracts see that.
-use Rattle.std.specs.Prelude.{◌≡◌, ◌≢◌, ◌<◌, ◌≤◌, ◌==◌, ℕ, suc, nat_lt, Bool, if◌then◌else◌, List, [], ◌∷◌, length, map, Option, Some, None, drop, get_or, replicate, slice_get, vec_capacity}
+use Rattle.std.specs.Prelude.{◌≡◌, ◌≢◌, ◌<◌, ◌≤◌, ◌+◌, ◌==◌, ◌++◌, ℕ, suc, nat_lt, Bool, if◌then◌else◌, List, [], ◌∷◌, length, map, Option, Some, None, drop, get_or, replicate, set, slice_get, vec_capacity}
 use Rattle.ar_limits.specs.Replay.{IsOfMetricBelow, Replays}
 use Rattle.ar_limits.specs.declared.event.Event.{Event}
 use Rattle.ar_limits.specs.declared.limits.Limits.{Limits}
 use Rattle.ar_bundle.specs.Bundle.{Bundle, IsBundle, entries_of, most_events, run_of}
 use Rattle.ar_board.specs.Cell.{Cell, IsCell, KeptRun, history_at, lock_of}
 use Rattle.ar_bundle.specs.Lawful.{numbers_of, times_in}
+use Rattle.ar_board.specs.Posting.{HasOneMore}
 use Rattle.ar_board.specs.Receipts.{posted_from}
 use Rattle.ar_bundle.specs.declared.bundle.RunPart.{RunPart}
+use Rattle.ar_bundle.specs.declared.finding.Finding.{Finding}
 use Rattle.ar_bundle.specs.declared.history.Entry.{Entry}
 use Rattle.ar_board.specs.declared.cell.kept_run.KeptRun.{KeptRun as Declared}
+use Rattle.ar_board.specs.declared.cell.posted.Posted.{Posted}
 
 -- a run can take one entry more, by a worker
 pub record CanTake (kept : Declared) (worker : ℕ) (event : Event) : Type 0 where
@@ -19,6 +22,14 @@ pub record CanTake (kept : Declared) (worker : ℕ) (event : Event) : Type 0 whe
   pub few : get_or kept.posts.items worker 0 < most_events
   pub room : kept.run.state.handed < most_events
   pub metric : IsOfMetricBelow (length kept.run.state.limits) event
+
+-- it has one entry more, by the worker
+pub record IsPushed (old new : Declared) (worker number : ℕ) (finding : Finding) (event : Event) (answer : Posted) : Type 0 where
+  pub run : HasOneMore number finding event old.run new.run answer.effect
+  pub place : answer.place ≡ length old.run.entries.items
+  pub author : new.authors.items ≡ old.authors.items ++ worker ∷ []
+  pub posts : new.posts.items ≡ set old.posts.items worker (get_or old.posts.items worker 0 + 1)
+  pub author_capacity : vec_capacity new.authors ≡ vec_capacity old.authors
 
 -- a run to which nothing has happened, with room for so many entries
 pub record IsOpened (limits : List Limits) (room workers : ℕ) (kept : Declared) : Type 0 where

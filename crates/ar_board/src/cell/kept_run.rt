@@ -1,10 +1,8 @@
 //! What a cell keeps of one run.
 
-ghost use Rattle.std.specs.Prelude.{◌≡◌, ◌+◌, ◌<◌, ◌↔◌, [], ◌∷◌, ◌++◌, IfOk, IsTrue, Some, length, slice_get, slice_index_or, slice_set, vec_capacity};
+ghost use Rattle.std.specs.Prelude.{◌≡◌, ◌<◌, ◌↔◌, IfOk, IsTrue, Some, length, slice_get};
 ghost use Rattle.ar_limits.specs.Metric.{HasPositiveCounts};
 ghost use Rattle.ar_bundle.specs.declared.history.Entry.{Entry};
-ghost use Rattle.ar_limits.specs.Replay.{ForEachReplay, Replays};
-ghost use Rattle.ar_limits.specs.Run.{effect_of};
 
 use crate::cell::posted::Posted;
 use crate::cell::receipt::Receipt;
@@ -24,7 +22,7 @@ pub(crate) struct KeptRun {
 }
 
 impl KeptRun {
-    ghost use Rattle.ar_board.specs.Private.KeptRuns.{CanTake, IsNextOwn, IsOpened, own_from};
+    ghost use Rattle.ar_board.specs.Private.KeptRuns.{CanTake, IsNextOwn, IsOpened, IsPushed};
     ghost use Rattle.ar_board.specs.Receipts.{posted_by, received};
 
     /// A run to which nothing has happened, with room for so many entries.
@@ -53,18 +51,7 @@ impl KeptRun {
         event: Event,
     ) -> Posted
         requires { CanTake self.old worker event }
-        ensures place { result.place ≡ length self.old.run.entries.items }
-        ensures entry { self.new.run.entries.items ≡ self.old.run.entries.items
-            ++ record { number = number; finding = finding; effect = result.effect } ∷ [] }
-        ensures author { self.new.authors.items ≡ self.old.authors.items ++ worker ∷ [] }
-        ensures posts { self.new.posts.items
-            ≡ slice_set self.old.posts.items worker (slice_index_or self.old.posts.items worker 0 + 1) }
-        ensures replays { ForEachReplay self.old.run.state (λ limits events.
-            Replays limits (events ++ event ∷ []) self.new.run.state) }
-        ensures effect { ForEachReplay self.old.run.state (λ limits events.
-            result.effect ≡ effect_of limits events event) }
-        ensures capacity { vec_capacity self.new.run.entries ≡ vec_capacity self.old.run.entries }
-        ensures author_capacity { vec_capacity self.new.authors ≡ vec_capacity self.old.authors }
+        ensures { IsPushed self.old self.new worker number finding event result }
     {
         let place = self.run.entries.len();
         let effect = self.run.append(number, finding, event);

@@ -1,10 +1,10 @@
 //! A run's history, and where the run stands after it.
 
-ghost use Rattle.std.specs.Prelude.{◌≡◌, ◌<◌, ◌≤◌, [], ◌∷◌, ◌++◌, IfOk, length};
+ghost use Rattle.std.specs.Prelude.{◌≡◌, ◌<◌, [], IfOk, length};
 ghost use Rattle.std.specs.Vec.{vec_capacity};
 ghost use Rattle.ar_limits.specs.Metric.{HasPositiveCounts};
-ghost use Rattle.ar_limits.specs.Replay.{ForEachReplay, IsOfMetricBelow, Replays, most_events};
-ghost use Rattle.ar_limits.specs.Run.{effect_of};
+ghost use Rattle.ar_limits.specs.Replay.{IsOfMetricBelow, Replays, most_events};
+ghost use Rattle.ar_board.specs.Posting.{HasOneMore};
 
 use ar_bundle::{Entry, Finding};
 use ar_limits::{Effect, Event, Limits, RunState};
@@ -37,13 +37,7 @@ impl RunHistory {
         requires room { length self.old.entries.items < vec_capacity self.old.entries }
         requires few { self.old.state.handed < most_events }
         requires metric { IsOfMetricBelow (length self.old.state.limits) event }
-        ensures entry { self.new.entries.items ≡ self.old.entries.items
-            ++ record { number = number; finding = finding; effect = result } ∷ [] }
-        ensures effect { ForEachReplay self.old.state (λ limits events.
-            result ≡ effect_of limits events event) }
-        ensures replays { ForEachReplay self.old.state (λ limits events.
-            Replays limits (events ++ event ∷ []) self.new.state) }
-        ensures capacity { vec_capacity self.new.entries ≡ vec_capacity self.old.entries }
+        ensures { HasOneMore number finding event self.old self.new result }
     {
         let effect = self.state.apply(event);
         self.entries.push_reserved(Entry {

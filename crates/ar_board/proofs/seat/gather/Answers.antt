@@ -4,8 +4,8 @@ use Rattle.std.proofs.lemmas.List.{length_push, map_push}
 use Rattle.std.specs.Vec.Iter.{into_iter_items}
 use Rattle.ar_board.specs.declared.cell.receipt.Receipt.{Receipt}
 use Rattle.ar_board.specs.Board.{Seat}
-use Rattle.ar_board.specs.Private.Closing.{AreGiven}
-use Rattle.ar_board.specs.Private.Shares.{amounts_of, parts_of}
+use Rattle.ar_board.specs.Private.Closing.{AreGiven, lists_of}
+use Rattle.ar_board.specs.Seats.{together}
 use Rattle.ar_board.proofs.Seats.{given_next}
 use Rattle.ar_board.proofs.seat.gather.Goals as goal
 
@@ -22,14 +22,11 @@ loop-seat-preserved g c =
     let receipts = length_push at.receipts.items c.seat.inside.receipts in
     let own : List Receipt = c.seat.inside.receipts.items in
     let its : c.in-Some.seat.receipts ≡ own = sym (ap (λ (seat : Seat). seat.receipts) c.seat.view_is) in
-    let given = given_next g.M.BundleName.bundle at.yielded (map (λ (own : Vec Receipt Global). own.items) at.receipts.items)
-    (parts_of at.all) (amounts_of at.all) (parts_of c.seat.inside.shares)
-    (amounts_of c.seat.inside.shares) (parts_of c.merge.new.self) (amounts_of c.merge.new.self)
-    c.in-Some.seat own at.invariant.1 its c.seat.invariant.own c.seat.invariant.part c.seat.invariant.counted c.merge.ensures.parts c.merge.ensures.amounts in
+    let given = given_next g.M.BundleName.bundle at.yielded (lists_of at.receipts.items) at.all c.seat.inside.shares c.in-Some.seat own at.invariant.1 its c.seat.invariant.own c.seat.invariant.part c.seat.invariant.counted in
     let lists = ap (map (λ (own : Vec Receipt Global). own.items)) c.push_reserved.ensures.items ∙ map_push (λ (own : Vec Receipt Global). own.items) at.receipts.items c.seat.inside.receipts in (
       append_assoc at.yielded (c.in-Some.seat ∷ []) _ ∙ rw (← steps) at.invariant.0,
-      subst (λ (receipts : List (List Receipt)). AreGiven g.M.BundleName.bundle (at.yielded ++ c.in-Some.seat ∷ []) receipts
-          (parts_of c.merge.new.self) (amounts_of c.merge.new.self)) (sym lists) given,
+      subst (AreGiven g.M.BundleName.bundle (at.yielded ++ c.in-Some.seat ∷ []) (lists_of c.push_reserved.new.self.items)) (sym c.merge.ensures)
+          (subst (λ (receipts : List (List Receipt)). AreGiven g.M.BundleName.bundle (at.yielded ++ c.in-Some.seat ∷ []) receipts (together at.all c.seat.inside.shares)) (sym lists) given),
       omega arith,
       omega arith,
       (let capacity = c.push_reserved.ensures.capacity in let room = at.invariant.4 in omega arith),

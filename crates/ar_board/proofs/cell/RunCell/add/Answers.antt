@@ -2,7 +2,7 @@ use Rattle.std.proofs.Common.{arith, set, rules, refl, subst, sym}
 use Rattle.std.proofs.lemmas.Grind.{common_steps}
 use Rattle.ar_board.specs.Cell.{Cell, IsPosted, Stands}
 use Rattle.ar_board.specs.Private.KeptRuns.{cell_of}
-use Rattle.ar_board.proofs.Cells.{IsPushed, IsReady, can_take, inside_push, is_posted, not_there, ready, stands}
+use Rattle.ar_board.proofs.Cells.{IsReady, can_take, inside_push, is_posted, not_there, ready, stands}
 use Rattle.ar_board.proofs.cell.RunCell.add.Goals as goal
 
 pub returns-then-index-clause-double : goal.returns-then-index-clause-double
@@ -13,30 +13,31 @@ returns-then-index-clause-double g c =
 pub push-posted-requires : goal.push-posted-requires
 push-posted-requires g c =
     let is = ready g.M.BundleName.bundle g.M.BundleName.workers g.L.LockName.lock c.self.inside.bundle.now c.self.inside.runs.items c.self.inside.stored.items c.self.inside.book.total c.args.number c.run_of-run.result c.index_mut.result.now c.index.result.now c.self.invariant
-    c.requires.under (search rules) c.run_of-run.ensures.own c.run_of-run.ensures.there c.index_mut.ensures.value c.index.ensures (search rules) in
-    can_take c.self.inside.bundle.now g.M.BundleName.workers g.L.LockName.lock c.self.inside.runs.items c.args.number c.run_of-run.result c.args.worker c.index_mut.result.now c.event-event.result is c.requires.worker c.event-event.ensures.metric
+    c.requires.number.under (search rules) c.run_of-run.ensures.own c.run_of-run.ensures.there c.index_mut.ensures.value c.index.ensures (search rules) in
+    can_take c.self.inside.bundle.now g.M.BundleName.workers g.L.LockName.lock c.self.inside.runs.items c.args.number c.run_of-run.result c.args.worker c.index_mut.result.now c.event-event.result is c.requires.worker.0 c.event-event.ensures.metric
 
 pub invariant_of-self : goal.invariant_of-self
 invariant_of-self g c =
     let is : IsReady c.self.inside.bundle.now g.M.BundleName.workers g.L.LockName.lock c.self.inside.runs.items c.args.number c.run_of-run.result c.index_mut.result.now = ready g.M.BundleName.bundle g.M.BundleName.workers g.L.LockName.lock c.self.inside.bundle.now c.self.inside.runs.items c.self.inside.stored.items c.self.inside.book.total c.args.number c.run_of-run.result c.index_mut.result.now c.index.result.now c.self.invariant
-    c.requires.under (search rules) c.run_of-run.ensures.own c.run_of-run.ensures.there c.index_mut.ensures.value c.index.ensures (search rules) in
-    let pushed : IsPushed c.index_mut.result.now c.push-posted.new.self c.args.worker c.args.number c.args.finding c.event-event.result c.push-posted.result = record { place = c.push-posted.ensures.place; entry = c.push-posted.ensures.entry; author = c.push-posted.ensures.author; posts = c.push-posted.ensures.posts; replays = c.push-posted.ensures.replays; effect = c.push-posted.ensures.effect; capacity = c.push-posted.ensures.capacity; author_capacity = c.push-posted.ensures.author_capacity } in
+    c.requires.number.under (search rules) c.run_of-run.ensures.own c.run_of-run.ensures.there c.index_mut.ensures.value c.index.ensures (search rules) in
     inside_push g.M.BundleName.bundle g.M.BundleName.workers g.L.LockName.lock c.self.inside.bundle.now c.self.inside.runs.items c.self.inside.stored.items c.self.inside.book.total c.add.new.self.total c.args.worker c.args.number c.run_of-run.result c.index_mut.result.now c.push-posted.new.self c.args.finding c.event-event.result c.push-posted.result
-    c.self.invariant is c.requires.worker (search rules) (search rules) c.event-event.ensures.exact pushed c.add.ensures.total
+    c.self.invariant is c.requires.worker.0 (search rules) (search rules) c.event-event.ensures.exact c.push-posted.ensures c.add.ensures.total
 
-pub returns-clause-posted : goal.returns-clause-posted
-returns-clause-posted g c =
+pub returns-clause-added : goal.returns-clause-added
+returns-clause-added g c =
     let is : IsReady c.self.inside.bundle.now g.M.BundleName.workers g.L.LockName.lock c.self.inside.runs.items c.args.number c.run_of-run.result c.index_mut.result.now = ready g.M.BundleName.bundle g.M.BundleName.workers g.L.LockName.lock c.self.inside.bundle.now c.self.inside.runs.items c.self.inside.stored.items c.self.inside.book.total c.args.number c.run_of-run.result c.index_mut.result.now c.index.result.now c.self.invariant
-    c.requires.under (search rules) c.run_of-run.ensures.own c.run_of-run.ensures.there c.index_mut.ensures.value c.index.ensures (search rules) in
-    let pushed : IsPushed c.index_mut.result.now c.push-posted.new.self c.args.worker c.args.number c.args.finding c.event-event.result c.push-posted.result = record { place = c.push-posted.ensures.place; entry = c.push-posted.ensures.entry; author = c.push-posted.ensures.author; posts = c.push-posted.ensures.posts; replays = c.push-posted.ensures.replays; effect = c.push-posted.ensures.effect; capacity = c.push-posted.ensures.capacity; author_capacity = c.push-posted.ensures.author_capacity } in
+    c.requires.number.under (search rules) c.run_of-run.ensures.own c.run_of-run.ensures.there c.index_mut.ensures.value c.index.ensures (search rules) in
     let answer = is_posted g.M.BundleName.bundle g.M.BundleName.workers g.L.LockName.lock c.self.inside.bundle.now c.self.inside.runs.items c.self.inside.book.total c.add.new.self.total c.args.worker c.args.number c.run_of-run.result c.index_mut.result.now c.push-posted.new.self c.args.finding c.event-event.result c.push-posted.result
-    c.self.invariant.is_named is (search rules) c.event-event.ensures.exact pushed c.add.ensures.total in
-    subst (λ (before : Cell). IsPosted g.M.BundleName.bundle c.args.worker c.args.number c.args.finding before (cell_of (set c.self.inside.runs.items c.run_of-run.result c.push-posted.new.self) c.add.new.self.total) c.push-posted.result) c.self.view_is answer
+    c.self.invariant.is_named is (search rules) c.event-event.ensures.exact c.push-posted.ensures c.add.ensures.total in
+    record {
+      posted = subst (λ (before : Cell). IsPosted g.M.BundleName.bundle c.args.worker c.args.number c.args.finding before (cell_of (set c.self.inside.runs.items c.run_of-run.result c.push-posted.new.self) c.add.new.self.total) c.push-posted.result) c.self.view_is answer;
+      share = c.add.ensures.amount;
+    }
 
 pub returns-clause-double : goal.returns-clause-double
 returns-clause-double g c =
     let is : IsReady c.self.inside.bundle.now g.M.BundleName.workers g.L.LockName.lock c.self.inside.runs.items c.args.number c.run_of-run.result c.index_mut.result.now = ready g.M.BundleName.bundle g.M.BundleName.workers g.L.LockName.lock c.self.inside.bundle.now c.self.inside.runs.items c.self.inside.stored.items c.self.inside.book.total c.args.number c.run_of-run.result c.index_mut.result.now c.index.result.now c.self.invariant
-    c.requires.under (search rules) c.run_of-run.ensures.own c.run_of-run.ensures.there c.index_mut.ensures.value c.index.ensures (search rules) in
+    c.requires.number.under (search rules) c.run_of-run.ensures.own c.run_of-run.ensures.there c.index_mut.ensures.value c.index.ensures (search rules) in
     ((λ is_error. absurd cc), (λ there. absurd (not_there c.self.inside.bundle.now g.M.BundleName.workers g.L.LockName.lock c.self.inside.runs.items c.self.inside.book.total c.args.number c.run_of-run.result c.index_mut.result.now c.self.invariant.cell is (subst (Stands c.args.number) (sym c.self.view_is) there))))
 
 pub index_mut-requires : goal.index_mut-requires

@@ -2,7 +2,7 @@ use Rattle.std.proofs.Common.{◌≤◌, ap, arith}
 use Rattle.ar_bundle.specs.Bundle.{Bundle}
 use Rattle.ar_board.specs.Cell.{entries_under}
 use Rattle.ar_board.specs.Private.KeptRuns.{cell_of}
-use Rattle.ar_board.proofs.Under.{few_there}
+use Rattle.ar_board.proofs.FewEntries.{few_there}
 use Rattle.ar_board.proofs.cell.RunCell.audit.Goals as goal
 
 pub returns-clause-few : goal.returns-clause-few
