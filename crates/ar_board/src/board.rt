@@ -15,11 +15,9 @@ use crate::seat::{Seat, gather, seats_of};
 use crate::shares::Shares;
 use crate::{Double, LookFault, Posted, Receipt, RunCell, Snapshot, lock_of_run, under};
 use ar_bundle::{Bundle, BundleName, Finding, Histories};
+use ar_value::limits::MOST_WORKERS;
 use std::alloc::{AllocError, Global};
 use std::sync::{Mutex, Wait};
-
-/// The most workers that a board has seats for.
-pub const MOST_WORKERS: usize = 16;
 
 /// The runs of a bundle, to which workers post from threads of their own. They are kept in four cells,
 /// each under a lock. Posts and looks take the lock of their run; who holds one keeps workers waiting.

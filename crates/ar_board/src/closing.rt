@@ -8,10 +8,8 @@ ghost use Rattle.ar_board.specs.Private.Closing.{AreAllMarked, AreInside, AreMar
 
 use crate::Receipt;
 use ar_bundle::{Bundle, BundleName, Entry, History};
+use ar_value::limits::MOST_RUNS;
 use std::alloc::{AllocError, Global};
-
-/// The most runs that a bundle has.
-const MOST_RUNS: usize = 64;
 
 /// What closing a board wants, reserved when the board is made.
 #[derive(Drop)]

@@ -42,7 +42,8 @@ mod shares;
 mod under;
 
 pub use ar_bundle::{Bundle, Entry, EventPart, Finding, Histories, MetricPart, RunPart, What};
-pub use board::{Board, MOST_WORKERS};
+pub use ar_value::limits::MOST_WORKERS;
+pub use board::Board;
 pub use cell::RunCell;
 pub use cell::names::{LOCKS, LockName, lock_of_run};
 pub use cell::posted::{Double, Posted};
