@@ -1,8 +1,10 @@
 -- What workers bring back: the pass of the queue, and desks at which just the numbers that the pass took are named.
-use Rattle.std.specs.Prelude.{◌≡◌, ◌+◌, ◌++◌, ℕ, List, [], ◌∷◌}
+use Rattle.std.specs.Prelude.{◌≡◌, ◌+◌, ◌++◌, ℕ, List, [], ◌∷◌, length}
 use Rattle.ar_bundle.specs.Lawful.{times_in}
 use Rattle.atomic_table.specs.Seated.{TableId}
+use Rattle.crossbeam_queue.specs.Passes.{view}
 use Rattle.ar_queue.specs.declared.queue.View.{View}
+use Rattle.ar_queue.specs.declared.side_by_side.Gathered.{Gathered}
 
 -- a worker's pass that has taken some numbers, before it has met an end mark and after that
 abbrev pub working : (taken : List ℕ) → View
@@ -36,6 +38,13 @@ pub record IsFeeder (view : View) (out joined : ℕ) : Type 0 where
   pub live : view.live ≡ 1
   pub has_out : view.out ≡ out
   pub has_joined : view.ended ≡ joined
+
+-- what so many workers brought back: the feeder's pass, of which none is out and all of theirs are joined, and a desk from each, at
+-- which just the numbers that the pass took are named
+pub record AreGathered {Desk : Type 0} (numbers : Desk → List ℕ) (workers : ℕ) (gathered : Gathered Desk) : Type 0 where
+  pub joined : IsFeeder (view gathered.pass) 0 workers
+  pub named : AreNamed (view gathered.pass).taken (all_named numbers gathered.desks.items)
+  pub desks : length gathered.desks.items ≡ workers
 
 -- a caller that takes `Brand` says which queue it means; this stands where none does
 abbrev pub no_queue : TableId

@@ -4,7 +4,7 @@ ghost use Rattle.std.specs.Prelude.{◌≡◌, ◌≤◌, [], IfOk, OnOk, length
 ghost use Rattle.std.specs.List.{AllByRecursion};
 ghost use Rattle.std.specs.Vec.{vec_capacity};
 ghost use Rattle.crossbeam_queue.specs.Passes.{IsPassOf, view};
-ghost use Rattle.ar_queue.specs.Workers.{AreNamed, IsFeeder, all_named, feeding, working};
+ghost use Rattle.ar_queue.specs.Workers.{AreGathered, IsFeeder, feeding, working};
 
 use crate::desk::Desk;
 use crate::feed::feed;
@@ -104,9 +104,7 @@ fn join_all<M: BundleName, D: Desk<M>, T: QueueName, R: Threads>(
     requires pass { IsPassOf queue.now pass }
     requires out { IsFeeder (view pass) (length handles.items) 0 × ((view pass).taken ≡ []) }
     ensures pass { IfOk result (λ all. IsPassOf queue.now all.pass) }
-    ensures joined { IfOk result (λ all. IsFeeder (view all.pass) 0 (length handles.items)) }
-    ensures named { IfOk result (λ all. AreNamed (view all.pass).taken (all_named D.numbers all.desks.items)) }
-    ensures desks { IfOk result (λ all. length all.desks.items ≡ length handles.items) }
+    ensures gathered { IfOk result (AreGathered D.numbers (length handles.items)) }
 {
     let mut desks = Vec::with_capacity(alloc, handles.len())?;
     for handle in handles {
@@ -145,9 +143,7 @@ where
     requires fresh_pass { view pass ≡ feeding 0 0 0 }
     requires fresh { AllByRecursion (λ desk. D.numbers desk ≡ []) desks.items }
     ensures pass { IfOk result (λ all. IsPassOf queue.entry.now all.pass) }
-    ensures joined { IfOk result (λ all. IsFeeder (view all.pass) 0 (length desks.items)) }
-    ensures named { IfOk result (λ all. AreNamed (view all.pass).taken (all_named D.numbers all.desks.items)) }
-    ensures desks { IfOk result (λ all. length all.desks.items ≡ length desks.items) }
+    ensures gathered { IfOk result (AreGathered D.numbers (length desks.items)) }
 {
     let mut handles = Vec::with_capacity(alloc, desks.len())?;
     let started = start_all::<E, M, D, T, G, R>(
@@ -192,13 +188,10 @@ where
     R: Threads + Wait + Sync,
     requires bundle { bundle.now ≡ M.bundle }
     requires queue { queue.now.table.shared.table_id ≡ T.table }
-    requires pass { IsPassOf queue.now pass }
-    requires fresh_pass { view pass ≡ feeding 0 0 0 }
+    requires pass { IsPassOf queue.now pass × (view pass ≡ feeding 0 0 0) }
     requires fresh { AllByRecursion (λ desk. D.numbers desk ≡ []) desks.items }
     ensures pass { IfOk result (λ all. IsPassOf queue.entry.now all.pass) }
-    ensures joined { IfOk result (λ all. IsFeeder (view all.pass) 0 (length desks.items)) }
-    ensures named { IfOk result (λ all. AreNamed (view all.pass).taken (all_named D.numbers all.desks.items)) }
-    ensures desks { IfOk result (λ all. length all.desks.items ≡ length desks.items) }
+    ensures gathered { IfOk result (AreGathered D.numbers (length desks.items)) }
 {
     thread::scope(
         thread::scope_env(),
@@ -207,9 +200,7 @@ where
             requires { (bundle.now ≡ M.bundle) × (queue.now.table.shared.table_id ≡ T.table) × IsPassOf queue.now pass
                 × (view pass ≡ feeding 0 0 0) × AllByRecursion (λ desk. D.numbers desk ≡ []) desks.items }
             ensures { IfOk result (λ all. IsPassOf queue.entry.now all.pass
-                × IsFeeder (view all.pass) 0 (length desks.items)
-                × AreNamed (view all.pass).taken (all_named D.numbers all.desks.items)
-                × (length all.desks.items ≡ length desks.items)) }
+                × AreGathered D.numbers (length desks.items) all) }
         { in_scope::<_, M, D, T, G, R>(scope, rt, alloc, bundle, queue, desks, pass, gate) },
     )
 }
