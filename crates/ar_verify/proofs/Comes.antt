@@ -32,7 +32,7 @@ use Rattle.ar_safety.proofs.Nesting.{passes_each}
 use Rattle.ar_verify.proofs.Passed.{sends_as}
 use Rattle.ar_safety.proofs.Passing.{Ahead, passed_ahead, sends_on}
 use Rattle.ar_verify.proofs.Targets.{sends_within, stays_within}
-use Rattle.ar_verify.specs.declared.path.ShapeName as ShapeName
+use Rattle.ar_verify.specs.declared.whole.ShapeName as ShapeName
 
 -- ---- one more arrives
 

@@ -7,7 +7,7 @@ use Rattle.ar_safety.specs.Arrivals.{floor}
 use Rattle.ar_verify.specs.Private.Held.{around_view, counted, from_innermost}
 use Rattle.ar_verify.specs.Private.Kinds.{kind_view}
 use Rattle.ar_verify.specs.declared.operands.Around.{Around}
-use Rattle.ar_verify.specs.declared.path.ShapeName as ShapeName
+use Rattle.ar_verify.specs.declared.whole.ShapeName as ShapeName
 use Rattle.ar_verify.proofs.Tops.{on_top, so_many}
 
 pub both_counted : (a b : ℕ) → min (counted a + b) (2 ^ 64 - 1) ≡ counted (b + a)

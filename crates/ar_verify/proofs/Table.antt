@@ -13,7 +13,7 @@ use Rattle.ar_verify.specs.Private.Table.{State, Table, added, entry, table_view
 use Rattle.ar_safety.specs.declared.error.Reason.{Reason}
 use Rattle.ar_safety.specs.declared.error.Reason.TheVariants.{Unreachable}
 use Rattle.ar_verify.specs.declared.operands.Operands as held
-use Rattle.ar_verify.specs.declared.path.ShapeName as ShapeName
+use Rattle.ar_verify.specs.declared.whole.ShapeName as ShapeName
 
 -- ---- in memory
 

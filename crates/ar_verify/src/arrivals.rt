@@ -19,8 +19,8 @@ ghost use Rattle.ar_safety.specs.declared.error.Reason.TheVariants.{Unreachable}
 use crate::failure::Failure;
 use crate::kind::{Kind, as_list};
 use crate::operands::{Operands, join};
-use crate::path::{ShapeName, Whole};
 use crate::sending::{Sends, Sent, send_on};
+use crate::whole::{ShapeName, Whole};
 use ar_op::code::Code;
 use ar_op::op::Op;
 use ar_safety::{Cause, Reason};

@@ -12,9 +12,10 @@ ghost use Rattle.ar_verify.specs.Private.Stacks.{Leaves, TakesScalar, from_top};
 
 use crate::kind::{Kind, given_part, given_shape, is_scalar};
 use crate::operators::{apply_binary, apply_unary, field_of};
-use crate::path::{INNER, ShapeName, Whole};
-use crate::shape_ref::Parts;
+use crate::parts::Parts;
+use crate::path::INNER;
 use crate::stack::pop;
+use crate::whole::{ShapeName, Whole};
 use ar_op::code::Code;
 use ar_op::op::{Op, Source};
 use ar_value::operator::{BinaryOperator, Scalar, UnaryOperator};

@@ -10,9 +10,10 @@ ghost use Rattle.ar_verify.specs.Private.Lists.{is_list};
 ghost use Rattle.ar_verify.specs.Private.Roots.{child};
 ghost use Rattle.ar_verify.specs.Private.Shapes.{list_of, parts_view};
 
-use crate::join::meet;
-use crate::path::ShapeName;
-use crate::shape_ref::{ListShape, Parts, plain};
+use crate::join::{meet, plain};
+use crate::list::ListShape;
+use crate::parts::Parts;
+use crate::whole::ShapeName;
 use ar_value::kind;
 use ar_value::operator::{Family, Scalar};
 use ar_value::shape::Shape;

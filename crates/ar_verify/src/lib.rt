@@ -8,8 +8,9 @@
 //! - `verifier`: the passes, one after the other
 //! - `places`: whether the places that operations name are as they should be; `loops`: whether loops
 //!   lie one in another
-//! - `path`: shapes by the way to them; `shape_ref`: the shapes of operands, as those that met in them; `join`: how
-//!   they meet
+//! - `whole`: the shape of the measured value; `path`: parts of shapes, by the way to them in the whole
+//! - `parts`, `list`: the shapes of operands, which are those of parts that met; `join`: how they meet, and what is
+//!   known of them
 //! - `kind`, `stack`: kinds of operands; `operators`, `effect`: what operations give of them
 //! - `operands`, `sending`, `arrivals`: what operations send on, and what arrives at each place
 //! - `budget`: what a run may cost at most
@@ -22,15 +23,17 @@ mod effect;
 mod failure;
 mod join;
 mod kind;
+mod list;
 mod loops;
 mod operands;
 mod operators;
+mod parts;
 mod path;
 mod places;
 mod sending;
-mod shape_ref;
 mod stack;
 mod verifier;
+mod whole;
 
 pub use ar_safety::{Cause, Reason, Refused, Verified};
 pub use verifier::verify;

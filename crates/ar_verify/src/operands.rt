@@ -7,8 +7,8 @@ ghost use Rattle.ar_verify.specs.Private.Kinds.{kind_view};
 ghost use Rattle.ar_verify.specs.Private.Stacks.{from_top};
 
 use crate::kind::{Kind, merge};
-use crate::path::ShapeName;
-use crate::shape_ref::ListShape;
+use crate::list::ListShape;
+use crate::whole::ShapeName;
 use ar_safety::Reason;
 use ar_value::holding::try_push;
 use std::alloc::{AllocError, Global};

@@ -9,12 +9,14 @@ ghost use Rattle.ar_verify.specs.Private.Kinds.{kind_view};
 ghost use Rattle.ar_verify.specs.Private.Roots.{number_of};
 ghost use Rattle.ar_verify.specs.Private.Shapes.{list_of, parts_view};
 
+use crate::join::plain;
 use crate::kind::{
     Kind, as_list, family_in, family_of, given_again, given_any, given_part, given_shape,
     is_scalar, merge,
 };
-use crate::path::{INNER, ShapeName, child, field_number};
-use crate::shape_ref::{Parts, plain};
+use crate::parts::Parts;
+use crate::path::{INNER, child, field_number};
+use crate::whole::ShapeName;
 use ar_value::kind;
 use ar_value::operator::{
     Arithmetic, BinaryOperator, Compared, Family, Numbers, Scalar, UnaryOperator,

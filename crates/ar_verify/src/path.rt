@@ -1,68 +1,18 @@
 //! Shapes by the way to them: a part of a shape is the whole that it is in and the path to it, so none is copied, and
-//! those of the measured value's shape are known by their paths. The shape of the measured value has a name: all that
-//! are of one name are the same, which no reference tells.
+//! those of the measured value's shape are known by their paths.
 
 ghost use Rattle.std.specs.Prelude.{◌≡◌, true, IfOk, ◌++◌, ◌∷◌, [], Some, map};
-ghost use Rattle.std.specs.Coded.{codes};
 ghost use Rattle.ar_value.specs.View.{shape_view};
 ghost use Rattle.ar_verify.specs.Private.Roots.{root_view, child, field_or, number_named, number_of, part_at};
 ghost use Rattle.ar_value.specs.Shape.{field_shapes_of};
 ghost use Rattle.ar_verify.specs.Private.Parts.{part_view};
-ghost use Rattle.ar_value.specs.contracts.shape.Shape as shape_row;
 
+use crate::whole::{ShapeName, Whole};
 use ar_value::sameness::are_same_shapes;
 use ar_value::shape::Shape;
-use ar_value::shared_shape::SharedShape;
 use ar_value::{Names, Text};
 use std::alloc::{AllocError, Global};
-use std::marker::{Brand, PhantomData};
 use std::rc::Rc;
-
-/// Names the shape of the measured value.
-pub(crate) trait ShapeName {
-    ghost use Rattle.ar_value.specs.declared.shape.Shape.{Shape};
-
-    ghost shape: { Shape };
-}
-
-impl ShapeName for Brand {
-    ghost use Rattle.ar_value.specs.declared.shape.Shape.TheVariants.{Bool};
-
-    ghost shape = { Bool };
-}
-
-/// The shape that is named, which stands once.
-#[derive(Drop)]
-pub(crate) struct Whole<M: ShapeName> {
-    shape: Rc<SharedShape>,
-    name: PhantomData<M>,
-    ghost is: { shape.value ≡ M.shape } by { Prim.hlevel (codes, shape_row.the_row.coded) },
-}
-
-impl<M: ShapeName> Whole<M> {
-    pub(crate) fn new(alloc: Global, shape: &SharedShape) -> Result<Whole<M>, AllocError>
-        requires { shape.now ≡ M.shape }
-    {
-        Ok(Whole {
-            shape: Rc::new(alloc, shape.share()?)?,
-            name: PhantomData,
-        })
-    }
-
-    pub(crate) fn get(&self) -> &Shape
-        ensures { result.now ≡ M.shape }
-    {
-        self.shape.get()
-    }
-
-    /// One owner more, which takes no memory.
-    pub(crate) fn try_clone(&self) -> Result<Whole<M>, AllocError> {
-        Ok(Whole {
-            shape: self.shape.clone()?,
-            name: PhantomData,
-        })
-    }
-}
 
 /// A whole shape: that of the measured value, or one that is shared by all that are a part of it.
 #[derive(Drop)]

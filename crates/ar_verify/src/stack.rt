@@ -5,7 +5,7 @@ ghost use Rattle.ar_verify.specs.Private.Kinds.{kind_view};
 ghost use Rattle.ar_verify.specs.Private.Stacks.{from_top};
 
 use crate::kind::Kind;
-use crate::path::ShapeName;
+use crate::whole::ShapeName;
 use ar_value::holding::try_push;
 use std::alloc::AllocError;
 

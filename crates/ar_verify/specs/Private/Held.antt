@@ -6,7 +6,7 @@ use Rattle.ar_verify.specs.Private.Stacks.{from_top}
 use Rattle.ar_safety.specs.declared.error.Reason.{Reason}
 use Rattle.ar_verify.specs.declared.operands.Around as code
 use Rattle.ar_verify.specs.declared.operands.Operands as held
-use Rattle.ar_verify.specs.declared.path.ShapeName as ShapeName
+use Rattle.ar_verify.specs.declared.whole.ShapeName as ShapeName
 
 abbrev pub around_view : {M : Type 0} {name : ShapeName.Ghosts M} → code.Around M name → Around
 around_view a = record { item = (list_view a.list).0; most = (list_view a.list).1; below = from_top a.below.items }

@@ -6,8 +6,8 @@ use Rattle.ar_verify.specs.Private.Lists.{list_parts}
 use Rattle.ar_verify.specs.Private.Shapes.{list_of, parts_view}
 use Rattle.ar_verify.specs.declared.kind.Kind as code
 use Rattle.ar_verify.specs.declared.kind.Kind.TheVariants as kinds
-use Rattle.ar_verify.specs.declared.shape_ref.ListShape.{ListShape}
-use Rattle.ar_verify.specs.declared.path.ShapeName as ShapeName
+use Rattle.ar_verify.specs.declared.list.ListShape.{ListShape}
+use Rattle.ar_verify.specs.declared.whole.ShapeName as ShapeName
 
 abbrev pub kind_view : {M : Type 0} {name : ShapeName.Ghosts M} → code.Kind M name → Kind
 kind_view kinds.Nil = nil

@@ -5,7 +5,7 @@ use Rattle.ar_value.specs.Shape.{Shape, FieldShapes, list, object, optional, no_
 use Rattle.ar_value.specs.View.{shape_view}
 use Rattle.ar_verify.specs.declared.path.Root.{Root}
 use Rattle.ar_verify.specs.declared.path.Root.TheVariants as roots
-use Rattle.ar_verify.specs.declared.path.ShapeName as ShapeName
+use Rattle.ar_verify.specs.declared.whole.ShapeName as ShapeName
 
 abbrev pub nth_field : ℕ → FieldShapes → Option Shape
 nth_field n no_fields = None

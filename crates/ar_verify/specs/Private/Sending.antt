@@ -18,7 +18,7 @@ use Rattle.ar_safety.specs.declared.error.Reason.TheVariants.{BadMerge, IllKinde
 use Rattle.ar_verify.specs.declared.sending.Sends.{Sends}
 use Rattle.ar_verify.specs.declared.sending.Sends.TheVariants as code
 use Rattle.ar_verify.specs.declared.sending.Sent as codes
-use Rattle.ar_verify.specs.declared.path.ShapeName as ShapeName
+use Rattle.ar_verify.specs.declared.whole.ShapeName as ShapeName
 
 abbrev pub sent_view : {M : Type 0} {name : ShapeName.Ghosts M} → codes.Sent M name → Sent
 sent_view s = record { target = s.target; operands = operands_view s.operands }

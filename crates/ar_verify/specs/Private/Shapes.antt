@@ -5,8 +5,8 @@ use Rattle.ar_verify.specs.Private.Forms.{widest_of}
 use Rattle.ar_verify.specs.Private.Lists.{longest}
 use Rattle.ar_verify.specs.Private.Parts.{part_view}
 use Rattle.ar_verify.specs.Private.Roots.{child}
-use Rattle.ar_verify.specs.declared.shape_ref.Parts.{Parts}
-use Rattle.ar_verify.specs.declared.path.ShapeName as ShapeName
+use Rattle.ar_verify.specs.declared.parts.Parts.{Parts}
+use Rattle.ar_verify.specs.declared.whole.ShapeName as ShapeName
 
 abbrev pub parts_view : {M : Type 0} {name : ShapeName.Ghosts M} → Parts M name → Shape
 parts_view p = widest_of (part_view p.first.value) (map (λ other. part_view other.value) p.others.items)

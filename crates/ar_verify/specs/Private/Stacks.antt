@@ -6,7 +6,7 @@ use Rattle.ar_value.specs.declared.operator.Scalar.{Scalar}
 use Rattle.ar_safety.specs.Effects.{is_scalar}
 use Rattle.ar_verify.specs.Private.Kinds.{kind_view, list_in}
 use Rattle.ar_verify.specs.declared.kind.Kind as code
-use Rattle.ar_verify.specs.declared.path.ShapeName as ShapeName
+use Rattle.ar_verify.specs.declared.whole.ShapeName as ShapeName
 
 -- kinds from the top
 abbrev pub from_top : {M : Type 0} {name : ShapeName.Ghosts M} → List (code.Kind M name) → List Kind

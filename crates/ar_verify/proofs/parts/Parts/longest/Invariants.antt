@@ -2,7 +2,7 @@ use Rattle.std.proofs.Common.{◌≡◌, drop, map}
 use Rattle.ar_verify.specs.Private.Forms.{longest_of}
 use Rattle.ar_verify.specs.Private.Lists.{longest}
 use Rattle.ar_verify.specs.Private.Parts.{part_view}
-use Rattle.ar_verify.proofs.shape_ref.Parts.longest.Given as goal
+use Rattle.ar_verify.proofs.parts.Parts.longest.Given as goal
 
 -- what is left counts, too
 abbrev pub invariant-loop-part : goal.invariant-loop-part

@@ -1,6 +1,6 @@
 use Rattle.ar_verify.specs.Private.Parts.{part_view}
 use Rattle.ar_verify.proofs.Meets.{longest_counted}
-use Rattle.ar_verify.proofs.shape_ref.Parts.longest.Goals as goal
+use Rattle.ar_verify.proofs.parts.Parts.longest.Goals as goal
 
 pub returns : goal.returns
 returns g c =

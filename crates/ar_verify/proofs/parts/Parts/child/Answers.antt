@@ -3,7 +3,7 @@ use Rattle.std.proofs.lemmas.Result.{IfOk-weaker}
 use Rattle.ar_verify.specs.Private.Parts.{part_view}
 use Rattle.ar_verify.specs.Private.Roots.{child}
 use Rattle.ar_verify.proofs.Meets.{child_of, children_of}
-use Rattle.ar_verify.proofs.shape_ref.Parts.child.Goals as goal
+use Rattle.ar_verify.proofs.parts.Parts.child.Goals as goal
 
 pub new-requires : goal.new-requires
 new-requires g c =
