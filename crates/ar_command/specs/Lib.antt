@@ -1,4 +1,5 @@
 pub use Rattle.ar_eval.specs.Evaluation
 pub mod Private
 pub mod Serving
+pub mod Served
 pub mod Alike

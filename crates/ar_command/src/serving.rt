@@ -1,9 +1,10 @@
 //! A command, carried out from the bytes read to the bytes written.
 
-ghost use Rattle.std.specs.Prelude.{◌≡◌, ◌≢◌, ℕ, List, false, true, Err, IfErr, IfOk, IfSome, OnErr, OnOk, string_bytes};
+ghost use Rattle.std.specs.Prelude.{◌≡◌, ◌≢◌, false, true, Err, IfErr, IfOk, OnErr, OnOk, string_bytes};
 ghost use Rattle.std.specs.Io.KnownBytes.{Appends};
-ghost use Rattle.ar_command.specs.Serving.{IsBroken, IsCarriedOut, IsCut, IsRefused, Refuses, RunsAlone, RunsWith, Says, WritesFront};
+ghost use Rattle.ar_command.specs.Serving.{IsBroken, RunsAlone, RunsWith};
 ghost use Rattle.ar_command_line.specs.Output.{AppendsFront};
+ghost use Rattle.ar_command.specs.Served.{IfBroken, Served};
 
 use crate::answer::{Said, answer, judged};
 use ar_board::MOST_WORKERS;
@@ -134,40 +135,11 @@ pub fn serve<S: Source, W: Sink, G: Gate, R: Threads + Wait + Sync>(
     requires reader_works { S.has_failed reader.old ≡ false }
     requires writer_works { W.has_failed writer.old ≡ false }
 
-    // What is written is what the command says of the bytes that were taken, and so it closes.
-    ensures written { IfOk result (IsCarriedOut command (S.taken reader.old) (S.taken reader.new)
-        (W.contents writer.old) (W.contents writer.new)) }
-
-    // The same of all bytes of a reader whose bytes are known.
-    ensures written_of_known { IfOk result (λ closing. IfSome (S.remaining reader.old)
-        (λ input. (text : List ℕ) × Says command input text closing
-        × Appends (W.contents writer.old) (W.contents writer.new) text)) }
-
-    // A refusal is the first fault of the bytes that were taken, and of all bytes where they are known.
-    ensures refused { (refusal : Refusal) → result ≡ Err (ServeError.Refused refusal)
-        → IsRefused command (S.taken reader.old) (S.taken reader.new) refusal }
-    ensures refused_of_known { (refusal : Refusal) → result ≡ Err (ServeError.Refused refusal)
-        → IfSome (S.remaining reader.old) (λ input. Refuses command input refusal) }
+    ensures served { Served command S.taken S.remaining S.has_failed reader.old reader.new
+        W.contents W.has_failed writer.old writer.new result }
 
     // A lost number is shown, and an ordered run loses none.
-    ensures work { (error : WorkError) → result ≡ Err (ServeError.Work error)
-        → IsBroken command (S.taken reader.old) (S.taken reader.new) error }
-
-    // A failed read or write is told, and only where one failed.
-    ensures read { result ≡ Err ServeError.Read → S.has_failed reader.new ≡ true }
-    ensures read_told { S.has_failed reader.new ≡ true → result ≡ Err ServeError.Read }
-    ensures write { result ≡ Err ServeError.Write → W.has_failed writer.new ≡ true }
-    ensures write_told { W.has_failed writer.new ≡ true → result ≡ Err ServeError.Write }
-
-    // What a failed write leaves written is a front of what the command says of the bytes that were taken,
-    // and of all bytes where they are known.
-    ensures cut { result ≡ Err ServeError.Write → IsCut command (S.taken reader.old) (S.taken reader.new)
-        (W.contents writer.old) (W.contents writer.new) }
-    ensures cut_of_known { result ≡ Err ServeError.Write → IfSome (S.remaining reader.old)
-        (WritesFront command (W.contents writer.old) (W.contents writer.new)) }
-
-    // Only a failed write leaves anything written.
-    ensures silent { IfErr result (λ e. e ≢ ServeError.Write → writer.new ≡ writer.old) }
+    ensures work { IfBroken result (IsBroken command (S.taken reader.old) (S.taken reader.new)) }
 {
     let input = read_input(alloc, reader)?;
     let said = judged(rt, alloc, command, &input, gate)?;
@@ -191,39 +163,11 @@ pub fn serve_plain<S: Source, W: Sink>(
     requires reader_works { S.has_failed reader.old ≡ false }
     requires writer_works { W.has_failed writer.old ≡ false }
 
-    // What is written is what the command says of the bytes that were taken, and so it closes.
-    ensures written { IfOk result (IsCarriedOut command (S.taken reader.old) (S.taken reader.new)
-        (W.contents writer.old) (W.contents writer.new)) }
-
-    // The same of all bytes of a reader whose bytes are known.
-    ensures written_of_known { IfOk result (λ closing. IfSome (S.remaining reader.old)
-        (λ input. (text : List ℕ) × Says command input text closing
-        × Appends (W.contents writer.old) (W.contents writer.new) text)) }
-
-    // A refusal is the first fault of the bytes that were taken, and of all bytes where they are known.
-    ensures refused { (refusal : Refusal) → result ≡ Err (ServeError.Refused refusal)
-        → IsRefused command (S.taken reader.old) (S.taken reader.new) refusal }
-    ensures refused_of_known { (refusal : Refusal) → result ≡ Err (ServeError.Refused refusal)
-        → IfSome (S.remaining reader.old) (λ input. Refuses command input refusal) }
+    ensures served { Served command S.taken S.remaining S.has_failed reader.old reader.new
+        W.contents W.has_failed writer.old writer.new result }
 
     // There are no workers.
     ensures work { (error : WorkError) → result ≢ Err (ServeError.Work error) }
-
-    // A failed read or write is told, and only where one failed.
-    ensures read { result ≡ Err ServeError.Read → S.has_failed reader.new ≡ true }
-    ensures read_told { S.has_failed reader.new ≡ true → result ≡ Err ServeError.Read }
-    ensures write { result ≡ Err ServeError.Write → W.has_failed writer.new ≡ true }
-    ensures write_told { W.has_failed writer.new ≡ true → result ≡ Err ServeError.Write }
-
-    // What a failed write leaves written is a front of what the command says of the bytes that were taken,
-    // and of all bytes where they are known.
-    ensures cut { result ≡ Err ServeError.Write → IsCut command (S.taken reader.old) (S.taken reader.new)
-        (W.contents writer.old) (W.contents writer.new) }
-    ensures cut_of_known { result ≡ Err ServeError.Write → IfSome (S.remaining reader.old)
-        (WritesFront command (W.contents writer.old) (W.contents writer.new)) }
-
-    // Only a failed write leaves anything written.
-    ensures silent { IfErr result (λ e. e ≢ ServeError.Write → writer.new ≡ writer.old) }
 {
     let input = read_input(alloc, reader)?;
     let said = answer(alloc, command, &input)?;

@@ -1,0 +1,78 @@
+"""Which public functions have a contract of over six lines.
+
+    python3 .ci/contracts.py            says which, and fails where there is one
+    python3 .ci/contracts.py --print    prints each public function with its contract, by crate and file: what two states
+                                        of the sources print can be compared by `diff`
+
+The lines of a contract are those of its clauses `requires`, `ensures` and `ghost`, with the lines that go on; comments and
+empty lines between them are none. It reads sources as `rt fmt` lays them out: a clause begins a line, and the function's
+body, if it has one, a line of its own. Methods of public traits are public.
+"""
+import pathlib
+import re
+import sys
+import textwrap
+
+ROOT = pathlib.Path(__file__).resolve().parent.parent
+MOST = 6
+FUNCTION = re.compile(r"( *)pub (?:(?:const|unsafe) )*fn (\w+)")
+METHOD = re.compile(r"( +)(?:(?:const|unsafe) )*fn (\w+)")
+TRAIT = re.compile(r"pub (?:unsafe )?trait (\w+)")
+IMPL = re.compile(r"impl\b(?:<[^{]*?>)? (?:.* for )?(\w+)")
+CLAUSE = re.compile(r" *(requires|ensures|ghost)\b")
+
+
+def contract_at(lines, first, margin):
+    """The lines of the clauses of a function whose name stands in a line and begins after a margin."""
+    clauses = []
+    for place in range(first, len(lines)):
+        line = lines[place]
+        begins_body = place > first and line.startswith(margin + "{")
+        if begins_body or not clauses and not CLAUSE.match(line) and line.endswith(("{", "{}", ";")):
+            break
+        if not line.strip() or line.lstrip().startswith("//"):
+            continue
+        if clauses or CLAUSE.match(line):
+            clauses.append(line)
+            if line.endswith(";"):
+                break
+    return clauses
+
+
+def contracts(text):
+    """Each public function of a file: the line that it begins in, its name with its type's, and its contract's lines."""
+    lines = text.splitlines()
+    owner, in_trait = None, False
+    for number, line in enumerate(lines):
+        if line.startswith("}"):
+            owner, in_trait = None, False
+        trait, impl = TRAIT.match(line), IMPL.match(line)
+        if trait or impl:
+            owner, in_trait = (trait or impl)[1], bool(trait)
+        found = FUNCTION.match(line) or in_trait and METHOD.match(line)
+        if found:
+            name = f"{owner}::{found[2]}" if owner and found[1] else found[2]
+            yield number + 1, name, contract_at(lines, number, found[1])
+
+
+def too_long(text):
+    """The public functions of a file whose contract is too long, each with its line and how many lines it has."""
+    return [(number, name, len(contract)) for number, name, contract in contracts(text) if len(contract) > MOST]
+
+
+def main():
+    status = 0
+    for path in sorted((ROOT / "crates").glob("*/src/**/*.rt")):
+        text, shown = path.read_text(encoding="utf-8"), path.relative_to(ROOT)
+        if sys.argv[1:] == ["--print"]:
+            for _, name, contract in contracts(text):
+                print(f"{shown} {name}", textwrap.dedent("\n".join(contract)), "", sep="\n")
+            continue
+        for number, name, count in too_long(text):
+            print(f"{shown}:{number}: the contract of {name} has {count} lines, {MOST} at most are wanted")
+            status = 1
+    return status
+
+
+if __name__ == "__main__":
+    sys.exit(main())
