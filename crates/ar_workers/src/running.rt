@@ -4,6 +4,7 @@ ghost use Rattle.std.specs.Prelude.{◌≡◌, ◌≤◌, [], IfErr, IfOk, lengt
 ghost use Rattle.std.specs.List.{AllByRecursion};
 ghost use Rattle.ar_bundle.specs.Lawful.{AreLawful};
 ghost use Rattle.ar_board.specs.Board.{receipts_of};
+ghost use Rattle.ar_board.specs.Locks.{AreOf};
 ghost use Rattle.ar_workers.specs.Joined.{IsCause, NameEachOnce};
 
 use crate::error::WorkError;
@@ -57,10 +58,7 @@ where
     requires bundle { bundle.now ≡ M.bundle }
     requires workers { workers ≡ M.workers }
     requires most { (1 ≤ workers) × (workers ≤ MOST_WORKERS) }
-    requires names { (blanks.first.name ≡ L.first) × (blanks.second.name ≡ L.second)
-        × (blanks.third.name ≡ L.third) × (blanks.fourth.name ≡ L.fourth) }
-    requires blanks { (blanks.first.parts ≡ L.parts) × (blanks.second.parts ≡ L.parts)
-        × (blanks.third.parts ≡ L.parts) × (blanks.fourth.parts ≡ L.parts) }
+    requires blanks { AreOf L.names L.parts blanks }
     requires parts { L.parts ≡ M.workers }
     ensures lawful { IfOk result (AreLawful M.bundle) }
     ensures cause { IfErr result (IsCause M.bundle) }

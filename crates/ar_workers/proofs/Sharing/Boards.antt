@@ -15,10 +15,7 @@ use Rattle.ar_board.specs.contracts.cell.RunCell as RunCell
 use Rattle.ar_board.specs.contracts.cell.kept_run.KeptRun as KeptRun
 use Rattle.ar_board.specs.contracts.cell.run_history.RunHistory as RunHistory
 use Rattle.ar_board.specs.contracts.cell.receipt.Receipt as Receipt
-use Rattle.ar_board.specs.contracts.locks.First as First
-use Rattle.ar_board.specs.contracts.locks.Fourth as Fourth
-use Rattle.ar_board.specs.contracts.locks.Second as Second
-use Rattle.ar_board.specs.contracts.locks.Third as Third
+use Rattle.ar_board.specs.contracts.locks.Lock as Lock
 use Rattle.ar_board.specs.contracts.seat.Seat as Seat
 use Rattle.ar_board.specs.declared.locks.LockNames as LockNames
 use Rattle.ar_bundle.specs.declared.names.BundleName as BundleName
@@ -60,25 +57,16 @@ module _ (M : RattleType) (g : BundleName.Ghosts M.Denot) (m : IsSend M) where
     pub seat_send : IsSend (Seat.the_row M L g l)
     seat_send = let receipt = receipt_send in search (crosses, sendable, share_send) depth 30
 
+    lock_send : (lock : RattleType) → IsSend (Lock.the_row L lock)
+    lock_send lock = search (crosses, sendable) depth 20
+
     module _ (ℓ : NamedLft) where
-      first_send : IsSend (First.the_row L)
-      first_send = search (crosses, sendable) depth 20
-
-      second_send : IsSend (Second.the_row L)
-      second_send = search (crosses, sendable) depth 20
-
-      third_send : IsSend (Third.the_row L)
-      third_send = search (crosses, sendable) depth 20
-
-      fourth_send : IsSend (Fourth.the_row L)
-      fourth_send = search (crosses, sendable) depth 20
-
       pub board_sync : IsSync (Board.the_row ℓ M L g l)
       board_sync =
           let bundle = bundle_sync in
           let history = history_sync in
           let receipt = receipt_sync in
-          search (crosses, sendable, cell_send, first_send, second_send, third_send, fourth_send) depth 20
+          search (crosses, sendable, cell_send, lock_send) depth 20
 
       -- a desk goes to its worker
       pub posting_send : (here : NamedLft) → IsSend (Posting.the_row here ℓ M L g l)

@@ -1,3 +1,4 @@
+use Rattle.ar_board.specs.Locks.{names_of}
 use Rattle.ar_workers.proofs.running.run_all.Given as goal
 
 -- the board is of the bundle, for so many workers, and its ledgers are those of the blanks
@@ -5,4 +6,4 @@ abbrev pub ghosts-run_named-M-BundleName : goal.ghosts-run_named-M-BundleName
 ghosts-run_named-M-BundleName g a = record { bundle = a.bundle.now; workers = a.workers }
 
 abbrev pub ghosts-run_named-L-LockNames : goal.ghosts-run_named-L-LockNames
-ghosts-run_named-L-LockNames g a = record { first = a.blanks.first.name; second = a.blanks.second.name; third = a.blanks.third.name; fourth = a.blanks.fourth.name; parts = a.blanks.first.parts }
+ghosts-run_named-L-LockNames g a = record { names = names_of a.blanks; parts = a.workers }
