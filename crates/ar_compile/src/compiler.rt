@@ -40,7 +40,8 @@ fn put_literal(alloc: Global, draft: &mut Draft, literal: &Literal) -> Result<()
 /// The code of a tree, after what is there.
 #[cycle(compiler)]
 pub(crate) fn put(alloc: Global, draft: &mut Draft, tree: &Typed) -> Result<(), AllocError>
-    requires { (InLimits (typed_view tree.now)) × (place_of draft.old + operations (typed_view tree.now) ≤ most_code_entries) }
+    requires { (InLimits (typed_view tree.now))
+        × (place_of draft.old + operations (typed_view tree.now) ≤ most_code_entries) }
     ensures { OnOk result (draft.new ≡ drafted (typed_view tree.now) draft.old) }
 {
     match tree {
@@ -72,7 +73,8 @@ pub(crate) fn put(alloc: Global, draft: &mut Draft, tree: &Typed) -> Result<(), 
 #[cycle(compiler)]
 #[tactic(auto, using(crate::proofs::Drafts::drafted_length))]
 fn put_field(alloc: Global, draft: &mut Draft, owner: &Typed, name: &str) -> Result<(), AllocError>
-    requires { (InLimits (typed_view owner.now)) × (place_of draft.old + operations (typed_view owner.now) ≤ most_code_entries) }
+    requires { (InLimits (typed_view owner.now))
+        × (place_of draft.old + operations (typed_view owner.now) ≤ most_code_entries) }
     ensures { OnOk result (draft.new ≡ with_field name.now (drafted (typed_view owner.now) draft.old)) }
 {
     put(alloc, draft, owner)?;
@@ -82,7 +84,8 @@ fn put_field(alloc: Global, draft: &mut Draft, owner: &Typed, name: &str) -> Res
 /// An operand, and the operation on it.
 #[cycle(compiler)]
 fn put_one(alloc: Global, draft: &mut Draft, operand: &Typed, op: Op) -> Result<(), AllocError>
-    requires { (InLimits (typed_view operand.now)) × (place_of draft.old + operations (typed_view operand.now) ≤ most_code_entries) }
+    requires { (InLimits (typed_view operand.now))
+        × (place_of draft.old + operations (typed_view operand.now) ≤ most_code_entries) }
     ensures { OnOk result (draft.new ≡ with_op op (drafted (typed_view operand.now) draft.old)) }
 {
     put(alloc, draft, operand)?;
@@ -100,7 +103,8 @@ fn put_two(
     op: Op,
 ) -> Result<(), AllocError>
     requires { (InLimits (typed_view left.now)) × (InLimits (typed_view right.now))
-        × (place_of draft.old + operations (typed_view left.now) + operations (typed_view right.now) ≤ most_code_entries) }
+        × (place_of draft.old + operations (typed_view left.now) + operations (typed_view right.now)
+        ≤ most_code_entries) }
     ensures { OnOk result
         (draft.new ≡ with_op op (drafted (typed_view right.now) (drafted (typed_view left.now) draft.old))) }
 {
@@ -120,7 +124,8 @@ fn put_sides(
     right: &Typed,
 ) -> Result<(), AllocError>
     requires { (InLimits (typed_view left.now)) × (InLimits (typed_view right.now))
-        × (place_of draft.old + operations (typed_view left.now) + 1 + operations (typed_view right.now) ≤ most_code_entries) }
+        × (place_of draft.old + operations (typed_view left.now) + 1 + operations (typed_view right.now)
+        ≤ most_code_entries) }
     ensures { OnOk result (draft.new ≡ jumps_on jump (place_of (drafted (typed_view left.now) draft.old))
         (drafted (typed_view right.now) (with_op (JumpTo jump 0) (drafted (typed_view left.now) draft.old)))) }
 {
@@ -208,7 +213,8 @@ fn put_loop(
     body: &Typed,
 ) -> Result<(), AllocError>
     requires { (InLimits (typed_view list.now)) × (InLimits (typed_view body.now))
-        × (place_of draft.old + operations (typed_view list.now) + 1 + operations (typed_view body.now) + 1 ≤ most_code_entries) }
+        × (place_of draft.old + operations (typed_view list.now) + 1 + operations (typed_view body.now) + 1
+        ≤ most_code_entries) }
     ensures { OnOk result
         (draft.new ≡ drafted (typed.predicate predicate (typed_view list.now) (typed_view body.now)) draft.old) }
 {

@@ -100,4 +100,3 @@ of_misfit fault = Misfit fault
 abbrev pub is_memory : EvalError → Bool
 is_memory OutOfMemory = true
 is_memory error = false
-

@@ -3,6 +3,7 @@
 
 ghost use Rattle.std.specs.Prelude.{◌≡◌, ◌<◌, ◌≤◌, Some, length};
 ghost use Rattle.ar_bundle.specs.Bundle.{found};
+ghost use Rattle.ar_board.specs.Locks.{AreOf};
 
 use crate::cells::TWO_RUNS;
 use ar_board::locks::First;
@@ -214,10 +215,7 @@ fn put_board<M: BundleName, L: LockNames, R: Wait>(
     requires bundle { bundle.now ≡ M.bundle }
     requires workers { workers ≡ M.workers }
     requires most { (1 ≤ workers) × (workers ≤ 16) }
-    requires names { (blanks.first.name ≡ L.first) × (blanks.second.name ≡ L.second)
-        × (blanks.third.name ≡ L.third) × (blanks.fourth.name ≡ L.fourth) }
-    requires blanks { (blanks.first.parts ≡ L.parts) × (blanks.second.parts ≡ L.parts)
-        × (blanks.third.parts ≡ L.parts) × (blanks.fourth.parts ≡ L.parts) }
+    requires blanks { AreOf L.names L.parts blanks }
     requires parts { L.parts ≡ M.workers }
 {
     let (board, mut seats) = Board::<M, L>::new(alloc, blanks, bundle, workers)?;

@@ -17,7 +17,7 @@ returns-in_ok-unwrapped c =
       exact = is;
       condition = is_condition (shape_view c.args.shape.now) (expression_of c.args.tree) (typed_view c.into_inner.result) is;
       refused = tt;
-      answers = λ value fit. is_truth_or_fault (shape_view c.args.shape.now) (expression_of c.args.tree) (typed_view c.into_inner.result) value is fit
+      answers = λ value fit. is_truth_or_fault (shape_view c.args.shape.now) (expression_of c.args.tree) (typed_view c.into_inner.result) value is fit;
     }
 
 pub returns-else-is_truth : goal.returns-else-is_truth
@@ -27,7 +27,7 @@ returns-else-is_truth c =
       exact = is;
       condition = tt;
       refused = is_none (shape_view c.args.shape.now) (expression_of c.args.tree) (NotTruth c.place-at.result) is;
-      answers = tt
+      answers = tt;
     }
 
 pub returns-in_err-condition : goal.returns-in_err-condition
@@ -38,5 +38,5 @@ returns-in_err-condition c =
       condition = search rules;
       refused = rw (p.1, p.2)
           (refuses_none (is_memory c.in_err-condition.field-0.0) (shape_view c.args.shape.now) (expression_of c.args.tree) c.in_err-condition.field-0.0 c.in_err-condition.ensures);
-      answers = search rules
+      answers = search rules;
     }

@@ -10,24 +10,24 @@ returns-in_err-said-clause-served g c = record {
   written_of_known = search rules;
   refused = search rules;
   refused_of_known = λ refusal same.
-    let refused = refused_by (g.S.Source.remaining c.args.reader.now) (g.S.Source.remaining c.read_input.new.source) c.deref.result.now c.args.command (Breaks c.args.command c.deref.result.now) c.in_err-said.field-0.0 refusal in
-    search (rules, refused, same);
+      let refused = refused_by (g.S.Source.remaining c.args.reader.now) (g.S.Source.remaining c.read_input.new.source) c.deref.result.now c.args.command (Breaks c.args.command c.deref.result.now) c.in_err-said.field-0.0 refusal in
+      search (rules, refused, same);
   read = search rules;
   read_told = search rules;
   write = search rules;
   write_told = search rules;
   cut = search rules;
   cut_of_known = search rules;
-  silent = search rules
+  silent = search rules;
 }
 
 pub returns-clause-served : goal.returns-clause-served
 returns-clause-served g c = record {
   written = search rules;
   written_of_known =
-    written_of_whole (g.S.Source.remaining c.args.reader.now) (g.S.Source.remaining c.read_input.new.source) c.deref.result.now c.args.command (string_bytes c.in_ok-said.said.text) c.in_ok-said.said.closing (g.W.Sink.contents c.args.writer.now) (g.W.Sink.contents c.write.new.writer) c.write.result
-    (subst (ReadsUpToLimit (g.S.Source.remaining c.args.reader.now) (g.S.Source.remaining c.read_input.new.source)) (sym c.deref.ensures.value) c.in_ok-input.ensures.ok)
-    (c.in_ok-said.ensures).said c.write.ensures.closing c.write.ensures.wrote;
+      written_of_whole (g.S.Source.remaining c.args.reader.now) (g.S.Source.remaining c.read_input.new.source) c.deref.result.now c.args.command (string_bytes c.in_ok-said.said.text) c.in_ok-said.said.closing (g.W.Sink.contents c.args.writer.now) (g.W.Sink.contents c.write.new.writer) c.write.result
+      (subst (ReadsUpToLimit (g.S.Source.remaining c.args.reader.now) (g.S.Source.remaining c.read_input.new.source)) (sym c.deref.ensures.value) c.in_ok-input.ensures.ok)
+      (c.in_ok-said.ensures).said c.write.ensures.closing c.write.ensures.wrote;
   refused = search rules;
   refused_of_known = search rules;
   read = search rules;
@@ -36,8 +36,8 @@ returns-clause-served g c = record {
   write_told = search rules;
   cut = search rules;
   cut_of_known =
-    cut_of_whole (g.S.Source.remaining c.args.reader.now) (g.S.Source.remaining c.read_input.new.source) c.deref.result.now c.args.command (string_bytes c.in_ok-said.said.text) c.in_ok-said.said.closing (g.W.Sink.contents c.args.writer.now) (g.W.Sink.contents c.write.new.writer) c.write.result
-    (subst (ReadsUpToLimit (g.S.Source.remaining c.args.reader.now) (g.S.Source.remaining c.read_input.new.source)) (sym c.deref.ensures.value) c.in_ok-input.ensures.ok)
-    (c.in_ok-said.ensures).said c.write.ensures.front;
-  silent = search rules
+      cut_of_whole (g.S.Source.remaining c.args.reader.now) (g.S.Source.remaining c.read_input.new.source) c.deref.result.now c.args.command (string_bytes c.in_ok-said.said.text) c.in_ok-said.said.closing (g.W.Sink.contents c.args.writer.now) (g.W.Sink.contents c.write.new.writer) c.write.result
+      (subst (ReadsUpToLimit (g.S.Source.remaining c.args.reader.now) (g.S.Source.remaining c.read_input.new.source)) (sym c.deref.ensures.value) c.in_ok-input.ensures.ok)
+      (c.in_ok-said.ensures).said c.write.ensures.front;
+  silent = search rules;
 }

@@ -15,12 +15,12 @@ returns-in_err-matches c =
       bounds = search rules;
       ordered_bounds = search rules;
       words = λ answer.
-        let is_words = same_error _ _ (sym error.1 ∙ answer) in
-        subst (λ (words : List (String Global)). fault_of application (texts_of words) ≢ []) c.as_slice.ensures.value
-        (refused_words (app_of c.in_ok-command_line.command_line) (texts_of c.as_slice.result.now) c.in_err-matches.field-0.0 c.in_ok-command_line.ensures
-        c.in_err-matches.ensures.kinds (sym error.2 ∙ is_words));
+          let is_words = same_error _ _ (sym error.1 ∙ answer) in
+          subst (λ (words : List (String Global)). fault_of application (texts_of words) ≢ []) c.as_slice.ensures.value
+          (refused_words (app_of c.in_ok-command_line.command_line) (texts_of c.as_slice.result.now) c.in_err-matches.field-0.0 c.in_ok-command_line.ensures
+          c.in_err-matches.ensures.kinds (sym error.2 ∙ is_words));
       workers = search rules;
-      conflict = search rules
+      conflict = search rules;
     }
 
 pub returns : goal.returns

@@ -8,5 +8,5 @@ returns c = record {
   too_long = c.tree.ensures.too_long;
   tree = says_tree c.args.text.now c.tree.result c.tree.ensures.exact;
   refused = is_no_condition c.args.text.now c.tree.result c.tree.ensures.exact;
-  limits = in_limits c.args.text.now c.tree.result c.tree.ensures.exact
+  limits = in_limits c.args.text.now c.tree.result c.tree.ensures.exact;
 }

@@ -7,5 +7,5 @@ returns c = record {
   too_long = c.limited_tokens.ensures.too_long;
   in_order = in_order c.args.text.now c.limited_tokens.result c.limited_tokens.ensures.exact;
   spelled = spelled c.args.text.now c.limited_tokens.result c.limited_tokens.ensures.exact;
-  gap_between = gap_between c.args.text.now c.limited_tokens.result c.limited_tokens.ensures.exact
+  gap_between = gap_between c.args.text.now c.limited_tokens.result c.limited_tokens.ensures.exact;
 }

@@ -1,3 +1,4 @@
+use Rattle.ar_board.specs.Locks.{names_of}
 use Rattle.tests_of_boards.proofs.boards.on_board.Given as goal
 
 -- the board is of the bundle, for so many workers, and its ledgers are those of the blanks
@@ -5,4 +6,4 @@ abbrev pub ghosts-put_board-M-BundleName : goal.ghosts-put_board-M-BundleName
 ghosts-put_board-M-BundleName g a = record { bundle = a.bundle.now; workers = a.workers }
 
 abbrev pub ghosts-put_board-L-LockNames : goal.ghosts-put_board-L-LockNames
-ghosts-put_board-L-LockNames g a = record { first = a.blanks.first.name; second = a.blanks.second.name; third = a.blanks.third.name; fourth = a.blanks.fourth.name; parts = a.blanks.first.parts }
+ghosts-put_board-L-LockNames g a = record { names = names_of a.blanks; parts = a.workers }

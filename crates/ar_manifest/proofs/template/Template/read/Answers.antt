@@ -10,5 +10,5 @@ returns c = record {
   kind = exactly WrongKind c.template.result _ refl c.template.ensures.exact (λ is. c.template.ensures.head WrongKind (kind_early _ is));
   name = exactly NameMissing c.template.result _ refl c.template.ensures.exact (λ is. c.template.ensures.head NameMissing (name_early _ is));
   no_metrics = λ none. exactly NoMetrics c.template.result _ refl c.template.ensures.exact (λ is. c.template.ensures.counted none NoMetrics (none_early _ is));
-  too_many_metrics = λ none. exactly TooManyMetrics c.template.result _ refl c.template.ensures.exact (λ is. c.template.ensures.counted none TooManyMetrics (many_early _ is))
+  too_many_metrics = λ none. exactly TooManyMetrics c.template.result _ refl c.template.ensures.exact (λ is. c.template.ensures.counted none TooManyMetrics (many_early _ is));
 }
