@@ -39,9 +39,9 @@ pub typed_body-returns-in_err-shape : goal.typed_body-returns-in_err-shape
 unfolding over_items
 typed_body-returns-in_err-shape t c = grind (arith, gives_freely)
 
-pub typed_body-returns-then-scope-ge-MOST_PREDICATES : goal.typed_body-returns-then-scope-ge-MOST_PREDICATES
+pub typed_body-returns-then-scope-ge-MOST_LOOPS : goal.typed_body-returns-then-scope-ge-MOST_LOOPS
 unfolding over_items
-typed_body-returns-then-scope-ge-MOST_PREDICATES t c = search rules
+typed_body-returns-then-scope-ge-MOST_LOOPS t c = search rules
 
 pub typed_body-returns-in_err-child : goal.typed_body-returns-in_err-child
 unfolding over_items
