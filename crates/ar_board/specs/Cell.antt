@@ -115,7 +115,7 @@ pub record IsPosted (bundle : Bundle) (worker number : ℕ) (finding : Finding) 
   pub author : authors_of after ≡ set (authors_of before) run (authors_at before run ++ worker ∷ [])
   pub total : after.total ≡ suc before.total
 
--- so it is of a cell, and the amount of the worker's share is one more
+-- a post to a cell, by which the amount of the worker's share is one more
 pub record IsAdded {L : Type 0} (bundle : Bundle) (worker number : ℕ) (finding : Finding) (before after : Cell) (had has : Share L) (answer : Posted) : Type 0 where
   pub posted : IsPosted bundle worker number finding before after answer
   pub share : has.amount ≡ had.amount + 1

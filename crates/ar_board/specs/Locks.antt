@@ -22,12 +22,12 @@ at_lock numbers lock = 0
 
 -- ---- ledgers
 
--- a blank of the ledger with a name, which is cut into so many parts
+-- a blank of the ledger with this name, which is cut into this many parts
 pub record IsOf (name parts : ℕ) (blank : Blank) : Type 0 where
   pub name_is : blank.name ≡ name
   pub parts_are : blank.parts ≡ parts
 
--- so it is of the blank of each lock
+-- the blank of each lock is of the ledger with the lock's name
 pub record AreOf (names : PerLock) (parts : ℕ) (blanks : Blanks) : Type 0 where
   pub first : IsOf names.first parts blanks.first
   pub second : IsOf names.second parts blanks.second

@@ -36,7 +36,7 @@ with_number bundle histories number run = option_map (added histories run) (entr
 abbrev pub posted : Bundle → List (List Entry) → (number : ℕ) → Option (List (List Entry))
 posted bundle histories number = option_and_then (with_number bundle histories number) (run_of bundle number)
 
--- a run's history in memory has one entry more at its end, and as much room
+-- a run's history in memory has one entry more at its end, and the same capacity
 pub record HasOneMore (number : ℕ) (finding : Finding) (event : Event) (before after : RunHistory) (effect : Effect) : Type 0 where
   pub entry : after.entries.items ≡ before.entries.items ++ record { number = number; finding = finding; effect = effect } ∷ []
   -- what the event does after those that led to where the run stood

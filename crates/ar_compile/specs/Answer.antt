@@ -20,13 +20,13 @@ use Rattle.ar_compile.specs.declared.error.CompileError.TheVariants.{TooManyOps}
 pub record CompilesTo (condition : Typed) (result : Result Code CompileError) : Type 0 where
   -- this code
   pub exact : IfOk result (λ code. code ≡ compiled condition)
-  -- it has as many operations as the length says
+  -- it has as many operations as `length_of` says
   pub length : IfOk result (λ code. length code.ops ≡ length_of condition)
   -- on each value of a shape that the condition was checked for, the machine ends with what the condition means
   pub means : IfOk result (λ code. (shape : Shape) (tree : Expression) (value : Value) → checked shape tree ≡ Ok condition
       → fits value shape ≡ true → EndsWith code value (answer_of (mean value None condition)))
   -- under such a shape the verifier refuses it only where a run of it may have too many operands or cost too much
   pub accepted : IfOk result (λ code. (shape : Shape) (tree : Expression) → checked shape tree ≡ Ok condition → OnlyTooLarge code shape)
-  -- too many operations are told only where there are so many, and always there; the only other refusal is out of memory
+  -- `TooManyOps` is answered exactly where the code would have more than 4,096 operations
   pub refused : result ≡ Err TooManyOps → most_code_entries < length_of condition
   pub too_many : most_code_entries < length_of condition → result ≡ Err TooManyOps

@@ -76,7 +76,7 @@ pub record BuildsJudge (shape : Shape) (success failure : Option (List ℕ)) (re
   -- on each value of the shape the code of its conditions ends within its budget, is never stuck, and answers what the texts
   -- mean; the verdict is by these answers
   pub headline : IfOk result (JudgeHeadlineHolds shape success failure)
-  -- or the first text that is refused, and why
+  -- or, unless memory ran out, the first text that is refused, and why
   pub refused : IfErr result (RefusesTexts shape success failure)
   -- where there is no text, out of memory is never answered
   pub without_memory : HasNoText success failure → IsOk result

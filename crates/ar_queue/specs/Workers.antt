@@ -39,7 +39,7 @@ pub record IsFeeder (view : View) (out joined : ℕ) : Type 0 where
   pub has_out : view.out ≡ out
   pub has_joined : view.ended ≡ joined
 
--- what so many workers brought back: the feeder's pass, of which none is out and all of theirs are joined, and a desk from each, at
+-- what workers brought back: the feeder's pass, with no pass out and one joined for each worker, and a desk from each of them, at
 -- which just the numbers that the pass took are named
 pub record AreGathered {Desk : Type 0} (numbers : Desk → List ℕ) (workers : ℕ) (gathered : Gathered Desk) : Type 0 where
   pub joined : IsFeeder (view gathered.pass) 0 workers

@@ -157,7 +157,7 @@ pub record IsFirstLost (bundle : Bundle) (histories : List (List Entry)) (receip
   pub why : (times number histories ≡ 0) ⊎ IsUnmetAmong histories receipts number
   pub least : (other : ℕ) → other < number → Hold histories receipts other
 
--- so it is where there is one, and else they hold each number
+-- the least number that is lost, or None where the histories hold each number
 abbrev pub FirstLost : Bundle → (histories : List (List Entry)) → (receipts : List (List Receipt)) → Option ℕ → Type 0
 FirstLost bundle histories receipts None = (number : ℕ) → number < length bundle.entries → Hold histories receipts number
 FirstLost bundle histories receipts (Some number) = IsFirstLost bundle histories receipts number
