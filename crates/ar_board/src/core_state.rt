@@ -339,7 +339,8 @@ pub fn core_run_ordered<'b>(
     steps: &[CoreStep],
 ) -> Result<CoreState<'b>, AllocError>
     ensures exact { IfOk result (λ core. core ≡ core_after bundle.now workers places true steps.now) }
-    // The same as of `core_run`, where parked numbers stand in the core, too.
+    // Each number stands just once, the parked ones among them, and each run's history has its own
+    // numbers, each with its finding and its effect there.
     ensures all { IfOk result (λ core. HasAll bundle.now core.state) }
     // In each history the numbers rise.
     ensures in_order { IfOk result (λ core. AllRise core.state.histories) }
