@@ -23,7 +23,7 @@ CLAUSE = re.compile(r" *(requires|ensures|ghost)\b")
 
 
 def contract_at(lines, first, margin):
-    """The lines of the clauses of a function whose name stands in a line and begins after a margin."""
+    """The lines of the clauses of a function, by the number of its first line and that line's indentation."""
     clauses = []
     for place in range(first, len(lines)):
         line = lines[place]
