@@ -6,16 +6,18 @@ use Rattle.std.proofs.lemmas.Bool.Decides.{nat_tests}
 use Rattle.std.proofs.lemmas.List.{get_or-set_other, length-map, length-set, length_push, map-set}
 use Rattle.std.proofs.lemmas.List.Sums.{count_by-le-length, sum_by-set, sum_by_push}
 use Rattle.std.proofs.lemmas.Option.{get_or_from_slice_get, slice_get-map, slice_get_read, slice_get_within}
-use Rattle.ar_limits.specs.Replay.{IsOfMetricBelow, Replays}
+use Rattle.ar_limits.specs.Replay.{IsOfMetricBelow, Replays, most_events}
 use Rattle.ar_limits.specs.Run.{effect_of}
 use Rattle.ar_limits.specs.declared.event.Effect.{Effect}
 use Rattle.ar_limits.specs.declared.event.Event.{Event}
 use Rattle.ar_limits.specs.declared.limits.Limits.{Limits}
-use Rattle.ar_bundle.specs.Bundle.{Bundle, IsRun, count_of, counts_of, entries_of, events_of, found, happened, most_events, run_of, sizes_of}
-use Rattle.ar_board.specs.Cell.{ArePosts, Cell, IsCell, IsKept, IsPosted, IsUnder, KeptRun, Stands, authors_at, authors_of, histories_of, history_at, lock_of}
+use Rattle.ar_bundle.specs.Sound.{IsRun, count_of, event_counts, entries_of, sizes_of}
+use Rattle.ar_bundle.specs.Bundle.{Bundle, events_of, finding_at, happened, run_at}
+use Rattle.ar_board.specs.Locks.{lock_of}
+use Rattle.ar_board.specs.Cell.{ArePosts, Cell, IsCell, IsKept, IsPosted, IsUnder, KeptRun, IsInHistory, authors_at, authors_of, histories_of, history_at}
 use Rattle.ar_board.specs.Posting.{added, posted}
 use Rattle.ar_bundle.specs.Lawful.{AreHistories, AtMostOnce, IsHistory, numbers_of, times_in}
-use Rattle.ar_board.specs.Private.KeptRuns.{CanTake, HasRoom, IsInside, IsPushed, IsTable, cell_of, is_among, kept_of}
+use Rattle.ar_board.specs.Private.KeptRuns.{CanTake, HasRoom, IsSoundCell, IsPushed, IsTable, cell_of, is_number_among, kept_of}
 use Rattle.ar_bundle.specs.declared.bundle.EventPart.{EventPart}
 use Rattle.ar_bundle.specs.declared.bundle.RunPart.{RunPart}
 use Rattle.ar_bundle.specs.declared.finding.Finding.{Finding}
@@ -44,7 +46,7 @@ cases_at P xs at other x y inside new old there = by_test (other == at) refl whe
 
 -- ---- how many entries a run has
 
-count_at : (entries : List EventPart) (from run : ℕ) (parts : List RunPart) (d : ℕ) → run < length parts → get_or (counts_of entries from parts) run d ≡ count_of entries (from + run)
+count_at : (entries : List EventPart) (from run : ℕ) (parts : List RunPart) (d : ℕ) → run < length parts → get_or (event_counts entries from parts) run d ≡ count_of entries (from + run)
 count_at entries from run [] d inside = absurd (omega arith)
 count_at entries from zero (part ∷ parts) d inside = ap (count_of entries) (omega arith)
 count_at entries from (suc run) (part ∷ parts) d inside = count_at entries (suc from) run parts d (omega arith) ∙ ap (count_of entries) (omega arith)
@@ -94,7 +96,7 @@ authors_are runs total run kept there =
     get_or_from_slice_get (authors_of (cell_of runs total)) run kept.authors.items []
     (slice_get-map (λ (kept : KeptRun). kept.authors) (map kept_of runs) run ∙ ap (option_map (λ (kept : KeptRun). kept.authors)) (kept_at runs run kept there))
 
-pub read_history : (named : Bundle) (workers lock : ℕ) (bundle : Bundle) (runs : List Declared) (stored : List Bool) (total run : ℕ) (kept : Declared) → IsInside named workers lock bundle runs stored total → run < length named.runs → kept ≡ get_or runs run kept → history_at (cell_of runs total) run ≡ kept.run.entries.items
+pub read_history : (named : Bundle) (workers lock : ℕ) (bundle : Bundle) (runs : List Declared) (stored : List Bool) (total run : ℕ) (kept : Declared) → IsSoundCell named workers lock bundle runs stored total → run < length named.runs → kept ≡ get_or runs run kept → history_at (cell_of runs total) run ≡ kept.run.entries.items
 read_history named workers lock bundle runs stored total run kept inside below read =
     let many : length runs ≡ length bundle.runs = sym (length-map runs kept_of) ∙ inside.cell.as_many in
     let same = ap (λ (bundle : Bundle). length bundle.runs) inside.is_named in
@@ -109,7 +111,7 @@ pub record IsReady (bundle : Bundle) (workers lock : ℕ) (runs : List Declared)
   pub inside : run < length runs
   pub is : IsKept bundle workers lock run part.limits (kept_of kept)
   pub absent : times_in number (numbers_of kept.run.entries.items) ≡ 0
-  pub own : run_of bundle number ≡ Some run
+  pub own : run_at bundle number ≡ Some run
   pub under : lock_of run ≡ lock
   pub limits : length kept.run.state.limits ≡ length bundle.metrics
   -- fewer entries than the run has
@@ -117,8 +119,8 @@ pub record IsReady (bundle : Bundle) (workers lock : ℕ) (runs : List Declared)
   pub few_events : length kept.run.entries.items < most_events
   pub room : HasRoom bundle lock run kept
 
-pub ready : (named : Bundle) (workers lock : ℕ) (bundle : Bundle) (runs : List Declared) (stored : List Bool) (total number run : ℕ) (kept : Declared) (was : Bool) → IsInside named workers lock bundle runs stored total
-    → IsUnder named lock number → number < length bundle.entries → run_of bundle number ≡ Some run → run < length bundle.runs → kept ≡ get_or runs run kept → was ≡ get_or stored number was → was ≡ false
+pub ready : (named : Bundle) (workers lock : ℕ) (bundle : Bundle) (runs : List Declared) (stored : List Bool) (total number run : ℕ) (kept : Declared) (was : Bool) → IsSoundCell named workers lock bundle runs stored total
+    → IsUnder named lock number → number < length bundle.entries → run_at bundle number ≡ Some run → run < length bundle.runs → kept ≡ get_or runs run kept → was ≡ get_or stored number was → was ≡ false
     → IsReady bundle workers lock runs number run kept
 ready named workers lock bundle runs stored total number run kept was inside under there own below read read_stored none =
     let many : length runs ≡ length bundle.runs = sym (length-map runs kept_of) ∙ inside.cell.as_many in
@@ -128,10 +130,10 @@ ready named workers lock bundle runs stored total number run kept was inside und
     let is : IsKept bundle workers lock run part.0.limits (kept_of kept) = inside.cell.each run part.0 (kept_of kept) part.1 (kept_at runs run kept kept_there) in
     let table_there : number < length stored = (let many_stored = inside.table.as_many in omega arith) in
     let read_there : slice_get stored number ≡ Some was = slice_get_read stored (length stored) number was refl table_there read_stored in
-    let by_table : Some was ≡ Some (is_among number (numbers_of (history_at (cell_of runs total) run))) = sym read_there ∙ inside.table.each number run own in
-    let not_among : is_among number (numbers_of (history_at (cell_of runs total) run)) ≡ false = (let same : was ≡ is_among number (numbers_of (history_at (cell_of runs total) run)) = cc in sym same ∙ none) in
+    let by_table : Some was ≡ Some (is_number_among number (numbers_of (history_at (cell_of runs total) run))) = sym read_there ∙ inside.table.each number run own in
+    let not_among : is_number_among number (numbers_of (history_at (cell_of runs total) run)) ≡ false = (let same : was ≡ is_number_among number (numbers_of (history_at (cell_of runs total) run)) = cc in sym same ∙ none) in
     let here : history_at (cell_of runs total) run ≡ kept.run.entries.items = history_is runs total run kept kept_there in
-    let not_there : times_in number (numbers_of kept.run.entries.items) ≡ 0 = absent number (numbers_of kept.run.entries.items) (subst (λ (history : List Entry). is_among number (numbers_of history) ≡ false) here not_among) in
+    let not_there : times_in number (numbers_of kept.run.entries.items) ≡ 0 = absent number (numbers_of kept.run.entries.items) (subst (λ (history : List Entry). is_number_among number (numbers_of history) ≡ false) here not_among) in
     let few : length kept.run.entries.items < entries_of bundle run = has_room bundle run number kept.run.entries.items is.history.found is.once not_there own in
     let of_all = count_by-le-length (λ (entry : EventPart). entry.run == run) bundle.entries in
     let most = inside.is_bundle.few_events in
@@ -143,7 +145,7 @@ ready named workers lock bundle runs stored total number run kept was inside und
       is = is;
       absent = not_there;
       own = own;
-      under = under run (ap (λ (bundle : Bundle). run_of bundle number) (sym inside.is_named) ∙ own);
+      under = under run (ap (λ (bundle : Bundle). run_at bundle number) (sym inside.is_named) ∙ own);
       limits = ap length is.state.limits_are ∙ (of_each (IsRun bundle.metrics) bundle.runs run part.0 inside.is_bundle.runs part.1).limits;
       few = few;
       few_events = omega arith;
@@ -229,7 +231,7 @@ once_push number numbers once none other = by_test (number == other) refl where
       let nothing : times_in other (number ∷ []) ≡ 0 = rw is refl in
       omega arith
 
-pub kept_push : (bundle : Bundle) (workers lock : ℕ) (runs : List Declared) (worker number run : ℕ) (old new : Declared) (finding : Finding) (event : Event) (answer : Posted) (ready : IsReady bundle workers lock runs number run old) → worker < workers → found bundle number ≡ Some finding → happened bundle number ≡ Some event
+pub kept_push : (bundle : Bundle) (workers lock : ℕ) (runs : List Declared) (worker number run : ℕ) (old new : Declared) (finding : Finding) (event : Event) (answer : Posted) (ready : IsReady bundle workers lock runs number run old) → worker < workers → finding_at bundle number ≡ Some finding → happened bundle number ≡ Some event
     → IsPushed old new worker number finding event answer → IsKept bundle workers lock run ready.part.limits (kept_of new)
 kept_push bundle workers lock runs worker number run old new finding event answer ready inside finds happens pushed =
     let limits : List Limits = ready.part.limits in
@@ -308,32 +310,32 @@ table_push bundle workers lock runs stored total after worker number run old new
     elsewhere : (other : ℕ) → other ≢ run → history_at (cell_of (set runs run new) after) other ≡ history_at (cell_of runs total) other
     elsewhere other away = ap (λ (histories : List (List Entry)). get_or histories other []) (histories_set runs after run new) ∙ get_or-set_other (histories_of (cell_of runs after)) run other new.run.entries.items [] away
 
-    own_number : (other own : ℕ) → run_of bundle other ≡ Some own → other ≡ number → slice_get (set stored number true) other ≡ Some (is_among other (numbers_of (history_at (cell_of (set runs run new) after) own)))
+    own_number : (other own : ℕ) → run_at bundle other ≡ Some own → other ≡ number → slice_get (set stored number true) other ≡ Some (is_number_among other (numbers_of (history_at (cell_of (set runs run new) after) own)))
     own_number other own own_is same =
-        let same_run : own ≡ run = (let both : Some own ≡ Some run = sym own_is ∙ (ap (run_of bundle) same ∙ ready.own) in cc) in
+        let same_run : own ≡ run = (let both : Some own ≡ Some run = sym own_is ∙ (ap (run_at bundle) same ∙ ready.own) in cc) in
         let many = is.as_many in
         let put : slice_get (set stored number true) number ≡ Some true = at_set_same stored number true (omega arith) in
-        let among : is_among number (numbers_of new.run.entries.items) ≡ true = ap (is_among number) numbers ∙ among_last number (numbers_of old.run.entries.items) in
-        let here : is_among number (numbers_of (history_at (cell_of (set runs run new) after) run)) ≡ true = ap (λ (history : List Entry). is_among number (numbers_of history)) at_run ∙ among in
-        let all : slice_get (set stored number true) number ≡ Some (is_among number (numbers_of (history_at (cell_of (set runs run new) after) run))) = put ∙ ap Some (sym here) in
-        subst (λ (own : ℕ). slice_get (set stored number true) other ≡ Some (is_among other (numbers_of (history_at (cell_of (set runs run new) after) own)))) (sym same_run)
-        (subst (λ (other : ℕ). slice_get (set stored number true) other ≡ Some (is_among other (numbers_of (history_at (cell_of (set runs run new) after) run)))) (sym same) all)
+        let among : is_number_among number (numbers_of new.run.entries.items) ≡ true = ap (is_number_among number) numbers ∙ among_last number (numbers_of old.run.entries.items) in
+        let here : is_number_among number (numbers_of (history_at (cell_of (set runs run new) after) run)) ≡ true = ap (λ (history : List Entry). is_number_among number (numbers_of history)) at_run ∙ among in
+        let all : slice_get (set stored number true) number ≡ Some (is_number_among number (numbers_of (history_at (cell_of (set runs run new) after) run))) = put ∙ ap Some (sym here) in
+        subst (λ (own : ℕ). slice_get (set stored number true) other ≡ Some (is_number_among other (numbers_of (history_at (cell_of (set runs run new) after) own)))) (sym same_run)
+        (subst (λ (other : ℕ). slice_get (set stored number true) other ≡ Some (is_number_among other (numbers_of (history_at (cell_of (set runs run new) after) run)))) (sym same) all)
 
-    other_number : (other own : ℕ) → run_of bundle other ≡ Some own → other ≢ number → is_among other (numbers_of (history_at (cell_of (set runs run new) after) own)) ≡ is_among other (numbers_of (history_at (cell_of runs total) own)) → slice_get (set stored number true) other ≡ Some (is_among other (numbers_of (history_at (cell_of (set runs run new) after) own)))
+    other_number : (other own : ℕ) → run_at bundle other ≡ Some own → other ≢ number → is_number_among other (numbers_of (history_at (cell_of (set runs run new) after) own)) ≡ is_number_among other (numbers_of (history_at (cell_of runs total) own)) → slice_get (set stored number true) other ≡ Some (is_number_among other (numbers_of (history_at (cell_of (set runs run new) after) own)))
     other_number other own own_is away stays = at_set_other stored number other true away ∙ (is.each other own own_is ∙ ap Some (sym stays))
 
-    by_test : (other own : ℕ) → run_of bundle other ≡ Some own → (test : Bool) → (other == number) ≡ test → (in_run : Bool) → (own == run) ≡ in_run → slice_get (set stored number true) other ≡ Some (is_among other (numbers_of (history_at (cell_of (set runs run new) after) own)))
+    by_test : (other own : ℕ) → run_at bundle other ≡ Some own → (test : Bool) → (other == number) ≡ test → (in_run : Bool) → (own == run) ≡ in_run → slice_get (set stored number true) other ≡ Some (is_number_among other (numbers_of (history_at (cell_of (set runs run new) after) own)))
     by_test other own own_is true is_same in_run in_run_is = own_number other own own_is (grind (arith, nat_tests))
     by_test other own own_is false is_other true in_run_is =
         let away : other ≢ number = grind (arith, nat_tests) in
         let same_run : run ≡ own = grind (arith, nat_tests) in
-        let stays : is_among other (numbers_of (history_at (cell_of (set runs run new) after) run)) ≡ is_among other (numbers_of (history_at (cell_of runs total) run)) = ap (λ (history : List Entry). is_among other (numbers_of history)) at_run
-        ∙ (ap (is_among other) numbers ∙ (among_other other number (numbers_of old.run.entries.items) (λ same. away (sym same)) ∙ ap (λ (history : List Entry). is_among other (numbers_of history)) (sym before_run))) in
-        other_number other own own_is away (subst (λ (own : ℕ). is_among other (numbers_of (history_at (cell_of (set runs run new) after) own)) ≡ is_among other (numbers_of (history_at (cell_of runs total) own))) same_run stays)
+        let stays : is_number_among other (numbers_of (history_at (cell_of (set runs run new) after) run)) ≡ is_number_among other (numbers_of (history_at (cell_of runs total) run)) = ap (λ (history : List Entry). is_number_among other (numbers_of history)) at_run
+        ∙ (ap (is_number_among other) numbers ∙ (among_other other number (numbers_of old.run.entries.items) (λ same. away (sym same)) ∙ ap (λ (history : List Entry). is_number_among other (numbers_of history)) (sym before_run))) in
+        other_number other own own_is away (subst (λ (own : ℕ). is_number_among other (numbers_of (history_at (cell_of (set runs run new) after) own)) ≡ is_number_among other (numbers_of (history_at (cell_of runs total) own))) same_run stays)
     by_test other own own_is false is_other false in_run_is =
         let away : other ≢ number = grind (arith, nat_tests) in
         let other_run : own ≢ run = grind (arith, nat_tests) in
-        other_number other own own_is away (ap (λ (history : List Entry). is_among other (numbers_of history)) (elsewhere own other_run))
+        other_number other own own_is away (ap (λ (history : List Entry). is_number_among other (numbers_of history)) (elsewhere own other_run))
 
 room_push : (bundle : Bundle) (lock run : ℕ) (old new : Declared) (worker number : ℕ) (finding : Finding) (event : Event) (answer : Posted) → HasRoom bundle lock run old → IsPushed old new worker number finding event answer → HasRoom bundle lock run new
 room_push bundle lock run old new worker number finding event answer room pushed =
@@ -342,9 +344,9 @@ room_push bundle lock run old new worker number finding event answer room pushed
       authors = λ under. subst (λ (capacity : ℕ). entries_of bundle run ≤ capacity) (sym pushed.author_capacity) (room.authors under);
     }
 
-pub inside_push : (named : Bundle) (workers lock : ℕ) (bundle : Bundle) (runs : List Declared) (stored : List Bool) (total after worker number run : ℕ) (old new : Declared) (finding : Finding) (event : Event) (answer : Posted) → IsInside named workers lock bundle runs stored total
-    → IsReady bundle workers lock runs number run old → worker < workers → number < length bundle.entries → found bundle number ≡ Some finding → happened bundle number ≡ Some event → IsPushed old new worker number finding event answer → after ≡ total + 1
-    → IsInside named workers lock bundle (set runs run new) (set stored number true) after
+pub inside_push : (named : Bundle) (workers lock : ℕ) (bundle : Bundle) (runs : List Declared) (stored : List Bool) (total after worker number run : ℕ) (old new : Declared) (finding : Finding) (event : Event) (answer : Posted) → IsSoundCell named workers lock bundle runs stored total
+    → IsReady bundle workers lock runs number run old → worker < workers → number < length bundle.entries → finding_at bundle number ≡ Some finding → happened bundle number ≡ Some event → IsPushed old new worker number finding event answer → after ≡ total + 1
+    → IsSoundCell named workers lock bundle (set runs run new) (set stored number true) after
 inside_push named workers lock bundle runs stored total after worker number run old new finding event answer inside ready there number_there finds happens pushed more =
     record {
       is_named = inside.is_named;
@@ -356,12 +358,12 @@ inside_push named workers lock bundle runs stored total after worker number run 
 
 -- ---- what `RunCell::add` answers
 
-core_push : (bundle : Bundle) (number run : ℕ) (histories : List (List Entry)) (part : RunPart) (finding : Finding) (event : Event) → run_of bundle number ≡ Some run → found bundle number ≡ Some finding → happened bundle number ≡ Some event → slice_get bundle.runs run ≡ Some part
+core_push : (bundle : Bundle) (number run : ℕ) (histories : List (List Entry)) (part : RunPart) (finding : Finding) (event : Event) → run_at bundle number ≡ Some run → finding_at bundle number ≡ Some finding → happened bundle number ≡ Some event → slice_get bundle.runs run ≡ Some part
     → posted bundle histories number ≡ Some (added histories run (record { number = number; finding = finding; effect = effect_of part.limits (events_of bundle (numbers_of (get_or histories run []))) event }))
 core_push bundle number run histories part finding event own finds happens there = rw (own, finds, happens, there) refl
 
 pub is_posted : (named : Bundle) (workers lock : ℕ) (bundle : Bundle) (runs : List Declared) (total after worker number run : ℕ) (old new : Declared) (finding : Finding) (event : Event) (answer : Posted) → bundle ≡ named → IsReady bundle workers lock runs number run old
-    → found bundle number ≡ Some finding → happened bundle number ≡ Some event → IsPushed old new worker number finding event answer → after ≡ total + 1 → IsPosted named worker number finding (cell_of runs total) (cell_of (set runs run new) after) answer
+    → finding_at bundle number ≡ Some finding → happened bundle number ≡ Some event → IsPushed old new worker number finding event answer → after ≡ total + 1 → IsPosted named worker number finding (cell_of runs total) (cell_of (set runs run new) after) answer
 is_posted named workers lock bundle runs total after worker number run old new finding event answer is_named ready finds happens pushed more =
     let before : List (List Entry) = histories_of (cell_of runs total) in
     let here : history_at (cell_of runs total) run ≡ old.run.entries.items = history_is runs total run old ready.kept_there in
@@ -383,7 +385,7 @@ is_posted named workers lock bundle runs total after worker number run old new f
       total = omega arith;
     })
 
-pub not_there : (bundle : Bundle) (workers lock : ℕ) (runs : List Declared) (total number run : ℕ) (kept : Declared) → IsCell bundle workers lock (cell_of runs total) → IsReady bundle workers lock runs number run kept → Stands number (cell_of runs total) → ⊥
+pub not_there : (bundle : Bundle) (workers lock : ℕ) (runs : List Declared) (total number run : ℕ) (kept : Declared) → IsCell bundle workers lock (cell_of runs total) → IsReady bundle workers lock runs number run kept → IsInHistory number (cell_of runs total) → ⊥
 not_there bundle workers lock runs total number run kept is ready stands =
     let below = slice_get_within bundle.runs run ready.part ready.there in
     let own = times_own bundle run number (histories_of (cell_of runs total)) (histories_are bundle workers lock (cell_of runs total) is) ready.own below in
@@ -391,12 +393,12 @@ not_there bundle workers lock runs total number run kept is ready stands =
     let none : times_in number (numbers_of (history_at (cell_of runs total) run)) ≡ 0 = ap (λ (history : List Entry). times_in number (numbers_of history)) here ∙ ready.absent in
     omega arith
 
-pub stands : (named : Bundle) (workers lock : ℕ) (bundle : Bundle) (runs : List Declared) (stored : List Bool) (total number : ℕ) (is : Bool) → IsInside named workers lock bundle runs stored total → number < length bundle.entries → is ≡ get_or stored number is → is ≡ true → Stands number (cell_of runs total)
+pub stands : (named : Bundle) (workers lock : ℕ) (bundle : Bundle) (runs : List Declared) (stored : List Bool) (total number : ℕ) (is : Bool) → IsSoundCell named workers lock bundle runs stored total → number < length bundle.entries → is ≡ get_or stored number is → is ≡ true → IsInHistory number (cell_of runs total)
 stands named workers lock bundle runs stored total number is inside there read true_there =
     let own = run_of_number bundle number inside.is_bundle there in
     let many = inside.table.as_many in
     let read_there : slice_get stored number ≡ Some is = slice_get_read stored (length stored) number is refl (omega arith) read in
-    let among : is ≡ is_among number (numbers_of (history_at (cell_of runs total) own.0)) = (let both = sym read_there ∙ inside.table.each number own.0 own.1 in cc) in
+    let among : is ≡ is_number_among number (numbers_of (history_at (cell_of runs total) own.0)) = (let both = sym read_there ∙ inside.table.each number own.0 own.1 in cc) in
     let positive = present number (numbers_of (history_at (cell_of runs total) own.0)) (sym among ∙ true_there) in
     let all = times_own bundle own.0 number (histories_of (cell_of runs total)) (histories_are bundle workers lock (cell_of runs total) inside.cell) own.1 own.2 in
     omega arith

@@ -2,14 +2,16 @@
 use Rattle.std.proofs.Common.{◌≡◌, ◌<◌, ℕ, zero, suc, Bool, true, false, List, [], Vec, Global, length, replicate, Option, None, Some, refl, sym, subst, arith, ⊎_elim, ◌⊎◌, inl, inr}
 use Rattle.std.specs.Prelude.{slice_get}
 use Rattle.std.proofs.lemmas.Option.{get_or_from_slice_get}
-use Rattle.ar_bundle.specs.Bundle.{Bundle, IsBundle}
+use Rattle.ar_bundle.specs.Sound.{IsBundle}
+use Rattle.ar_bundle.specs.Bundle.{Bundle}
 use Rattle.ar_bundle.specs.Lawful.{AreLawful, AtMostOnce, numbers_of, times}
 use Rattle.ar_bundle.specs.declared.history.Entry.{Entry}
 use Rattle.ar_bundle.proofs.Bundles.{entry_at, run_of_number}
 use Rattle.ar_board.specs.Receipts.{Hold}
 use Rattle.ar_board.specs.declared.cell.receipt.Receipt.{Receipt}
 use Rattle.ar_board.proofs.Places.{times_own}
-use Rattle.ar_board.specs.Board.{AreAsMany, IsClosed, IsLost, IsUnmetAmong}
+use Rattle.ar_board.specs.Lost.{AreAsMany, IsLost, IsUnmetAmong}
+use Rattle.ar_board.specs.Board.{IsClosed}
 use Rattle.ar_board.specs.Private.Closing.{AreAllMarked, AreMet, AreStored, FirstLost, FirstUnheld, IsThere, IsUnheld, StoredAs, lists_of}
 use Rattle.ar_board.specs.Locks.{PerLock}
 use Rattle.ar_board.proofs.Given.{AreOfCells, are_histories, so_far}

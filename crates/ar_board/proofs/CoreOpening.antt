@@ -7,7 +7,8 @@ use Rattle.std.proofs.lemmas.List.{length-take-le, map_push, take_all}
 use Rattle.std.proofs.lemmas.Option.{slice_get_read}
 use Rattle.ar_limits.specs.Metric.{HasPositiveCounts}
 use Rattle.ar_limits.specs.Replay.{Replays}
-use Rattle.ar_bundle.specs.Bundle.{Bundle, IsBundle, IsRun, entries_of, events_of, found, sizes_of}
+use Rattle.ar_bundle.specs.Sound.{IsBundle, IsRun, entries_of, sizes_of}
+use Rattle.ar_bundle.specs.Bundle.{Bundle, events_of, finding_at}
 use Rattle.ar_bundle.specs.Lawful.{numbers_of}
 use Rattle.ar_board.specs.Private.Inside.{AreFound, AreKept, AreOpened, IsKept, histories_of}
 use Rattle.ar_bundle.specs.declared.bundle.RunPart.{RunPart}
@@ -19,32 +20,32 @@ use Rattle.ar_bundle.proofs.Sizes.{as_many_counts, count_at}
 
 -- ---- findings
 
-found_push : (bundle : Bundle) (from : ℕ) (findings : List Finding) (last : Finding) → ((place : ℕ) (finding : Finding) → slice_get findings place ≡ Some finding → found bundle (from + place) ≡ Some finding) → found bundle (from + length findings) ≡ Some last
-    → (place : ℕ) (finding : Finding) → slice_get (findings ++ last ∷ []) place ≡ Some finding → found bundle (from + place) ≡ Some finding
+found_push : (bundle : Bundle) (from : ℕ) (findings : List Finding) (last : Finding) → ((place : ℕ) (finding : Finding) → slice_get findings place ≡ Some finding → finding_at bundle (from + place) ≡ Some finding) → finding_at bundle (from + length findings) ≡ Some last
+    → (place : ℕ) (finding : Finding) → slice_get (findings ++ last ∷ []) place ≡ Some finding → finding_at bundle (from + place) ≡ Some finding
 found_push bundle from [] last all is zero finding there =
     let same : last ≡ finding = cc in
-    subst (λ (finding : Finding). found bundle (from + zero) ≡ Some finding) same is
+    subst (λ (finding : Finding). finding_at bundle (from + zero) ≡ Some finding) same is
 found_push bundle from [] last all is (suc place) finding there = absurd cc
 found_push bundle from (first ∷ findings) last all is zero finding there = all zero finding there
 found_push bundle from (first ∷ findings) last all is (suc place) finding there =
     let next : suc from + place ≡ from + suc place = omega arith in
     let at_end : from + suc (length findings) ≡ suc from + length findings = omega arith in
     let later = found_push bundle (suc from) findings last
-    (λ place finding there. subst (λ (at : ℕ). found bundle at ≡ Some finding) (let up : from + suc place ≡ suc from + place = omega arith in up) (all (suc place) finding there))
-    (subst (λ (at : ℕ). found bundle at ≡ Some last) at_end is) place finding there in
-    subst (λ (at : ℕ). found bundle at ≡ Some finding) next later
+    (λ place finding there. subst (λ (at : ℕ). finding_at bundle at ≡ Some finding) (let up : from + suc place ≡ suc from + place = omega arith in up) (all (suc place) finding there))
+    (subst (λ (at : ℕ). finding_at bundle at ≡ Some last) at_end is) place finding there in
+    subst (λ (at : ℕ). finding_at bundle at ≡ Some finding) next later
 
 -- one number more is judged
-pub found_next : (bundle : Bundle) (upto : ℕ) (findings : List Finding) (last : Finding) → AreFound bundle upto findings → found bundle upto ≡ Some last → AreFound bundle (upto + 1) (findings ++ last ∷ [])
+pub found_next : (bundle : Bundle) (upto : ℕ) (findings : List Finding) (last : Finding) → AreFound bundle upto findings → finding_at bundle upto ≡ Some last → AreFound bundle (upto + 1) (findings ++ last ∷ [])
 found_next bundle upto findings last are is =
     let long = length-append findings (last ∷ []) in
     let all = are.all in
     let here : upto ≡ 0 + length findings = omega arith in
-    let zeros = λ (place : ℕ) (finding : Finding) (there : slice_get findings place ≡ Some finding). subst (λ (at : ℕ). found bundle at ≡ Some finding) (let same : place ≡ 0 + place = omega arith in same) (are.found place finding there) in
+    let zeros = λ (place : ℕ) (finding : Finding) (there : slice_get findings place ≡ Some finding). subst (λ (at : ℕ). finding_at bundle at ≡ Some finding) (let same : place ≡ 0 + place = omega arith in same) (are.found place finding there) in
     record {
       all = omega arith;
-      found = λ number finding there. subst (λ (at : ℕ). found bundle at ≡ Some finding) (let same : 0 + number ≡ number = omega arith in same)
-          (found_push bundle 0 findings last zeros (subst (λ (at : ℕ). found bundle at ≡ Some last) here is) number finding there);
+      found = λ number finding there. subst (λ (at : ℕ). finding_at bundle at ≡ Some finding) (let same : 0 + number ≡ number = omega arith in same)
+          (found_push bundle 0 findings last zeros (subst (λ (at : ℕ). finding_at bundle at ≡ Some last) here is) number finding there);
     }
 
 -- ---- runs

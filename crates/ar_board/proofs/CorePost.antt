@@ -7,9 +7,10 @@ use Rattle.std.proofs.lemmas.Option.{get_or_from_slice_get, slice_get-get_or, sl
 use Rattle.ar_limits.specs.Replay.{Replays}
 use Rattle.ar_limits.specs.declared.event.Effect.{Effect}
 use Rattle.ar_limits.specs.declared.event.Event.{Event}
-use Rattle.ar_bundle.specs.Bundle.{Bundle, IsBundle, IsRun, events_of, found, happened, run_of}
+use Rattle.ar_bundle.specs.Sound.{IsBundle, IsRun}
+use Rattle.ar_bundle.specs.Bundle.{Bundle, events_of, finding_at, happened, run_at}
 use Rattle.ar_board.specs.Posting.{HasOneMore, entry_with, posted}
-use Rattle.ar_board.specs.Core.{Core, State, after_step, emptied, held, post_of, stepped}
+use Rattle.ar_board.specs.Core.{Core, ScheduleState, after_step, emptied, held, post_of, core_stepped}
 use Rattle.ar_bundle.specs.Lawful.{IsHistory, numbers_of, times, times_in}
 use Rattle.ar_board.specs.Private.Inside.{AreJudged, AreKept, IsCore, IsKept, core_of, histories_of, state_of}
 use Rattle.ar_board.specs.Private.Kept.{IsSound}
@@ -30,7 +31,7 @@ use Rattle.ar_bundle.proofs.Sizes.{few_counted}
 -- ---- a number's entry
 
 -- its finding, as it was judged
-pub found_at : (bundle : Bundle) (findings : List Finding) (number : ℕ) (d : Finding) → AreJudged bundle findings → number < length bundle.entries → found bundle number ≡ Some (get_or findings number d)
+pub found_at : (bundle : Bundle) (findings : List Finding) (number : ℕ) (d : Finding) → AreJudged bundle findings → number < length bundle.entries → finding_at bundle number ≡ Some (get_or findings number d)
 found_at bundle findings number d judged inside = judged.found number (get_or findings number d) (slice_get-get_or findings number d (let all = judged.all in omega arith))
 
 -- the entry, as it was appended
@@ -107,7 +108,7 @@ pub history_is : (runs : List RunHistory) (run : ℕ) (core : RunHistory) → sl
 history_is runs run core there =
     get_or-map (λ (core : RunHistory). core.entries.items) runs run core [] (slice_get_within runs run core there) ∙ ap (λ (core : RunHistory). core.entries.items) (get_or_from_slice_get runs run core core there)
 
-pub next_of : (bundle : Bundle) (state : State) (runs : List RunHistory) (run number : ℕ) → IsBundle bundle → IsSound bundle state → AreKept bundle 0 bundle.runs runs → state.histories ≡ histories_of runs → times number state.histories ≡ 0 → run_of bundle number ≡ Some run → run < length bundle.runs → IsNext bundle runs run
+pub next_of : (bundle : Bundle) (state : ScheduleState) (runs : List RunHistory) (run number : ℕ) → IsBundle bundle → IsSound bundle state → AreKept bundle 0 bundle.runs runs → state.histories ≡ histories_of runs → times number state.histories ≡ 0 → run_at bundle number ≡ Some run → run < length bundle.runs → IsNext bundle runs run
 next_of bundle state runs run number is sound kept histories nowhere own below =
     let part = entry_at bundle.runs run below in
     let here : 0 + run ≡ run = omega arith in
@@ -169,11 +170,11 @@ later_kept bundle run number part core later appended kept longer =
     let capacity = appended.capacity in
     record { replays = subst (λ (events : List Event). Replays part.limits events later.state) (sym events) (appended.replays part.limits before kept.replays); room = omega arith }
 
-posted_is : (bundle : Bundle) (histories : List (List Entry)) (run number : ℕ) (part : RunPart) (finding : Finding) (event : Event) → run_of bundle number ≡ Some run → found bundle number ≡ Some finding → happened bundle number ≡ Some event → slice_get bundle.runs run ≡ Some part
+posted_is : (bundle : Bundle) (histories : List (List Entry)) (run number : ℕ) (part : RunPart) (finding : Finding) (event : Event) → run_at bundle number ≡ Some run → finding_at bundle number ≡ Some finding → happened bundle number ≡ Some event → slice_get bundle.runs run ≡ Some part
     → posted bundle histories number ≡ Some (set histories run (get_or histories run [] ++ entry_with number finding part.limits (events_of bundle (numbers_of (get_or histories run []))) event ∷ []))
 posted_is bundle histories run number part finding event own finds happens there = rw (own, finds, happens, there) refl
 
-pub appends : (bundle : Bundle) (runs : List RunHistory) (run number : ℕ) (core later : RunHistory) → AreKept bundle 0 bundle.runs runs → IsNext bundle runs run → run_of bundle number ≡ Some run → core ≡ get_or runs run core → IsAppended bundle number core later → Appends bundle runs (set runs run later) number
+pub appends : (bundle : Bundle) (runs : List RunHistory) (run number : ℕ) (core later : RunHistory) → AreKept bundle 0 bundle.runs runs → IsNext bundle runs run → run_at bundle number ≡ Some run → core ≡ get_or runs run core → IsAppended bundle number core later → Appends bundle runs (set runs run later) number
 appends bundle runs run number core later kept next own read appended =
     let part = next.part in
     let same = read_next bundle runs run core next read in
@@ -194,27 +195,27 @@ appends bundle runs run number core later kept next own read appended =
 
 -- ---- a post at once
 
-abbrev pub emptied_with : State → (worker : ℕ) → List RunHistory → State
+abbrev pub emptied_with : ScheduleState → (worker : ℕ) → List RunHistory → ScheduleState
 emptied_with state worker runs = record { next = state.next; queue = state.queue; hands = set state.hands worker None; parked = state.parked; histories = histories_of runs }
 
 -- the state with the number in its run's history
-pub record Posts (bundle : Bundle) (places : ℕ) (state : State) (worker : ℕ) (later : List RunHistory) : Type 0 where
+pub record Posts (bundle : Bundle) (places : ℕ) (state : ScheduleState) (worker : ℕ) (later : List RunHistory) : Type 0 where
   pub after : after_step bundle places false state (Post worker) ≡ emptied_with state worker later
   pub sound : IsSound bundle (emptied_with state worker later)
 
-posted_after : (bundle : Bundle) (places : ℕ) (state : State) (worker number : ℕ) (later : List (List Entry)) → held state worker ≡ Some number → posted bundle state.histories number ≡ Some later
+posted_after : (bundle : Bundle) (places : ℕ) (state : ScheduleState) (worker number : ℕ) (later : List (List Entry)) → held state worker ≡ Some number → posted bundle state.histories number ≡ Some later
     → after_step bundle places false state (Post worker) ≡ record { next = state.next; queue = state.queue; hands = set state.hands worker None; parked = state.parked; histories = later }
 posted_after bundle places state worker number later holds posts = ap (post_of bundle state worker) holds ∙ ap (emptied state worker) posts
 
-pub posts : (bundle : Bundle) (places : ℕ) (state : State) (runs later : List RunHistory) (worker number : ℕ) → IsBundle bundle → IsSound bundle state → state.histories ≡ histories_of runs → held state worker ≡ Some number → Appends bundle runs later number → Posts bundle places state worker later
+pub posts : (bundle : Bundle) (places : ℕ) (state : ScheduleState) (runs later : List RunHistory) (worker number : ℕ) → IsBundle bundle → IsSound bundle state → state.histories ≡ histories_of runs → held state worker ≡ Some number → Appends bundle runs later number → Posts bundle places state worker later
 posts bundle places state runs later worker number is sound histories holds appended =
     let after = posted_after bundle places state worker number (histories_of later) holds (ap (λ (histories : List (List Entry)). posted bundle histories number) histories ∙ appended.posts) in
     record { after = after; sound = subst (IsSound bundle) after (step_sound bundle places false state (Post worker) is sound) }
 
 -- the core after it
-pub stepped_at_once : (core : Core) (worker : ℕ) (later : State) → core.ordered ≡ false → after_step core.bundle core.places false core.state (Post worker) ≡ later → record { bundle = core.bundle; places = core.places; ordered = core.ordered; state = later } ≡ stepped core (Post worker)
+pub stepped_at_once : (core : Core) (worker : ℕ) (later : ScheduleState) → core.ordered ≡ false → after_step core.bundle core.places false core.state (Post worker) ≡ later → record { bundle = core.bundle; places = core.places; ordered = core.ordered; state = later } ≡ core_stepped core (Post worker)
 stepped_at_once core worker later off after =
-    ap (λ (state : State). record { bundle = core.bundle; places = core.places; ordered = core.ordered; state = state }) (sym after)
+    ap (λ (state : ScheduleState). record { bundle = core.bundle; places = core.places; ordered = core.ordered; state = state }) (sym after)
     ∙ ap (λ (ordered : Bool). record { bundle = core.bundle; places = core.places; ordered = core.ordered; state = after_step core.bundle core.places ordered core.state (Post worker) }) (sym off)
 
 -- ---- the same of the core as it lies in memory
@@ -228,5 +229,5 @@ holding core seen worker number hand is view hand_is read =
     let full : held (state_of core) worker ≡ Some number = ap (λ (seen : Core). held seen.state worker) view ∙ (sym read ∙ hand_is) in
     record { full = full; is = held_number core.bundle.now (state_of core) worker number is.sound full }
 
-pub next_in : (core : Inside) (run number : ℕ) → IsCore core → times number (histories_of core.runs.items) ≡ 0 → run_of core.bundle.now number ≡ Some run → run < length core.bundle.now.runs → IsNext core.bundle.now core.runs.items run
+pub next_in : (core : Inside) (run number : ℕ) → IsCore core → times number (histories_of core.runs.items) ≡ 0 → run_at core.bundle.now number ≡ Some run → run < length core.bundle.now.runs → IsNext core.bundle.now core.runs.items run
 next_in core run number is nowhere own below = next_of core.bundle.now (state_of core) core.runs.items run number is.bundle is.sound is.runs refl nowhere own below

@@ -7,9 +7,10 @@ use Rattle.std.proofs.lemmas.Bool.{and_parts}
 use Rattle.std.proofs.lemmas.List.Sums.{get_or-le-sum_by, sum_by-set}
 use Rattle.ar_limits.specs.Run.{effect_of}
 use Rattle.ar_limits.specs.declared.event.Event.{Event}
-use Rattle.ar_bundle.specs.Bundle.{Bundle, IsBundle, IsEntry, events_of, found, happened, run_of}
+use Rattle.ar_bundle.specs.Sound.{IsBundle, IsEventPart}
+use Rattle.ar_bundle.specs.Bundle.{Bundle, events_of, finding_at, happened, run_at}
 use Rattle.ar_board.specs.Posting.{added, entry_behind, posted, with_number}
-use Rattle.ar_board.specs.Core.{State, can_put, emptied, has_empty_hand, held, is_parked, occurrences, post_of, put, taken, times_held, times_parked, times_to_put}
+use Rattle.ar_board.specs.Core.{ScheduleState, can_put, emptied, has_empty_hand, held, is_parked, occurrences, post_of, put, taken, times_held, times_parked, times_to_put}
 use Rattle.ar_bundle.specs.Lawful.{AreHistories, IsHistory, numbers_of, times, times_in}
 use Rattle.ar_board.specs.Private.Kept.{IsSound}
 use Rattle.ar_bundle.specs.declared.bundle.EventPart.{EventPart}
@@ -28,14 +29,14 @@ moves_by_test number next true false lower same = let still : nat_lt number (suc
 moves_by_test number next false true lower same = let now : nat_lt number (suc next) ≡ true = grind (arith, nat_tests) in rw (now, lower, same) refl
 moves_by_test number next false false lower same = let not_yet : nat_lt number (suc next) ≡ false = grind (arith, nat_tests) in rw (not_yet, lower, same) refl
 
-put_once : (number : ℕ) (state : State) → occurrences number state ≡ 1 → occurrences number (put state) ≡ 1
+put_once : (number : ℕ) (state : ScheduleState) → occurrences number state ≡ 1 → occurrences number (put state) ≡ 1
 put_once number state once =
     let moves = moves_by_test number state.next (nat_lt number state.next) (state.next == number) refl refl in
     let pushed = times_push number state.next state.queue in
     omega arith
 
 -- the next number goes to the queue, however this is said
-pub puts_sound : (bundle : Bundle) (state : State) (next : ℕ) (queue : List ℕ) → IsSound bundle state → state.next < length bundle.entries → next ≡ state.next + 1 → queue ≡ state.queue ++ state.next ∷ []
+pub puts_sound : (bundle : Bundle) (state : ScheduleState) (next : ℕ) (queue : List ℕ) → IsSound bundle state → state.next < length bundle.entries → next ≡ state.next + 1 → queue ≡ state.queue ++ state.next ∷ []
     → IsSound bundle (record { next = next; queue = queue; hands = state.hands; parked = state.parked; histories = state.histories })
 puts_sound bundle state next queue sound inside up is =
     let later : next ≡ suc state.next = omega arith in
@@ -48,7 +49,7 @@ puts_sound bundle state next queue sound inside up is =
       histories = sound.histories;
     }
 
-pub put_sound : (bundle : Bundle) (places : ℕ) (state : State) (can : Bool) → can_put bundle places state ≡ can → IsSound bundle state → IsSound bundle (if can then put state else state)
+pub put_sound : (bundle : Bundle) (places : ℕ) (state : ScheduleState) (can : Bool) → can_put bundle places state ≡ can → IsSound bundle state → IsSound bundle (if can then put state else state)
 put_sound bundle places state false is sound = sound
 put_sound bundle places state true is sound =
     let inside : nat_lt state.next (length bundle.entries) ≡ true = (and_parts (nat_lt state.next (length bundle.entries)) (nat_lt (length state.queue) places) is).0 in
@@ -90,7 +91,7 @@ first_counts number own numbers = by_test (own == number) refl where
 
 -- ---- Take
 
-took_once : (number : ℕ) (state : State) (worker own : ℕ) (queue : List ℕ) → state.queue ≡ own ∷ queue → worker < length state.hands → get_or state.hands worker None ≡ None → occurrences number state ≡ 1 → occurrences number (taken state worker (own ∷ queue)) ≡ 1
+took_once : (number : ℕ) (state : ScheduleState) (worker own : ℕ) (queue : List ℕ) → state.queue ≡ own ∷ queue → worker < length state.hands → get_or state.hands worker None ≡ None → occurrences number state ≡ 1 → occurrences number (taken state worker (own ∷ queue)) ≡ 1
 took_once number state worker own queue is inside empty once =
     let counted = ap (times_in number) is ∙ first_counts number own queue in
     let filled = fills number worker state.hands own inside empty in
@@ -100,12 +101,12 @@ none_is : {A : Type 0} (found : Option A) → is_none found ≡ true → found �
 none_is None is = refl
 none_is (Some x) is = absurd cc
 
-taken_sound : (bundle : Bundle) (state : State) (worker : ℕ) (queue : List ℕ) → state.queue ≡ queue → worker < length state.hands → get_or state.hands worker None ≡ None → IsSound bundle state → IsSound bundle (taken state worker queue)
+taken_sound : (bundle : Bundle) (state : ScheduleState) (worker : ℕ) (queue : List ℕ) → state.queue ≡ queue → worker < length state.hands → get_or state.hands worker None ≡ None → IsSound bundle state → IsSound bundle (taken state worker queue)
 taken_sound bundle state worker [] is inside empty sound = sound
 taken_sound bundle state worker (own ∷ queue) is inside empty sound =
     record { next = sound.next; once = λ number. took_once number state worker own queue is inside empty (sound.once number); parked = sound.parked; histories = sound.histories }
 
-pub take_sound : (bundle : Bundle) (state : State) (worker : ℕ) (can : Bool) → has_empty_hand state worker ≡ can → IsSound bundle state → IsSound bundle (if can then taken state worker state.queue else state)
+pub take_sound : (bundle : Bundle) (state : ScheduleState) (worker : ℕ) (can : Bool) → has_empty_hand state worker ≡ can → IsSound bundle state → IsSound bundle (if can then taken state worker state.queue else state)
 take_sound bundle state worker false is sound = sound
 take_sound bundle state worker true is sound =
     let both = and_parts (nat_lt worker (length state.hands)) (is_none (held state worker)) is in
@@ -120,21 +121,21 @@ holder_inside (suc worker) own (hand ∷ hands) full = let rest = holder_inside 
 
 -- ---- a number in a hand
 
-put_by_test : (number : ℕ) (state : State) (test : Bool) → nat_lt number state.next ≡ test → times_to_put number state ≡ 0 → number < state.next
+put_by_test : (number : ℕ) (state : ScheduleState) (test : Bool) → nat_lt number state.next ≡ test → times_to_put number state ≡ 0 → number < state.next
 put_by_test number state true is put = grind (arith, nat_tests, is)
 put_by_test number state false is put = absurd (let one : times_to_put number state ≡ 1 = rw is refl in omega arith)
 
-free_by_test : (number : ℕ) (state : State) (test : Bool) → is_parked state number ≡ test → times_parked number state ≡ 0 → is_parked state number ≡ false
+free_by_test : (number : ℕ) (state : ScheduleState) (test : Bool) → is_parked state number ≡ test → times_parked number state ≡ 0 → is_parked state number ≡ false
 free_by_test number state true is none = absurd (let one : times_parked number state ≡ 1 = rw is refl in omega arith)
 free_by_test number state false is none = is
 
 -- it is one of the bundle's, isn't parked, and stands in no history
-pub record IsHeld (bundle : Bundle) (state : State) (number : ℕ) : Type 0 where
+pub record IsHeld (bundle : Bundle) (state : ScheduleState) (number : ℕ) : Type 0 where
   pub inside : number < length bundle.entries
   pub free : is_parked state number ≡ false
   pub nowhere : times number state.histories ≡ 0
 
-pub held_number : (bundle : Bundle) (state : State) (worker number : ℕ) → IsSound bundle state → get_or state.hands worker None ≡ Some number → IsHeld bundle state number
+pub held_number : (bundle : Bundle) (state : ScheduleState) (worker number : ℕ) → IsSound bundle state → get_or state.hands worker None ≡ Some number → IsHeld bundle state number
 held_number bundle state worker number sound full =
     let once = sound.once number in
     let most = get_or-le-sum_by (times_held number) state.hands worker None (holder_inside worker number state.hands full) in
@@ -148,11 +149,11 @@ held_number bundle state worker number sound full =
 -- ---- Post
 
 -- a run that has a number is one of the bundle's
-pub run_inside : (bundle : Bundle) (number run : ℕ) (entry : Option EventPart) → slice_get bundle.entries number ≡ entry → IsBundle bundle → run_of bundle number ≡ Some run → run < length bundle.runs
-run_inside bundle number run None there is own = let none : run_of bundle number ≡ None = rw there refl in absurd cc
+pub run_inside : (bundle : Bundle) (number run : ℕ) (entry : Option EventPart) → slice_get bundle.entries number ≡ entry → IsBundle bundle → run_at bundle number ≡ Some run → run < length bundle.runs
+run_inside bundle number run None there is own = let none : run_at bundle number ≡ None = rw there refl in absurd cc
 run_inside bundle number run (Some entry) there is own =
-    let entered = of_each (IsEntry bundle.metrics (length bundle.runs)) bundle.entries number entry is.entries there in
-    let of_entry : run_of bundle number ≡ Some entry.run = rw there refl in
+    let entered = of_each (IsEventPart bundle.metrics (length bundle.runs)) bundle.entries number entry is.entries there in
+    let of_entry : run_at bundle number ≡ Some entry.run = rw there refl in
     let same : entry.run ≡ run = cc in
     subst (λ (at : ℕ). at < length bundle.runs) same entered.run
 
@@ -162,11 +163,11 @@ record Comes (bundle : Bundle) (run : ℕ) (history : List Entry) (number : ℕ)
   finding : Finding
   event : Event
   there : slice_get bundle.runs run ≡ Some part
-  finds : found bundle number ≡ Some finding
+  finds : finding_at bundle number ≡ Some finding
   happens : happened bundle number ≡ Some event
   is : entry ≡ record { number = number; finding = finding; effect = effect_of part.limits (events_of bundle (numbers_of history)) event }
 
-comes : (bundle : Bundle) (run : ℕ) (history : List Entry) (number : ℕ) (entry : Entry) (finding : Option Finding) (event : Option Event) (part : Option RunPart) → found bundle number ≡ finding → happened bundle number ≡ event → slice_get bundle.runs run ≡ part
+comes : (bundle : Bundle) (run : ℕ) (history : List Entry) (number : ℕ) (entry : Entry) (finding : Option Finding) (event : Option Event) (part : Option RunPart) → finding_at bundle number ≡ finding → happened bundle number ≡ event → slice_get bundle.runs run ≡ part
     → entry_behind bundle run history number ≡ Some entry → Comes bundle run history number entry
 comes bundle run history number entry None event part finds happens there is = absurd (let none : entry_behind bundle run history number ≡ None = rw finds refl in cc)
 comes bundle run history number entry (Some finding) None part finds happens there is = absurd (let none : entry_behind bundle run history number ≡ None = rw (finds, happens) refl in cc)
@@ -182,12 +183,12 @@ pub record Adds (bundle : Bundle) (histories : List (List Entry)) (own : ℕ) (l
   pub are : AreHistories bundle 0 bundle.runs later
   pub times : (number : ℕ) → times number later ≡ times number histories + times_held number (Some own)
 
-adds_entry : (bundle : Bundle) (histories : List (List Entry)) (own run : ℕ) (entry : Option Entry) → IsBundle bundle → AreHistories bundle 0 bundle.runs histories → run_of bundle own ≡ Some run → entry_behind bundle run (get_or histories run []) own ≡ entry
+adds_entry : (bundle : Bundle) (histories : List (List Entry)) (own run : ℕ) (entry : Option Entry) → IsBundle bundle → AreHistories bundle 0 bundle.runs histories → run_at bundle own ≡ Some run → entry_behind bundle run (get_or histories run []) own ≡ entry
     → IfSome (option_map (added histories run) entry) (Adds bundle histories own)
 adds_entry bundle histories own run None is are own_run behind = tt
 adds_entry bundle histories own run (Some entry) is are own_run behind =
     let history : List Entry = get_or histories run [] in
-    let come = comes bundle run history own entry (found bundle own) (happened bundle own) (slice_get bundle.runs run) refl refl refl behind in
+    let come = comes bundle run history own entry (finding_at bundle own) (happened bundle own) (slice_get bundle.runs run) refl refl refl behind in
     let here : 0 + run ≡ run = omega arith in
     let before : IsHistory bundle run come.part.limits history = subst (λ (at : ℕ). IsHistory bundle at come.part.limits history) here (history_at bundle 0 run bundle.runs histories come.part are come.there) in
     let pushed = history_push bundle run come.part.limits history own come.finding come.event own_run come.finds come.happens before in
@@ -200,14 +201,14 @@ adds_entry bundle histories own run (Some entry) is are own_run behind =
       times = λ number. times_added number run histories entry (omega arith) ∙ ap (λ (more : ℕ). times number histories + more) (ap (λ (own : ℕ). times_in number (own ∷ [])) named ∙ sym (held_is_one number own));
     }
 
-adds_of_run : (bundle : Bundle) (histories : List (List Entry)) (own : ℕ) (run : Option ℕ) → IsBundle bundle → AreHistories bundle 0 bundle.runs histories → run_of bundle own ≡ run → IfSome (option_and_then (with_number bundle histories own) run) (Adds bundle histories own)
+adds_of_run : (bundle : Bundle) (histories : List (List Entry)) (own : ℕ) (run : Option ℕ) → IsBundle bundle → AreHistories bundle 0 bundle.runs histories → run_at bundle own ≡ run → IfSome (option_and_then (with_number bundle histories own) run) (Adds bundle histories own)
 adds_of_run bundle histories own None is are own_run = tt
 adds_of_run bundle histories own (Some run) is are own_run = adds_entry bundle histories own run (entry_behind bundle run (get_or histories run []) own) is are own_run refl
 
 pub adds : (bundle : Bundle) (histories : List (List Entry)) (own : ℕ) → IsBundle bundle → AreHistories bundle 0 bundle.runs histories → IfSome (posted bundle histories own) (Adds bundle histories own)
-adds bundle histories own is are = adds_of_run bundle histories own (run_of bundle own) is are refl
+adds bundle histories own is are = adds_of_run bundle histories own (run_at bundle own) is are refl
 
-emptied_sound : (bundle : Bundle) (state : State) (worker own : ℕ) (later : Option (List (List Entry))) → worker < length state.hands → held state worker ≡ Some own → IfSome later (Adds bundle state.histories own) → IsSound bundle state → IsSound bundle (emptied state worker later)
+emptied_sound : (bundle : Bundle) (state : ScheduleState) (worker own : ℕ) (later : Option (List (List Entry))) → worker < length state.hands → held state worker ≡ Some own → IfSome later (Adds bundle state.histories own) → IsSound bundle state → IsSound bundle (emptied state worker later)
 emptied_sound bundle state worker own None inside full added sound = sound
 emptied_sound bundle state worker own (Some later) inside full added sound =
     record {
@@ -221,6 +222,6 @@ emptied_sound bundle state worker own (Some later) inside full added sound =
       histories = added.are;
     }
 
-pub post_sound : (bundle : Bundle) (state : State) (worker : ℕ) (hand : Option ℕ) → IsBundle bundle → held state worker ≡ hand → IsSound bundle state → IsSound bundle (post_of bundle state worker hand)
+pub post_sound : (bundle : Bundle) (state : ScheduleState) (worker : ℕ) (hand : Option ℕ) → IsBundle bundle → held state worker ≡ hand → IsSound bundle state → IsSound bundle (post_of bundle state worker hand)
 post_sound bundle state worker None is holds sound = sound
 post_sound bundle state worker (Some own) is holds sound = emptied_sound bundle state worker own (posted bundle state.histories own) (holder_inside worker own state.hands holds) holds (adds bundle state.histories own is sound.histories) sound

@@ -4,10 +4,12 @@ use Rattle.std.specs.Prelude.{cond, slice_get}
 use Rattle.std.specs.List.{count_by, sum_by}
 use Rattle.std.proofs.lemmas.Bool.Decides.{nat_tests}
 use Rattle.std.proofs.lemmas.List.Sums.{sum_by-cons}
-use Rattle.ar_bundle.specs.Bundle.{Bundle, count_of, entries_of}
+use Rattle.ar_bundle.specs.Sound.{count_of, entries_of}
+use Rattle.ar_bundle.specs.Bundle.{Bundle}
 use Rattle.ar_bundle.specs.declared.bundle.EventPart.{EventPart}
 use Rattle.ar_bundle.specs.declared.bundle.RunPart.{RunPart}
-use Rattle.ar_board.specs.Cell.{Cell, IsCell, IsKept, KeptRun, entries_under, lock_of}
+use Rattle.ar_board.specs.Locks.{lock_of}
+use Rattle.ar_board.specs.Cell.{Cell, IsCell, IsKept, KeptRun, entries_under}
 use Rattle.ar_bundle.proofs.Room.{at_most}
 
 -- ---- sums over runs

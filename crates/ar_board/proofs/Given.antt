@@ -11,11 +11,11 @@ use Rattle.ar_bundle.specs.declared.bundle.RunPart.{RunPart}
 use Rattle.ar_bundle.specs.declared.history.Entry.{Entry}
 use Rattle.ar_bundle.proofs.Bundles.{entry_at}
 use Rattle.ar_bundle.proofs.Room.{number_inside}
-use Rattle.ar_board.specs.Cell.{ArePut, IsKept, KeptRun, histories_of, history_at, lock_of}
+use Rattle.ar_board.specs.Cell.{ArePut, IsKept, KeptRun, histories_of, history_at}
 use Rattle.ar_board.proofs.Cells.{histories_each}
-use Rattle.ar_board.specs.Board.{stored_from, stored_under}
+use Rattle.ar_board.specs.Lost.{stored_from, stored_under}
 use Rattle.ar_board.specs.Private.Closing.{AreInside, AreOfCell, IsCellClosed}
-use Rattle.ar_board.specs.Locks.{PerLock, at_lock, per_lock}
+use Rattle.ar_board.specs.Locks.{PerLock, at_lock, lock_of, per_lock}
 use Rattle.ar_board.proofs.UnderLocks.{under_four}
 
 pub all_each : {A : Type 0} (P : A → Type 0) (xs : List A) → ((at : ℕ) (x : A) → slice_get xs at ≡ Some x → P x) → AllByRecursion P xs

@@ -5,10 +5,11 @@ use Rattle.std.specs.List.{AllByRecursion}
 use Rattle.std.proofs.lemmas.List.{length-replicate, length-set, map_push, take_more}
 use Rattle.std.proofs.lemmas.Option.{slice_get_read, slice_get_within}
 use Rattle.ar_value.specs.Limits.{most_runs}
-use Rattle.ar_bundle.specs.Bundle.{Bundle, IsBundle, run_of}
+use Rattle.ar_bundle.specs.Sound.{IsBundle}
+use Rattle.ar_bundle.specs.Bundle.{Bundle, run_at}
 use Rattle.ar_bundle.specs.declared.history.Entry.{Entry}
 use Rattle.ar_board.specs.Receipts.{IsLater, IsMet}
-use Rattle.ar_board.specs.Board.{IsUnmet}
+use Rattle.ar_board.specs.Lost.{IsUnmet}
 use Rattle.ar_board.specs.Private.Closing.{AreAllMarked, AreLast, AreMarked, AreMet, AreOwn, IsAt, IsBehind, IsLast, IsLaterOf, LastOf, MarkedAmong, MarkedAs}
 use Rattle.ar_board.specs.declared.cell.receipt.Receipt.{Receipt}
 use Rattle.ar_bundle.proofs.Bundles.{run_of_number}
@@ -50,8 +51,8 @@ same_read (first ∷ xs) (suc at) d e inside = same_read xs at d e (omega arith)
 
 -- ---- a seat's receipts
 
-own_at : (bundle : Bundle) (own : List Receipt) (at : ℕ) (receipt : Receipt) → AreOwn bundle own → at < length own → receipt ≡ slice_index_or own at receipt → run_of bundle receipt.number ≡ Some receipt.run
-own_at bundle own at receipt are inside read = of_all (λ (receipt : Receipt). run_of bundle receipt.number ≡ Some receipt.run) own at receipt are (slice_get_read own (length own) at receipt refl inside read)
+own_at : (bundle : Bundle) (own : List Receipt) (at : ℕ) (receipt : Receipt) → AreOwn bundle own → at < length own → receipt ≡ slice_index_or own at receipt → run_at bundle receipt.number ≡ Some receipt.run
+own_at bundle own at receipt are inside read = of_all (λ (receipt : Receipt). run_at bundle receipt.number ≡ Some receipt.run) own at receipt are (slice_get_read own (length own) at receipt refl inside read)
 
 -- a receipt's number and run are there
 pub number_there : (bundle : Bundle) (own : List Receipt) (at : ℕ) (receipt : Receipt) → AreOwn bundle own → at < length own → receipt ≡ slice_index_or own at receipt → receipt.number < length bundle.entries

@@ -5,9 +5,9 @@ use Rattle.std.specs.declared.alloc.Global.{Global}
 use Rattle.std.proofs.lemmas.Bool.Decides.{nat_tests}
 use Rattle.std.proofs.lemmas.List.{get_or-map, get_or-set_other, get_or-set_same, length-map, length-set, length-replicate, length-take-le, map-set, take_all, take_more}
 use Rattle.std.proofs.lemmas.Option.{get_or_from_slice_get}
-use Rattle.ar_bundle.specs.Bundle.{Bundle, run_of}
+use Rattle.ar_bundle.specs.Bundle.{Bundle, run_at}
 use Rattle.ar_board.specs.Core.{own_from}
-use Rattle.ar_board.specs.Private.Own.{AreOwn, items_of}
+use Rattle.ar_board.specs.Private.Own.{AreOwn, items_of_each}
 use Rattle.ar_bundle.specs.declared.bundle.EventPart.{EventPart}
 use Rattle.ar_bundle.proofs.Bundles.{entry_at}
 
@@ -55,10 +55,10 @@ lists_push bundle entries entry last lists at below are =
         let other : run ≢ entry.run = grind (arith, nat_tests) in
         get_or-set_other lists entry.run run (get_or lists entry.run [] ++ last ∷ []) [] other ∙ (are.own run there ∙ sym (to_another run last entries entry at away))
 
-run_there : (bundle : Bundle) (number run : ℕ) (entry : EventPart) → slice_get bundle.entries number ≡ Some entry → run_of bundle number ≡ Some run → entry.run ≡ run
-run_there bundle number run entry there own = let of_entry : run_of bundle number ≡ Some entry.run = rw there refl in cc
+run_there : (bundle : Bundle) (number run : ℕ) (entry : EventPart) → slice_get bundle.entries number ≡ Some entry → run_at bundle number ≡ Some run → entry.run ≡ run
+run_there bundle number run entry there own = let of_entry : run_at bundle number ≡ Some entry.run = rw there refl in cc
 
-pub lists_next : (bundle : Bundle) (upto run : ℕ) (lists : List (List ℕ)) → upto < length bundle.entries → run_of bundle upto ≡ Some run → run < length bundle.runs → AreOwn bundle (take upto bundle.entries) lists → AreOwn bundle (take (upto + 1) bundle.entries) (set lists run (get_or lists run [] ++ upto ∷ []))
+pub lists_next : (bundle : Bundle) (upto run : ℕ) (lists : List (List ℕ)) → upto < length bundle.entries → run_at bundle upto ≡ Some run → run < length bundle.runs → AreOwn bundle (take upto bundle.entries) lists → AreOwn bundle (take (upto + 1) bundle.entries) (set lists run (get_or lists run [] ++ upto ∷ []))
 lists_next bundle upto run lists inside own below are =
     let entry = entry_at bundle.entries upto inside in
     let same = run_there bundle upto run entry.0 entry.1 own in
@@ -77,30 +77,30 @@ none_has zero run = refl
 none_has (suc runs) zero = refl
 none_has (suc runs) (suc run) = none_has runs run
 
-pub lists_none : (bundle : Bundle) (runs : ℕ) (lists : List (Vec ℕ Global)) → runs ≡ length bundle.runs → items_of lists ≡ replicate runs [] → AreOwn bundle (take 0 bundle.entries) (items_of lists)
+pub lists_none : (bundle : Bundle) (runs : ℕ) (lists : List (Vec ℕ Global)) → runs ≡ length bundle.runs → items_of_each lists ≡ replicate runs [] → AreOwn bundle (take 0 bundle.entries) (items_of_each lists)
 lists_none bundle runs lists many empty =
     record {
       as_many = ap (λ (lists : List (List ℕ)). length lists) empty ∙ (length-replicate runs [] ∙ many);
       own = λ run there. ap (λ (lists : List (List ℕ)). get_or lists run []) empty ∙ none_has runs run;
     }
 
-pub list_inside : (bundle : Bundle) (entries : List EventPart) (run : ℕ) (lists : List (Vec ℕ Global)) → run < length bundle.runs → AreOwn bundle entries (items_of lists) → run < length lists
+pub list_inside : (bundle : Bundle) (entries : List EventPart) (run : ℕ) (lists : List (Vec ℕ Global)) → run < length bundle.runs → AreOwn bundle entries (items_of_each lists) → run < length lists
 list_inside bundle entries run lists below are =
     let many = are.as_many in
-    let as_many : length (items_of lists) ≡ length lists = length-map lists (λ (list : Vec ℕ Global). list.items) in
+    let as_many : length (items_of_each lists) ≡ length lists = length-map lists (λ (list : Vec ℕ Global). list.items) in
     omega arith
 
 -- a number comes to its run's list
-pub lists_more : (bundle : Bundle) (upto run : ℕ) (lists : List (Vec ℕ Global)) (list later : Vec ℕ Global) → upto < length bundle.entries → run_of bundle upto ≡ Some run → run < length bundle.runs → list ≡ get_or lists run list → later.items ≡ list.items ++ upto ∷ []
-    → AreOwn bundle (take upto bundle.entries) (items_of lists) → AreOwn bundle (take (upto + 1) bundle.entries) (items_of (set lists run later))
+pub lists_more : (bundle : Bundle) (upto run : ℕ) (lists : List (Vec ℕ Global)) (list later : Vec ℕ Global) → upto < length bundle.entries → run_at bundle upto ≡ Some run → run < length bundle.runs → list ≡ get_or lists run list → later.items ≡ list.items ++ upto ∷ []
+    → AreOwn bundle (take upto bundle.entries) (items_of_each lists) → AreOwn bundle (take (upto + 1) bundle.entries) (items_of_each (set lists run later))
 lists_more bundle upto run lists list later inside own below read pushed are =
     let there = list_inside bundle (take upto bundle.entries) run lists below are in
-    let before : get_or (items_of lists) run [] ≡ list.items = get_or-map (λ (list : Vec ℕ Global). list.items) lists run list [] there ∙ ap (λ (list : Vec ℕ Global). list.items) (sym read) in
-    let now : items_of (set lists run later) ≡ set (items_of lists) run (get_or (items_of lists) run [] ++ upto ∷ []) =
+    let before : get_or (items_of_each lists) run [] ≡ list.items = get_or-map (λ (list : Vec ℕ Global). list.items) lists run list [] there ∙ ap (λ (list : Vec ℕ Global). list.items) (sym read) in
+    let now : items_of_each (set lists run later) ≡ set (items_of_each lists) run (get_or (items_of_each lists) run [] ++ upto ∷ []) =
     map-set (λ (list : Vec ℕ Global). list.items) lists run later
-    ∙ (ap (λ (numbers : List ℕ). set (items_of lists) run numbers) pushed
-    ∙ ap (λ (numbers : List ℕ). set (items_of lists) run (numbers ++ upto ∷ [])) (sym before)) in
-    subst (AreOwn bundle (take (upto + 1) bundle.entries)) (sym now) (lists_next bundle upto run (items_of lists) inside own below are)
+    ∙ (ap (λ (numbers : List ℕ). set (items_of_each lists) run numbers) pushed
+    ∙ ap (λ (numbers : List ℕ). set (items_of_each lists) run (numbers ++ upto ∷ [])) (sym before)) in
+    subst (AreOwn bundle (take (upto + 1) bundle.entries)) (sym now) (lists_next bundle upto run (items_of_each lists) inside own below are)
 
 pub lists_all : (bundle : Bundle) (upto : ℕ) (lists : List (List ℕ)) → length bundle.entries ≤ upto → AreOwn bundle (take upto bundle.entries) lists → AreOwn bundle bundle.entries lists
 lists_all bundle upto lists past are = subst (λ (entries : List EventPart). AreOwn bundle entries lists) (take_all upto bundle.entries past) are

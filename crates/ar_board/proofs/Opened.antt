@@ -10,10 +10,12 @@ use Rattle.std.proofs.lemmas.Option.{slice_get_read, slice_get_within}
 use Rattle.ar_limits.specs.Prefixes.{with_earlier}
 use Rattle.ar_limits.specs.Replay.{Replays}
 use Rattle.ar_limits.specs.Run.{effects}
-use Rattle.ar_bundle.specs.Bundle.{Bundle, IsBundle, entries_of, events_of, sizes_of}
-use Rattle.ar_board.specs.Cell.{ArePosts, IsCell, IsEmpty, IsKept, KeptRun, history_at, lock_of}
+use Rattle.ar_bundle.specs.Sound.{IsBundle, entries_of, sizes_of}
+use Rattle.ar_bundle.specs.Bundle.{Bundle, events_of}
+use Rattle.ar_board.specs.Locks.{lock_of}
+use Rattle.ar_board.specs.Cell.{ArePosts, IsCell, IsEmpty, IsKept, KeptRun, history_at}
 use Rattle.ar_bundle.specs.Lawful.{AtMostOnce, IsHistory, numbers_of}
-use Rattle.ar_board.specs.Private.KeptRuns.{AreOpened, IsInside, IsOpened, IsTable, cell_of, is_among, kept_of, room_under}
+use Rattle.ar_board.specs.Private.KeptRuns.{AreOpened, IsSoundCell, IsOpened, IsTable, cell_of, is_number_among, kept_of, room_under}
 use Rattle.ar_bundle.specs.declared.bundle.RunPart.{RunPart}
 use Rattle.ar_board.specs.declared.cell.kept_run.KeptRun.{KeptRun as Declared}
 use Rattle.ar_bundle.specs.declared.history.Entry.{Entry}
@@ -141,11 +143,11 @@ no_table bundle workers lock total runs is opened =
           let kept = entry_at runs run (omega arith) in
           let part = entry_at bundle.runs run below in
           let history : history_at (cell_of runs total) run ≡ [] = history_is runs total run kept.0 kept.1 ∙ (opened.each run part.0 kept.0 part.1 kept.1).entries in
-          replicated_at (length bundle.entries) number false inside ∙ ap (λ (history : List Entry). Some (is_among number (numbers_of history))) (sym history);
+          replicated_at (length bundle.entries) number false inside ∙ ap (λ (history : List Entry). Some (is_number_among number (numbers_of history))) (sym history);
     }
 
 pub inside_opened : (named bundle : Bundle) (workers named_workers lock total events : ℕ) (runs : List Declared) (stored : List Bool) → bundle ≡ named → workers ≡ named_workers → IsBundle bundle → AreOpened bundle workers lock (length bundle.runs) runs → total ≡ 0 → events ≡ length bundle.entries → stored ≡ replicate events false
-    → IsInside named named_workers lock bundle runs stored total
+    → IsSoundCell named named_workers lock bundle runs stored total
 inside_opened named bundle workers named_workers lock total events runs stored is_named same_workers is opened none many stored_are =
     record {
       is_named = is_named;

@@ -2,9 +2,10 @@
 use Rattle.std.proofs.Common.{◌≡◌, ◌<◌, ℕ, suc, true, false, List, [], ◌∷◌, ◌++◌, length, drop, get_or, Option, Some, None, refl, sym, ◌∙◌, ap, subst, arith}
 use Rattle.std.specs.Prelude.{IfSome, slice_get}
 use Rattle.std.proofs.lemmas.List.{get_or-set_same, length_push}
-use Rattle.ar_bundle.specs.Bundle.{Bundle, IsBundle}
+use Rattle.ar_bundle.specs.Sound.{IsBundle}
+use Rattle.ar_bundle.specs.Bundle.{Bundle}
 use Rattle.ar_board.specs.Posting.{added, posted}
-use Rattle.ar_board.specs.Core.{State, is_parked, lacking, moved, own_numbers, settled}
+use Rattle.ar_board.specs.Core.{ScheduleState, is_parked, lacking, parked_moved, own_numbers, parked_applied}
 use Rattle.ar_board.specs.Private.Kept.{AreInOrder, IsSound}
 use Rattle.ar_bundle.specs.declared.history.Entry.{Entry}
 use Rattle.ar_bundle.proofs.HistoryLemmas.{as_many}
@@ -16,27 +17,27 @@ use Rattle.ar_board.proofs.OwnNumbers.{front_none, front_there, lacking_is, long
 -- ---- nothing moves
 
 -- no number of the run is lacking
-pub none_lacks : (bundle : Bundle) (state : State) (run : ℕ) → AreInOrder bundle state.histories → slice_get (own_numbers bundle run) (length (get_or state.histories run [])) ≡ None → settled bundle state (lacking bundle state run) ≡ state
-none_lacks bundle state run in_order none = ap (settled bundle state) (lacking_is bundle state run (in_order run) ∙ front_none (length (get_or state.histories run [])) (own_numbers bundle run) none)
+pub none_lacks : (bundle : Bundle) (state : ScheduleState) (run : ℕ) → AreInOrder bundle state.histories → slice_get (own_numbers bundle run) (length (get_or state.histories run [])) ≡ None → parked_applied bundle state (lacking bundle state run) ≡ state
+none_lacks bundle state run in_order none = ap (parked_applied bundle state) (lacking_is bundle state run (in_order run) ∙ front_none (length (get_or state.histories run [])) (own_numbers bundle run) none)
 
 -- the least one isn't parked
-pub not_parked : (bundle : Bundle) (state : State) (run number : ℕ) → AreInOrder bundle state.histories → slice_get (own_numbers bundle run) (length (get_or state.histories run [])) ≡ Some number → is_parked state number ≡ false → settled bundle state (lacking bundle state run) ≡ state
+pub not_parked : (bundle : Bundle) (state : ScheduleState) (run number : ℕ) → AreInOrder bundle state.histories → slice_get (own_numbers bundle run) (length (get_or state.histories run [])) ≡ Some number → is_parked state number ≡ false → parked_applied bundle state (lacking bundle state run) ≡ state
 not_parked bundle state run number in_order there free =
-    ap (settled bundle state) (lacking_is bundle state run (in_order run) ∙ front_there (length (get_or state.histories run [])) number (own_numbers bundle run) there) ∙ rw free refl
+    ap (parked_applied bundle state) (lacking_is bundle state run (in_order run) ∙ front_there (length (get_or state.histories run [])) number (own_numbers bundle run) there) ∙ rw free refl
 
 -- ---- a number moves
 
-pub record Turned (bundle : Bundle) (state : State) (run number : ℕ) (later : State) : Type 0 where
+pub record Turned (bundle : Bundle) (state : ScheduleState) (run number : ℕ) (later : ScheduleState) : Type 0 where
   pub sound : IsSound bundle later
   pub in_order : AreInOrder bundle later.histories
-  pub same : settled bundle later (lacking bundle later run) ≡ settled bundle state (lacking bundle state run)
+  pub same : parked_applied bundle later (lacking bundle later run) ≡ parked_applied bundle state (lacking bundle state run)
   pub fewer : suc (length (lacking bundle later run)) ≡ length (lacking bundle state run)
 
-moves_first : (bundle : Bundle) (state : State) (number : ℕ) (others : List ℕ) (later : List (List Entry)) → is_parked state number ≡ true → posted bundle state.histories number ≡ Some later → settled bundle state (number ∷ others) ≡ settled bundle (moved state number (Some later)) others
+moves_first : (bundle : Bundle) (state : ScheduleState) (number : ℕ) (others : List ℕ) (later : List (List Entry)) → is_parked state number ≡ true → posted bundle state.histories number ≡ Some later → parked_applied bundle state (number ∷ others) ≡ parked_applied bundle (parked_moved state number (Some later)) others
 moves_first bundle state number others later there posts = rw (there, posts) refl
 
-pub turned : (bundle : Bundle) (state : State) (run number : ℕ) → IsBundle bundle → IsSound bundle state → AreInOrder bundle state.histories → run < length bundle.runs → slice_get (own_numbers bundle run) (length (get_or state.histories run [])) ≡ Some number → is_parked state number ≡ true
-    → (later : List (List Entry)) → posted bundle state.histories number ≡ Some later → Turned bundle state run number (moved state number (Some later))
+pub turned : (bundle : Bundle) (state : ScheduleState) (run number : ℕ) → IsBundle bundle → IsSound bundle state → AreInOrder bundle state.histories → run < length bundle.runs → slice_get (own_numbers bundle run) (length (get_or state.histories run [])) ≡ Some number → is_parked state number ≡ true
+    → (later : List (List Entry)) → posted bundle state.histories number ≡ Some later → Turned bundle state run number (parked_moved state number (Some later))
 turned bundle state run number is sound in_order below there marked later posts =
     let history : List Entry = get_or state.histories run [] in
     let own : List ℕ = own_numbers bundle run in
@@ -49,13 +50,13 @@ turned bundle state run number is sound in_order below there marked later posts 
     let longer : length (get_or later run []) ≡ suc (length history) = ap (λ (history : List Entry). length history) now ∙ (let pushed = length_push history some.0 in omega arith) in
     let next : AreInOrder bundle later = subst (AreInOrder bundle) (sym same) (longer_in_order bundle run state.histories some.0 inside in_order (there ∙ ap Some (sym some.2))) in
     let before : lacking bundle state run ≡ number ∷ drop (suc (length history)) own = lacking_is bundle state run (in_order run) ∙ front_there (length history) number own there in
-    let behind : lacking bundle (moved state number (Some later)) run ≡ drop (suc (length history)) own = lacking_is bundle (moved state number (Some later)) run (next run) ∙ ap (λ (k : ℕ). drop k own) longer in
+    let behind : lacking bundle (parked_moved state number (Some later)) run ≡ drop (suc (length history)) own = lacking_is bundle (parked_moved state number (Some later)) run (next run) ∙ ap (λ (k : ℕ). drop k own) longer in
     record {
       sound = moved_sound bundle state number (Some later) marked (subst (λ (posted : Option (List (List Entry))). IfSome posted (Adds bundle state.histories number)) posts (adds bundle state.histories number is sound.histories)) sound;
       in_order = next;
       same =
-          ap (settled bundle (moved state number (Some later))) behind
+          ap (parked_applied bundle (parked_moved state number (Some later))) behind
           ∙ (sym (moves_first bundle state number (drop (suc (length history)) own) later marked posts)
-          ∙ ap (settled bundle state) (sym before));
+          ∙ ap (parked_applied bundle state) (sym before));
       fewer = ap (λ (numbers : List ℕ). suc (length numbers)) behind ∙ ap (λ (numbers : List ℕ). length numbers) (sym before);
     }

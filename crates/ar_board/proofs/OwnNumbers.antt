@@ -5,9 +5,9 @@ use Rattle.std.specs.List.{AllByRecursion}
 use Rattle.std.proofs.lemmas.Bool.Decides.{nat_tests}
 use Rattle.std.proofs.lemmas.List.{get_or-set_other, get_or-set_same, length_push, take_more}
 use Rattle.std.proofs.lemmas.Option.{get_or_from_slice_get, slice_get_within}
-use Rattle.ar_bundle.specs.Bundle.{Bundle, run_of}
+use Rattle.ar_bundle.specs.Bundle.{Bundle, run_at}
 use Rattle.ar_bundle.specs.Lawful.{Rise, numbers_of, times_in}
-use Rattle.ar_board.specs.Core.{State, lacking, own_from, own_numbers}
+use Rattle.ar_board.specs.Core.{ScheduleState, lacking, own_from, own_numbers}
 use Rattle.ar_board.specs.Private.Kept.{AreInOrder, HasFirst}
 use Rattle.ar_bundle.specs.declared.bundle.EventPart.{EventPart}
 use Rattle.ar_bundle.specs.declared.history.Entry.{Entry}
@@ -68,11 +68,11 @@ own_stands : (run from number place : ℕ) (entries : List EventPart) → slice_
 own_stands run from number place [] there = absurd cc
 own_stands run from number place (entry ∷ entries) there = stands_by_test run from number place entry entries (entry.run == run) refl (λ place there. own_stands run (suc from) number place entries there) there
 
-pub own_is_of : (bundle : Bundle) (run number place : ℕ) → slice_get (own_numbers bundle run) place ≡ Some number → run_of bundle number ≡ Some run
+pub own_is_of : (bundle : Bundle) (run number place : ℕ) → slice_get (own_numbers bundle run) place ≡ Some number → run_at bundle number ≡ Some run
 own_is_of bundle run number place there =
     let stands = own_stands run 0 number place bundle.entries there in
     let same : number ≡ stands.place = (let is = stands.is in omega arith) in
-    ap (run_of bundle) same ∙ stands.own
+    ap (run_at bundle) same ∙ stands.own
 
 -- ---- those that a history lacks
 
@@ -104,7 +104,7 @@ rest_is_lacked (suc k) (first ∷ own) rise =
     ∙ (filter_same (λ number. times_in number (first ∷ before) == 0) (λ number. times_in number before == 0) own (lower_stays first before own rise.0)
     ∙ rest_is_lacked k own rise.1)
 
-pub lacking_is : (bundle : Bundle) (state : State) (run : ℕ) → HasFirst bundle run (get_or state.histories run []) → lacking bundle state run ≡ drop (length (get_or state.histories run [])) (own_numbers bundle run)
+pub lacking_is : (bundle : Bundle) (state : ScheduleState) (run : ℕ) → HasFirst bundle run (get_or state.histories run []) → lacking bundle state run ≡ drop (length (get_or state.histories run [])) (own_numbers bundle run)
 lacking_is bundle state run has =
     ap (λ (numbers : List ℕ). filter (λ number. times_in number numbers == 0) (own_numbers bundle run)) has
     ∙ rest_is_lacked (length (get_or state.histories run [])) (own_numbers bundle run) (own_rise run 0 bundle.entries)

@@ -5,8 +5,9 @@ use Rattle.std.proofs.lemmas.Bool.Decides.{nat_tests}
 use Rattle.std.proofs.lemmas.List.{length-map, length-set}
 use Rattle.ar_bundle.specs.Bundle.{Bundle}
 use Rattle.ar_bundle.specs.declared.history.Entry.{Entry}
-use Rattle.ar_board.specs.Cell.{ArePut, histories_of, lock_of}
-use Rattle.ar_board.specs.Private.KeptRuns.{ArePutBelow, IsInside, cell_of, kept_of}
+use Rattle.ar_board.specs.Locks.{lock_of}
+use Rattle.ar_board.specs.Cell.{ArePut, histories_of}
+use Rattle.ar_board.specs.Private.KeptRuns.{ArePutBelow, IsSoundCell, cell_of, kept_of}
 use Rattle.ar_board.specs.declared.cell.kept_run.KeptRun.{KeptRun as Declared}
 use Rattle.ar_bundle.proofs.HistoryLemmas.{at_set_other, at_set_same}
 use Rattle.ar_board.proofs.Cells.{history_is}
@@ -68,5 +69,5 @@ next_history yielded rest all kept are = history_is all 0 (length yielded) kept 
   at_end (first ∷ yielded) = at_end yielded
 
 -- a cell keeps each run of the bundle
-pub all_runs : (named : Bundle) (workers lock : ℕ) (bundle : Bundle) (runs : List Declared) (stored : List Bool) (total : ℕ) → IsInside named workers lock bundle runs stored total → length runs ≡ length named.runs
+pub all_runs : (named : Bundle) (workers lock : ℕ) (bundle : Bundle) (runs : List Declared) (stored : List Bool) (total : ℕ) → IsSoundCell named workers lock bundle runs stored total → length runs ≡ length named.runs
 all_runs named workers lock bundle runs stored total inside = sym (length-map runs kept_of) ∙ (inside.cell.as_many ∙ ap (λ (bundle : Bundle). length bundle.runs) inside.is_named)

@@ -6,10 +6,11 @@ use Rattle.std.proofs.lemmas.List.{length_push, map_push}
 use Rattle.std.proofs.lemmas.List.Sums.{sum_by_push}
 use Rattle.ar_bundle.specs.Bundle.{Bundle}
 use Rattle.ar_bundle.specs.declared.bundle.EventPart.{EventPart}
-use Rattle.ar_board.specs.Board.{AreSeated, Seat, received_under, receipts_of, seat_of}
-use Rattle.ar_board.specs.Cell.{entries_under, lock_of}
+use Rattle.ar_board.specs.Lost.{received_under}
+use Rattle.ar_board.specs.Board.{AreSeated, Seat, receipts_of, seat_of}
+use Rattle.ar_board.specs.Cell.{entries_under}
 use Rattle.ar_board.specs.Private.Closing.{AreGiven, AreOwn}
-use Rattle.ar_board.specs.Locks.{at_lock}
+use Rattle.ar_board.specs.Locks.{at_lock, lock_of}
 use Rattle.ar_board.specs.Seats.{Held, IsSeat, held, nothing, receipts_under, sums, together}
 use Rattle.ar_board.specs.Private.Seats.{IsOneMore, one_under}
 use Rattle.ar_board.proofs.UnderLocks.{at_nothing, at_sums, by_four, one_in_all, under_four}

@@ -11,7 +11,7 @@ use Rattle.ar_bundle.specs.Bundle.{Bundle, events_of}
 use Rattle.ar_board.specs.Cell.{ArePosts, Cell, IsFresh, IsKept, IsSnapshot, authors_at, history_at, posts_of}
 use Rattle.ar_bundle.specs.Lawful.{numbers_of}
 use Rattle.ar_board.specs.Receipts.{posted_by, posted_from, posted_if, received, received_if}
-use Rattle.ar_board.specs.Private.KeptRuns.{IsInside, IsNextOwn, cell_of, kept_of, own_from}
+use Rattle.ar_board.specs.Private.KeptRuns.{IsSoundCell, IsNextOwn, cell_of, kept_of, own_from}
 use Rattle.ar_bundle.specs.declared.history.Entry.{Entry}
 use Rattle.ar_bundle.specs.declared.bundle.RunPart.{RunPart}
 use Rattle.ar_board.specs.declared.cell.kept_run.KeptRun.{KeptRun as Declared}
@@ -186,7 +186,7 @@ pub record IsAt (named : Bundle) (workers lock : ℕ) (bundle : Bundle) (cell : 
   pub authors : authors_at cell run ≡ kept.authors.items
   pub phases : length kept.run.state.phases ≡ length kept.run.state.limits
 
-pub kept_run : (named : Bundle) (workers lock : ℕ) (bundle : Bundle) (runs : List Declared) (stored : List Bool) (total run : ℕ) (kept : Declared) (cell : Cell) → IsInside named workers lock bundle runs stored total → cell_of runs total ≡ cell → run < length named.runs → kept ≡ get_or runs run kept → IsAt named workers lock bundle cell run kept
+pub kept_run : (named : Bundle) (workers lock : ℕ) (bundle : Bundle) (runs : List Declared) (stored : List Bool) (total run : ℕ) (kept : Declared) (cell : Cell) → IsSoundCell named workers lock bundle runs stored total → cell_of runs total ≡ cell → run < length named.runs → kept ≡ get_or runs run kept → IsAt named workers lock bundle cell run kept
 kept_run named workers lock bundle runs stored total run kept cell inside seen below read =
     let many : length runs ≡ length bundle.runs = sym (length-map runs kept_of) ∙ inside.cell.as_many in
     let same = ap (λ (bundle : Bundle). length bundle.runs) inside.is_named in

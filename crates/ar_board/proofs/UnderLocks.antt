@@ -5,8 +5,8 @@ use Rattle.std.specs.List.{count_by}
 use Rattle.std.proofs.lemmas.Bool.Decides.{nat_tests}
 use Rattle.std.proofs.lemmas.List.Sums.{sum_by-cons}
 use Rattle.ar_bundle.specs.Bundle.{Bundle}
-use Rattle.ar_board.specs.Cell.{entries_under, lock_of}
-use Rattle.ar_board.specs.Locks.{PerLock, at_lock, per_lock}
+use Rattle.ar_board.specs.Cell.{entries_under}
+use Rattle.ar_board.specs.Locks.{PerLock, at_lock, lock_of, per_lock}
 use Rattle.ar_board.specs.Seats.{Held, held, nothing, sums}
 use Rattle.ar_board.specs.Private.Seats.{IsOneMore, one_under}
 

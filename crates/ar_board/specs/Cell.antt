@@ -1,11 +1,11 @@
 -- A cell: what a board keeps under one of its locks. `IsCell` says what is true of it whenever the lock is free.
-use Rattle.std.specs.Prelude.{◌≡◌, ◌≢◌, ◌<◌, ◌+◌, ◌==◌, ◌%◌, ◌++◌, ℕ, suc, List, [], ◌∷◌, length, map, set, Some, get_or, slice_get}
+use Rattle.std.specs.Prelude.{◌≡◌, ◌≢◌, ◌<◌, ◌+◌, ◌==◌, ◌++◌, ℕ, suc, List, [], ◌∷◌, length, map, set, Some, get_or, slice_get}
 use Rattle.std.specs.List.{AllByRecursion, count_by, sum_by}
 use Rattle.std.specs.declared.sync.ledger.Share.{Share}
 use Rattle.ar_limits.specs.Replay.{Replays, Standing}
 use Rattle.ar_limits.specs.Run.{metric_phases, run_phase}
 use Rattle.ar_limits.specs.declared.limits.Limits.{Limits}
-use Rattle.ar_bundle.specs.Bundle.{Bundle, events_of, found, run_of}
+use Rattle.ar_bundle.specs.Bundle.{Bundle, events_of, finding_at, run_at}
 use Rattle.ar_board.specs.Posting.{posted}
 use Rattle.ar_board.specs.Receipts.{posted_by, received}
 use Rattle.ar_bundle.specs.Lawful.{AtMostOnce, IsHistory, numbers_of, times}
@@ -17,6 +17,7 @@ use Rattle.ar_board.specs.declared.cell.receipt.Receipt.{Receipt}
 use Rattle.ar_board.specs.declared.cell.snapshot.LookFault.{LookFault}
 use Rattle.ar_board.specs.declared.cell.snapshot.LookFault.TheVariants.{OutOfMemory, Stale}
 use Rattle.ar_board.specs.declared.cell.snapshot.Snapshot.{Snapshot}
+use Rattle.ar_board.specs.Locks.{lock_of}
 
 -- what a cell keeps of a run: its history, the worker that posted each entry, how many each worker posted, and where the
 -- run stands
@@ -30,10 +31,6 @@ pub record KeptRun : Type 0 where
 pub record Cell : Type 0 where
   pub runs : List KeptRun
   pub total : ℕ
-
--- the lock that a run is under, of the four that a board has
-abbrev pub lock_of : (run : ℕ) → ℕ
-lock_of run = run % 4
 
 -- ---- what is true of a cell
 
@@ -93,23 +90,23 @@ pub record IsEmpty (cell : Cell) : Type 0 where
 
 -- the run of a number is under the lock
 abbrev pub IsUnder : Bundle → (lock number : ℕ) → Type 0
-IsUnder bundle lock number = (run : ℕ) → run_of bundle number ≡ Some run → lock_of run ≡ lock
+IsUnder bundle lock number = (run : ℕ) → run_at bundle number ≡ Some run → lock_of run ≡ lock
 
 -- the number stands in a history
-abbrev pub Stands : (number : ℕ) → Cell → Type 0
-Stands number cell = 0 < times number (histories_of cell)
+abbrev pub IsInHistory : (number : ℕ) → Cell → Type 0
+IsInHistory number cell = 0 < times number (histories_of cell)
 
 -- a number of the bundle, of a run under the lock, with its finding
 pub record IsPostable (bundle : Bundle) (lock number : ℕ) (finding : Finding) : Type 0 where
   pub there : number < length bundle.entries
   pub under : IsUnder bundle lock number
-  pub finds : found bundle number ≡ Some finding
+  pub finds : finding_at bundle number ≡ Some finding
 
 -- one entry more, at the end of the history of its number's run: what the core does where a worker posts the number
 pub record IsPosted (bundle : Bundle) (worker number : ℕ) (finding : Finding) (before after : Cell) (answer : Posted) : Type 0 where
   pub core : posted bundle (histories_of before) number ≡ Some (histories_of after)
   pub run : ℕ
-  pub own : run_of bundle number ≡ Some run
+  pub own : run_at bundle number ≡ Some run
   pub entry : history_at after run ≡ history_at before run ++ record { number = number; finding = finding; effect = answer.effect } ∷ []
   pub place : answer.place ≡ length (history_at before run)
   pub author : authors_of after ≡ set (authors_of before) run (authors_at before run ++ worker ∷ [])
@@ -135,7 +132,7 @@ abbrev pub IsFresh : Cell → (run worker : ℕ) → List Receipt → Type 0
 IsFresh cell run worker receipts = posted_by worker (history_at cell run) (authors_at cell run) ≡ received run receipts
 
 -- a run is shown to a worker whose entries in it are just those of its receipts
-pub record IsShown (bundle : Bundle) (workers run worker : ℕ) (cell : Cell) (receipts : List Receipt) (shown : Snapshot) : Type 0 where
+pub record IsShownTo (bundle : Bundle) (workers run worker : ℕ) (cell : Cell) (receipts : List Receipt) (shown : Snapshot) : Type 0 where
   pub snapshot : IsSnapshot bundle workers run cell shown
   pub fresh : IsFresh cell run worker receipts
 

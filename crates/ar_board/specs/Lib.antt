@@ -8,5 +8,6 @@ pub mod Core
 -- boards
 pub mod Locks
 pub mod Seats
+pub mod Lost
 pub mod Board
 pub mod Private

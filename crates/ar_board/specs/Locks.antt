@@ -1,5 +1,5 @@
 -- A number for each of the four locks of a board, and what their ledgers are made of.
-use Rattle.std.specs.Prelude.{◌≡◌, ℕ, zero, suc}
+use Rattle.std.specs.Prelude.{◌≡◌, ℕ, zero, suc, ◌%◌}
 use Rattle.std.specs.declared.sync.ledger.Blank.{Blank}
 use Rattle.ar_board.specs.declared.locks.Blanks.{Blanks}
 
@@ -36,3 +36,7 @@ pub record AreOf (names : PerLock) (parts : ℕ) (blanks : Blanks) : Type 0 wher
 
 abbrev pub names_of : Blanks → PerLock
 names_of blanks = per_lock blanks.first.name blanks.second.name blanks.third.name blanks.fourth.name
+
+-- the lock that a run is under, of the four that a board has
+abbrev pub lock_of : (run : ℕ) → ℕ
+lock_of run = run % 4

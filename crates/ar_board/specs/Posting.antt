@@ -7,7 +7,7 @@ use Rattle.ar_limits.specs.Run.{effect_of}
 use Rattle.ar_limits.specs.declared.event.Effect.{Effect}
 use Rattle.ar_limits.specs.declared.event.Event.{Event}
 use Rattle.ar_limits.specs.declared.limits.Limits.{Limits}
-use Rattle.ar_bundle.specs.Bundle.{Bundle, events_of, found, happened, run_of}
+use Rattle.ar_bundle.specs.Bundle.{Bundle, events_of, finding_at, happened, run_at}
 use Rattle.ar_bundle.specs.Lawful.{numbers_of}
 use Rattle.ar_bundle.specs.declared.finding.Finding.{Finding}
 use Rattle.ar_bundle.specs.declared.history.Entry.{Entry}
@@ -18,13 +18,13 @@ abbrev pub entry_with : (number : ℕ) → Finding → List Limits → List Even
 entry_with number finding limits events event = record { number = number; finding = finding; effect = effect_of limits events event }
 
 -- after the whole of a history of its run
-abbrev pub entry_of : Bundle → (run : ℕ) → List Entry → (number : ℕ) → Finding → Event → Option Entry
-entry_of bundle run history number finding event =
+abbrev pub entry_posted : Bundle → (run : ℕ) → List Entry → (number : ℕ) → Finding → Event → Option Entry
+entry_posted bundle run history number finding event =
     option_map (λ part. entry_with number finding part.limits (events_of bundle (numbers_of history)) event) (slice_get bundle.runs run)
 
 abbrev pub entry_behind : Bundle → (run : ℕ) → List Entry → (number : ℕ) → Option Entry
 entry_behind bundle run history number =
-    option_and_then (λ finding. option_and_then (entry_of bundle run history number finding) (happened bundle number)) (found bundle number)
+    option_and_then (λ finding. option_and_then (entry_posted bundle run history number finding) (happened bundle number)) (finding_at bundle number)
 
 -- the histories with a number at the end of that of its run
 abbrev pub added : List (List Entry) → (run : ℕ) → Entry → List (List Entry)
@@ -34,7 +34,7 @@ abbrev pub with_number : Bundle → List (List Entry) → (number run : ℕ) →
 with_number bundle histories number run = option_map (added histories run) (entry_behind bundle run (get_or histories run []) number)
 
 abbrev pub posted : Bundle → List (List Entry) → (number : ℕ) → Option (List (List Entry))
-posted bundle histories number = option_and_then (with_number bundle histories number) (run_of bundle number)
+posted bundle histories number = option_and_then (with_number bundle histories number) (run_at bundle number)
 
 -- a run's history in memory has one entry more at its end, and the same capacity
 pub record HasOneMore (number : ℕ) (finding : Finding) (event : Event) (before after : RunHistory) (effect : Effect) : Type 0 where

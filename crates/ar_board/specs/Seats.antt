@@ -1,9 +1,9 @@
 -- What a seat counts: its shares of the ledgers of the four locks, and its receipts.
 use Rattle.std.specs.Prelude.{◌≡◌, ◌+◌, ◌<◌, ◌≤◌, ◌==◌, ℕ, List, length, Some}
 use Rattle.std.specs.List.{AllByRecursion, count_by}
-use Rattle.ar_bundle.specs.Bundle.{Bundle, run_of}
-use Rattle.ar_board.specs.Cell.{entries_under, lock_of}
-use Rattle.ar_board.specs.Locks.{PerLock, at_lock, per_lock}
+use Rattle.ar_bundle.specs.Bundle.{Bundle, run_at}
+use Rattle.ar_board.specs.Cell.{entries_under}
+use Rattle.ar_board.specs.Locks.{PerLock, at_lock, lock_of, per_lock}
 use Rattle.ar_board.specs.declared.cell.receipt.Receipt.{Receipt}
 
 -- ---- shares
@@ -36,7 +36,7 @@ receipts_under lock receipts = count_by (λ receipt. lock_of receipt.run == lock
 -- receipts for runs under the lock; each receipt is for the run of its number; and there is room for one of each number
 pub record IsSeat (bundle : Bundle) (workers worker : ℕ) (receipts : List Receipt) (capacity : ℕ) (shares : Held) : Type 0 where
   pub is_worker : worker < workers
-  pub own : AllByRecursion (λ receipt. run_of bundle receipt.number ≡ Some receipt.run) receipts
+  pub own : AllByRecursion (λ receipt. run_at bundle receipt.number ≡ Some receipt.run) receipts
   pub room : length bundle.entries ≤ capacity
   pub part : shares.parts ≡ 1
   pub counted : (lock : ℕ) → at_lock shares.amounts lock ≡ receipts_under lock receipts

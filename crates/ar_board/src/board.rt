@@ -1,10 +1,10 @@
 //! Boards, to which several workers post at the same time.
 
 ghost use Rattle.std.specs.Prelude.{◌≡◌, ◌<◌, ◌≤◌, IfErr, IfOk, OnErr, OnOk, Some, length};
-ghost use Rattle.ar_bundle.specs.Bundle.{found, run_of};
-ghost use Rattle.ar_board.specs.Board.{AreSeated, IsClosed, IsLost, IsReceived, IsSeen, IsUnseen, receipts_of};
-ghost use Rattle.ar_board.specs.Cell.{lock_of};
-ghost use Rattle.ar_board.specs.Locks.{AreOf};
+ghost use Rattle.ar_bundle.specs.Bundle.{finding_at, run_at};
+ghost use Rattle.ar_board.specs.Lost.{IsLost};
+ghost use Rattle.ar_board.specs.Board.{AreSeated, IsClosed, IsReceived, IsSeen, IsUnseen, receipts_of};
+ghost use Rattle.ar_board.specs.Locks.{AreOf, lock_of};
 ghost use Rattle.ar_board.specs.Private.Closing.{IsReady};
 ghost use Rattle.ar_board.specs.Private.Seats.{IsOneMore};
 
@@ -97,7 +97,7 @@ impl<'b, M: BundleName, L: LockNames> Board<'b, M, L> {
         finding: Finding,
     ) -> Result<Posted, Double>
         requires there { number < length M.bundle.entries }
-        requires finding { found M.bundle number ≡ Some finding }
+        requires finding { finding_at M.bundle number ≡ Some finding }
         ensures received { IfOk result (IsReceived M.bundle number seat.old seat.new) }
         ensures refused { OnErr result (seat.new ≡ seat.old) }
     {
@@ -123,9 +123,9 @@ impl<'b, M: BundleName, L: LockNames> Board<'b, M, L> {
         finding: Finding,
     ) -> Result<Posted, Double>
         requires there { number < length M.bundle.entries }
-        requires run { run_of M.bundle number ≡ Some run }
+        requires run { run_at M.bundle number ≡ Some run }
         requires worker { worker < M.workers }
-        requires finding { found M.bundle number ≡ Some finding }
+        requires finding { finding_at M.bundle number ≡ Some finding }
         requires part { 0 < held.old.parts }
         ensures more { OnOk result (IsOneMore M.bundle (lock_of run) held.old held.new) }
         ensures refused { OnErr result (held.new ≡ held.old) }

@@ -1,8 +1,9 @@
 //! What a board keeps under one of its locks.
 
 ghost use Rattle.std.specs.Prelude.{◌≡◌, ◌<◌, ◌≤◌, ◌==◌, ◌↔◌, if◌then◌else◌, Err, IfErr, IfOk, IsErr, OnErr, get_or, length};
-ghost use Rattle.ar_bundle.specs.Bundle.{IsBundle};
-ghost use Rattle.ar_board.specs.Cell.{ArePut, CanBe, IsAdded, IsCell, IsEmpty, IsFresh, IsPostable, IsShown, Stands, authors_at, entries_under, histories_of, history_at, lock_of, stale};
+ghost use Rattle.ar_bundle.specs.Sound.{IsBundle};
+ghost use Rattle.ar_board.specs.Locks.{lock_of};
+ghost use Rattle.ar_board.specs.Cell.{ArePut, CanBe, IsAdded, IsCell, IsEmpty, IsFresh, IsPostable, IsShownTo, IsInHistory, authors_at, entries_under, histories_of, history_at, stale};
 ghost use Rattle.ar_board.specs.Private.KeptRuns.{AreOpened};
 
 use crate::cell::kept_run::KeptRun;
@@ -39,13 +40,14 @@ pub struct RunCell<'b, M: BundleName, L: LockName> {
 
 impl<'b, M: BundleName, L: LockName> Model for RunCell<'b, M, L> {
     ghost use Rattle.ar_board.specs.Cell.{Cell};
-    ghost use Rattle.ar_board.specs.Private.KeptRuns.{IsInside, cell_of};
+    ghost use Rattle.ar_board.specs.Private.KeptRuns.{IsSoundCell, cell_of};
 
     ghost Value = { Cell };
 
     ghost view = { λ c. cell_of c.runs.items c.book.total };
 
-    ghost invariant = { λ c. IsInside M.bundle M.workers L.lock c.bundle.now c.runs.items c.stored.items c.book.total };
+    ghost invariant = { λ c. IsSoundCell M.bundle M.workers L.lock
+        c.bundle.now c.runs.items c.stored.items c.book.total };
 }
 
 /// How many entries a run can have under a lock, by the sizes of the runs.
@@ -159,7 +161,7 @@ impl<'b, M: BundleName, L: LockName> RunCell<'b, M, L> {
         requires run { (run < length M.bundle.runs) × (lock_of run ≡ L.lock) }
         requires worker { worker < M.workers }
         ensures cell { IsCell M.bundle M.workers L.lock self.now }
-        ensures shown { IfOk result (IsShown M.bundle M.workers run worker self.now receipts.now) }
+        ensures shown { IfOk result (IsShownTo M.bundle M.workers run worker self.now receipts.now) }
         ensures stale { (IsFresh self.now run worker receipts.now → ⊥) ↔ (result ≡ Err (stale self.now run worker)) }
         ensures fault { IfErr result (λ fault. CanBe worker (authors_at self.now run) fault) }
     {
@@ -212,7 +214,7 @@ impl<'b, M: BundleName, L: LockName> RunCell<'b, M, L> {
         requires number { IsPostable M.bundle L.lock number finding }
         requires worker { (worker < M.workers) × (0 < mine.old.parts) }
         ensures added { IfOk result (IsAdded M.bundle worker number finding self.old self.new mine.old mine.new) }
-        ensures double { IsErr result ↔ Stands number self.old }
+        ensures double { IsErr result ↔ IsInHistory number self.old }
         ensures refused { OnErr result ((self.new ≡ self.old) × (mine.new.amount ≡ mine.old.amount)) }
         ensures parts { mine.new.parts ≡ mine.old.parts }
     {

@@ -2,7 +2,7 @@
 
 ghost use Rattle.std.specs.Prelude.{◌≡◌, ◌<◌, ◌≤◌, ◌↔◌, false, IfOk, IsTrue, length, replicate};
 ghost use Rattle.std.specs.List.{AllByRecursion};
-ghost use Rattle.ar_bundle.specs.Bundle.{IsBundle};
+ghost use Rattle.ar_bundle.specs.Sound.{IsBundle};
 ghost use Rattle.ar_bundle.specs.Lawful.{numbers_of, times, times_in};
 ghost use Rattle.ar_board.specs.Private.Closing.{AreAllMarked, AreInside, AreMarked, AreOwn, AreStored, FirstLost, FirstUnheld, IsAt, IsBehind, IsLaterOf, IsReady, lists_of};
 

@@ -1,8 +1,8 @@
 //! The core of a board in memory.
 
 ghost use Rattle.std.specs.Prelude.{◌≡◌, ◌<◌, ◌↔◌, true, false, [], IfOk, None, Some, length, replicate, slice_get};
-ghost use Rattle.ar_bundle.specs.Bundle.{IsBundle};
-ghost use Rattle.ar_board.specs.Core.{HasAll, IsStateOf, core_after, held, stepped};
+ghost use Rattle.ar_bundle.specs.Sound.{IsBundle};
+ghost use Rattle.ar_board.specs.Core.{HasAll, IsStateOf, core_after, held, core_stepped};
 ghost use Rattle.ar_bundle.specs.Lawful.{AllRise};
 ghost use Rattle.ar_board.specs.Private.Inside.{AreJudged, AreOpened};
 ghost use Rattle.ar_board.specs.Private.Posts.{HasRoom, IsAppended, stepped_by};
@@ -204,7 +204,7 @@ impl<'b> CoreState<'b> {
 
     /// The next number goes to the queue's end, where there is a place for it.
     fn put(&mut self) -> Moved
-        ensures after { self.new ≡ stepped self.old Put }
+        ensures after { self.new ≡ core_stepped self.old Put }
         ensures idle { (result ≡ Idle) ↔ (self.new.state ≡ self.old.state) }
     {
         if self.next >= self.bundle.events() || self.queue.len() >= self.places {
@@ -217,7 +217,7 @@ impl<'b> CoreState<'b> {
 
     /// The queue's first number goes into the worker's empty hand.
     fn take(&mut self, worker: usize) -> Moved
-        ensures after { self.new ≡ stepped self.old (Take worker) }
+        ensures after { self.new ≡ core_stepped self.old (Take worker) }
         ensures idle { (result ≡ Idle) ↔ (self.new.state ≡ self.old.state) }
     {
         let Some(None) = self.hands.get(worker) else {
@@ -243,7 +243,7 @@ impl<'b> CoreState<'b> {
     /// The number in the worker's hand goes to the end of its run's history.
     fn post_at_once(&mut self, worker: usize) -> Moved
         requires { self.old.ordered ≡ false }
-        ensures after { self.new ≡ stepped self.old (Post worker) }
+        ensures after { self.new ≡ core_stepped self.old (Post worker) }
         ensures idle { (result ≡ Idle) ↔ (self.new.state ≡ self.old.state) }
     {
         let Some(number) = self.held(worker) else {
@@ -257,7 +257,7 @@ impl<'b> CoreState<'b> {
 
     /// The number in the worker's hand is posted, as the core is ordered or not.
     fn post(&mut self, worker: usize) -> Moved
-        ensures after { self.new ≡ stepped self.old (Post worker) }
+        ensures after { self.new ≡ core_stepped self.old (Post worker) }
         ensures idle { (result ≡ Idle) ↔ (self.new.state ≡ self.old.state) }
     {
         if self.ordered {
@@ -283,7 +283,7 @@ fn append(bundle: &Bundle, findings: &[Finding], run: &mut RunHistory, number: u
 /// Makes a step, in constant time but for what it moves to histories and for the events that close a
 /// run. No memory is taken.
 pub fn core_step(core: &mut CoreState<'_>, step: CoreStep) -> Moved
-    ensures after { core.new ≡ stepped core.old step }
+    ensures after { core.new ≡ core_stepped core.old step }
     // Nothing was done exactly where the state stays.
     ensures idle { (result ≡ Idle) ↔ (core.new.state ≡ core.old.state) }
 {

@@ -5,8 +5,9 @@ ghost use Rattle.std.specs.Prelude.{◌≡◌, ◌⊎◌, ℕ, Bool, List, ◌�
 ghost use Rattle.ar_bundle.specs.declared.history.Entry.{Entry};
 ghost use Rattle.ar_board.specs.Receipts.{IsElsewhere, IsMet, IsMissing, IsOutOfOrder};
 ghost use Rattle.ar_board.specs.declared.cell.receipt.Receipt.{Receipt};
-ghost use Rattle.ar_bundle.specs.Bundle.{Bundle, IsBundle};
-ghost use Rattle.ar_board.specs.Core.{HasEachOnce, IsAtRest, after, is_parked, lacking, opening};
+ghost use Rattle.ar_bundle.specs.Sound.{IsBundle};
+ghost use Rattle.ar_bundle.specs.Bundle.{Bundle};
+ghost use Rattle.ar_board.specs.Core.{HasEachOnce, IsAtRest, after_steps, is_parked, lacking, opening};
 ghost use Rattle.ar_bundle.specs.Lawful.{AllRise, AreHistories, AreLawful};
 ghost use Rattle.ar_board.specs.declared.core_steps.CoreStep.{CoreStep};
 
@@ -26,7 +27,7 @@ pub fn receipts_are_met_or_not()
 #[tactic(auto, using(crate::proofs::CoreLaws::each_once))]
 pub fn each_number_once()
     ensures { (bundle : Bundle) (workers places : ℕ) (ordered : Bool) (steps : List CoreStep) → IsBundle bundle
-        → HasEachOnce bundle (after bundle places ordered (opening bundle workers) steps) }
+        → HasEachOnce bundle (after_steps bundle places ordered (opening bundle workers) steps) }
 {}
 
 /// Each run's history has its own numbers alone, each with its finding and the effect that it has
@@ -34,14 +35,15 @@ pub fn each_number_once()
 #[tactic(auto, using(crate::proofs::CoreLaws::histories_of_runs))]
 pub fn histories_are_of_runs()
     ensures { (bundle : Bundle) (workers places : ℕ) (ordered : Bool) (steps : List CoreStep) → IsBundle bundle
-        → AreHistories bundle 0 bundle.runs (after bundle places ordered (opening bundle workers) steps).histories }
+        → AreHistories bundle 0 bundle.runs
+        (after_steps bundle places ordered (opening bundle workers) steps).histories }
 {}
 
 /// In an ordered core the numbers rise in each history.
 #[tactic(auto, using(crate::proofs::CoreLaws::histories_rise))]
 pub fn ordered_histories_rise()
     ensures { (bundle : Bundle) (workers places : ℕ) (steps : List CoreStep) → IsBundle bundle
-        → AllRise (after bundle places true (opening bundle workers) steps).histories }
+        → AllRise (after_steps bundle places true (opening bundle workers) steps).histories }
 {}
 
 /// There the least number that a run's history lacks isn't parked: a parked number waits for a lower
@@ -49,14 +51,14 @@ pub fn ordered_histories_rise()
 pub fn parked_numbers_wait()
     ensures { (bundle : Bundle) (workers places run number : ℕ) (others : List ℕ) (steps : List CoreStep)
         → IsBundle bundle
-        → lacking bundle (after bundle places true (opening bundle workers) steps) run ≡ number ∷ others
-        → is_parked (after bundle places true (opening bundle workers) steps) number ≡ false }
+        → lacking bundle (after_steps bundle places true (opening bundle workers) steps) run ≡ number ∷ others
+        → is_parked (after_steps bundle places true (opening bundle workers) steps) number ≡ false }
 {}
 
 /// Where nothing is left to put, to take or to post, and nothing is parked, the histories are lawful.
 #[tactic(auto, using(crate::proofs::CoreLaws::at_rest))]
 pub fn lawful_at_rest()
     ensures { (bundle : Bundle) (workers places : ℕ) (ordered : Bool) (steps : List CoreStep) → IsBundle bundle
-        → IsAtRest bundle (after bundle places ordered (opening bundle workers) steps)
-        → AreLawful bundle (after bundle places ordered (opening bundle workers) steps).histories }
+        → IsAtRest bundle (after_steps bundle places ordered (opening bundle workers) steps)
+        → AreLawful bundle (after_steps bundle places ordered (opening bundle workers) steps).histories }
 {}

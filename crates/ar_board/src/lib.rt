@@ -3,7 +3,7 @@
 //! A [`Board`] keeps the runs of a bundle in four cells, each under a lock of its own. Each worker has a
 //! [`Seat`], by which it posts and looks, and which keeps the receipts of its posts. A post or a look takes
 //! the lock of its run alone. [`Board::close`] gives the histories where they hold each number, and else
-//! says in [`Lost`] which is the least that is lost (`specs/Board`).
+//! says in [`Lost`] which is the least that is lost (`specs/Lost`).
 //!
 //! A [`RunCell`] is what is kept under one lock: of each run the history with the worker that posted each
 //! entry, and where the run stands. [`RunCell::add`] puts a number to the end of its run's history, as

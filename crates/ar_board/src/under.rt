@@ -1,10 +1,12 @@
 //! What is done under one of a board's locks, over any of them.
 
 ghost use Rattle.std.specs.Prelude.{◌≡◌, ◌+◌, ◌<◌, ◌≤◌, IfErr, IfOk, OnErr, OnOk, Some, length};
-ghost use Rattle.ar_bundle.specs.Bundle.{IsBundle, found};
+ghost use Rattle.ar_bundle.specs.Sound.{IsBundle};
+ghost use Rattle.ar_bundle.specs.Bundle.{finding_at};
 ghost use Rattle.ar_board.specs.Board.{IsSeen, IsUnseen, seat_of};
 ghost use Rattle.ar_board.specs.Private.Closing.{IsCellClosed};
-ghost use Rattle.ar_board.specs.Cell.{IsUnder, entries_under, lock_of};
+ghost use Rattle.ar_board.specs.Locks.{lock_of};
+ghost use Rattle.ar_board.specs.Cell.{IsUnder, entries_under};
 
 use crate::locks::{Lock, LockNames};
 use crate::{Double, LockName, LookFault, Posted, Receipt, RunCell, Snapshot};
@@ -26,7 +28,7 @@ pub(crate) fn post<M: BundleName, L: LockName, R: Wait>(
     requires there { number < length M.bundle.entries }
     requires under { IsUnder M.bundle L.lock number }
     requires worker { worker < M.workers }
-    requires finding { found M.bundle number ≡ Some finding }
+    requires finding { finding_at M.bundle number ≡ Some finding }
     requires part { 0 < share.old.parts }
     ensures more { OnOk result (share.new.amount ≡ share.old.amount + 1) }
     ensures few { share.new.amount ≤ entries_under M.bundle L.lock }

@@ -2,7 +2,7 @@
 use Rattle.std.proofs.Common.{◌≡◌, ◌≢◌, ◌<◌, ◌≤◌, ℕ, zero, suc, ◌==◌, Bool, true, false, if◌then◌else◌, List, [], ◌∷◌, ◌++◌, length, Option, Some, None, refl, sym, ◌∙◌, ap, subst, arith, append-nil, length-append}
 use Rattle.std.specs.List.{AllByRecursion}
 use Rattle.std.proofs.lemmas.Bool.Decides.{nat_tests}
-use Rattle.ar_bundle.specs.Bundle.{Bundle, run_of}
+use Rattle.ar_bundle.specs.Bundle.{Bundle, run_at}
 use Rattle.ar_bundle.specs.Lawful.{Rise, times_in}
 use Rattle.ar_bundle.proofs.HistoryLemmas.{all_push, times_by, times_push}
 use Rattle.ar_bundle.specs.Growing.{below, where_own}
@@ -12,12 +12,12 @@ use Rattle.ar_bundle.specs.Growing.{below, where_own}
 own_by_test : (run number own : ℕ) (test : Bool) → (own == run) ≡ test → where_own run number (Some own) ≡ (if test then number ∷ [] else [])
 own_by_test run number own test is = rw is refl
 
-pub own_is : (bundle : Bundle) (run upto : ℕ) → run_of bundle upto ≡ Some run → below bundle run (suc upto) ≡ below bundle run upto ++ upto ∷ []
+pub own_is : (bundle : Bundle) (run upto : ℕ) → run_at bundle upto ≡ Some run → below bundle run (suc upto) ≡ below bundle run upto ++ upto ∷ []
 own_is bundle run upto is =
     let same : (run == run) ≡ true = grind (arith, nat_tests) in
     ap (λ own. below bundle run upto ++ where_own run upto own) is ∙ ap (λ numbers. below bundle run upto ++ numbers) (own_by_test run upto run true same)
 
-pub other_is : (bundle : Bundle) (run upto own : ℕ) → run_of bundle upto ≡ Some own → own ≢ run → below bundle run (suc upto) ≡ below bundle run upto
+pub other_is : (bundle : Bundle) (run upto own : ℕ) → run_at bundle upto ≡ Some own → own ≢ run → below bundle run (suc upto) ≡ below bundle run upto
 other_is bundle run upto own is away =
     let unlike : (own == run) ≡ false = grind (arith, nat_tests) in
     ap (λ own. below bundle run upto ++ where_own run upto own) is ∙ (ap (λ numbers. below bundle run upto ++ numbers) (own_by_test run upto own false unlike) ∙ append-nil (below bundle run upto))
@@ -35,8 +35,8 @@ pub few : (bundle : Bundle) (run upto : ℕ) → length (below bundle run upto) 
 few bundle run zero = omega arith
 few bundle run (suc upto) =
     let shorter = few bundle run upto in
-    let one = own_length run upto (run_of bundle upto) in
-    let both = length-append (below bundle run upto) (where_own run upto (run_of bundle upto)) in
+    let one = own_length run upto (run_at bundle upto) in
+    let both = length-append (below bundle run upto) (where_own run upto (run_at bundle upto)) in
     omega arith
 
 -- ---- in which order
@@ -54,7 +54,7 @@ all_below run upto number (Some own) numbers all = by_test (own == run) where
 
 pub are_below : (bundle : Bundle) (run upto : ℕ) → AllByRecursion (λ number. number < upto) (below bundle run upto)
 are_below bundle run zero = tt
-are_below bundle run (suc upto) = all_below run upto upto (run_of bundle upto) (below bundle run upto) (are_below bundle run upto)
+are_below bundle run (suc upto) = all_below run upto upto (run_at bundle upto) (below bundle run upto) (are_below bundle run upto)
 
 rise_push : (numbers : List ℕ) (last : ℕ) → Rise numbers → AllByRecursion (λ number. number < last) numbers → Rise (numbers ++ last ∷ [])
 rise_push [] last rise below = (tt, tt)
@@ -69,7 +69,7 @@ rise_own run upto (Some own) numbers rise below = by_test (own == run) where
 
 pub rises : (bundle : Bundle) (run upto : ℕ) → Rise (below bundle run upto)
 rises bundle run zero = tt
-rises bundle run (suc upto) = rise_own run upto (run_of bundle upto) (below bundle run upto) (rises bundle run upto) (are_below bundle run upto)
+rises bundle run (suc upto) = rise_own run upto (run_at bundle upto) (below bundle run upto) (rises bundle run upto) (are_below bundle run upto)
 
 -- ---- how often
 
@@ -99,45 +99,45 @@ behind_own number last numbers test none =
     let pushed = times_push number last numbers in
     omega arith
 
-no_run_is : (bundle : Bundle) (run upto : ℕ) → run_of bundle upto ≡ None → below bundle run (suc upto) ≡ below bundle run upto
+no_run_is : (bundle : Bundle) (run upto : ℕ) → run_at bundle upto ≡ None → below bundle run (suc upto) ≡ below bundle run upto
 no_run_is bundle run upto none = ap (λ own. below bundle run upto ++ where_own run upto own) none ∙ append-nil (below bundle run upto)
 
 -- a number of one run isn't another's
-unlike : (bundle : Bundle) (run own upto number : ℕ) → run_of bundle number ≡ Some own → own ≢ run → run_of bundle upto ≡ Some run → upto ≢ number
-unlike bundle run own upto number is away of same = let both : Some run ≡ Some own = sym of ∙ (ap (run_of bundle) same ∙ is) in away cc
+unlike : (bundle : Bundle) (run own upto number : ℕ) → run_at bundle number ≡ Some own → own ≢ run → run_at bundle upto ≡ Some run → upto ≢ number
+unlike bundle run own upto number is away of same = let both : Some run ≡ Some own = sym of ∙ (ap (run_at bundle) same ∙ is) in away cc
 
-step_by_own : (bundle : Bundle) (run upto number of : ℕ) (test : Bool) → run_of bundle upto ≡ Some of → (of == run) ≡ test → (run_of bundle upto ≡ Some run → upto ≢ number) → times_in number (below bundle run (suc upto)) ≡ times_in number (below bundle run upto)
+step_by_own : (bundle : Bundle) (run upto number of : ℕ) (test : Bool) → run_at bundle upto ≡ Some of → (of == run) ≡ test → (run_at bundle upto ≡ Some run → upto ≢ number) → times_in number (below bundle run (suc upto)) ≡ times_in number (below bundle run upto)
 step_by_own bundle run upto number of true there test apart =
     let same : of ≡ run = grind (arith, nat_tests) in
-    let here : run_of bundle upto ≡ Some run = there ∙ ap Some same in
+    let here : run_at bundle upto ≡ Some run = there ∙ ap Some same in
     ap (times_in number) (own_is bundle run upto here) ∙ behind_other number upto (below bundle run upto) (apart here)
 step_by_own bundle run upto number of false there test apart =
     let away : of ≢ run = grind (arith, nat_tests) in
     ap (times_in number) (other_is bundle run upto of there away)
 
-step_by_run : (bundle : Bundle) (run upto number : ℕ) (of : Option ℕ) → run_of bundle upto ≡ of → (run_of bundle upto ≡ Some run → upto ≢ number) → times_in number (below bundle run (suc upto)) ≡ times_in number (below bundle run upto)
+step_by_run : (bundle : Bundle) (run upto number : ℕ) (of : Option ℕ) → run_at bundle upto ≡ of → (run_at bundle upto ≡ Some run → upto ≢ number) → times_in number (below bundle run (suc upto)) ≡ times_in number (below bundle run upto)
 step_by_run bundle run upto number None there apart = ap (times_in number) (no_run_is bundle run upto there)
 step_by_run bundle run upto number (Some of) there apart = step_by_own bundle run upto number of (of == run) there refl apart
 
 -- a number that isn't this one, or isn't the run's, changes nothing
-stays : (bundle : Bundle) (run upto number : ℕ) → (run_of bundle upto ≡ Some run → upto ≢ number) → times_in number (below bundle run (suc upto)) ≡ times_in number (below bundle run upto)
-stays bundle run upto number apart = step_by_run bundle run upto number (run_of bundle upto) refl apart
+stays : (bundle : Bundle) (run upto number : ℕ) → (run_at bundle upto ≡ Some run → upto ≢ number) → times_in number (below bundle run (suc upto)) ≡ times_in number (below bundle run upto)
+stays bundle run upto number apart = step_by_run bundle run upto number (run_at bundle upto) refl apart
 
 -- a number of another run never stands there
-pub of_another : (bundle : Bundle) (run upto number own : ℕ) → run_of bundle number ≡ Some own → own ≢ run → times_in number (below bundle run upto) ≡ 0
+pub of_another : (bundle : Bundle) (run upto number own : ℕ) → run_at bundle number ≡ Some own → own ≢ run → times_in number (below bundle run upto) ≡ 0
 of_another bundle run zero number own is away = refl
 of_another bundle run (suc upto) number own is away = stays bundle run upto number (unlike bundle run own upto number is away) ∙ of_another bundle run upto number own is away
 
-once_by_test : (bundle : Bundle) (run upto number : ℕ) (test : Bool) → (upto == number) ≡ test → run_of bundle number ≡ Some run → number < suc upto → (number < upto → times_in number (below bundle run upto) ≡ 1) → times_in number (below bundle run (suc upto)) ≡ 1
+once_by_test : (bundle : Bundle) (run upto number : ℕ) (test : Bool) → (upto == number) ≡ test → run_at bundle number ≡ Some run → number < suc upto → (number < upto → times_in number (below bundle run upto) ≡ 1) → times_in number (below bundle run (suc upto)) ≡ 1
 once_by_test bundle run upto number true test is small earlier =
     let same : upto ≡ number = grind (arith, nat_tests) in
-    let here : run_of bundle upto ≡ Some run = ap (run_of bundle) same ∙ is in
+    let here : run_at bundle upto ≡ Some run = ap (run_at bundle) same ∙ is in
     ap (times_in number) (own_is bundle run upto here) ∙ behind_own number upto (below bundle run upto) test (not_yet bundle run upto number (omega arith))
 once_by_test bundle run upto number false test is small earlier =
     let apart : upto ≢ number = grind (arith, nat_tests) in
     stays bundle run upto number (λ here. apart) ∙ earlier (omega arith)
 
 -- a number of the run stands there once
-pub of_run : (bundle : Bundle) (run upto number : ℕ) → run_of bundle number ≡ Some run → number < upto → times_in number (below bundle run upto) ≡ 1
+pub of_run : (bundle : Bundle) (run upto number : ℕ) → run_at bundle number ≡ Some run → number < upto → times_in number (below bundle run upto) ≡ 1
 of_run bundle run zero number is small = absurd (omega arith)
 of_run bundle run (suc upto) number is small = once_by_test bundle run upto number (upto == number) refl is small (of_run bundle run upto number is)

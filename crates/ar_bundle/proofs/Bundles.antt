@@ -7,10 +7,12 @@ use Rattle.ar_value.specs.Fits.{fits}
 use Rattle.ar_value.specs.Shape.{Shape}
 use Rattle.ar_value.specs.Value.{Value}
 use Rattle.ar_value.specs.View.{shape_view}
-use Rattle.ar_judge.specs.Condition.{Condition}
-use Rattle.ar_judge.specs.Verdict.{FitsEach, Judge, Sample, Suits, TakesNoMemory, measured, misfit, provider, sample_view}
+use Rattle.ar_judge.specs.Built.{Condition}
+use Rattle.ar_judge.specs.Judging.{FitsEach, Suits, TakesNoMemory}
+use Rattle.ar_judge.specs.Verdict.{Judge, Sample, measured, misfit, provider, sample_view}
 use Rattle.ar_judge.specs.declared.sample.Sample.{Sample as Declared}
-use Rattle.ar_bundle.specs.Bundle.{Bundle, CanHappen, IsBundle, IsEntry, IsOfShape, IsRun, JudgesEach, JudgesShape, SampleSuits, SuitsMetric, judge_at, run_of}
+use Rattle.ar_bundle.specs.Sound.{CanHappen, IsBundle, IsEventPart, IsOfShape, IsRun, JudgesEach, JudgesShape, SampleSuits, SuitsMetric}
+use Rattle.ar_bundle.specs.Bundle.{Bundle, judge_at, run_at}
 use Rattle.ar_bundle.specs.declared.bundle.EventPart.{EventPart}
 use Rattle.ar_bundle.specs.declared.bundle.MetricPart.{MetricPart}
 use Rattle.ar_bundle.specs.declared.bundle.RunPart.{RunPart}
@@ -67,8 +69,8 @@ judge_inside bundle run part metric sample is below read suits =
     }
 
 -- an entry that was read is one of the bundle's
-pub entry_is : (bundle : Bundle) (number : ℕ) (entry : EventPart) → IsBundle bundle → number < length bundle.entries → entry ≡ slice_index_or bundle.entries number entry → IsEntry bundle.metrics (length bundle.runs) entry
-entry_is bundle number entry is below read = of_each (IsEntry bundle.metrics (length bundle.runs)) bundle.entries number entry is.entries (entry_there bundle number entry below read)
+pub entry_is : (bundle : Bundle) (number : ℕ) (entry : EventPart) → IsBundle bundle → number < length bundle.entries → entry ≡ slice_index_or bundle.entries number entry → IsEventPart bundle.metrics (length bundle.runs) entry
+entry_is bundle number entry is below read = of_each (IsEventPart bundle.metrics (length bundle.runs)) bundle.entries number entry is.entries (entry_there bundle number entry below read)
 
 pub run_there : (bundle : Bundle) (number : ℕ) (entry : EventPart) → IsBundle bundle → number < length bundle.entries → entry ≡ slice_index_or bundle.entries number entry → entry.run < length bundle.runs
 run_there bundle number entry is below read = (entry_is bundle number entry is below read).run
@@ -86,7 +88,7 @@ entry_at (first ∷ rest) zero inside = (first, refl)
 entry_at (first ∷ rest) (suc place) inside = entry_at rest place (omega arith)
 
 -- a number that is there is one of a run that is there
-pub run_of_number : (bundle : Bundle) (number : ℕ) → IsBundle bundle → number < length bundle.entries → (own : ℕ) × (run_of bundle number ≡ Some own) × (own < length bundle.runs)
+pub run_of_number : (bundle : Bundle) (number : ℕ) → IsBundle bundle → number < length bundle.entries → (own : ℕ) × (run_at bundle number ≡ Some own) × (own < length bundle.runs)
 run_of_number bundle number is inside =
     let entry = entry_at bundle.entries number inside in
-    (entry.0.run, rw entry.1 refl, (of_each (IsEntry bundle.metrics (length bundle.runs)) bundle.entries number entry.0 is.entries entry.1).run)
+    (entry.0.run, rw entry.1 refl, (of_each (IsEventPart bundle.metrics (length bundle.runs)) bundle.entries number entry.0 is.entries entry.1).run)

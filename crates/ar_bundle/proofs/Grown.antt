@@ -10,7 +10,8 @@ use Rattle.ar_limits.specs.Run.{effect_of, effects}
 use Rattle.ar_limits.specs.declared.event.Effect.{Effect}
 use Rattle.ar_limits.specs.declared.event.Event.{Event}
 use Rattle.ar_limits.specs.declared.limits.Limits.{Limits}
-use Rattle.ar_bundle.specs.Bundle.{Bundle, IsBundle, IsRun, events_of, found, happened, run_of}
+use Rattle.ar_bundle.specs.Sound.{IsBundle, IsRun}
+use Rattle.ar_bundle.specs.Bundle.{Bundle, events_of, finding_at, happened, run_at}
 use Rattle.ar_bundle.proofs.Bundles.{entry_at, of_each}
 use Rattle.ar_limits.specs.Metric.{HasPositiveCounts}
 use Rattle.ar_limits.specs.Prefixes.{with_earlier}
@@ -26,7 +27,7 @@ entry_of : ℕ → Finding → Effect → Entry
 entry_of number finding effect = record { number = number; finding = finding; effect = effect }
 
 -- the run's own number comes to its history
-pub grown_by : (bundle : Bundle) (upto run : ℕ) (limits : List Limits) (state after : Standing) (history : List Entry) (finding : Finding) (event : Event) (effect : Effect) → run_of bundle upto ≡ Some run → found bundle upto ≡ Some finding → happened bundle upto ≡ Some event
+pub grown_by : (bundle : Bundle) (upto run : ℕ) (limits : List Limits) (state after : Standing) (history : List Entry) (finding : Finding) (event : Event) (effect : Effect) → run_at bundle upto ≡ Some run → finding_at bundle upto ≡ Some finding → happened bundle upto ≡ Some event
     → IsGrown bundle upto run limits state history → Replays limits (events_of bundle (below bundle run upto) ++ event ∷ []) after → effect ≡ effect_of limits (events_of bundle (below bundle run upto)) event
     → IsGrown bundle (suc upto) run limits after (history ++ record { number = upto; finding = finding; effect = effect } ∷ [])
 grown_by bundle upto run limits state after history finding event effect own is happens grown replays does =
@@ -48,7 +49,7 @@ grown_by bundle upto run limits state after history finding event effect own is 
     }
 
 -- another run's number doesn't
-pub left_out : (bundle : Bundle) (upto run own : ℕ) (limits : List Limits) (state : Standing) (history : List Entry) → run_of bundle upto ≡ Some own → own ≢ run → IsGrown bundle upto run limits state history → IsGrown bundle (suc upto) run limits state history
+pub left_out : (bundle : Bundle) (upto run own : ℕ) (limits : List Limits) (state : Standing) (history : List Entry) → run_at bundle upto ≡ Some own → own ≢ run → IsGrown bundle upto run limits state history → IsGrown bundle (suc upto) run limits state history
 left_out bundle upto run own limits state history is away grown =
     let same = other_is bundle run upto own is away in
     record {
@@ -57,7 +58,7 @@ left_out bundle upto run own limits state history is away grown =
       replays = subst (λ numbers. Replays limits (events_of bundle numbers) state) (sym same) grown.replays;
     }
 
-all_left_out : (bundle : Bundle) (upto from own : ℕ) (runs : List RunPart) (states : List Standing) (histories : List (List Entry)) → run_of bundle upto ≡ Some own → own < from → AreGrown bundle upto from runs states histories → AreGrown bundle (suc upto) from runs states histories
+all_left_out : (bundle : Bundle) (upto from own : ℕ) (runs : List RunPart) (states : List Standing) (histories : List (List Entry)) → run_at bundle upto ≡ Some own → own < from → AreGrown bundle upto from runs states histories → AreGrown bundle (suc upto) from runs states histories
 all_left_out bundle upto from own [] [] [] is lower grown = tt
 all_left_out bundle upto from own (run ∷ runs) (state ∷ states) (history ∷ histories) is lower grown =
     (left_out bundle upto from own run.limits state history is (λ same. absurd (omega arith)) grown.0, all_left_out bundle upto (suc from) own runs states histories is (omega arith) grown.1)
@@ -91,7 +92,7 @@ kept bundle upto from place part (run ∷ runs) (state ∷ states) [] grown ther
 
 -- one run's history grows, and the others stay
 pub all_grown : (bundle : Bundle) (upto from place : ℕ) (part : RunPart) (runs : List RunPart) (states : List Standing) (histories : List (List Entry)) (after : Standing) (longer : List Entry) → AreGrown bundle upto from runs states histories → slice_get runs place ≡ Some part
-    → run_of bundle upto ≡ Some (from + place) → IsGrown bundle (suc upto) (from + place) part.limits after longer → AreGrown bundle (suc upto) from runs (slice_set states place after) (slice_set histories place longer)
+    → run_at bundle upto ≡ Some (from + place) → IsGrown bundle (suc upto) (from + place) part.limits after longer → AreGrown bundle (suc upto) from runs (slice_set states place after) (slice_set histories place longer)
 all_grown bundle upto from place part [] [] [] after longer grown there own grows = absurd cc
 all_grown bundle upto from zero part (run ∷ runs) (state ∷ states) (history ∷ histories) after longer grown there own grows =
     let same : run ≡ part = cc in
@@ -151,7 +152,7 @@ next_of bundle number run states histories is grown inside =
 
 -- the number is applied to its run
 pub applied : (bundle : Bundle) (number run : ℕ) (states : List Standing) (histories : List (List Entry)) (state after : Standing) (history longer : List Entry) (finding : Finding) (event : Event) (effect : Effect) → AreGrown bundle number 0 bundle.runs states histories → Next bundle number run states histories
-    → run_of bundle number ≡ Some run → found bundle number ≡ Some finding → happened bundle number ≡ Some event → state ≡ slice_index_or states run state → history ≡ slice_index_or histories run history
+    → run_at bundle number ≡ Some run → finding_at bundle number ≡ Some finding → happened bundle number ≡ Some event → state ≡ slice_index_or states run state → history ≡ slice_index_or histories run history
     → ForEachReplay state (λ limits events. Replays limits (events ++ event ∷ []) after) → ForEachReplay state (λ limits events. effect ≡ effect_of limits events event) → longer ≡ history ++ record { number = number; finding = finding; effect = effect } ∷ []
     → AreGrown bundle (suc number) 0 bundle.runs (slice_set states run after) (slice_set histories run longer)
 applied bundle number run states histories state after history longer finding event effect grown next own is happens state_read history_read replays does longer_is =

@@ -9,7 +9,7 @@ use Rattle.ar_limits.specs.Prefixes.{with_earlier}
 use Rattle.ar_limits.specs.Run.{effect_of, effects}
 use Rattle.ar_limits.specs.declared.event.Event.{Event}
 use Rattle.ar_limits.specs.declared.limits.Limits.{Limits}
-use Rattle.ar_bundle.specs.Bundle.{Bundle, events_of, found, happened, run_of}
+use Rattle.ar_bundle.specs.Bundle.{Bundle, events_of, finding_at, happened, run_at}
 use Rattle.ar_bundle.specs.Lawful.{AreHistories, IsFound, IsHistory, numbers_of, times, times_in}
 use Rattle.ar_bundle.specs.declared.bundle.RunPart.{RunPart}
 use Rattle.ar_bundle.specs.declared.finding.Finding.{Finding}
@@ -50,7 +50,7 @@ pub numbers_push : (history : List Entry) (entry : Entry) → numbers_of (histor
 numbers_push history entry = map_push (λ (entry : Entry). entry.number) history entry
 
 -- a number's entry comes to its run's history
-pub history_push : (bundle : Bundle) (run : ℕ) (limits : List Limits) (history : List Entry) (number : ℕ) (finding : Finding) (event : Event) → run_of bundle number ≡ Some run → found bundle number ≡ Some finding → happened bundle number ≡ Some event
+pub history_push : (bundle : Bundle) (run : ℕ) (limits : List Limits) (history : List Entry) (number : ℕ) (finding : Finding) (event : Event) → run_at bundle number ≡ Some run → finding_at bundle number ≡ Some finding → happened bundle number ≡ Some event
     → IsHistory bundle run limits history → IsHistory bundle run limits (history ++ record { number = number; finding = finding; effect = effect_of limits (events_of bundle (numbers_of history)) event } ∷ [])
 history_push bundle run limits history number finding event own finds happens is =
     let before : List Event = events_of bundle (numbers_of history) in

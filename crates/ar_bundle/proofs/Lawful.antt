@@ -1,7 +1,8 @@
 -- Histories that have all numbers of a bundle are lawful.
 use Rattle.std.proofs.Common.{◌≡◌, ◌<◌, ℕ, zero, suc, ◌+◌, List, [], ◌∷◌, length, Some, refl, sym, ◌∙◌, ap, subst, arith}
 use Rattle.ar_limits.specs.Replay.{Standing}
-use Rattle.ar_bundle.specs.Bundle.{Bundle, IsBundle, run_of}
+use Rattle.ar_bundle.specs.Sound.{IsBundle}
+use Rattle.ar_bundle.specs.Bundle.{Bundle, run_at}
 use Rattle.ar_bundle.specs.Lawful.{AllRise, AreHistories, AreLawful, Rise, times, times_in}
 use Rattle.ar_bundle.specs.declared.bundle.RunPart.{RunPart}
 use Rattle.ar_bundle.specs.declared.history.Entry.{Entry}
@@ -26,7 +27,7 @@ all_rise bundle upto from (run ∷ runs) [] histories grown = absurd grown
 all_rise bundle upto from (run ∷ runs) (state ∷ states) [] grown = absurd grown
 
 -- a number of an earlier run stands in none of these histories
-none_of : (bundle : Bundle) (upto from number own : ℕ) (runs : List RunPart) (states : List Standing) (histories : List (List Entry)) → AreGrown bundle upto from runs states histories → run_of bundle number ≡ Some own → own < from → times number histories ≡ 0
+none_of : (bundle : Bundle) (upto from number own : ℕ) (runs : List RunPart) (states : List Standing) (histories : List (List Entry)) → AreGrown bundle upto from runs states histories → run_at bundle number ≡ Some own → own < from → times number histories ≡ 0
 none_of bundle upto from number own [] [] [] grown is lower = refl
 none_of bundle upto from number own (run ∷ runs) (state ∷ states) (history ∷ histories) grown is lower =
     let here = ap (times_in number) grown.0.numbers ∙ of_another bundle from upto number own is (λ same. absurd (omega arith)) in
@@ -38,10 +39,10 @@ none_of bundle upto from number own (run ∷ runs) [] histories grown is lower =
 none_of bundle upto from number own (run ∷ runs) (state ∷ states) [] grown is lower = absurd grown
 
 -- a number below stands in its own run's history, once
-once_of : (bundle : Bundle) (upto from number place : ℕ) (runs : List RunPart) (states : List Standing) (histories : List (List Entry)) → AreGrown bundle upto from runs states histories → run_of bundle number ≡ Some (from + place) → place < length runs → number < upto → times number histories ≡ 1
+once_of : (bundle : Bundle) (upto from number place : ℕ) (runs : List RunPart) (states : List Standing) (histories : List (List Entry)) → AreGrown bundle upto from runs states histories → run_at bundle number ≡ Some (from + place) → place < length runs → number < upto → times number histories ≡ 1
 once_of bundle upto from number place [] [] [] grown is there small = absurd (omega arith)
 once_of bundle upto from number zero (run ∷ runs) (state ∷ states) (history ∷ histories) grown is there small =
-    let own : run_of bundle number ≡ Some from = is ∙ ap Some (omega arith) in
+    let own : run_at bundle number ≡ Some from = is ∙ ap Some (omega arith) in
     let here = ap (times_in number) grown.0.numbers ∙ of_run bundle from upto number own small in
     let later = none_of bundle upto (suc from) number from runs states histories grown.1 own (omega arith) in
     omega arith

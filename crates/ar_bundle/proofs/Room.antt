@@ -6,7 +6,8 @@ use Rattle.std.proofs.lemmas.Bool.Decides.{nat_tests}
 use Rattle.std.proofs.lemmas.List.{length-map, take_all}
 use Rattle.std.proofs.lemmas.List.Sums.{sum_by_more}
 use Rattle.std.proofs.lemmas.Option.{get_or_from_slice_get, slice_get_within}
-use Rattle.ar_bundle.specs.Bundle.{Bundle, count_of, entries_of, run_of}
+use Rattle.ar_bundle.specs.Sound.{count_of, entries_of}
+use Rattle.ar_bundle.specs.Bundle.{Bundle, run_at}
 use Rattle.ar_bundle.specs.Lawful.{IsFound, numbers_of, times_in}
 use Rattle.ar_bundle.specs.declared.bundle.EventPart.{EventPart}
 use Rattle.ar_bundle.specs.declared.history.Entry.{Entry}
@@ -118,16 +119,16 @@ own_counts run own is =
 abbrev tested : (run : ℕ) → EventPart → ℕ
 tested run entry = if entry.run == run then 1 else 0
 
-one_more : (bundle : Bundle) (run upto : ℕ) → upto < length bundle.entries → count_of (take (suc upto) bundle.entries) run ≡ count_of (take upto bundle.entries) run + of_run run (run_of bundle upto)
+one_more : (bundle : Bundle) (run upto : ℕ) → upto < length bundle.entries → count_of (take (suc upto) bundle.entries) run ≡ count_of (take upto bundle.entries) run + of_run run (run_at bundle upto)
 one_more bundle run upto inside =
     let entry = entry_at bundle.entries upto inside in
     let read : tested run (get_or bundle.entries upto entry.0) ≡ tested run entry.0 = ap (tested run) (get_or_from_slice_get bundle.entries upto entry.0 entry.0 entry.1) in
-    let own : of_run run (run_of bundle upto) ≡ tested run entry.0 = rw entry.1 refl in
+    let own : of_run run (run_at bundle upto) ≡ tested run entry.0 = rw entry.1 refl in
     let next : suc upto ≡ upto + 1 = omega arith in
     let more = sum_by_more (tested run) bundle.entries upto entry.0 inside in
     ap (λ (upto : ℕ). count_of (take upto bundle.entries) run) next ∙ (more ∙ ap (λ (last : ℕ). count_of (take upto bundle.entries) run + last) (read ∙ sym own))
 
-counted : (bundle : Bundle) (run upto : ℕ) → upto ≤ length bundle.entries → count_of (take upto bundle.entries) run ≡ sum_below (λ number. of_run run (run_of bundle number)) upto
+counted : (bundle : Bundle) (run upto : ℕ) → upto ≤ length bundle.entries → count_of (take upto bundle.entries) run ≡ sum_below (λ number. of_run run (run_at bundle number)) upto
 counted bundle run zero inside = refl
 counted bundle run (suc upto) inside =
     let rest = counted bundle run upto (omega arith) in
@@ -135,53 +136,53 @@ counted bundle run (suc upto) inside =
     omega arith
 
 -- a run has as many entries as there are numbers of it
-as_many_numbers : (bundle : Bundle) (run : ℕ) → entries_of bundle run ≡ sum_below (λ number. of_run run (run_of bundle number)) (length bundle.entries)
+as_many_numbers : (bundle : Bundle) (run : ℕ) → entries_of bundle run ≡ sum_below (λ number. of_run run (run_at bundle number)) (length bundle.entries)
 as_many_numbers bundle run =
     let all = take_all (length bundle.entries) bundle.entries (omega arith) in
     ap (λ (entries : List EventPart). count_of entries run) (sym all) ∙ counted bundle run (length bundle.entries) (omega arith)
 
 -- ---- a history
 
-inside_by_entry : (bundle : Bundle) (number run : ℕ) (entry : Option EventPart) → slice_get bundle.entries number ≡ entry → run_of bundle number ≡ Some run → number < length bundle.entries
-inside_by_entry bundle number run None there own = absurd (let none : run_of bundle number ≡ None = rw there refl in cc)
+inside_by_entry : (bundle : Bundle) (number run : ℕ) (entry : Option EventPart) → slice_get bundle.entries number ≡ entry → run_at bundle number ≡ Some run → number < length bundle.entries
+inside_by_entry bundle number run None there own = absurd (let none : run_at bundle number ≡ None = rw there refl in cc)
 inside_by_entry bundle number run (Some entry) there own = slice_get_within bundle.entries number entry there
 
 -- a number of a run is there
-pub number_inside : (bundle : Bundle) (number run : ℕ) → run_of bundle number ≡ Some run → number < length bundle.entries
+pub number_inside : (bundle : Bundle) (number run : ℕ) → run_at bundle number ≡ Some run → number < length bundle.entries
 number_inside bundle number run own = inside_by_entry bundle number run (slice_get bundle.entries number) refl own
 
 pub all_inside : (bundle : Bundle) (run : ℕ) (history : List Entry) → AllByRecursion (IsFound bundle run) history → AllByRecursion (λ number. number < length bundle.entries) (numbers_of history)
 all_inside bundle run [] all = tt
 all_inside bundle run (entry ∷ history) all = let found = all.0 in (number_inside bundle entry.number run found.own, all_inside bundle run history all.1)
 
-own_by_test : (bundle : Bundle) (run number : ℕ) (entry : Entry) (history : List Entry) (test : Bool) → (entry.number == number) ≡ test → run_of bundle entry.number ≡ Some run → 0 < times_in number (numbers_of (entry ∷ history)) → (0 < times_in number (numbers_of history) → run_of bundle number ≡ Some run) → run_of bundle number ≡ Some run
+own_by_test : (bundle : Bundle) (run number : ℕ) (entry : Entry) (history : List Entry) (test : Bool) → (entry.number == number) ≡ test → run_at bundle entry.number ≡ Some run → 0 < times_in number (numbers_of (entry ∷ history)) → (0 < times_in number (numbers_of history) → run_at bundle number ≡ Some run) → run_at bundle number ≡ Some run
 own_by_test bundle run number entry history true is own stands later =
     let same : entry.number ≡ number = grind (arith, nat_tests) in
-    subst (λ (number : ℕ). run_of bundle number ≡ Some run) same own
+    subst (λ (number : ℕ). run_at bundle number ≡ Some run) same own
 own_by_test bundle run number entry history false is own stands later =
     let rest : times_in number (numbers_of (entry ∷ history)) ≡ times_in number (numbers_of history) = rw is refl in
     later (omega arith)
 
 -- a number that stands there is one of the run
-own_where_it_stands : (bundle : Bundle) (run number : ℕ) (history : List Entry) → AllByRecursion (IsFound bundle run) history → 0 < times_in number (numbers_of history) → run_of bundle number ≡ Some run
+own_where_it_stands : (bundle : Bundle) (run number : ℕ) (history : List Entry) → AllByRecursion (IsFound bundle run) history → 0 < times_in number (numbers_of history) → run_at bundle number ≡ Some run
 own_where_it_stands bundle run number [] all stands = absurd (omega arith)
 own_where_it_stands bundle run number (entry ∷ history) all stands =
     let found = all.0 in
     own_by_test bundle run number entry history (entry.number == number) refl found.own stands (own_where_it_stands bundle run number history all.1)
 
-most_by_times : (bundle : Bundle) (run number times : ℕ) (history : List Entry) → AllByRecursion (IsFound bundle run) history → times_in number (numbers_of history) ≡ times → times ≤ 1 → times_in number (numbers_of history) ≤ of_run run (run_of bundle number)
+most_by_times : (bundle : Bundle) (run number times : ℕ) (history : List Entry) → AllByRecursion (IsFound bundle run) history → times_in number (numbers_of history) ≡ times → times ≤ 1 → times_in number (numbers_of history) ≤ of_run run (run_at bundle number)
 most_by_times bundle run number zero history all is once = omega arith
 most_by_times bundle run number (suc times) history all is once =
     let own = own_where_it_stands bundle run number history all (omega arith) in
-    let one = own_counts run (run_of bundle number) own in
+    let one = own_counts run (run_at bundle number) own in
     omega arith
 
 -- a history that lacks a number of its run has fewer entries than the run
-pub has_room : (bundle : Bundle) (run number : ℕ) (history : List Entry) → AllByRecursion (IsFound bundle run) history → ((other : ℕ) → times_in other (numbers_of history) ≤ 1) → times_in number (numbers_of history) ≡ 0 → run_of bundle number ≡ Some run → length history < entries_of bundle run
+pub has_room : (bundle : Bundle) (run number : ℕ) (history : List Entry) → AllByRecursion (IsFound bundle run) history → ((other : ℕ) → times_in other (numbers_of history) ≤ 1) → times_in number (numbers_of history) ≡ 0 → run_at bundle number ≡ Some run → length history < entries_of bundle run
 has_room bundle run number history all once lacks own =
     let numbers : List ℕ = numbers_of history in
-    let one = own_counts run (run_of bundle number) own in
-    let less = less_below (λ (other : ℕ). times_in other numbers) (λ (other : ℕ). of_run run (run_of bundle other)) number (length bundle.entries)
+    let one = own_counts run (run_at bundle number) own in
+    let less = less_below (λ (other : ℕ). times_in other numbers) (λ (other : ℕ). of_run run (run_at bundle other)) number (length bundle.entries)
     (λ other. most_by_times bundle run other (times_in other numbers) history all refl (once other)) (omega arith) (number_inside bundle number run own) in
     let as_long = as_long (length bundle.entries) numbers (all_inside bundle run history all) in
     let as_many = as_many_numbers bundle run in
@@ -192,7 +193,7 @@ has_room bundle run number history all once lacks own =
 pub at_most : (bundle : Bundle) (run : ℕ) (history : List Entry) → AllByRecursion (IsFound bundle run) history → ((other : ℕ) → times_in other (numbers_of history) ≤ 1) → length history ≤ entries_of bundle run
 at_most bundle run history all once =
     let numbers : List ℕ = numbers_of history in
-    let most = most_below (λ (other : ℕ). times_in other numbers) (λ (other : ℕ). of_run run (run_of bundle other)) (length bundle.entries) (λ other. most_by_times bundle run other (times_in other numbers) history all refl (once other)) in
+    let most = most_below (λ (other : ℕ). times_in other numbers) (λ (other : ℕ). of_run run (run_at bundle other)) (length bundle.entries) (λ other. most_by_times bundle run other (times_in other numbers) history all refl (once other)) in
     let as_long = as_long (length bundle.entries) numbers (all_inside bundle run history all) in
     let as_many = as_many_numbers bundle run in
     let as_numbers : length numbers ≡ length history = length-map history (λ (entry : Entry). entry.number) in

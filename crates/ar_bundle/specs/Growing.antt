@@ -2,7 +2,7 @@
 use Rattle.std.specs.Prelude.{◌≡◌, ◌==◌, ℕ, zero, suc, if◌then◌else◌, List, [], ◌∷◌, ◌++◌, Option, Some, None}
 use Rattle.ar_limits.specs.Replay.{Replays, Standing}
 use Rattle.ar_limits.specs.declared.limits.Limits.{Limits}
-use Rattle.ar_bundle.specs.Bundle.{Bundle, events_of, run_of}
+use Rattle.ar_bundle.specs.Bundle.{Bundle, events_of, run_at}
 use Rattle.ar_bundle.specs.Lawful.{IsHistory, numbers_of}
 use Rattle.ar_bundle.specs.declared.bundle.RunPart.{RunPart}
 use Rattle.ar_bundle.specs.declared.history.Entry.{Entry}
@@ -15,7 +15,7 @@ where_own run number (Some own) = if own == run then number ∷ [] else []
 -- the numbers of a run below one, in their order
 abbrev pub below : Bundle → (run upto : ℕ) → List ℕ
 below bundle run zero = []
-below bundle run (suc number) = below bundle run number ++ where_own run number (run_of bundle number)
+below bundle run (suc number) = below bundle run number ++ where_own run number (run_at bundle number)
 
 -- a run's history has its numbers below one, and its state is what they lead to
 pub record IsGrown (bundle : Bundle) (upto run : ℕ) (limits : List Limits) (state : Standing) (history : List Entry) : Type 0 where

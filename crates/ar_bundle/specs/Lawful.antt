@@ -3,7 +3,7 @@ use Rattle.std.specs.Prelude.{◌≡◌, ◌<◌, ◌≤◌, ◌==◌, ◌+◌, 
 use Rattle.std.specs.List.{AllByRecursion}
 use Rattle.ar_limits.specs.Run.{effects}
 use Rattle.ar_limits.specs.declared.limits.Limits.{Limits}
-use Rattle.ar_bundle.specs.Bundle.{Bundle, events_of, found, run_of}
+use Rattle.ar_bundle.specs.Bundle.{Bundle, events_of, finding_at, run_at}
 use Rattle.ar_bundle.specs.declared.bundle.RunPart.{RunPart}
 use Rattle.ar_bundle.specs.declared.history.Entry.{Entry}
 
@@ -12,8 +12,8 @@ numbers_of history = map (λ entry. entry.number) history
 
 -- a number of the run, with its finding
 pub record IsFound (bundle : Bundle) (run : ℕ) (entry : Entry) : Type 0 where
-  pub own : run_of bundle entry.number ≡ Some run
-  pub finding : found bundle entry.number ≡ Some entry.finding
+  pub own : run_at bundle entry.number ≡ Some run
+  pub finding : finding_at bundle entry.number ≡ Some entry.finding
 
 -- a history of a run with these limits: of its own numbers alone, each with its finding and the effect that it has there
 pub record IsHistory (bundle : Bundle) (run : ℕ) (limits : List Limits) (history : List Entry) : Type 0 where

@@ -1,3 +1,4 @@
 pub mod Growing
 pub mod Bundle
+pub mod Sound
 pub mod Lawful

@@ -2,7 +2,8 @@
 
 ghost use Rattle.std.specs.Prelude.{◌≡◌, ◌<◌, IfOk, IsOk, Some, length};
 ghost use Rattle.ar_limits.specs.Replay.{IsOfMetricBelow};
-ghost use Rattle.ar_bundle.specs.Bundle.{FoundWithoutMemory, IsBundle, NeedsNoMemory, SuitsMetric, bundle_of, found, found_of, happened, run_of, sizes_of};
+ghost use Rattle.ar_bundle.specs.Sound.{FoundWithoutMemory, IsBundle, NeedsNoMemory, SuitsMetric, sizes_of};
+ghost use Rattle.ar_bundle.specs.Bundle.{bundle_of, finding_at, found_of, happened, run_at};
 ghost use Rattle.ar_bundle.specs.declared.bundle.What.TheVariants as What;
 ghost use Rattle.ar_judge.specs.Verdict.{sample_view};
 
@@ -139,7 +140,8 @@ impl Model for Bundle {
     ghost use Rattle.std.specs.Coded.{codes};
     ghost use Rattle.ar_value.specs.contracts.shape.Shape as shape_row;
     ghost use Rattle.ar_value.specs.contracts.value.Value as value_row;
-    ghost use Rattle.ar_bundle.specs.Bundle.{Bundle as Parts, IsBundle, bundle_of};
+    ghost use Rattle.ar_bundle.specs.Bundle.{Bundle as Parts, bundle_of};
+    ghost use Rattle.ar_bundle.specs.Sound.{IsBundle};
 
     ghost Value = { Parts };
 
@@ -218,7 +220,7 @@ impl Bundle {
     #[tactic(auto, using(crate::proofs::Bundles::entry_there, crate::proofs::Bundles::measure_suits, crate::proofs::Bundles::run_there))]
     pub fn finding(&self, alloc: Global, number: u64) -> Result<Finding, AllocError>
         requires { number < length self.now.entries }
-        ensures exact { IfOk result (λ finding. found self.now number ≡ Some finding) }
+        ensures exact { IfOk result (λ finding. finding_at self.now number ≡ Some finding) }
         // Where no condition with a `filter` is run, out of memory is never answered.
         ensures without_memory { FoundWithoutMemory self.now number → IsOk result }
     {
@@ -250,7 +252,7 @@ impl Bundle {
     /// The run of an entry.
     pub fn run_of(&self, number: u64) -> usize
         requires { number < length self.now.entries }
-        ensures own { run_of self.now number ≡ Some result }
+        ensures own { run_at self.now number ≡ Some result }
         ensures there { result < length self.now.runs }
     {
         self.entries[number as usize].run
@@ -258,7 +260,7 @@ impl Bundle {
 
     /// What an entry with its finding is to its run.
     pub fn event(&self, number: u64, finding: Finding) -> Event
-        requires { found self.now number ≡ Some finding }
+        requires { finding_at self.now number ≡ Some finding }
         ensures exact { happened self.now number ≡ Some result }
         ensures metric { IsOfMetricBelow (length self.now.metrics) result }
     {

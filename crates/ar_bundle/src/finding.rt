@@ -1,7 +1,7 @@
 //! What a number of a bundle comes to.
 
 ghost use Rattle.std.specs.Prelude.{◌≡◌};
-ghost use Rattle.ar_bundle.specs.Bundle.{mark_of};
+ghost use Rattle.ar_bundle.specs.Bundle.{verdict_mark};
 
 use ar_judge::Verdict;
 use ar_limits::Mark;
@@ -17,7 +17,7 @@ pub enum Finding {
 
 /// What a verdict counts as.
 pub fn mark_of(verdict: Verdict) -> Mark
-    ensures { result ≡ mark_of verdict }
+    ensures { result ≡ verdict_mark verdict }
 {
     match verdict {
         Verdict::Successful => Mark::Successful,

@@ -1,7 +1,8 @@
 //! The runs of a bundle, to which its numbers are applied in their order.
 
 ghost use Rattle.std.specs.Prelude.{◌≡◌, ◌<◌, ◌+◌, IfOk, OnOk, Some, length};
-ghost use Rattle.ar_bundle.specs.Bundle.{IsBundle, found};
+ghost use Rattle.ar_bundle.specs.Sound.{IsBundle};
+ghost use Rattle.ar_bundle.specs.Bundle.{finding_at};
 ghost use Rattle.ar_bundle.specs.Growing.{AreGrown};
 
 use crate::{Bundle, Entry, Finding, History};
@@ -41,7 +42,7 @@ impl Runs {
     ) -> Result<(), AllocError>
         requires bundle { IsBundle bundle.now }
         requires there { number < length bundle.now.entries }
-        requires finding { found bundle.now number ≡ Some finding }
+        requires finding { finding_at bundle.now number ≡ Some finding }
         requires grown { AreGrown bundle.now number 0 bundle.now.runs self.old.states.items self.old.histories.items }
         ensures { OnOk result
             (AreGrown bundle.now (number + 1) 0 bundle.now.runs self.new.states.items self.new.histories.items) }

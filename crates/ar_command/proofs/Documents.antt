@@ -10,8 +10,8 @@ use Rattle.ar_document.specs.Document as bundles
 use Rattle.ar_json.specs.Document.{json_in, most_bytes}
 use Rattle.ar_document.specs.declared.error.BundleError.{BundleError}
 use Rattle.ar_command_line.specs.Input.{ReadsUpToLimit}
-use Rattle.ar_eval.specs.Evaluation.{Evaluates, Follows, of_json, prepared, prepared_input}
-use Rattle.ar_command.specs.Serving.{Refuses, Reports, Says, WritesFront}
+use Rattle.ar_eval.specs.Evaluation.{Evaluates, Follows, eval_json_error, prepared, prepared_input}
+use Rattle.ar_command.specs.Serving.{RefusesInput, Reports, Says, WritesFront}
 use Rattle.ar_command_line.specs.Output.{AppendsFront}
 use Rattle.ar_eval.specs.declared.eval.EvalError.{EvalError}
 use Rattle.ar_command.specs.declared.serving.Closing.{Closing}
@@ -19,7 +19,7 @@ use Rattle.ar_command_line.specs.declared.command_line.Command.{Command}
 use Rattle.ar_command_line.specs.declared.command_line.Command.TheVariants as commands
 use Rattle.ar_command.specs.declared.serving.Refusal.{Refusal}
 use Rattle.ar_value.specs.Answer.{IfRefused}
-use Rattle.ar_command.specs.Private.Refusing.{Tells, is_memory}
+use Rattle.ar_command.specs.Private.Refusing.{Tells, is_serve_memory}
 use Rattle.ar_command.specs.declared.serving.ServeError.{ServeError}
 use Rattle.ar_command.specs.declared.serving.ServeError.TheVariants.{OutOfMemory, Read, Refused, Work, Write}
 use Rattle.ar_workers.specs.declared.error.WorkError.{WorkError}
@@ -47,10 +47,10 @@ same_json (Some input) (Some rest) bytes reads = by_size input rest bytes (nat_l
 module _ (input bytes : List ℕ) (same : json_in input ≡ json_in bytes) where
   evaluates_too : (answer : Result (Result Bool Fault) EvalError) → Evaluates bytes answer → Evaluates input answer
   unfolding prepared_input
-  evaluates_too answer is = record { follows = subst (λ json. Follows (refused_as of_json json >>= prepared) answer) (sym same) is.follows }
+  evaluates_too answer is = record { follows = subst (λ json. Follows (refused_as eval_json_error json >>= prepared) answer) (sym same) is.follows }
 
   reads_too : (answer : Result Bundle BundleError) → bundles.ReadsInput bytes answer → bundles.ReadsInput input answer
-  reads_too answer is = record { follows = subst (λ json. bundles.Follows json answer) (sym same) is.follows }
+  reads_too answer is = record { follows = subst (λ json. bundles.FollowsJson json answer) (sym same) is.follows }
 
   reports_too : (text : List ℕ) (closing : Closing) → Reports bytes text closing → Reports input text closing
   reports_too text closing says = record { bundle = says.bundle; reads = reads_too (Ok says.bundle) says.reads; histories = says.histories; reported = says.reported }
@@ -64,7 +64,7 @@ module _ (input bytes : List ℕ) (same : json_in input ≡ json_in bytes) where
   says_too commands.Plain text closing says = record { reports = reports_too text closing says.reports; rise = says.rise }
   says_too (commands.Ordered workers) text closing says = record { reports = reports_too text closing says.reports; rise = says.rise }
 
-  refuses_too : (command : Command) (refusal : Refusal) → Refuses command bytes refusal → Refuses command input refusal
+  refuses_too : (command : Command) (refusal : Refusal) → RefusesInput command bytes refusal → RefusesInput command input refusal
   refuses_too commands.Eval (refusals.Eval fault) refuses = evaluates_too (Err fault) refuses
   refuses_too commands.Eval (refusals.Bundle error) refuses = absurd refuses
   refuses_too commands.Check (refusals.Bundle error) refuses = reads_too (Err error) refuses
@@ -85,11 +85,11 @@ of_known P bytes (Some input) same says = says input same
 said_of_whole : (known after : Option (List ℕ)) (bytes : List ℕ) (command : Command) (text : List ℕ) (closing : Closing) → ReadsUpToLimit known after bytes → Says command bytes text closing → IfSome known (λ input. Says command input text closing)
 said_of_whole known after bytes command text closing reads says = of_known (λ input. Says command input text closing) bytes known (same_json known after bytes reads) (λ input same. says_too input bytes same command text closing says)
 
-refused_of_whole : (known after : Option (List ℕ)) (bytes : List ℕ) (command : Command) (refusal : Refusal) → ReadsUpToLimit known after bytes → Refuses command bytes refusal → IfSome known (λ input. Refuses command input refusal)
-refused_of_whole known after bytes command refusal reads refuses = of_known (λ input. Refuses command input refusal) bytes known (same_json known after bytes reads) (λ input same. refuses_too input bytes same command refusal refuses)
+refused_of_whole : (known after : Option (List ℕ)) (bytes : List ℕ) (command : Command) (refusal : Refusal) → ReadsUpToLimit known after bytes → RefusesInput command bytes refusal → IfSome known (λ input. RefusesInput command input refusal)
+refused_of_whole known after bytes command refusal reads refuses = of_known (λ input. RefusesInput command input refusal) bytes known (same_json known after bytes reads) (λ input same. refuses_too input bytes same command refusal refuses)
 
-pub refused_by : (known after : Option (List ℕ)) (bytes : List ℕ) (command : Command) (Q : WorkError → Type 0) (error : ServeError) (refusal : Refusal) → ReadsUpToLimit known after bytes → IfRefused {X = Bool} is_memory (Err error) (Tells (Refuses command bytes) Q) → error ≡ Refused refusal → IfSome known (λ input. Refuses command input refusal)
-refused_by known after bytes command Q (Refused own) refusal reads refuses same = let is : own ≡ refusal = cc in refused_of_whole known after bytes command refusal reads (subst (Refuses command bytes) is refuses)
+pub refused_by : (known after : Option (List ℕ)) (bytes : List ℕ) (command : Command) (Q : WorkError → Type 0) (error : ServeError) (refusal : Refusal) → ReadsUpToLimit known after bytes → IfRefused {X = Bool} is_serve_memory (Err error) (Tells (RefusesInput command bytes) Q) → error ≡ Refused refusal → IfSome known (λ input. RefusesInput command input refusal)
+refused_by known after bytes command Q (Refused own) refusal reads refuses same = let is : own ≡ refusal = cc in refused_of_whole known after bytes command refusal reads (subst (RefusesInput command bytes) is refuses)
 refused_by known after bytes command Q (Work own) refusal reads refuses same = absurd cc
 refused_by known after bytes command Q OutOfMemory refusal reads refuses same = absurd cc
 refused_by known after bytes command Q Read refusal reads refuses same = absurd refuses

@@ -3,7 +3,7 @@ use Rattle.std.proofs.Common.{◌≡◌, ◌<◌, ◌≤◌, ℕ, suc, ◌==◌,
 use Rattle.std.specs.Prelude.{nat_lt}
 use Rattle.std.specs.List.{AllByRecursion}
 use Rattle.std.proofs.lemmas.Bool.Decides.{leb_tells, nat_tests}
-use Rattle.ar_bundle.specs.Bundle.{Bundle, run_of}
+use Rattle.ar_bundle.specs.Bundle.{Bundle, run_at}
 use Rattle.ar_bundle.specs.Lawful.{AllRise, AreHistories, AreLawful, IsFound, Rise, numbers_of, times, times_in}
 use Rattle.ar_bundle.specs.declared.bundle.RunPart.{RunPart}
 use Rattle.ar_bundle.specs.declared.history.Entry.{Entry}
@@ -67,13 +67,13 @@ other_by number first numbers true is unlike rest = absurd (unlike (grind (arith
 other_by number first numbers false is unlike rest = times_by number first numbers false is ∙ rest
 
 -- a number of another run is none of a run's history
-not_own : (bundle : Bundle) (run number : ℕ) (history : List Entry) → AllByRecursion (IsFound bundle run) history → (run_of bundle number ≡ Some run → ⊥) → times_in number (numbers_of history) ≡ 0
+not_own : (bundle : Bundle) (run number : ℕ) (history : List Entry) → AllByRecursion (IsFound bundle run) history → (run_at bundle number ≡ Some run → ⊥) → times_in number (numbers_of history) ≡ 0
 not_own bundle run number [] all unlike = refl
 not_own bundle run number (entry ∷ history) all unlike =
-    other_by number entry.number (numbers_of history) (entry.number == number) refl (λ is. unlike (subst (λ (n : ℕ). run_of bundle n ≡ Some run) is all.0.own)) (not_own bundle run number history all.1 unlike)
+    other_by number entry.number (numbers_of history) (entry.number == number) refl (λ is. unlike (subst (λ (n : ℕ). run_at bundle n ≡ Some run) is all.0.own)) (not_own bundle run number history all.1 unlike)
 
 -- nor is it one of all histories from a run on, where it is of no such run
-not_from : (bundle : Bundle) (from number : ℕ) (runs : List RunPart) (histories : List (List Entry)) → AreHistories bundle from runs histories → ((run : ℕ) → from ≤ run → run_of bundle number ≡ Some run → ⊥) → times number histories ≡ 0
+not_from : (bundle : Bundle) (from number : ℕ) (runs : List RunPart) (histories : List (List Entry)) → AreHistories bundle from runs histories → ((run : ℕ) → from ≤ run → run_at bundle number ≡ Some run → ⊥) → times number histories ≡ 0
 not_from bundle from number [] [] are unlike = refl
 not_from bundle from number [] (history ∷ histories) are unlike = absurd are
 not_from bundle from number (run ∷ runs) [] are unlike = absurd are
@@ -84,8 +84,8 @@ not_from bundle from number (run ∷ runs) (history ∷ histories) are unlike =
 
 -- ---- two bundles with the same entries
 
-module _ (one other : Bundle) (same_run : (number : ℕ) → run_of one number ≡ run_of other number) where
-  by_run : (from number : ℕ) (found : Option ℕ) (runs others : List RunPart) (history its : List Entry) (histories more : List (List Entry)) → run_of one number ≡ found
+module _ (one other : Bundle) (same_run : (number : ℕ) → run_at one number ≡ run_at other number) where
+  by_run : (from number : ℕ) (found : Option ℕ) (runs others : List RunPart) (history its : List Entry) (histories more : List (List Entry)) → run_at one number ≡ found
       → AreHistories one from (runs) (history ∷ histories) → AreHistories other from (others) (its ∷ more) → times number (history ∷ histories) ≡ times number (its ∷ more)
       → times_in number (numbers_of history) ≡ times_in number (numbers_of its)
   by_run from number found [] others history its histories more is are also same = absurd are
@@ -95,7 +95,7 @@ module _ (one other : Bundle) (same_run : (number : ℕ) → run_of one number �
       not_own one from number history are.0.found (λ found. absurd cc) ∙ sym (not_own other from number its also.0.found (λ found. absurd cc))
   by_run from number (Some at) (run ∷ runs) (own ∷ others) history its histories more is are also same = by_place (at == from) refl
     where
-      also_is : run_of other number ≡ Some at
+      also_is : run_at other number ≡ Some at
       also_is = sym (same_run number) ∙ is
 
       by_place : (test : Bool) → (at == from) ≡ test → times_in number (numbers_of history) ≡ times_in number (numbers_of its)
@@ -118,7 +118,7 @@ module _ (one other : Bundle) (same_run : (number : ℕ) → run_of one number �
   each from (run ∷ runs) (own ∷ others) [] more are also rise rises as_many same = absurd are
   each from (run ∷ runs) (own ∷ others) (history ∷ histories) [] are also rise rises as_many same = absurd also
   each from (run ∷ runs) (own ∷ others) (history ∷ histories) (its ∷ more) are also rise rises as_many same =
-      let here : (number : ℕ) → times_in number (numbers_of history) ≡ times_in number (numbers_of its) = λ number. by_run from number (run_of one number) (run ∷ runs) (own ∷ others) history its histories more refl are also (same number) in
+      let here : (number : ℕ) → times_in number (numbers_of history) ≡ times_in number (numbers_of its) = λ number. by_run from number (run_at one number) (run ∷ runs) (own ∷ others) history its histories more refl are also (same number) in
       let first = rising (numbers_of history) (numbers_of its) rise.0 rises.0 here in
       let fewer : length runs ≡ length others = omega arith in
       let rest = each (suc from) runs others histories more are.1 also.1 rise.1 rises.1 fewer (λ number. let all = same number in let own = here number in omega arith) in

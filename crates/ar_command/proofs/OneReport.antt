@@ -10,9 +10,9 @@ use Rattle.ar_limits.specs.declared.counts.Counts.{Counts}
 use Rattle.ar_limits.specs.declared.event.Effect.{Effect}
 use Rattle.ar_limits.specs.declared.limits.Limits.{Limits}
 use Rattle.ar_limits.specs.declared.phase.Phase.{Phase}
-use Rattle.ar_judge.specs.Condition.{Condition}
+use Rattle.ar_judge.specs.Built.{Condition}
 use Rattle.ar_judge.specs.Verdict.{Judge, Sample, measured, misfit, provider, said_of, sample_view, verdict}
-use Rattle.ar_bundle.specs.Bundle.{Bundle, event_of, events_of, found_of, happened, happened_as, judge_at, run_of}
+use Rattle.ar_bundle.specs.Bundle.{Bundle, event_of, events_of, found_of, happened, happened_as, judge_at, run_at}
 use Rattle.ar_bundle.specs.Lawful.{numbers_of}
 use Rattle.ar_bundle.specs.declared.bundle.EventPart.{EventPart}
 use Rattle.ar_bundle.specs.declared.bundle.MetricPart.{MetricPart}
@@ -140,7 +140,7 @@ module _ (one other : Bundle) (same : IsSameBundle one other) where
   run_by None (Some its) view = absurd view
   run_by None None view = refl
 
-  same_run : (number : ℕ) → run_of one number ≡ run_of other number
+  same_run : (number : ℕ) → run_at one number ≡ run_at other number
   same_run number = run_by (slice_get one.entries number) (slice_get other.entries number) (same_entry one.entries other.entries number same.entries)
 
   name_by : (metrics its : List MetricPart) (place : ℕ) → map metric_view metrics ≡ map metric_view its → name_at metrics place ≡ name_at its place

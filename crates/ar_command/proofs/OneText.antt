@@ -7,15 +7,16 @@ use Rattle.ar_manifest.specs.declared.bound.BoundMetric.{BoundMetric}
 use Rattle.ar_compile.specs.Compiled.{compiled}
 use Rattle.ar_safety.specs.Verdict.{IsVerified, Verified}
 use Rattle.ar_safety.proofs.OneVerdict.{same_bounds}
-use Rattle.ar_judge.specs.Condition.{Condition, IsBuilt}
+use Rattle.ar_judge.proofs.Trees.{tree_by_parser}
+use Rattle.ar_judge.specs.Built.{Condition, IsBuilt}
 use Rattle.ar_judge.specs.Verdict.{AreBuilt, Judge}
 use Rattle.ar_bundle.specs.Bundle.{Bundle}
 use Rattle.ar_bundle.specs.declared.bundle.MetricPart.{MetricPart}
 use Rattle.ar_bundle.specs.declared.bundle.RunPart.{RunPart}
-use Rattle.ar_document.specs.Document.{Follows, ReadsInput}
+use Rattle.ar_document.specs.Document.{FollowsJson, ReadsInput}
 use Rattle.ar_document.specs.Entries.{entry_view}
 use Rattle.ar_document.specs.Opening.{Metric, Opened, metric_view}
-use Rattle.ar_document.specs.Parts.{AreJudges, AreParts, IsPart, limits_of}
+use Rattle.ar_document.specs.Parts.{AreJudges, HaveParts, IsPart, limits_of}
 use Rattle.ar_document.specs.declared.runs.Run.{Run}
 use Rattle.ar_json.specs.Document.{json_in}
 use Rattle.ar_json.specs.declared.document.JsonError.{JsonError}
@@ -23,7 +24,7 @@ use Rattle.serde_json.specs.Data.{Data}
 use Rattle.ar_eval.specs.Evaluation.{Prepared}
 use Rattle.ar_eval.specs.Evaluation as evaluation
 use Rattle.ar_eval.specs.declared.eval.EvalError.{EvalError}
-use Rattle.ar_report.specs.Check.{bounds_text, condition_name, condition_text, judge_text, judges_text, listed_text, runs_text, verified_of}
+use Rattle.ar_report.specs.Check.{bounds_text, condition_name, condition_text, judge_text, judges_text, listed_text, runs_text, verified_part}
 use Rattle.ar_command.specs.Alike.{AreSameConditions, AreSameJudges, AreSameRuns, IsSameBundle, IsSameCondition, IsSameRun}
 use Rattle.ar_command.specs.Serving.{Says, line_of}
 use Rattle.ar_command.specs.declared.serving.Closing.{Closing}
@@ -33,8 +34,8 @@ use Rattle.ar_command_line.specs.declared.command_line.Command.TheVariants as co
 
 one_condition : (shape : Shape) (text : List ℕ) (one other : Condition) → IsBuilt shape text one → IsBuilt shape text other → IsSameCondition one other
 one_condition shape text one other is also =
-    let typed = is.typed in
-    let typed_also = also.typed in
+    let typed = tree_by_parser shape text is.tree is.has_tree in
+    let typed_also = tree_by_parser shape text also.tree also.has_tree in
     let same : also.tree ≡ is.tree = cc in
     let accepted = subst (λ tree. IsVerified (compiled tree) shape other.verified.budget other.verified.depth) same also.accepted in
     let bounds = same_bounds (compiled is.tree) shape one.verified.budget one.verified.depth other.verified.budget other.verified.depth is.accepted accepted in
@@ -81,7 +82,7 @@ one_part opened run one other is also =
       limits = is.limits ∙ sym (also.limits ∙ ap (map limits_of) same);
     }
 
-one_run_list : (opened : Opened) (runs : List Run) (some others : List RunPart) → AreParts opened runs some → AreParts opened runs others → AreSameRuns some others
+one_run_list : (opened : Opened) (runs : List Run) (some others : List RunPart) → HaveParts opened runs some → HaveParts opened runs others → AreSameRuns some others
 one_run_list opened [] [] [] are also = tt
 one_run_list opened [] [] (other ∷ others) are also = absurd also
 one_run_list opened [] (one ∷ some) others are also = absurd are
@@ -89,14 +90,14 @@ one_run_list opened (run ∷ runs) [] others are also = absurd are
 one_run_list opened (run ∷ runs) (one ∷ some) [] are also = absurd also
 one_run_list opened (run ∷ runs) (one ∷ some) (other ∷ others) are also = (one_part opened run one other are.0 also.0, one_run_list opened runs some others are.1 also.1)
 
-of_json : (json : Result Data JsonError) (one other : Bundle) → Follows json (Ok one) → Follows json (Ok other) → IsSameBundle one other
+of_json : (json : Result Data JsonError) (one other : Bundle) → FollowsJson json (Ok one) → FollowsJson json (Ok other) → IsSameBundle one other
 of_json (Err error) one other is also = absurd cc
 of_json (Ok document) one other is also =
     let opens = is.opens in
     let opens_also = also.opens in
     let same : also.opened ≡ is.opened = cc in
     let metrics = also.metrics ∙ ap (λ (o : Opened). o.metrics) same in
-    let runs = subst (λ (o : Opened). AreParts o o.runs other.runs) same also.runs in
+    let runs = subst (λ (o : Opened). HaveParts o o.runs other.runs) same also.runs in
     let entries = is.entries in
     let entries_also = also.entries in
     let entries_same : map entry_view one.entries ≡ map entry_view other.entries = cc in
@@ -108,7 +109,7 @@ one_bundle input one other is also = of_json (json_in input) one other is.follow
 -- ---- what is shown of it
 
 module _ (text : Verified → List ℕ) (alike : (one other : Condition) → IsSameCondition one other → text one.verified ≡ text other.verified) where
-  same_condition_text : (name : List ℕ) (one other : Option Condition) → AreSameConditions one other → condition_text text name (verified_of one) ≡ condition_text text name (verified_of other)
+  same_condition_text : (name : List ℕ) (one other : Option Condition) → AreSameConditions one other → condition_text text name (verified_part one) ≡ condition_text text name (verified_part other)
   same_condition_text name (Some one) (Some other) same = ap (λ shown. name ++ shown) (alike one other same)
   same_condition_text name (Some one) None same = absurd same
   same_condition_text name None (Some other) same = absurd same

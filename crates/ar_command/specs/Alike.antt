@@ -1,7 +1,7 @@
 -- Bundles that are the same but for where their parts lie in memory.
 use Rattle.std.specs.Prelude.{◌≡◌, List, [], ◌∷◌, Option, Some, None, map}
 use Rattle.ar_value.specs.View.{shape_view}
-use Rattle.ar_judge.specs.Condition.{Condition}
+use Rattle.ar_judge.specs.Built.{Condition}
 use Rattle.ar_judge.specs.Verdict.{Judge}
 use Rattle.ar_bundle.specs.Bundle.{Bundle}
 use Rattle.ar_bundle.specs.declared.bundle.RunPart.{RunPart}

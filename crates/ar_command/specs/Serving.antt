@@ -28,7 +28,7 @@ use Rattle.ar_command.specs.declared.serving.Refusal.{Refusal}
 use Rattle.ar_command.specs.declared.serving.Refusal.TheVariants as refusals
 use Rattle.ar_command.specs.declared.serving.ServeError.{ServeError}
 use Rattle.ar_command.specs.declared.serving.ServeError.TheVariants.{Read, Refused, Work, Write, OutOfMemory}
-use Rattle.ar_workers.specs.Joined.{IsCause, IsNotLost}
+use Rattle.ar_workers.specs.Joined.{IsWorkCause, IsNotLost}
 use Rattle.ar_workers.specs.declared.error.WorkError.{WorkError}
 use Rattle.ar_workers.specs.declared.error.WorkError.TheVariants as work
 
@@ -110,17 +110,17 @@ pub record WritesFront (command : Command) (contents_before contents_after : Opt
 -- ---- what is refused
 
 -- the first fault of an input for a command
-abbrev pub Refuses : Command → (input : List ℕ) → Refusal → Type 0
-Refuses commands.Eval input (refusals.Eval fault) = Evaluates input (Err fault)
-Refuses commands.Eval input (refusals.Bundle error) = ⊥
-Refuses command input (refusals.Bundle error) = document.ReadsInput input (Err error)
-Refuses command input (refusals.Eval fault) = ⊥
+abbrev pub RefusesInput : Command → (input : List ℕ) → Refusal → Type 0
+RefusesInput commands.Eval input (refusals.Eval fault) = Evaluates input (Err fault)
+RefusesInput commands.Eval input (refusals.Bundle error) = ⊥
+RefusesInput command input (refusals.Bundle error) = document.ReadsInput input (Err error)
+RefusesInput command input (refusals.Eval fault) = ⊥
 
 -- the bytes that were taken are refused
-pub record IsRefused (command : Command) (taken_before taken_after : Option (List ℕ)) (refusal : Refusal) : Type 0 where
+pub record InputIsRefused (command : Command) (taken_before taken_after : Option (List ℕ)) (refusal : Refusal) : Type 0 where
   pub input : List ℕ
   pub took : Appends taken_before taken_after input
-  pub refuses : Refuses command input refusal
+  pub refuses : RefusesInput command input refusal
 
 -- ---- workers
 
@@ -139,7 +139,7 @@ RunsAlone command = Unit {0}
 -- why the workers of a command give no histories: where a number was lost this is shown, and an ordered run loses none
 abbrev pub IsCauseOf : Command → Bundle → WorkError → Type 0
 IsCauseOf (commands.Ordered workers) bundle error = IsNotLost error
-IsCauseOf command bundle error = IsCause bundle error
+IsCauseOf command bundle error = IsWorkCause bundle error
 
 -- and so no report of the bundle of an input; out of memory is answered as such
 pub record Breaks (command : Command) (input : List ℕ) (error : WorkError) : Type 0 where

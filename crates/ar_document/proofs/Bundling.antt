@@ -8,14 +8,14 @@ use Rattle.ar_manifest.specs.declared.bound.BoundMetric.{BoundMetric}
 use Rattle.ar_value.specs.Shape.{Shape}
 use Rattle.ar_value.specs.View.{shape_view}
 use Rattle.ar_limits.specs.declared.limits.Limits.{Limits}
-use Rattle.ar_judge.specs.Condition.{Condition}
+use Rattle.ar_judge.specs.Built.{Condition}
 use Rattle.ar_judge.specs.Verdict.{AreBuilt, IsJudge, Judge}
-use Rattle.ar_bundle.specs.Bundle.{IsOfShape, IsRun, JudgesEach, JudgesShape}
+use Rattle.ar_bundle.specs.Sound.{IsOfShape, IsRun, JudgesEach, JudgesShape}
 use Rattle.ar_bundle.specs.declared.bundle.MetricPart.{MetricPart}
 use Rattle.ar_bundle.specs.declared.bundle.RunPart.{RunPart}
 use Rattle.ar_document.specs.Opening.{metric_view}
 use Rattle.ar_document.specs.Private.Opened.{opened_view}
-use Rattle.ar_document.specs.Parts.{AreJudges, AreParts, IsPart, limits_of}
+use Rattle.ar_document.specs.Parts.{AreJudges, HaveParts, IsPart, limits_of}
 use Rattle.ar_document.specs.declared.opening.Opened.{Opened}
 use Rattle.ar_document.specs.declared.runs.Run.{Run}
 use Rattle.ar_document.proofs.Templates.{IsPositive, positive_counts}
@@ -57,14 +57,14 @@ is_run opened run part is = record {
   counts = rw is.limits (All-from_recursion _ (map limits_of is.bound) (positive_limits is.bound (positive_counts opened.template run.own is.bound is.is_bound)));
 }
 
-pub are_runs : (opened : Opened) (runs : List Run) (parts : List RunPart) → AreParts (opened_view opened) runs parts → AllByRecursion (IsRun opened.metrics.items) parts
+pub are_runs : (opened : Opened) (runs : List Run) (parts : List RunPart) → HaveParts (opened_view opened) runs parts → AllByRecursion (IsRun opened.metrics.items) parts
 are_runs opened [] [] are = tt
 are_runs opened (run ∷ runs) (part ∷ parts) are = (is_run opened run part are.0, are_runs opened runs parts are.1)
 are_runs opened [] (part ∷ parts) are = absurd are
 are_runs opened (run ∷ runs) [] are = absurd are
 
 -- each run has its part
-pub as_many_parts : (opened : Opened) (runs : List Run) (parts : List RunPart) → AreParts (opened_view opened) runs parts → length parts ≡ length runs
+pub as_many_parts : (opened : Opened) (runs : List Run) (parts : List RunPart) → HaveParts (opened_view opened) runs parts → length parts ≡ length runs
 as_many_parts opened [] [] are = refl
 as_many_parts opened (run ∷ runs) (part ∷ parts) are = ap (λ n. suc n) (as_many_parts opened runs parts are.1)
 as_many_parts opened [] (part ∷ parts) are = absurd are

@@ -4,7 +4,7 @@ use Rattle.std.specs.Prelude.{nat_lt}
 use Rattle.std.proofs.lemmas.List.{length-map}
 use Rattle.std.proofs.lemmas.Bool.Decides.{nat_tests}
 use Rattle.ar_value.specs.Limits.{most_runs}
-use Rattle.ar_bundle.specs.Bundle.{most_events}
+use Rattle.ar_limits.specs.Replay.{most_events}
 use Rattle.serde_json.specs.View.{view}
 use Rattle.serde_json.specs.declared.value.Value.{Value}
 use Rattle.ar_document.specs.Entries.{few_entries}

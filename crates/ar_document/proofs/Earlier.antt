@@ -5,14 +5,15 @@ use Rattle.std.proofs.lemmas.Option.{slice_get-map}
 use Rattle.ar_value.specs.Shape.{Shape}
 use Rattle.ar_value.specs.View.{shape_view}
 use Rattle.ar_manifest.specs.declared.bound.BoundMetric.{BoundMetric}
-use Rattle.ar_judge.specs.Condition.{Condition, IsBuilt}
-use Rattle.ar_judge.specs.Verdict.{AreBuilt, IsJudge, Judge, condition_of}
+use Rattle.ar_judge.specs.Built.{Condition, IsBuilt}
+use Rattle.ar_judge.specs.Judging.{own_condition}
+use Rattle.ar_judge.specs.Verdict.{AreBuilt, IsJudge, Judge}
 use Rattle.ar_judge.specs.declared.judge.Which.{Which}
 use Rattle.ar_judge.specs.declared.judge.Which.TheVariants.{Success, Failure}
 use Rattle.ar_bundle.specs.declared.bundle.MetricPart.{MetricPart}
 use Rattle.ar_bundle.specs.declared.bundle.RunPart.{RunPart}
 use Rattle.ar_document.specs.Opening.{Metric, Opened, metric_view}
-use Rattle.ar_document.specs.Parts.{AreJudges, AreParts}
+use Rattle.ar_document.specs.Parts.{AreJudges, HaveParts}
 use Rattle.ar_document.specs.Private.Earlier.{AllOfTheirTexts, AreOfTheirTexts, IsOfEarlier, IsOfRun}
 use Rattle.ar_document.specs.Private.Opened.{opened_view}
 use Rattle.ar_document.specs.declared.opening.Opened as code
@@ -23,7 +24,7 @@ of_its_text : (shape : Shape) (text : Option (List ℕ)) (condition : Condition)
 of_its_text shape (Some text) condition built = subst (λ (text : List ℕ). IsBuilt shape text condition) (sym built.text_is) built
 of_its_text shape None condition built = absurd built
 
-of_judge : (shape : Shape) (success failure : Option (List ℕ)) (judge : Judge) → IsJudge shape success failure judge → (which : Which) (condition : Condition) → condition_of which judge ≡ Some condition → IsBuilt shape condition.text condition
+of_judge : (shape : Shape) (success failure : Option (List ℕ)) (judge : Judge) → IsJudge shape success failure judge → (which : Which) (condition : Condition) → own_condition which judge ≡ Some condition → IsBuilt shape condition.text condition
 of_judge shape success failure judge is Success condition e = of_its_text shape success condition (subst (λ found. AreBuilt shape success found) e is.success_is)
 of_judge shape success failure judge is Failure condition e = of_its_text shape failure condition (subst (λ found. AreBuilt shape failure found) e is.failure_is)
 
@@ -32,10 +33,10 @@ same x y e = cc
 
 -- the judge of a metric by its number
 of_judges : (metrics : List Metric) (bound : List BoundMetric) (judges : List Judge) → AreJudges metrics bound judges → (number : ℕ) (metric : Metric) (judge : Judge) → slice_get metrics number ≡ Some metric → slice_get judges number ≡ Some judge
-    → (which : Which) (condition : Condition) → condition_of which judge ≡ Some condition → IsBuilt metric.shape condition.text condition
+    → (which : Which) (condition : Condition) → own_condition which judge ≡ Some condition → IsBuilt metric.shape condition.text condition
 of_judges (first ∷ metrics) (own ∷ bound) (one ∷ judges) are zero metric judge m j which condition is =
     subst (λ (metric : Metric). IsBuilt metric.shape condition.text condition) (same first metric m)
-    (of_judge first.shape own.success_condition own.failure_condition one are.0 which condition (subst (λ judge. condition_of which judge ≡ Some condition) (sym (same one judge j)) is))
+    (of_judge first.shape own.success_condition own.failure_condition one are.0 which condition (subst (λ judge. own_condition which judge ≡ Some condition) (sym (same one judge j)) is))
 of_judges (first ∷ metrics) (own ∷ bound) (one ∷ judges) are (suc number) metric judge m j which condition is = of_judges metrics bound judges are.1 number metric judge m j which condition is
 of_judges [] [] [] are number metric judge m j which condition is = absurd cc
 of_judges [] [] (one ∷ judges) are number metric judge m j which condition is = absurd are
@@ -44,7 +45,7 @@ of_judges (first ∷ metrics) [] judges are number metric judge m j which condit
 of_judges (first ∷ metrics) (own ∷ bound) [] are number metric judge m j which condition is = absurd are
 
 -- the part of a run by its number
-of_parts : (opened : Opened) (runs : List Run) (parts : List RunPart) → AreParts opened runs parts → (run number : ℕ) (metric : Metric) (part : RunPart) → slice_get parts run ≡ Some part → slice_get opened.metrics number ≡ Some metric
+of_parts : (opened : Opened) (runs : List Run) (parts : List RunPart) → HaveParts opened runs parts → (run number : ℕ) (metric : Metric) (part : RunPart) → slice_get parts run ≡ Some part → slice_get opened.metrics number ≡ Some metric
     → (which : Which) (condition : Condition) → IsOfRun part which number condition → IsBuilt metric.shape condition.text condition
 of_parts opened (first ∷ runs) (one ∷ parts) are zero number metric part p m which condition is =
     let own : IsOfRun one which number condition = subst (λ part. IsOfRun part which number condition) (sym (same one part p)) is in
@@ -54,7 +55,7 @@ of_parts opened [] [] are run number metric part p m which condition is = absurd
 of_parts opened [] (one ∷ parts) are run number metric part p m which condition is = absurd are
 of_parts opened (first ∷ runs) [] are run number metric part p m which condition is = absurd are
 
-pub of_their_texts : (opened : code.Opened) (runs : List Run) (parts : List RunPart) → AreParts (opened_view opened) runs parts → AllOfTheirTexts opened.metrics.items parts
+pub of_their_texts : (opened : code.Opened) (runs : List Run) (parts : List RunPart) → HaveParts (opened_view opened) runs parts → AllOfTheirTexts opened.metrics.items parts
 of_their_texts opened runs parts are = λ number metric m which condition is.
     let there : slice_get (map metric_view opened.metrics.items) number ≡ Some (metric_view metric) = slice_get-map metric_view opened.metrics.items number ∙ ap (option_map metric_view) m in
     of_parts (opened_view opened) runs parts are is.run number (metric_view metric) is.part is.part_is there which condition is.is

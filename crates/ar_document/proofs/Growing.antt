@@ -8,7 +8,7 @@ use Rattle.ar_judge.specs.Verdict.{IsJudge, Judge}
 use Rattle.ar_bundle.specs.declared.bundle.MetricPart.{MetricPart}
 use Rattle.ar_bundle.specs.declared.bundle.RunPart.{RunPart}
 use Rattle.ar_document.specs.Opening.{Metric, Opened, metric_view}
-use Rattle.ar_document.specs.Parts.{AreJudges, AreParts, IsPart}
+use Rattle.ar_document.specs.Parts.{AreJudges, HaveParts, IsPart}
 use Rattle.ar_document.specs.declared.runs.Run.{Run}
 
 pub one_more : {A : Type 0} (P : A → Type 0) (xs : List A) (x : A) → AllByRecursion P xs → P x → AllByRecursion P (xs ++ x ∷ [])
@@ -36,13 +36,13 @@ next_judge metrics bound judges i metric own judge inside own_inside metric_is o
     let longer : map metric_view (take (i + 1) metrics) ≡ map metric_view (take i metrics) ++ metric_view metric ∷ [] = ap (map metric_view) (taken_next metrics i metric inside metric_is) ∙ map-append metric_view (take i metrics) (metric ∷ []) in
     rw (longer, taken_next bound i own own_inside own_is) (judge_more (map metric_view (take i metrics)) (take i bound) judges (metric_view metric) own judge are is)
 
-part_more : (opened : Opened) (runs : List Run) (parts : List RunPart) (run : Run) (part : RunPart) → AreParts opened runs parts → IsPart opened run part → AreParts opened (runs ++ run ∷ []) (parts ++ part ∷ [])
+part_more : (opened : Opened) (runs : List Run) (parts : List RunPart) (run : Run) (part : RunPart) → HaveParts opened runs parts → IsPart opened run part → HaveParts opened (runs ++ run ∷ []) (parts ++ part ∷ [])
 part_more opened [] [] run part are is = (is, tt)
 part_more opened (first ∷ runs) (earlier ∷ parts) run part are is = (are.0, part_more opened runs parts run part are.1 is)
 part_more opened [] (earlier ∷ parts) run part are is = absurd are
 part_more opened (first ∷ runs) [] run part are is = absurd are
 
 -- the part of the next run
-pub next_part : (opened : Opened) (runs : List Run) (parts : List RunPart) (i : ℕ) (run : Run) (part : RunPart) → i < length runs → run ≡ get_or runs i run → AreParts opened (take i runs) parts → IsPart opened run part
-    → AreParts opened (take (i + 1) runs) (parts ++ part ∷ [])
+pub next_part : (opened : Opened) (runs : List Run) (parts : List RunPart) (i : ℕ) (run : Run) (part : RunPart) → i < length runs → run ≡ get_or runs i run → HaveParts opened (take i runs) parts → IsPart opened run part
+    → HaveParts opened (take (i + 1) runs) (parts ++ part ∷ [])
 next_part opened runs parts i run part inside is are next = rw (taken_next runs i run inside is) (part_more opened (take i runs) parts run part are next)

@@ -8,9 +8,9 @@ use Rattle.ar_manifest.proofs.Entries.{with_new_value}
 use Rattle.std.proofs.lemmas.List.{drop_all, drop_more, map-append, length-map, length-take-le}
 use Rattle.std.proofs.Math.Seq.{take-suc}
 use Rattle.ar_value.specs.Answer.{◌>>=◌, Unless, holds_or}
-use Rattle.ar_document.specs.Document.{is_memory}
+use Rattle.ar_document.specs.Document.{is_bundle_memory}
 use Rattle.ar_bundle.specs.declared.bundle.MetricPart.{MetricPart}
-use Rattle.ar_document.specs.Opening.{are_new, metric_view, names_of, number_of}
+use Rattle.ar_document.specs.Opening.{are_new, metric_view, names_of, index_of_name}
 use Rattle.ar_document.specs.declared.error.BundleError.{BundleError}
 use Rattle.ar_document.specs.declared.error.BundleError.TheVariants.{DoubleRun}
 use Rattle.ar_document.specs.declared.runs.Run.{Run}
@@ -40,17 +40,17 @@ number_one_more (Some number) same count = refl
 number_one_more None true count = refl
 number_one_more None false count = refl
 
-number_behind : (names : List (List ℕ)) (name next : List ℕ) → number_of name (names ++ next ∷ []) ≡ or_next (number_of name names) (bytes_eq name next) (length names)
+number_behind : (names : List (List ℕ)) (name next : List ℕ) → index_of_name name (names ++ next ∷ []) ≡ or_next (index_of_name name names) (bytes_eq name next) (length names)
 number_behind [] name next = by_test (bytes_eq name next)
   where
     by_test : (same : Bool) → (if same then Some 0 else None) ≡ or_next None same 0
     by_test same = refl
 number_behind (first ∷ names) name next = by_test (bytes_eq name first) (number_behind names name next)
   where
-    by_test : (same : Bool) → number_of name (names ++ next ∷ []) ≡ or_next (number_of name names) (bytes_eq name next) (length names)
-        → (if same then Some 0 else option_map suc (number_of name (names ++ next ∷ []))) ≡ or_next (if same then Some 0 else option_map suc (number_of name names)) (bytes_eq name next) (suc (length names))
+    by_test : (same : Bool) → index_of_name name (names ++ next ∷ []) ≡ or_next (index_of_name name names) (bytes_eq name next) (length names)
+        → (if same then Some 0 else option_map suc (index_of_name name (names ++ next ∷ []))) ≡ or_next (if same then Some 0 else option_map suc (index_of_name name names)) (bytes_eq name next) (suc (length names))
     by_test true behind = refl
-    by_test false behind = ap (option_map suc) behind ∙ number_one_more (number_of name names) (bytes_eq name next) (length names)
+    by_test false behind = ap (option_map suc) behind ∙ number_one_more (index_of_name name names) (bytes_eq name next) (length names)
 
 -- a name that is new gets the next number
 pub new_name : (names : List (List ℕ)) (numbers after : List (List ℕ × ℕ)) (name : List ℕ) (number : ℕ) → AreNumbers names numbers → value_of name numbers ≡ None → length names ≡ number
@@ -67,7 +67,7 @@ stays None false count old = refl
 -- a name that an earlier one is the same as has its number
 pub old_name : (names : List (List ℕ)) (numbers : List (List ℕ × ℕ)) (name : List ℕ) → AreNumbers names numbers → is_some (value_of name numbers) ≡ true → AreNumbers (names ++ name ∷ []) numbers
 old_name names numbers name are old =
-    record { same = λ other. are.same other ∙ stays (number_of other names) (bytes_eq other name) (length names) (λ same. subst (λ text. is_some (number_of text names) ≡ true) (sym ((bytes_eq-Decides other name).0 same)) (rw (are.same name) at old)) ∙ sym (number_behind names other name) }
+    record { same = λ other. are.same other ∙ stays (index_of_name other names) (bytes_eq other name) (length names) (λ same. subst (λ text. is_some (index_of_name text names) ≡ true) (sym ((bytes_eq-Decides other name).0 same)) (rw (are.same name) at old)) ∙ sym (number_behind names other name) }
 
 -- the numbers of no names
 pub no_names : AreNumbers [] []
@@ -78,15 +78,15 @@ later (Some n) bound inside = omega (arith, inside)
 later None bound inside = tt
 
 -- a number that is found is below the number of names
-pub number_inside : (name : List ℕ) (names : List (List ℕ)) → IfSome (number_of name names) (λ n. n < length names)
+pub number_inside : (name : List ℕ) (names : List (List ℕ)) → IfSome (index_of_name name names) (λ n. n < length names)
 number_inside name [] = tt
-number_inside name (first ∷ names) = by_test (bytes_eq name first) (later (number_of name names) (length names) (number_inside name names))
+number_inside name (first ∷ names) = by_test (bytes_eq name first) (later (index_of_name name names) (length names) (number_inside name names))
   where
-    by_test : (same : Bool) → IfSome (option_map suc (number_of name names)) (λ n. n < suc (length names)) → IfSome (if same then Some 0 else option_map suc (number_of name names)) (λ n. n < suc (length names))
+    by_test : (same : Bool) → IfSome (option_map suc (index_of_name name names)) (λ n. n < suc (length names)) → IfSome (if same then Some 0 else option_map suc (index_of_name name names)) (λ n. n < suc (length names))
     by_test true behind = omega arith
     by_test false behind = behind
 
-pub run_inside : (runs : List Run) (name : List ℕ) (n : ℕ) → number_of name (names_of runs) ≡ Some n → n < length runs
+pub run_inside : (runs : List Run) (name : List ℕ) (n : ℕ) → index_of_name name (names_of runs) ≡ Some n → n < length runs
 run_inside runs name n is =
     let inside = number_inside name (names_of runs) in
     let below : n < length (names_of runs) = rw is at inside in
@@ -96,7 +96,7 @@ run_inside runs name n is =
 
 -- whether a run's name is new
 abbrev is_new : (names : List (List ℕ)) (run : Run) → Result ⊤ BundleError
-is_new names run = holds_or (DoubleRun (length names)) (is_none (number_of run.name names))
+is_new names run = holds_or (DoubleRun (length names)) (is_none (index_of_name run.name names))
 
 module _ (runs : List Run) (i : ℕ) (run : Run) (inside : i < length runs) (is : run ≡ get_or runs i run) where
   pub names_longer : names_of (take (suc i) runs) ≡ names_of (take i runs) ++ run.name ∷ []
@@ -110,21 +110,21 @@ module _ (runs : List Run) (i : ℕ) (run : Run) (inside : i < length runs) (is 
   pub names_before : length (names_of (take i runs)) ≡ i
   names_before = length-map (take i runs) (λ run. run.name) ∙ length-take-le i runs (omega (arith, inside))
 
-  numbered : is_new (names_of (take i runs)) run ≡ holds_or (DoubleRun i) (is_none (number_of run.name (names_of (take i runs))))
-  numbered = ap (λ (number : ℕ). holds_or (DoubleRun number) (is_none (number_of run.name (names_of (take i runs))))) names_before
+  numbered : is_new (names_of (take i runs)) run ≡ holds_or (DoubleRun i) (is_none (index_of_name run.name (names_of (take i runs))))
+  numbered = ap (λ (number : ℕ). holds_or (DoubleRun number) (is_none (index_of_name run.name (names_of (take i runs))))) names_before
 
   pub next_numbers : (after : List (List ℕ × ℕ)) → AreNumbers (names_of (take i runs) ++ run.name ∷ []) after → AreNumbers (names_of (take (i + 1) runs)) after
   next_numbers after are = subst (λ names. AreNumbers names after) (sym (ap (λ n. names_of (take n runs)) (add-one i) ∙ names_longer)) are
 
-  pub next_new : (all : Result ⊤ BundleError) → holds_or (DoubleRun i) (is_none (number_of run.name (names_of (take i runs)))) ≡ Ok tt → are_new (names_of (take i runs)) (names_of (drop i runs)) ≡ all → are_new (names_of (take (i + 1) runs)) (names_of (drop (i + 1) runs)) ≡ all
+  pub next_new : (all : Result ⊤ BundleError) → holds_or (DoubleRun i) (is_none (index_of_name run.name (names_of (take i runs)))) ≡ Ok tt → are_new (names_of (take i runs)) (names_of (drop i runs)) ≡ all → are_new (names_of (take (i + 1) runs)) (names_of (drop (i + 1) runs)) ≡ all
   next_new all new so_far =
       ap (λ names. are_new names (names_of (drop (i + 1) runs))) (ap (λ n. names_of (take n runs)) (add-one i) ∙ names_longer)
       ∙ sym (ap (λ answer. answer >>= λ new. are_new (names_of (take i runs) ++ run.name ∷ []) (names_of (drop (i + 1) runs))) (numbered ∙ new))
       ∙ sym next ∙ so_far
 
-  pub not_new : (all : Result ⊤ BundleError) (refusal : BundleError) → Unless (is_memory refusal) (holds_or (DoubleRun i) (is_none (number_of run.name (names_of (take i runs)))) ≡ Err refusal) → are_new (names_of (take i runs)) (names_of (drop i runs)) ≡ all → Unless (is_memory refusal) (all ≡ Err refusal)
+  pub not_new : (all : Result ⊤ BundleError) (refusal : BundleError) → Unless (is_bundle_memory refusal) (holds_or (DoubleRun i) (is_none (index_of_name run.name (names_of (take i runs)))) ≡ Err refusal) → are_new (names_of (take i runs)) (names_of (drop i runs)) ≡ all → Unless (is_bundle_memory refusal) (all ≡ Err refusal)
   not_new all refusal old so_far =
-      leads (is_memory refusal) (λ refused. sym so_far ∙ next ∙ ap (λ answer. answer >>= λ new. are_new (names_of (take i runs) ++ run.name ∷ []) (names_of (drop (i + 1) runs))) (numbered ∙ refused)) old
+      leads (is_bundle_memory refusal) (λ refused. sym so_far ∙ next ∙ ap (λ answer. answer >>= λ new. are_new (names_of (take i runs) ++ run.name ∷ []) (names_of (drop (i + 1) runs))) (numbered ∙ refused)) old
 
 pub all_new : (runs : List Run) (i : ℕ) (all : Result ⊤ BundleError) → length runs ≤ i → are_new (names_of (take i runs)) (names_of (drop i runs)) ≡ all → all ≡ Ok tt
 unfolding are_new

@@ -8,10 +8,10 @@ use Rattle.ar_judge.specs.Verdict.{IsJudge, Judge, RefusesTexts}
 use Rattle.ar_judge.specs.declared.error.BuildError.{BuildError}
 use Rattle.ar_bundle.specs.Bundle.{Bundle}
 use Rattle.ar_bundle.specs.declared.bundle.RunPart.{RunPart}
-use Rattle.ar_document.specs.Document.{Follows, IsBundleOf, IsFaultOf, ReadsInput, of_entry, of_opening, of_run}
+use Rattle.ar_document.specs.Document.{FollowsJson, IsBundleOf, IsFaultOf, ReadsInput, of_entry, of_opening, of_run}
 use Rattle.ar_json.specs.Document.{json_in}
 use Rattle.ar_document.specs.Opening.{Metric, Opened}
-use Rattle.ar_document.specs.Parts.{AreJudges, AreParts, IsPart, RefusesMetric, RefusesRun, RefusesRuns}
+use Rattle.ar_document.specs.Parts.{AreJudges, HaveParts, IsPart, RefusesMetric, RefusesRun, RefusesRuns}
 use Rattle.ar_document.specs.declared.error.BundleError.{BundleError}
 use Rattle.ar_document.specs.declared.error.BundleError.TheVariants.{Bind, Build}
 use Rattle.ar_json.specs.declared.document.JsonError.{JsonError}
@@ -120,7 +120,7 @@ record HasPart (opened : Opened) (run : Run) : Type 0 where
   part : RunPart
   is : IsPart opened run part
 
-part_at : (opened : Opened) (runs : List Run) (parts : List RunPart) (place : ℕ) (run : Run) → AreParts opened runs parts → slice_get runs place ≡ Some run → HasPart opened run
+part_at : (opened : Opened) (runs : List Run) (parts : List RunPart) (place : ℕ) (run : Run) → HaveParts opened runs parts → slice_get runs place ≡ Some run → HasPart opened run
 part_at opened [] parts place run are is = absurd cc
 part_at opened (first ∷ runs) [] place run are is = absurd are
 part_at opened (first ∷ runs) (part ∷ parts) zero run are is =
@@ -129,7 +129,7 @@ part_at opened (first ∷ runs) (part ∷ parts) zero run are is =
 part_at opened (first ∷ runs) (part ∷ parts) (suc place) run are is = part_at opened runs parts place run are.1 is
 
 -- all runs have their parts, or one is refused
-parts_alone : (opened : Opened) (parts : List RunPart) (error : BundleError) → AreParts opened opened.runs parts → RefusesRuns opened error → ⊥
+parts_alone : (opened : Opened) (parts : List RunPart) (error : BundleError) → HaveParts opened opened.runs parts → RefusesRuns opened error → ⊥
 parts_alone opened parts error are refused =
     let found = part_at opened opened.runs parts refused.number refused.run are refused.run_is in
     part_alone opened refused.run found.part refused.number error found.is refused.refused
@@ -180,7 +180,7 @@ bundle_alone document bundle error is (of_opening refused) = let opens = is.open
 bundle_alone document bundle error is (of_run opened opens refused) =
     let also = is.opens in
     let same : is.opened ≡ opened = cc in
-    parts_alone opened bundle.runs error (subst (λ (o : Opened). AreParts o o.runs bundle.runs) same is.runs) refused
+    parts_alone opened bundle.runs error (subst (λ (o : Opened). HaveParts o o.runs bundle.runs) same is.runs) refused
 bundle_alone document bundle error is (of_entry opened opens parts are refused) =
     let also = is.opens in
     let entries = is.entries in
@@ -197,25 +197,25 @@ one_fault document error other (of_run opened opens one) (of_run also also_opens
     one_refusal opened error other one (subst (λ (o : Opened). RefusesRuns o other) same two)
 one_fault document error other (of_run opened opens one) (of_entry also also_opens parts are two) =
     let same : also ≡ opened = cc in
-    absurd (parts_alone opened parts error (subst (λ (o : Opened). AreParts o o.runs parts) same are) one)
+    absurd (parts_alone opened parts error (subst (λ (o : Opened). HaveParts o o.runs parts) same are) one)
 one_fault document error other (of_entry opened opens parts are one) (of_opening two) = absurd cc
 one_fault document error other (of_entry opened opens parts are one) (of_run also also_opens two) =
     let same : opened ≡ also = cc in
-    absurd (parts_alone also parts other (subst (λ (o : Opened). AreParts o o.runs parts) same are) two)
+    absurd (parts_alone also parts other (subst (λ (o : Opened). HaveParts o o.runs parts) same are) two)
 one_fault document error other (of_entry opened opens parts are one) (of_entry also also_opens others also_are two) =
     let same : also ≡ opened = cc in
     cc
 
 -- ---- inputs
 
-follows_alone : (read : Result Data JsonError) (bundle : Bundle) (error : BundleError) → Follows read (Ok bundle) → Follows read (Err error) → ⊥
+follows_alone : (read : Result Data JsonError) (bundle : Bundle) (error : BundleError) → FollowsJson read (Ok bundle) → FollowsJson read (Err error) → ⊥
 follows_alone (Ok document) bundle error is refused = bundle_alone document bundle error is refused
 follows_alone (Err fault) bundle error is refused = cc
 
 pub bundle_or_fault : (input : List ℕ) (bundle : Bundle) (error : BundleError) → ReadsInput input (Ok bundle) → ReadsInput input (Err error) → ⊥
 bundle_or_fault input bundle error is refused = follows_alone (json_in input) bundle error is.follows refused.follows
 
-follows_once : (read : Result Data JsonError) (error other : BundleError) → Follows read (Err error) → Follows read (Err other) → error ≡ other
+follows_once : (read : Result Data JsonError) (error other : BundleError) → FollowsJson read (Err error) → FollowsJson read (Err other) → error ≡ other
 follows_once (Ok document) error other one two = one_fault document error other one two
 follows_once (Err fault) error other one two = cc
 

@@ -11,7 +11,7 @@ use Rattle.ar_bundle.specs.declared.bundle.RunPart.{RunPart}
 use Rattle.ar_document.specs.Opening.{metric_view}
 use Rattle.ar_document.specs.Private.Opened.{opened_view}
 use Rattle.ar_document.specs.Private.Parts.{RefusesJudge, RefusesJudges}
-use Rattle.ar_document.specs.Parts.{AreJudges, AreParts, RefusesRun, RefusesRuns}
+use Rattle.ar_document.specs.Parts.{AreJudges, HaveParts, RefusesRun, RefusesRuns}
 use Rattle.ar_document.specs.declared.error.BundleError.{BundleError}
 use Rattle.ar_document.specs.declared.error.BundleError.TheVariants.{Build}
 use Rattle.ar_document.specs.declared.opening.Opened.{Opened}
@@ -54,7 +54,7 @@ run_refused opened number run bound (Build named metric error) is_bound refuses 
 run_refused opened number run bound error is_bound refuses = absurd refuses.refused
 
 -- the next run is refused
-pub runs_refused : (opened : Opened) (parts : List RunPart) (i : ℕ) (run : Run) (error : BundleError) → i < length opened.runs.items → run ≡ get_or opened.runs.items i run → AreParts (opened_view opened) (take i opened.runs.items) parts → RefusesRun (opened_view opened) i run error
+pub runs_refused : (opened : Opened) (parts : List RunPart) (i : ℕ) (run : Run) (error : BundleError) → i < length opened.runs.items → run ≡ get_or opened.runs.items i run → HaveParts (opened_view opened) (take i opened.runs.items) parts → RefusesRun (opened_view opened) i run error
     → RefusesRuns (opened_view opened) error
 runs_refused opened parts i run error inside is are refused = record {
   number = i;

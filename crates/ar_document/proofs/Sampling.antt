@@ -15,7 +15,7 @@ use Rattle.ar_json.proofs.ReadLemmas.{under_is_memory}
 use Rattle.ar_judge.specs.Verdict.{Sample, misfit}
 use Rattle.ar_bundle.specs.declared.bundle.MetricPart.{MetricPart}
 use Rattle.ar_document.specs.Entries.{entry_of, measure, measured_of, sample_by, sample_of}
-use Rattle.ar_document.specs.Opening.{Metric, Opened, number_of}
+use Rattle.ar_document.specs.Opening.{Metric, Opened, index_of_name}
 use Rattle.ar_document.specs.declared.error.BundleError.{BundleError}
 use Rattle.ar_document.specs.declared.error.BundleError.TheVariants.{UnknownMetric}
 
@@ -50,7 +50,7 @@ metric_at metrics readers i shape are at =
 
 -- a measurement of a metric that has its number by its name is one with the sample that its shape gives
 pub measured_by : (opened : Opened) (number run : ℕ) (name : List ℕ) (found : Option Data) (named : Option ℕ) (metric : ℕ) (part : Metric) (sample : Sample)
-    → named ≡ number_of name (map (λ metric. metric.name) opened.metrics) → Ok metric ≡ ok_or named (UnknownMetric number) → slice_get opened.metrics metric ≡ Some part → sample ≡ sample_of part.shape found
+    → named ≡ index_of_name name (map (λ metric. metric.name) opened.metrics) → Ok metric ≡ ok_or named (UnknownMetric number) → slice_get opened.metrics metric ≡ Some part → sample ≡ sample_of part.shape found
     → measured_of opened number run name found ≡ Ok (entry_of run (measure metric sample))
 measured_by opened number run name found (Some other) metric part sample named is at reads =
     let same : other ≡ metric = cc in

@@ -3,7 +3,7 @@ use Rattle.std.proofs.Common.{◌≡◌, ℕ, ◌+◌, ◌≤◌, ◌<◌, List,
 use Rattle.std.proofs.lemmas.List.{map-append, map-id}
 use Rattle.ar_value.specs.Answer.{◌>>=◌, Unless, each_behind}
 use Rattle.ar_value.proofs.Steps as steps
-use Rattle.ar_document.specs.Document.{is_memory}
+use Rattle.ar_document.specs.Document.{is_bundle_memory}
 use Rattle.ar_document.specs.declared.error.BundleError.{BundleError}
 
 module _ {J A C B : Type 0} (view : J → A) (made_view : C → B) (step : List B → A → Result B BundleError) (list : List J) (i : ℕ) (earlier : List C) (all : Result (List B) BundleError) where
@@ -14,9 +14,9 @@ module _ {J A C B : Type 0} (view : J → A) (made_view : C → B) (step : List 
       steps.step_more view step list i (map made_view earlier) all item (made_view made) (map made_view later) below is makes (ap (map made_view) pushed ∙ map-append made_view earlier (made ∷ []))
 
   -- or is refused, and so are all
-  pub step_fault : (item : J) (refusal : BundleError) → i < length list → item ≡ get_or list i item → Unless (is_memory refusal) (step (map made_view earlier) (view item) ≡ Err refusal)
-      → each_behind step (map made_view earlier) (map view (drop i list)) ≡ all → Unless (is_memory refusal) (all ≡ Err refusal)
-  step_fault item refusal = steps.step_fault view step list i (map made_view earlier) all (is_memory refusal) item refusal
+  pub step_fault : (item : J) (refusal : BundleError) → i < length list → item ≡ get_or list i item → Unless (is_bundle_memory refusal) (step (map made_view earlier) (view item) ≡ Err refusal)
+      → each_behind step (map made_view earlier) (map view (drop i list)) ≡ all → Unless (is_bundle_memory refusal) (all ≡ Err refusal)
+  step_fault item refusal = steps.step_fault view step list i (map made_view earlier) all (is_bundle_memory refusal) item refusal
 
   -- after the last item all are made
   pub step_end : length list ≤ i → each_behind step (map made_view earlier) (map view (drop i list)) ≡ all → all ≡ Ok (map made_view earlier)
@@ -38,11 +38,11 @@ module _ {J A C B : Type 0} (view : J → A) (made_view : C → B) (step : List 
       ∙ sym (ap (λ rest. each_behind step (map made_view earlier) (map view rest)) is) ∙ so_far
 
   -- or is refused, and so are all
-  pub next_fault : (item : J) (others : List J) (refusal : BundleError) → left ≡ item ∷ others → Unless (is_memory refusal) (step (map made_view earlier) (view item) ≡ Err refusal)
-      → each_behind step (map made_view earlier) (map view left) ≡ all → Unless (is_memory refusal) (all ≡ Err refusal)
+  pub next_fault : (item : J) (others : List J) (refusal : BundleError) → left ≡ item ∷ others → Unless (is_bundle_memory refusal) (step (map made_view earlier) (view item) ≡ Err refusal)
+      → each_behind step (map made_view earlier) (map view left) ≡ all → Unless (is_bundle_memory refusal) (all ≡ Err refusal)
   unfolding each_behind
   next_fault item others refusal is refused so_far =
-      steps.refuses_first (is_memory refusal) refusal (step (map made_view earlier) (view item)) (λ next. each_behind step (map made_view earlier ++ next ∷ []) (map view others)) all refused
+      steps.refuses_first (is_bundle_memory refusal) refusal (step (map made_view earlier) (view item)) (λ next. each_behind step (map made_view earlier ++ next ∷ []) (map view others)) all refused
       (sym (ap (λ rest. each_behind step (map made_view earlier) (map view rest)) is) ∙ so_far)
 
   -- where nothing is left all are made

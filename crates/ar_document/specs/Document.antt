@@ -6,7 +6,7 @@ use Rattle.ar_bundle.specs.declared.bundle.RunPart.{RunPart}
 use Rattle.ar_document.specs.Entries.{entries_in, entry_view}
 use Rattle.ar_json.specs.Document.{json_in}
 use Rattle.ar_document.specs.Opening.{Opened, metric_view, opened_of}
-use Rattle.ar_document.specs.Parts.{AreParts, RefusesRuns}
+use Rattle.ar_document.specs.Parts.{HaveParts, RefusesRuns}
 use Rattle.ar_document.specs.declared.error.BundleError.{BundleError}
 use Rattle.ar_document.specs.declared.error.BundleError.TheVariants as errors
 use Rattle.ar_json.specs.declared.document.JsonError.{JsonError}
@@ -17,7 +17,7 @@ pub record IsBundleOf (document : Data) (bundle : Bundle) : Type 0 where
   pub opened : Opened
   pub opens : opened_of document ≡ Ok opened
   pub metrics : map metric_view bundle.metrics ≡ opened.metrics
-  pub runs : AreParts opened opened.runs bundle.runs
+  pub runs : HaveParts opened opened.runs bundle.runs
   pub entries : entries_in opened document ≡ Ok (map entry_view bundle.entries)
 
 -- this is the first fault of a document
@@ -27,7 +27,7 @@ pub data IsFaultOf (document : Data) (error : BundleError) : Type 0 where
   -- of a run
   of_run : (opened : Opened) → opened_of document ≡ Ok opened → RefusesRuns opened error → IsFaultOf document error
   -- of an entry, where all runs have their parts
-  of_entry : (opened : Opened) → opened_of document ≡ Ok opened → (parts : List RunPart) → AreParts opened opened.runs parts
+  of_entry : (opened : Opened) → opened_of document ≡ Ok opened → (parts : List RunPart) → HaveParts opened opened.runs parts
       → entries_in opened document ≡ Err error → IsFaultOf document error
 
 abbrev pub Reads : Data → Result Bundle BundleError → Type 0
@@ -35,19 +35,19 @@ Reads document (Ok bundle) = IsBundleOf document bundle
 Reads document (Err error) = IsFaultOf document error
 
 -- faults of JSON, as they are answered
-abbrev pub of_json : JsonError → BundleError
-of_json json_errors.TooLarge = errors.TooLarge
-of_json json_errors.Utf8OrJson = errors.Utf8OrJson
-of_json json_errors.OutOfMemory = errors.OutOfMemory
+abbrev pub bundle_json_error : JsonError → BundleError
+bundle_json_error json_errors.TooLarge = errors.TooLarge
+bundle_json_error json_errors.Utf8OrJson = errors.Utf8OrJson
+bundle_json_error json_errors.OutOfMemory = errors.OutOfMemory
 
-abbrev pub Follows : Result Data JsonError → Result Bundle BundleError → Type 0
-Follows (Ok document) answer = Reads document answer
-Follows (Err error) answer = answer ≡ Err (of_json error)
+abbrev pub FollowsJson : Result Data JsonError → Result Bundle BundleError → Type 0
+FollowsJson (Ok document) answer = Reads document answer
+FollowsJson (Err error) answer = answer ≡ Err (bundle_json_error error)
 
 -- what is read of an input: its bundle, or its first fault
 pub record ReadsInput (input : List ℕ) (answer : Result Bundle BundleError) : Type 0 where
-  pub follows : Follows (json_in input) answer
+  pub follows : FollowsJson (json_in input) answer
 
-abbrev pub is_memory : BundleError → Bool
-is_memory errors.OutOfMemory = true
-is_memory error = false
+abbrev pub is_bundle_memory : BundleError → Bool
+is_bundle_memory errors.OutOfMemory = true
+is_bundle_memory error = false

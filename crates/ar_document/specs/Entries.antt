@@ -9,11 +9,11 @@ use Rattle.ar_value.specs.Value.{Value}
 use Rattle.ar_json.specs.declared.value_reading.ShapeFault.{ShapeFault}
 use Rattle.ar_json.specs.Members.{list_of, member}
 use Rattle.ar_judge.specs.Verdict.{Sample, measured, misfit, provider, sample_view}
-use Rattle.ar_bundle.specs.Bundle.{most_events}
+use Rattle.ar_limits.specs.Replay.{most_events}
 use Rattle.ar_bundle.specs.declared.bundle.EventPart.{EventPart}
 use Rattle.ar_bundle.specs.declared.bundle.What as parts
 use Rattle.ar_bundle.specs.declared.bundle.What.TheVariants as whats
-use Rattle.ar_document.specs.Opening.{Opened, names_of, number_of}
+use Rattle.ar_document.specs.Opening.{Opened, names_of, index_of_name}
 use Rattle.ar_document.specs.declared.error.BundleError.{BundleError}
 use Rattle.ar_document.specs.declared.error.BundleError.TheVariants.{TooManyMeasurements, BadEntry, UnknownRun, UnknownMetric}
 
@@ -47,29 +47,29 @@ is_true (Some (boolean truth)) = truth
 is_true found = false
 
 -- the value that was measured, or nothing where the provider failed: just one of the two is there, of any value
-abbrev pub given : (value error : Option Data) → Option (Option Data)
-given (Some value) None = Some (Some value)
-given None (Some error) = Some None
-given value error = None
+abbrev pub measured_or_failed : (value error : Option Data) → Option (Option Data)
+measured_or_failed (Some value) None = Some (Some value)
+measured_or_failed None (Some error) = Some None
+measured_or_failed value error = None
 
 abbrev pub sample_by : Result Value ShapeFault → Sample
 sample_by (Ok value) = measured value
 sample_by (Err fault) = misfit fault
 
--- the sample of what was given, under the shape of its metric
+-- the sample of what was measured_or_failed, under the shape of its metric
 abbrev pub sample_of : Shape → Option Data → Sample
 sample_of shape (Some json) = sample_by (read shape json)
 sample_of shape None = provider
 
 abbrev pub stop_of : Opened → (number : ℕ) → (run : List ℕ) → Result Entry BundleError
 stop_of opened number name = do
-  run ← there_or (UnknownRun number) (number_of name (names_of opened.runs))
+  run ← there_or (UnknownRun number) (index_of_name name (names_of opened.runs))
   Ok (entry_of run stop)
 
 -- a measurement of a metric by its name; the number of a name that is found is that of a metric
 abbrev pub measured_of : Opened → (number run : ℕ) → (metric : List ℕ) → Option Data → Result Entry BundleError
 measured_of opened number run name found = do
-  metric ← there_or (UnknownMetric number) (number_of name (map (λ metric. metric.name) opened.metrics))
+  metric ← there_or (UnknownMetric number) (index_of_name name (map (λ metric. metric.name) opened.metrics))
   part ← there_or (UnknownMetric number) (slice_get opened.metrics metric)
   Ok (entry_of run (measure metric (sample_of part.shape found)))
 
@@ -77,8 +77,8 @@ measured_of opened number run name found = do
 abbrev pub measurement_of : Opened → (number : ℕ) → (run : List ℕ) → Data → Result Entry BundleError
 measurement_of opened number name item = do
   metric ← there_or (BadEntry number) (text_of (codes "metric") item)
-  found ← there_or (BadEntry number) (given (get (codes "value") item) (get (codes "error") item))
-  run ← there_or (UnknownRun number) (number_of name (names_of opened.runs))
+  found ← there_or (BadEntry number) (measured_or_failed (get (codes "value") item) (get (codes "error") item))
+  run ← there_or (UnknownRun number) (index_of_name name (names_of opened.runs))
   measured_of opened number run metric found
 
 -- an entry after earlier ones: it names its run, and is a stop or a measurement

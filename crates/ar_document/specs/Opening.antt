@@ -34,18 +34,18 @@ pub record Metric : Type 0 where
   pub name : List ℕ
   pub shape : Shape
 
-abbrev pub metric_of : List ℕ → Shape → Metric
-metric_of name shape = record { name = name; shape = shape }
+abbrev pub metric_with : List ℕ → Shape → Metric
+metric_with name shape = record { name = name; shape = shape }
 
 abbrev pub metric_view : MetricPart → Metric
-metric_view part = metric_of part.name (shape_view part.shape)
+metric_view part = metric_with part.name (shape_view part.shape)
 
 -- the shape that is declared for a metric, after earlier ones; what is no object declares none
 abbrev pub with_shape : (shapes : Option Data) → (earlier : List Metric) → templates.Metric → Result Metric BundleError
 with_shape shapes earlier metric = do
   declared ← there_or (ShapeMissing (length earlier)) (option_and_then (get metric.name) shapes)
   shape ← refused_as (Shapes (length earlier)) (shape_of declared)
-  Ok (metric_of metric.name shape)
+  Ok (metric_with metric.name shape)
 
 abbrev pub metrics_in : (shapes : Option Data) → List templates.Metric → Result (List Metric) BundleError
 metrics_in shapes metrics = each_behind (with_shape shapes) [] metrics
@@ -78,14 +78,14 @@ few_runs [] = Err Runs
 few_runs (item ∷ items) = if nat_lt most_runs (length (item ∷ items)) then Err Runs else Ok (item ∷ items)
 
 -- the number of a name among others: that of the first which is the same
-abbrev pub number_of : List ℕ → List (List ℕ) → Option ℕ
-number_of name [] = None
-number_of name (first ∷ names) = if bytes_eq name first then Some 0 else option_map suc (number_of name names)
+abbrev pub index_of_name : List ℕ → List (List ℕ) → Option ℕ
+index_of_name name [] = None
+index_of_name name (first ∷ names) = if bytes_eq name first then Some 0 else option_map suc (index_of_name name names)
 
 -- names after earlier ones, each of which is new
 unfoldable pub are_new : (earlier : List (List ℕ)) → List (List ℕ) → Result ⊤ BundleError
 are_new earlier [] = Ok tt
-are_new earlier (name ∷ names) = holds_or (DoubleRun (length earlier)) (is_none (number_of name earlier)) >>= λ new. are_new (earlier ++ name ∷ []) names
+are_new earlier (name ∷ names) = holds_or (DoubleRun (length earlier)) (is_none (index_of_name name earlier)) >>= λ new. are_new (earlier ++ name ∷ []) names
 
 abbrev pub names_of : List Run → List (List ℕ)
 names_of runs = map (λ run. run.name) runs

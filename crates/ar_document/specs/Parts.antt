@@ -32,10 +32,10 @@ pub record IsPart (opened : Opened) (run : Run) (part : RunPart) : Type 0 where
   pub limits : part.limits ≡ map limits_of bound
 
 -- each run has its part
-abbrev pub AreParts : Opened → List Run → List RunPart → Type 0
-AreParts opened [] [] = Unit {0}
-AreParts opened (run ∷ runs) (part ∷ parts) = IsPart opened run part × AreParts opened runs parts
-AreParts opened runs parts = ⊥
+abbrev pub HaveParts : Opened → List Run → List RunPart → Type 0
+HaveParts opened [] [] = Unit {0}
+HaveParts opened (run ∷ runs) (part ∷ parts) = IsPart opened run part × HaveParts opened runs parts
+HaveParts opened runs parts = ⊥
 
 -- ---- the first refusal
 
@@ -64,5 +64,5 @@ pub record RefusesRuns (opened : Opened) (error : BundleError) : Type 0 where
   pub run : Run
   pub run_is : slice_get opened.runs number ≡ Some run
   pub earlier : List RunPart
-  pub are_parts : AreParts opened (take number opened.runs) earlier
+  pub are_parts : HaveParts opened (take number opened.runs) earlier
   pub refused : RefusesRun opened number run error

@@ -3,7 +3,7 @@
 ghost use Rattle.std.specs.Prelude.{◌≡◌, ◌<◌, Err, IfOk, length};
 ghost use Rattle.ar_value.specs.Answer.{IfRefused, UnlessMemory};
 ghost use Rattle.serde_json.specs.View.{view};
-ghost use Rattle.ar_document.specs.Document.{Reads, ReadsInput, is_memory};
+ghost use Rattle.ar_document.specs.Document.{Reads, ReadsInput, is_bundle_memory};
 ghost use Rattle.ar_document.specs.Private.Made.{IsMade, RefusesMade};
 ghost use Rattle.ar_document.specs.Private.Opened.{IsOpened, opened_view};
 ghost use Rattle.ar_json.specs.Document.{most_bytes};
@@ -27,7 +27,7 @@ fn parts_and_entries(
 ) -> Result<(Vec<RunPart>, Vec<EventPart>), BundleError>
     requires { IsOpened opened.now }
     ensures made { IfOk result (λ made. IsMade opened.now (view document) made.0.items made.1.items) }
-    ensures refused { IfRefused is_memory result (RefusesMade (opened_view opened.now) (view document)) }
+    ensures refused { IfRefused is_bundle_memory result (RefusesMade (opened_view opened.now) (view document)) }
 {
     let (document, parts) = zip_ok(document, parts_of(alloc, opened))?;
     zip_ok(parts, read_entries(alloc, opened, document))
@@ -35,7 +35,7 @@ fn parts_and_entries(
 
 /// The bundle of a JSON document, which is dropped as it is read, so that it isn't kept beside the bundle.
 fn bundle_of(alloc: Global, document: Json) -> Result<Bundle, BundleError>
-    ensures { UnlessMemory is_memory result (Reads (view document)) }
+    ensures { UnlessMemory is_bundle_memory result (Reads (view document)) }
 {
     let opened = open(alloc, &document)?;
     let made = parts_and_entries(alloc, &opened, document);
@@ -50,7 +50,7 @@ fn bundle_of(alloc: Global, document: Json) -> Result<Bundle, BundleError>
 ///
 /// The first fault that stands in the input, in the order that `BundleError` states.
 pub fn read_bundle(alloc: Global, input: &[u8]) -> Result<Bundle, BundleError>
-    ensures exact { UnlessMemory is_memory result (ReadsInput input.now) }
+    ensures exact { UnlessMemory is_bundle_memory result (ReadsInput input.now) }
 
     // An input that is too large is refused for that alone.
     ensures too_large { most_bytes < length input.now → result ≡ Err TooLarge }

@@ -9,10 +9,11 @@ ghost use Rattle.ar_value.specs.View.{shape_view};
 ghost use Rattle.ar_json.specs.Members.{unless_null};
 ghost use Rattle.ar_json.specs.Reading.{is_memory as is_fault_of_memory};
 ghost use Rattle.ar_judge.specs.Verdict.{misfit, sample_view};
-ghost use Rattle.ar_bundle.specs.Bundle.{IsEntry, SampleSuits, most_events};
-ghost use Rattle.ar_document.specs.Document.{is_memory};
-ghost use Rattle.ar_document.specs.Entries.{Entry, entries_in, entry_in, entry_items, entry_view, given, is_true, listed_entries, measured_of, measurement_of, sample_of, stop_of, text_of};
-ghost use Rattle.ar_document.specs.Opening.{names_of, number_of};
+ghost use Rattle.ar_bundle.specs.Sound.{IsEventPart, SampleSuits};
+ghost use Rattle.ar_limits.specs.Replay.{most_events};
+ghost use Rattle.ar_document.specs.Document.{is_bundle_memory};
+ghost use Rattle.ar_document.specs.Entries.{Entry, entries_in, entry_in, entry_items, entry_view, measured_or_failed, is_true, listed_entries, measured_of, measurement_of, sample_of, stop_of, text_of};
+ghost use Rattle.ar_document.specs.Opening.{names_of, index_of_name};
 ghost use Rattle.ar_document.specs.Private.Naming.{AreNumbers};
 ghost use Rattle.ar_document.specs.Private.Opened.{IsOpened, opened_view};
 ghost use Rattle.ar_document.specs.declared.error.BundleError.TheVariants.{OutOfMemory, UnknownRun};
@@ -32,7 +33,7 @@ use std::mem;
 
 /// The number of a name.
 fn number_of(numbers: &Numbers, name: &str) -> Option<usize>
-    ensures { (names : List (List ℕ)) → AreNumbers names numbers.now → result ≡ number_of name.now names }
+    ensures { (names : List (List ℕ)) → AreNumbers names numbers.now → result ≡ index_of_name name.now names }
 {
     numbers.get(name).copied()
 }
@@ -56,7 +57,9 @@ fn is_true(found: Option<&Json>) -> bool
 /// The value that was measured, or nothing where the provider failed.
 fn given<'a>(value: Option<&'a Json>, error: Option<&Json>) -> Option<Option<&'a Json>>
     ensures { option_map (λ found. option_map (λ json. view json.now) found) result
-        ≡ given (option_map (λ json. view json.now) value.entry) (option_map (λ json. view json.now) error.entry) }
+        ≡ measured_or_failed
+        (option_map (λ json. view json.now) value.entry)
+        (option_map (λ json. view json.now) error.entry) }
 {
     match (value, error) {
         (Some(value), None) => Some(Some(value)),
@@ -99,7 +102,7 @@ fn sample_of(alloc: Global, reader: &Reader, found: Option<&Json>) -> Result<Sam
 fn run_number(opened: &Opened, number: usize, name: &str) -> Result<usize, BundleError>
     requires { IsOpened opened.now }
     ensures exact { Gives (λ _. false) (λ run. run) result
-        (there_or (UnknownRun number) (number_of name.now (names_of opened.now.runs.items))) }
+        (there_or (UnknownRun number) (index_of_name name.now (names_of opened.now.runs.items))) }
     ensures inside { IfOk result (λ run. run < length opened.now.runs.items) }
 {
     number_of(&opened.run_numbers, name).ok_or(BundleError::UnknownRun(number))
@@ -109,7 +112,7 @@ fn run_number(opened: &Opened, number: usize, name: &str) -> Result<usize, Bundl
 fn stop_of(opened: &Opened, number: usize, name: &str) -> Result<EventPart, BundleError>
     requires { IsOpened opened.now }
     ensures exact { Gives (λ _. false) entry_view result (stop_of (opened_view opened.now) number name.now) }
-    ensures entry { IfOk result (IsEntry opened.now.metrics.items (length opened.now.runs.items)) }
+    ensures entry { IfOk result (IsEventPart opened.now.metrics.items (length opened.now.runs.items)) }
 {
     let run = run_number(opened, number, name)?;
     Ok(EventPart {
@@ -129,9 +132,9 @@ fn measured_of(
 ) -> Result<EventPart, BundleError>
     requires opened { IsOpened opened.now }
     requires run { run < length opened.now.runs.items }
-    ensures exact { Gives is_memory entry_view result
+    ensures exact { Gives is_bundle_memory entry_view result
         (measured_of (opened_view opened.now) number run name.now (option_map (λ json. view json.now) found.entry)) }
-    ensures entry { IfOk result (IsEntry opened.now.metrics.items (length opened.now.runs.items)) }
+    ensures entry { IfOk result (IsEventPart opened.now.metrics.items (length opened.now.runs.items)) }
 {
     let metric = number_of(&opened.metric_numbers, name).ok_or(BundleError::UnknownMetric(number))?;
     let reader = opened
@@ -154,9 +157,9 @@ fn measurement_of(
     item: &Json,
 ) -> Result<EventPart, BundleError>
     requires { IsOpened opened.now }
-    ensures exact { Gives is_memory entry_view result
+    ensures exact { Gives is_bundle_memory entry_view result
         (measurement_of (opened_view opened.now) number name.now (view item.now)) }
-    ensures entry { IfOk result (IsEntry opened.now.metrics.items (length opened.now.runs.items)) }
+    ensures entry { IfOk result (IsEventPart opened.now.metrics.items (length opened.now.runs.items)) }
 {
     let metric = text_of(item, "metric").ok_or(BundleError::BadEntry(number))?;
     let found = given(item.get("value"), item.get("error")).ok_or(BundleError::BadEntry(number))?;
@@ -174,8 +177,8 @@ fn entry_of(
 ) -> Result<EventPart, BundleError>
     requires { IsOpened opened.now }
     ensures exact { (earlier : List Entry) → length earlier ≡ number
-        → Gives is_memory entry_view result (entry_in (opened_view opened.now) earlier (view item.now)) }
-    ensures entry { IfOk result (IsEntry opened.now.metrics.items (length opened.now.runs.items)) }
+        → Gives is_bundle_memory entry_view result (entry_in (opened_view opened.now) earlier (view item.now)) }
+    ensures entry { IfOk result (IsEventPart opened.now.metrics.items (length opened.now.runs.items)) }
 {
     let name = text_of(item, "run").ok_or(BundleError::BadEntry(number))?;
     if is_true(item.get("stop")) {
@@ -228,11 +231,12 @@ fn entries_of(
     items: Vec<Json>,
 ) -> Result<Vec<EventPart>, BundleError>
     requires { IsOpened opened.now }
-    ensures exact { Gives is_memory (λ entries. map entry_view entries.items) result
+    ensures exact { Gives is_bundle_memory (λ entries. map entry_view entries.items) result
         (each_behind (entry_in (opened_view opened.now)) [] (map (λ json. view json) items.items)) }
     ensures each { IfOk result (λ entries. length entries.items ≡ length items.items) }
     ensures entries { IfOk result
-        (λ entries. AllByRecursion (IsEntry opened.now.metrics.items (length opened.now.runs.items)) entries.items) }
+        (λ entries. AllByRecursion
+        (IsEventPart opened.now.metrics.items (length opened.now.runs.items)) entries.items) }
 {
     let mut entries = Vec::with_capacity(alloc, items.len())?;
     for item in items {
@@ -252,11 +256,12 @@ pub(crate) fn read_entries(
     document: Json,
 ) -> Result<Vec<EventPart>, BundleError>
     requires { IsOpened opened.now }
-    ensures exact { Gives is_memory (λ entries. map entry_view entries.items) result
+    ensures exact { Gives is_bundle_memory (λ entries. map entry_view entries.items) result
         (entries_in (opened_view opened.now) (view document)) }
     ensures few { IfOk result (λ entries. length entries.items ≤ most_events) }
     ensures entries { IfOk result
-        (λ entries. AllByRecursion (IsEntry opened.now.metrics.items (length opened.now.runs.items)) entries.items) }
+        (λ entries. AllByRecursion
+        (IsEventPart opened.now.metrics.items (length opened.now.runs.items)) entries.items) }
 {
     let items = entry_items(alloc, document)?;
     entries_of(alloc, opened, items)

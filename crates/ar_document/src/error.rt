@@ -124,9 +124,9 @@ impl fmt::Display for BundleError {
 
 impl From<JsonError> for BundleError {
     ghost use Rattle.std.specs.Prelude.{◌≡◌};
-    ghost use Rattle.ar_document.specs.Document.{of_json};
+    ghost use Rattle.ar_document.specs.Document.{bundle_json_error};
 
-    ghost from_gives = { λ error e. e ≡ of_json error };
+    ghost from_gives = { λ error e. e ≡ bundle_json_error error };
 
     fn from(error: JsonError) -> BundleError {
         match error {

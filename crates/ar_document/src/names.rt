@@ -1,7 +1,7 @@
 //! Numbers by name.
 
 ghost use Rattle.std.specs.Prelude.{◌≡◌, ◌++◌, ◌∷◌, [], ℕ, List, IfOk, OnOk, length, is_none};
-ghost use Rattle.ar_document.specs.Opening.{number_of};
+ghost use Rattle.ar_document.specs.Opening.{index_of_name};
 ghost use Rattle.ar_document.specs.Private.Naming.{AreNumbers};
 
 use ar_manifest::Arguments;
@@ -19,7 +19,7 @@ pub(crate) fn add_name(
     number: usize,
 ) -> Result<bool, AllocError>
     ensures new { (names : List (List ℕ)) → AreNumbers names numbers.old
-        → IfOk result (λ new. new ≡ is_none (number_of name.now names)) }
+        → IfOk result (λ new. new ≡ is_none (index_of_name name.now names)) }
     ensures numbers { (names : List (List ℕ)) → AreNumbers names numbers.old → length names ≡ number
         → OnOk result (AreNumbers (names ++ name.now ∷ []) numbers.new) }
 {

@@ -7,7 +7,7 @@ ghost use Rattle.ar_value.specs.Answer.{Gives};
 ghost use Rattle.ar_json.specs.Declaration.{shape_of as declared_shape};
 ghost use Rattle.ar_value.specs.View.{shape_view};
 ghost use Rattle.ar_judge.specs.Condition.{refused_as};
-ghost use Rattle.ar_document.specs.Document.{is_memory};
+ghost use Rattle.ar_document.specs.Document.{is_bundle_memory};
 ghost use Rattle.ar_document.specs.Opening.{Metric as Named, metric_view, metrics_in, opened_of, template_in, with_shape};
 ghost use Rattle.ar_document.specs.declared.error.BundleError.TheVariants.{Shapes};
 ghost use Rattle.ar_document.specs.Private.Naming.{AreNumbers};
@@ -53,7 +53,7 @@ impl Opened {
 
 /// The template of a document.
 fn template_of(alloc: Global, document: &Json) -> Result<Template, BundleError>
-    ensures { Gives is_memory (λ template. template) result (template_in (view document.now)) }
+    ensures { Gives is_bundle_memory (λ template. template) result (template_in (view document.now)) }
 {
     let manifest = document.get("manifest").unwrap_or(&Json::Null);
     match Template::read(alloc, manifest) {
@@ -65,7 +65,8 @@ fn template_of(alloc: Global, document: &Json) -> Result<Template, BundleError>
 
 /// The shape that a JSON value declares for the metric with a number.
 fn shape_of(alloc: Global, declared: &Json, number: usize) -> Result<SharedShape, BundleError>
-    ensures { Gives is_memory shape_view result (refused_as (Shapes number) (declared_shape (view declared.now))) }
+    ensures { Gives is_bundle_memory shape_view result
+        (refused_as (Shapes number) (declared_shape (view declared.now))) }
 {
     match read_shape(alloc, declared) {
         Ok(shape) => Ok(SharedShape::new(alloc, shape)?),
@@ -90,7 +91,7 @@ fn metric_of(
     number: usize,
 ) -> Result<MetricPart, BundleError>
     ensures { (earlier : List Named) → length earlier ≡ number
-        → Gives is_memory metric_view result
+        → Gives is_bundle_memory metric_view result
         (with_shape (option_map (λ json. view json.now) shapes.entry) earlier metric.now) }
 {
     let name = metric.name.as_str();
@@ -108,7 +109,7 @@ fn metrics_of(
     shapes: Option<&Json>,
     metrics: &[Metric],
 ) -> Result<Vec<MetricPart>, BundleError>
-    ensures exact { Gives is_memory (λ parts. map metric_view parts.items) result
+    ensures exact { Gives is_bundle_memory (λ parts. map metric_view parts.items) result
         (metrics_in (option_map (λ json. view json.now) shapes.entry) metrics.now) }
     ensures each { IfOk result (λ parts. length parts.items ≡ length metrics.now) }
 {
@@ -162,7 +163,7 @@ fn numbered_metrics(
     shapes: Option<&Json>,
     metrics: &[Metric],
 ) -> Result<(Vec<MetricPart>, (Numbers, Vec<Reader>)), BundleError>
-    ensures exact { Gives is_memory (λ made. map metric_view made.0.items) result
+    ensures exact { Gives is_bundle_memory (λ made. map metric_view made.0.items) result
         (metrics_in (option_map (λ json. view json.now) shapes.entry) metrics.now) }
     ensures each { IfOk result (λ made. length made.0.items ≡ length metrics.now) }
     ensures numbers { IfOk result (λ made. AreNumbers (metric_names (map metric_view made.0.items)) made.1.0) }
@@ -176,7 +177,7 @@ fn numbered_metrics(
 /// A document's template, metrics and runs.
 #[tactic(auto, using(crate::proofs::Templates::few_metrics), unfolding(crate::specs::Opening::opened_of))]
 pub(crate) fn open(alloc: Global, document: &Json) -> Result<Opened, BundleError>
-    ensures exact { Gives is_memory opened_view result (opened_of (view document.now)) }
+    ensures exact { Gives is_bundle_memory opened_view result (opened_of (view document.now)) }
     ensures opened { IfOk result IsOpened }
 {
     let template = template_of(alloc, document)?;

@@ -5,13 +5,13 @@ ghost use Rattle.std.specs.List.{AllByRecursion};
 ghost use Rattle.ar_limits.specs.Metric.{HasPositiveCounts};
 ghost use Rattle.ar_judge.specs.Verdict.{IsJudge};
 ghost use Rattle.ar_manifest.specs.Shortened.{shortened_of};
-ghost use Rattle.ar_bundle.specs.Bundle.{IsRun, JudgesEach};
+ghost use Rattle.ar_bundle.specs.Sound.{IsRun, JudgesEach};
 ghost use Rattle.ar_value.specs.Answer.{Gives, IfRefused};
 ghost use Rattle.ar_value.specs.View.{shape_view};
 ghost use Rattle.ar_judge.specs.Condition.{refused_as};
-ghost use Rattle.ar_document.specs.Document.{is_memory};
+ghost use Rattle.ar_document.specs.Document.{is_bundle_memory};
 ghost use Rattle.ar_document.specs.Opening.{metric_view};
-ghost use Rattle.ar_document.specs.Parts.{AreJudges, AreParts, IsPart, RefusesRun, RefusesRuns, limits_of};
+ghost use Rattle.ar_document.specs.Parts.{AreJudges, HaveParts, IsPart, RefusesRun, RefusesRuns, limits_of};
 ghost use Rattle.ar_document.specs.Private.Opened.{IsOpened, opened_view};
 ghost use Rattle.ar_document.specs.Private.Earlier.{AllOfTheirTexts, AreOfTheirTexts, IsOfEarlier, IsOfRun};
 ghost use Rattle.ar_document.specs.Private.Parts.{RefusesJudge, RefusesJudges};
@@ -30,7 +30,7 @@ use std::alloc::{AllocError, Global};
 
 /// The template, bound to the arguments of the run with a number. Conditions that are too long are shortened.
 fn bound(alloc: Global, template: &Template, run: &Run, number: usize) -> Result<Bound, BundleError>
-    ensures { Gives is_memory (λ bound. bound) result
+    ensures { Gives is_bundle_memory (λ bound. bound) result
         (refused_as (Bind number) (shortened_of template.now run.now.own)) }
 {
     match template.bind_shortened(alloc, &run.own) {
@@ -90,7 +90,7 @@ fn judge_of(
     requires { AreOfTheirTexts number metric.now earlier.now }
     ensures built { IfOk result
         (IsJudge (shape_view metric.now.shape) bound.now.success_condition bound.now.failure_condition) }
-    ensures refused { IfRefused is_memory result (RefusesJudge run number metric.now bound.now) }
+    ensures refused { IfRefused is_bundle_memory result (RefusesJudge run number metric.now bound.now) }
 {
     let success = earlier_condition(earlier, Which::Success, number, &bound.success_condition);
     let failure = earlier_condition(earlier, Which::Failure, number, &bound.failure_condition);
@@ -112,7 +112,7 @@ fn judges_of(
     requires many { length bound.now ≡ length metrics.now }
     requires earlier { AllOfTheirTexts metrics.now earlier.now }
     ensures built { IfOk result (AreJudges (map metric_view metrics.now) bound.now) }
-    ensures refused { IfRefused is_memory result (RefusesJudges run metrics.now bound.now) }
+    ensures refused { IfRefused is_bundle_memory result (RefusesJudges run metrics.now bound.now) }
 {
     let mut judges = Vec::with_capacity(alloc, metrics.len())?;
     for (number, metric) in metrics.iter().enumerate() {
@@ -157,7 +157,7 @@ fn judges_and_limits(
     requires earlier { AllOfTheirTexts metrics.now earlier.now }
     ensures built { IfOk result (λ made. AreJudges (map metric_view metrics.now) bound.now made.0) }
     ensures limits { IfOk result (λ made. made.1 ≡ map limits_of bound.now) }
-    ensures refused { IfRefused is_memory result (RefusesJudges run metrics.now bound.now) }
+    ensures refused { IfRefused is_bundle_memory result (RefusesJudges run metrics.now bound.now) }
 {
     let judges = judges_of(alloc, run, metrics, bound, earlier)?;
     Ok(zip_ok(judges, all_limits(alloc, bound))?)
@@ -174,7 +174,7 @@ fn part_of(
     requires opened { IsOpened opened.now }
     requires earlier { AllOfTheirTexts opened.now.metrics.items earlier.now }
     ensures part { IfOk result (IsPart (opened_view opened.now) run.now) }
-    ensures refused { IfRefused is_memory result (RefusesRun (opened_view opened.now) number run.now) }
+    ensures refused { IfRefused is_bundle_memory result (RefusesRun (opened_view opened.now) number run.now) }
 {
     let bound = bound(alloc, &opened.template, run, number)?;
     let judged = judges_and_limits(alloc, number, &opened.metrics, bound.metrics(), earlier)?;
@@ -189,8 +189,8 @@ fn part_of(
 /// The parts of all runs.
 pub(crate) fn parts_of(alloc: Global, opened: &Opened) -> Result<Vec<RunPart>, BundleError>
     requires { IsOpened opened.now }
-    ensures parts { IfOk result (λ parts. AreParts (opened_view opened.now) opened.now.runs.items parts.items) }
-    ensures refused { IfRefused is_memory result (RefusesRuns (opened_view opened.now)) }
+    ensures parts { IfOk result (λ parts. HaveParts (opened_view opened.now) opened.now.runs.items parts.items) }
+    ensures refused { IfRefused is_bundle_memory result (RefusesRuns (opened_view opened.now)) }
 {
     let mut parts = Vec::with_capacity(alloc, opened.runs.len())?;
     for (number, run) in opened.runs.iter().enumerate() {

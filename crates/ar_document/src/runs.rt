@@ -4,9 +4,9 @@ ghost use Rattle.std.specs.Prelude.{◌≡◌, ◌≤◌, ◌++◌, ◌∷◌, �
 ghost use Rattle.serde_json.specs.View.{members_view, view};
 ghost use Rattle.ar_value.specs.Answer.{Gives, each_behind, holds_or};
 ghost use Rattle.ar_value.specs.Limits.{most_runs};
-ghost use Rattle.ar_document.specs.Document.{is_memory};
-ghost use Rattle.ar_document.specs.Opening.{are_new, names_of, number_of, own_arguments, run_items, run_of, runs_in, texts_by_name};
-ghost use Rattle.ar_document.specs.Private.Made.{with_text};
+ghost use Rattle.ar_document.specs.Document.{is_bundle_memory};
+ghost use Rattle.ar_document.specs.Opening.{are_new, names_of, index_of_name, own_arguments, run_items, run_of, runs_in, texts_by_name};
+ghost use Rattle.ar_document.specs.Private.Made.{with_argument_text};
 ghost use Rattle.ar_document.specs.Private.Naming.{AreNumbers};
 ghost use Rattle.ar_document.specs.declared.error.BundleError.TheVariants.{DoubleRun};
 
@@ -30,7 +30,7 @@ pub struct Run {
 
 /// Adds a text by its name.
 fn add_text(alloc: Global, own: &mut Args, name: &str, json: &Json) -> Result<(), BundleError>
-    ensures { Gives is_memory (λ _. own.new) result (with_text own.old name.now (view json.now)) }
+    ensures { Gives is_bundle_memory (λ _. own.new) result (with_argument_text own.old name.now (view json.now)) }
 {
     let Json::String(text) = json else {
         return Err(BundleError::Runs);
@@ -41,7 +41,7 @@ fn add_text(alloc: Global, own: &mut Args, name: &str, json: &Json) -> Result<()
 
 /// Texts by name.
 fn texts_by_name(alloc: Global, members: &Map<String, Json>) -> Result<Args, BundleError>
-    ensures { Gives is_memory (λ own. own) result (texts_by_name [] (members_view members.now.entries)) }
+    ensures { Gives is_bundle_memory (λ own. own) result (texts_by_name [] (members_view members.now.entries)) }
 {
     let mut own = Args::new(alloc);
     for (name, json) in members.iter() {
@@ -56,7 +56,8 @@ fn texts_by_name(alloc: Global, members: &Map<String, Json>) -> Result<Args, Bun
 ///
 /// `Runs` where they are no texts by name; `OutOfMemory` where a growth was refused.
 pub fn own_arguments(alloc: Global, found: Option<&Json>) -> Result<Args, BundleError>
-    ensures { Gives is_memory (λ own. own) result (own_arguments (option_map (λ json. view json.now) found.entry)) }
+    ensures { Gives is_bundle_memory (λ own. own) result
+        (own_arguments (option_map (λ json. view json.now) found.entry)) }
 {
     match found {
         None | Some(Json::Null) => Ok(Args::new(alloc)),
@@ -66,7 +67,7 @@ pub fn own_arguments(alloc: Global, found: Option<&Json>) -> Result<Args, Bundle
 }
 
 fn run_of(alloc: Global, item: &Json) -> Result<Run, BundleError>
-    ensures { Gives is_memory (λ run. run) result (run_of (view item.now)) }
+    ensures { Gives is_bundle_memory (λ run. run) result (run_of (view item.now)) }
 {
     let name = item
         .get("name")
@@ -96,7 +97,7 @@ fn run_items(document: &Json) -> Result<&[Json], BundleError>
 
 /// The runs of a document, whose names may still be the same.
 fn runs_of(alloc: Global, items: &[Json]) -> Result<Vec<Run>, BundleError>
-    ensures exact { Gives is_memory (λ runs. runs.items) result
+    ensures exact { Gives is_bundle_memory (λ runs. runs.items) result
         (each_behind (λ earlier. run_of) [] (map (λ json. view json) items.now)) }
     ensures each { IfOk result (λ runs. length runs.items ≡ length items.now) }
 {
@@ -116,7 +117,8 @@ fn add_run(
     number: usize,
 ) -> Result<(), BundleError>
     ensures new { (names : List (List ℕ)) → AreNumbers names numbers.old → length names ≡ number
-        → Gives is_memory (λ _. tt) result (holds_or (DoubleRun number) (is_none (number_of run.now.name names))) }
+        → Gives is_bundle_memory (λ _. tt) result
+        (holds_or (DoubleRun number) (is_none (index_of_name run.now.name names))) }
     ensures numbers { (names : List (List ℕ)) → AreNumbers names numbers.old → length names ≡ number
         → OnOk result (AreNumbers (names ++ run.now.name ∷ []) numbers.new) }
 {
@@ -129,7 +131,7 @@ fn add_run(
 
 /// The numbers of runs by their names, each of which is new.
 fn numbers_of(alloc: Global, runs: &[Run]) -> Result<Numbers, BundleError>
-    ensures new { Gives is_memory (λ _. tt) result (are_new [] (names_of runs.now)) }
+    ensures new { Gives is_bundle_memory (λ _. tt) result (are_new [] (names_of runs.now)) }
     ensures numbers { IfOk result (AreNumbers (names_of runs.now)) }
 {
     let mut numbers = Numbers::new(alloc);
@@ -141,7 +143,7 @@ fn numbers_of(alloc: Global, runs: &[Run]) -> Result<Numbers, BundleError>
 
 /// The runs of a document, each of a name of its own, and their numbers by these.
 pub(crate) fn read_runs(alloc: Global, document: &Json) -> Result<(Vec<Run>, Numbers), BundleError>
-    ensures exact { Gives is_memory (λ read. read.0.items) result (runs_in (view document.now)) }
+    ensures exact { Gives is_bundle_memory (λ read. read.0.items) result (runs_in (view document.now)) }
     ensures few { IfOk result (λ read. length read.0.items ≤ most_runs) }
     ensures numbers { IfOk result (λ read. AreNumbers (names_of read.0.items) read.1) }
 {

@@ -11,13 +11,14 @@ use Rattle.ar_value.proofs.Answers.{unless_more}
 use Rattle.ar_json.proofs.ReadLemmas.{under_is_memory}
 use Rattle.ar_json.specs.declared.value_reading.ShapeFault.{ShapeFault}
 use Rattle.ar_json.specs.declared.value_reading.ShapeFault.TheVariants as shape_fault
-use Rattle.ar_judge.specs.Condition.{Condition, IsBuilt, IsRefused, said}
+use Rattle.ar_judge.specs.Built.{Condition, IsBuilt}
+use Rattle.ar_judge.specs.Condition.{IsRefused, said}
 use Rattle.ar_judge.specs.declared.error.BuildCause.{BuildCause}
 use Rattle.ar_judge.specs.declared.error.BuildCause.TheVariants as causes
 use Rattle.ar_json.specs.Document.{is_memory as is_json_memory, json_in}
 use Rattle.ar_json.specs.declared.document.JsonError.{JsonError}
 use Rattle.ar_json.specs.declared.document.JsonError.TheVariants as json_error
-use Rattle.ar_eval.specs.Evaluation.{is_memory as is_eval_memory, Evaluates, Follows, Answers, prepared_of, of_build, of_json, of_misfit, prepared, prepared_input}
+use Rattle.ar_eval.specs.Evaluation.{is_eval_memory, Evaluates, Follows, Answers, prepared_of, of_build, eval_json_error, of_misfit, prepared, prepared_input}
 use Rattle.ar_eval.specs.declared.eval.EvalError.{EvalError}
 use Rattle.ar_eval.specs.declared.eval.EvalError.TheVariants.{OutOfMemory}
 
@@ -56,7 +57,7 @@ of_document input document (Err OutOfMemory) is h = tt
 of_document input document (Err fault) is h = record { follows = rw is h }
 
 -- an input that is no document is refused for that
-pub of_no_document : (input : List ℕ) (error : JsonError) → Unless (is_json_memory error) (json_in input ≡ Err error) → UnlessMemory is_eval_memory (Err (of_json error)) (Evaluates input)
+pub of_no_document : (input : List ℕ) (error : JsonError) → Unless (is_json_memory error) (json_in input ≡ Err error) → UnlessMemory is_eval_memory (Err (eval_json_error error)) (Evaluates input)
 unfolding prepared_input
 of_no_document input json_error.OutOfMemory none = tt
 of_no_document input json_error.TooLarge none = record { follows = rw none refl }

@@ -10,7 +10,8 @@ use Rattle.ar_json.specs.declared.shape_reading.ShapeError.TheVariants as shape_
 use Rattle.ar_json.specs.declared.value_reading.ShapeFault.{ShapeFault}
 use Rattle.ar_json.specs.declared.value_reading.ShapeFault.TheVariants as shape_fault
 use Rattle.ar_value.specs.Shape.{Shape}
-use Rattle.ar_judge.specs.Condition.{Condition, IsBuilt, IsRefused, refused_as, said}
+use Rattle.ar_judge.specs.Built.{Condition, IsBuilt}
+use Rattle.ar_judge.specs.Condition.{IsRefused, refused_as, said}
 use Rattle.ar_judge.specs.declared.error.BuildCause.{BuildCause}
 use Rattle.ar_judge.specs.declared.error.BuildCause.TheVariants as causes
 use Rattle.ar_value.specs.declared.fault.Fault.{Fault}
@@ -21,8 +22,8 @@ use Rattle.ar_eval.specs.declared.eval.EvalError.{EvalError}
 use Rattle.ar_eval.specs.declared.eval.EvalError.TheVariants.{TooLarge, Utf8OrJson, BadDocument, Shape as BadShape, Grammar, Kinds, Compiler, Verifier, Misfit, OutOfMemory}
 
 -- a document's condition, shape and value, which all have to be there
-abbrev pub parts_of : Data → Result (List ℕ × Data × Data) EvalError
-parts_of document = do
+abbrev pub document_parts : Data → Result (List ℕ × Data × Data) EvalError
+document_parts document = do
   text ← there_or BadDocument (option_and_then as_str (get (codes "condition") document))
   declared ← there_or BadDocument (get (codes "shape") document)
   measured ← there_or BadDocument (get (codes "value") document)
@@ -39,7 +40,7 @@ prepared_of text shape measured = record { text = text; shape = shape; measured 
 
 unfoldable pub prepared : Data → Result Prepared EvalError
 prepared document = do
-  parts ← parts_of document
+  parts ← document_parts document
   shape ← refused_as BadShape (shape_of parts.1)
   Ok (prepared_of parts.0 shape parts.2)
 
@@ -50,13 +51,13 @@ meant given = do
   Ok (said given.shape given.text value)
 
 -- faults of JSON, as they are answered
-abbrev pub of_json : JsonError → EvalError
-of_json json_error.TooLarge = TooLarge
-of_json json_error.Utf8OrJson = Utf8OrJson
-of_json json_error.OutOfMemory = OutOfMemory
+abbrev pub eval_json_error : JsonError → EvalError
+eval_json_error json_error.TooLarge = TooLarge
+eval_json_error json_error.Utf8OrJson = Utf8OrJson
+eval_json_error json_error.OutOfMemory = OutOfMemory
 
 unfoldable pub prepared_input : List ℕ → Result Prepared EvalError
-prepared_input input = refused_as of_json (json_in input) >>= prepared
+prepared_input input = refused_as eval_json_error (json_in input) >>= prepared
 
 -- the text is a condition that can be run
 pub record IsRunnable (given : Prepared) : Type 0 where
@@ -97,6 +98,6 @@ abbrev pub of_misfit : ShapeFault → EvalError
 of_misfit shape_fault.OutOfMemory = OutOfMemory
 of_misfit fault = Misfit fault
 
-abbrev pub is_memory : EvalError → Bool
-is_memory OutOfMemory = true
-is_memory error = false
+abbrev pub is_eval_memory : EvalError → Bool
+is_eval_memory OutOfMemory = true
+is_eval_memory error = false

@@ -4,10 +4,10 @@ ghost use Rattle.std.specs.Prelude.{◌≡◌, ◌<◌, Err, List, false, length
 ghost use Rattle.ar_value.specs.Answer.{UnlessMemory};
 ghost use Rattle.serde_json.specs.View.{view};
 ghost use Rattle.ar_value.specs.Answer as answer;
-ghost use Rattle.ar_eval.specs.Evaluation.{Answers, Evaluates, Follows, is_memory, prepared_of, parts_of, prepared};
+ghost use Rattle.ar_eval.specs.Evaluation.{Answers, Evaluates, Follows, is_eval_memory, prepared_of, document_parts, prepared};
 ghost use Rattle.ar_value.specs.Shape.{Shape as Declared};
 ghost use Rattle.ar_value.specs.View.{shape_view};
-ghost use Rattle.ar_judge.specs.Condition.{IsBuilt};
+ghost use Rattle.ar_judge.specs.Built.{IsBuilt};
 ghost use Rattle.ar_json.specs.Document.{most_bytes};
 ghost use Rattle.ar_eval.specs.declared.eval.EvalError.TheVariants.{TooLarge};
 
@@ -109,9 +109,9 @@ impl From<AllocError> for EvalError {
 
 impl From<JsonError> for EvalError {
     ghost use Rattle.std.specs.Prelude.{◌≡◌};
-    ghost use Rattle.ar_eval.specs.Evaluation.{of_json};
+    ghost use Rattle.ar_eval.specs.Evaluation.{eval_json_error};
 
-    ghost from_gives = { λ error e. e ≡ of_json error };
+    ghost from_gives = { λ error e. e ≡ eval_json_error error };
 
     fn from(error: JsonError) -> EvalError {
         match error {
@@ -130,7 +130,7 @@ impl From<JsonError> for EvalError {
 /// The first fault that stands in the input, in the order of `EvalError`.
 #[tactic(auto, using(crate::proofs::Judging::of_document, crate::proofs::Judging::of_no_document))]
 pub fn evaluate(alloc: Global, input: &[u8]) -> Result<Answer, EvalError>
-    ensures exact { UnlessMemory is_memory result (Evaluates input.now) }
+    ensures exact { UnlessMemory is_eval_memory result (Evaluates input.now) }
 
     // An input that is too large is refused for that alone.
     ensures too_large { most_bytes < length input.now → result ≡ Err TooLarge }
@@ -142,7 +142,7 @@ pub fn evaluate(alloc: Global, input: &[u8]) -> Result<Answer, EvalError>
 /// What the condition of a document says of its value.
 #[tactic(auto, unfolding(crate::specs::Evaluation::prepared))]
 fn judge(alloc: Global, document: &Json) -> Result<Answer, EvalError>
-    ensures { UnlessMemory is_memory result (Follows (prepared (view document.now))) }
+    ensures { UnlessMemory is_eval_memory result (Follows (prepared (view document.now))) }
 {
     let (text, declared, measured) = parts_of(document)?;
     let shape = SharedShape::new(alloc, read_shape(alloc, declared)?)?;
@@ -157,7 +157,8 @@ fn judge_text(
     shape: SharedShape,
     measured: &Json,
 ) -> Result<Answer, EvalError>
-    ensures { UnlessMemory is_memory result (Answers (prepared_of text.now (shape_view shape) (view measured.now))) }
+    ensures { UnlessMemory is_eval_memory result
+        (Answers (prepared_of text.now (shape_view shape) (view measured.now))) }
 {
     let condition = Condition::build(alloc, text, shape)?;
     answer(alloc, &condition, measured)
@@ -167,7 +168,7 @@ fn judge_text(
 #[tactic(auto, using(crate::proofs::Judging::answered))]
 fn answer(alloc: Global, condition: &Condition, measured: &Json) -> Result<Answer, EvalError>
     ensures { (text : List ℕ) (shape : Declared) → IsBuilt shape text condition.now
-        → UnlessMemory is_memory result (Answers (prepared_of text shape (view measured.now))) }
+        → UnlessMemory is_eval_memory result (Answers (prepared_of text shape (view measured.now))) }
 {
     let value = read_value(alloc, measured, condition.verified().shape())?;
     Ok(condition.answer(alloc, &value)?)
@@ -176,7 +177,7 @@ fn answer(alloc: Global, condition: &Condition, measured: &Json) -> Result<Answe
 /// A document's condition, shape and value.
 fn parts_of(document: &Json) -> Result<(&str, &Json, &Json), EvalError>
     ensures { answer.Gives (λ _. false) (λ parts. (parts.0.now, view parts.1.now, view parts.2.now)) result
-        (parts_of (view document.now)) }
+        (document_parts (view document.now)) }
 {
     let condition = document
         .get("condition")

@@ -4,14 +4,10 @@ use Rattle.ar_value.specs.Fits.{fits}
 use Rattle.ar_value.specs.Shape.{Shape}
 use Rattle.ar_value.specs.Value.{Value}
 use Rattle.ar_value.specs.declared.fault.Fault.{Fault}
-use Rattle.ar_tree.specs.Expression.{Expression}
 use Rattle.ar_tree.specs.Meaning.{answer_of, mean}
 use Rattle.ar_tree.specs.Typed.{Typed}
 use Rattle.ar_syntax.proofs.Limits.{parsed_in_limits}
 use Rattle.ar_syntax.specs.Parse.{parse_of}
-use Rattle.ar_syntax.specs.declared.error.SyntaxError.{SyntaxError}
-use Rattle.ar_check.specs.Check.{checked}
-use Rattle.ar_check.specs.declared.error.TypeError.{TypeError}
 use Rattle.ar_op.specs.Code.{IsCode}
 use Rattle.ar_compile.proofs.Conditions.{compiled_means}
 use Rattle.ar_compile.proofs.Lawful.{compiled_is_code}
@@ -19,36 +15,26 @@ use Rattle.ar_compile.specs.Compiled.{compiled}
 use Rattle.ar_compile.specs.Ends.{EndsWith}
 use Rattle.ar_safety.proofs.Safe.{few_operands, verified_is_safe}
 use Rattle.ar_safety.specs.Safety.{IsSafe}
-use Rattle.ar_judge.specs.Condition.{Condition, IsBuilt, refused_as, said, typed_of}
-use Rattle.ar_judge.specs.Headline.{BuildsJudge, HeadlineHolds, HoldsWhereThere, JudgeHeadlineHolds, JudgesAsMeant, RunsAsMeant, run_answer}
+use Rattle.ar_judge.specs.Built.{Condition, IsBuilt}
+use Rattle.ar_judge.specs.Condition.{said, text_typed}
+use Rattle.ar_judge.specs.JudgeHeadline.{BuildsJudge, HoldsWhereThere, JudgeHeadlineHolds, JudgesAsMeant, run_answer}
+use Rattle.ar_judge.specs.Headline.{HeadlineHolds, RunsAsMeant}
 use Rattle.ar_judge.specs.Verdict.{AreBuilt, IsJudge, Judge, said_of, verdict_by}
-use Rattle.ar_judge.specs.declared.error.BuildCause.TheVariants.{Kinds}
 use Rattle.ar_judge.proofs.Running.{in_limits, one_answer}
+use Rattle.ar_judge.proofs.Trees.{expression_parsed, tree_by_parser}
 
 -- ---- conditions
 
--- what a typed tree was checked from
-record IsChecked (shape : Shape) (text : List ℕ) (tree : Typed) : Type 0 where
-  expression : Expression
-  parsed : parse_of text ≡ Ok expression
-  is : checked shape expression ≡ Ok tree
-
-checked_by : (shape : Shape) (text : List ℕ) (tree : Typed) (expression : Expression) (answer : Result Typed TypeError) → parse_of text ≡ Ok expression → checked shape expression ≡ answer → refused_as Kinds answer ≡ Ok tree → IsChecked shape text tree
-checked_by shape text tree expression (Ok found) parsed is same = let alike : found ≡ tree = cc in record { expression = expression; parsed = parsed; is = is ∙ ap (λ tree. Ok tree) alike }
-checked_by shape text tree expression (Err error) parsed is same = absurd cc
-
-checked_from : (shape : Shape) (text : List ℕ) (tree : Typed) (parsed : Result Expression SyntaxError) → parse_of text ≡ parsed → typed_of shape text ≡ Ok tree → IsChecked shape text tree
-checked_from shape text tree (Ok expression) is typed =
-    let kinds : refused_as Kinds (checked shape expression) ≡ Ok tree = rw is at typed in checked_by shape text tree expression (checked shape expression) is refl kinds
-checked_from shape text tree (Err error) is typed = absurd cc
-
 module _ (shape : Shape) (text : List ℕ) (condition : Condition) (built : IsBuilt shape text condition) (value : Value) (fit : fits value shape ≡ true) where
-  from : IsChecked shape text built.tree
-  from = checked_from shape text built.tree (parse_of text) refl built.typed
+  parsed : parse_of text ≡ Ok built.has_tree.expression
+  parsed = expression_parsed shape text built.tree built.has_tree
+
+  typed : text_typed shape text ≡ Ok built.tree
+  typed = tree_by_parser shape text built.tree built.has_tree
 
   -- the code of a text is code
   is_code : IsCode (compiled built.tree)
-  is_code = compiled_is_code built.tree (in_limits shape from.expression built.tree (parsed_in_limits text from.expression from.parsed) from.is) built.short
+  is_code = compiled_is_code built.tree (in_limits shape built.has_tree.expression built.tree (parsed_in_limits text built.has_tree.expression parsed) built.has_tree.kinds) built.short
 
   -- it is safe
   safe : IsSafe condition.verified.code value condition.verified.budget condition.verified.depth
@@ -57,26 +43,20 @@ module _ (shape : Shape) (text : List ℕ) (condition : Condition) (built : IsBu
   -- and comes to what its tree means
   ending : EndsWith condition.verified.code value (answer_of (mean value None built.tree))
   ending =
-      subst (λ code. EndsWith code value (answer_of (mean value None built.tree))) (sym built.code_is) (compiled_means shape from.expression built.tree value from.is fit)
+      subst (λ code. EndsWith code value (answer_of (mean value None built.tree))) (sym built.code_is) (compiled_means shape built.has_tree.expression built.tree value built.has_tree.kinds fit)
 
   same_answer : safe.answer ≡ answer_of (mean value None built.tree)
   same_answer = one_answer condition.verified.code value condition.verified.budget safe.cost safe.answer (answer_of (mean value None built.tree)) (record { steps = condition.verified.budget; done = safe.ends; paid = safe.paid }) ending
 
   runs : RunsAsMeant shape text condition.verified value
-  runs = record {
-    answer = safe.answer;
-    cost = safe.cost;
-    ended = safe.ends;
-    paid = safe.paid;
-    meant = rw (built.typed, same_answer) refl;
-    unstuck = safe.unstuck;
-    few = safe.few;
-    nested = safe.nested;
-  }
+  runs = record { safe = safe; meant = record { tree = built.tree; has_tree = built.has_tree; meant = sym same_answer } }
+
+  said_is : said shape text value ≡ Some safe.answer
+  said_is = rw (typed, same_answer) refl
 
   -- what is run is what is meant
   run_is_meant : run_answer value condition ≡ said shape text value
-  run_is_meant = rw (runs.ended, runs.meant) refl
+  run_is_meant = rw (safe.ends, said_is) refl
 
   -- which is what the condition says
   said_is_meant : said_of value condition ≡ said shape text value

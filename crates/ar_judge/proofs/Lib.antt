@@ -1,3 +1,4 @@
+pub mod Trees
 pub mod Running
 pub mod Refusing
 pub mod OneCause

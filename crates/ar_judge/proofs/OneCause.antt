@@ -8,7 +8,9 @@ use Rattle.ar_compile.specs.Length.{length_of}
 use Rattle.ar_safety.specs.Verdict.{IsFault}
 use Rattle.ar_safety.specs.declared.error.Reason.{Reason}
 use Rattle.ar_safety.proofs.OneVerdict.{one_verdict, same_fault}
-use Rattle.ar_judge.specs.Condition.{Condition, IsBuilt, IsRefused, IsTooLong, IsUnsafe}
+use Rattle.ar_judge.specs.Built.{Condition, IsBuilt}
+use Rattle.ar_judge.specs.Condition.{IsRefused, IsTooLong, IsUnsafe}
+use Rattle.ar_judge.proofs.Trees.{tree_by_parser}
 use Rattle.ar_judge.specs.Verdict.{AreBuilt, IsJudge, Judge, RefusesText, RefusesTexts}
 use Rattle.ar_judge.specs.declared.error.BuildCause.{BuildCause}
 use Rattle.ar_judge.specs.declared.error.BuildCause.TheVariants.{Grammar, Kinds, Compiler, Verifier, OutOfMemory}
@@ -18,17 +20,17 @@ use Rattle.ar_judge.specs.declared.error.BuildError.TheVariants as errors
 -- ---- one text
 
 built_alone : (shape : Shape) (text : List ℕ) (condition : Condition) (cause : BuildCause) → cause ≢ OutOfMemory → IsBuilt shape text condition → IsRefused shape text cause → ⊥
-built_alone shape text condition (Grammar error) own built refused = let typed = built.typed in cc
-built_alone shape text condition (Kinds error) own built refused = let typed = built.typed in cc
+built_alone shape text condition (Grammar error) own built refused = let typed = tree_by_parser shape text built.tree built.has_tree in cc
+built_alone shape text condition (Kinds error) own built refused = let typed = tree_by_parser shape text built.tree built.has_tree in cc
 built_alone shape text condition (Compiler error) own built refused =
-    let typed = built.typed in
+    let typed = tree_by_parser shape text built.tree built.has_tree in
     let also = refused.1.typed in
     let same : refused.1.tree ≡ built.tree = cc in
     let long = subst (λ tree. most_code_entries < length_of tree) same refused.1.long in
     let short = built.short in
     omega arith
 built_alone shape text condition (Verifier place reason) own built refused =
-    let typed = built.typed in
+    let typed = tree_by_parser shape text built.tree built.has_tree in
     let also = refused.typed in
     let same : refused.tree ≡ built.tree = cc in
     one_verdict (compiled built.tree) shape condition.verified.budget condition.verified.depth place reason built.accepted (subst (λ tree. IsFault (compiled tree) shape place reason) same refused.fault)

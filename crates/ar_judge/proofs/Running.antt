@@ -25,11 +25,14 @@ use Rattle.ar_machine.specs.Run.{IsDone}
 use Rattle.ar_safety.specs.Verdict.{IsCause, IsFault, IsVerified, Verified}
 use Rattle.ar_safety.specs.declared.error.Cause.{Cause}
 use Rattle.ar_safety.specs.declared.error.Cause.TheVariants as causes
-use Rattle.ar_judge.specs.Condition.{IsBuilt, IsRefused, condition_of, of_compiler, of_verifier, said, typed_of}
+use Rattle.ar_judge.specs.Built.{IsBuilt, condition_with}
+use Rattle.ar_judge.specs.Building.{of_compiler, of_verifier}
+use Rattle.ar_judge.specs.Condition.{IsRefused, said, text_typed}
+use Rattle.ar_judge.proofs.Trees.{tree_by_grammar}
 use Rattle.ar_judge.specs.Private.Readiness.{IsCodeOf, IsReady, Means}
 
 -- a text that is parsed and checked has the tree that was checked
-pub typed_as : (shape : Shape) (text : List ℕ) (tree : Expression) (condition : Typed) → parse_of text ≡ Ok tree → checked shape tree ≡ Ok condition → typed_of shape text ≡ Ok condition
+pub typed_as : (shape : Shape) (text : List ℕ) (tree : Expression) (condition : Typed) → parse_of text ≡ Ok tree → checked shape tree ≡ Ok condition → text_typed shape text ≡ Ok condition
 typed_as shape text tree condition parsed is = rw (parsed, is) refl
 
 -- a condition that was parsed and checked is within limits
@@ -52,18 +55,18 @@ pub ready : (shape : Declared) (text : List ℕ) (code : Code) (verified : Verif
 ready shape text code verified is code_is shape_is =
     record {
       tree = is.tree;
-      typed = subst (λ shape. typed_of (shape_view shape) text ≡ Ok is.tree) (sym shape_is) is.typed;
+      typed = subst (λ shape. text_typed (shape_view shape) text ≡ Ok is.tree) (sym shape_is) is.typed;
       means = subst (λ shape. Means (shape_view shape) is.tree verified.code) (sym shape_is) (subst (λ code. Means (shape_view shape) is.tree code) (sym code_is) is.means);
     }
 
 -- and is what the text is built to
-pub built : (shape : Declared) (text : List ℕ) (code : Code) (verified : Verified) → IsCodeOf (shape_view shape) text code → verified.code ≡ code → verified.shape ≡ shape → IsVerified code (shape_view shape) verified.budget verified.depth → IsBuilt (shape_view shape) text (condition_of text verified)
+pub built : (shape : Declared) (text : List ℕ) (code : Code) (verified : Verified) → IsCodeOf (shape_view shape) text code → verified.code ≡ code → verified.shape ≡ shape → IsVerified code (shape_view shape) verified.budget verified.depth → IsBuilt (shape_view shape) text (condition_with text verified)
 built shape text code verified is code_is shape_is accepted =
     record {
       text_is = refl;
       shape_is = ap shape_view shape_is;
       tree = is.tree;
-      typed = is.typed;
+      has_tree = tree_by_grammar (shape_view shape) text is.tree is.typed;
       short = is.short;
       code_is = code_is ∙ is.code_is;
       accepted = subst (λ code. IsVerified code (shape_view shape) verified.budget verified.depth) is.code_is accepted;

@@ -10,7 +10,9 @@ use Rattle.ar_syntax.specs.Parse.{parse_of}
 use Rattle.ar_syntax.specs.Tokens.{tokens_of}
 use Rattle.ar_syntax.specs.declared.error.SyntaxError.TheVariants.{TooLong}
 use Rattle.ar_manifest.specs.Shortened.{shortened, spaces}
-use Rattle.ar_judge.specs.Condition.{Condition, IsBuilt, IsRefused, typed_of}
+use Rattle.ar_judge.proofs.Trees.{tree_by_parser}
+use Rattle.ar_judge.specs.Built.{Condition, IsBuilt}
+use Rattle.ar_judge.specs.Condition.{IsRefused, text_typed}
 use Rattle.ar_judge.specs.Verdict.{AreBuilt, IsJudge, Judge, RefusesText, RefusesTexts}
 use Rattle.ar_judge.specs.declared.error.BuildCause.{BuildCause}
 use Rattle.ar_judge.specs.declared.error.BuildCause.TheVariants.{Grammar, Kinds, Compiler, Verifier, OutOfMemory}
@@ -48,9 +50,9 @@ shortens text = by_test (nat_le (length text) most_text_bytes) refl
     by_test false long = gives_way (grind (arith, nat_tests, long)) (rw (long, length-spaces (most_text_bytes + 1)) (omega arith))
 
 -- it has the same tree, or the same refusal
-same_typed : (shape : Shape) (text : List ℕ) → typed_of shape (shortened text) ≡ typed_of shape text
+same_typed : (shape : Shape) (text : List ℕ) → text_typed shape (shortened text) ≡ text_typed shape text
 same_typed shape text = elim (shortens text) [
-  | stays same ↦ ap (typed_of shape) same
+  | stays same ↦ ap (text_typed shape) same
   | gives_way long longer ↦ rw (long_parse text long, long_parse (shortened text) longer) refl
 ]
 
@@ -58,7 +60,7 @@ built_whole : (shape : Shape) (text : List ℕ) (condition : Condition) → IsBu
 built_whole shape text condition built = elim (shortens text) [
   | stays same ↦ subst (λ (text : List ℕ). IsBuilt shape text condition) same built
   | gives_way long longer ↦
-      let typed = built.typed in
+      let typed = tree_by_parser shape (shortened text) built.tree built.has_tree in
       let parsed = long_parse (shortened text) longer in
       absurd (let impossible = rw parsed at typed in cc)
 ]

@@ -3,25 +3,16 @@ use Rattle.std.specs.Prelude.{◌≡◌, ◌<◌, ◌≤◌, ℕ, Bool, List, Op
 use Rattle.ar_value.specs.Answer.{◌>>=◌}
 use Rattle.ar_value.specs.Shape.{Shape}
 use Rattle.ar_value.specs.Value.{Value}
-use Rattle.ar_value.specs.View.{shape_view}
 use Rattle.ar_value.specs.declared.fault.Fault.{Fault}
 use Rattle.ar_value.specs.Limits.{most_code_entries}
 use Rattle.ar_tree.specs.Meaning.{answer_of, mean}
 use Rattle.ar_tree.specs.Typed.{Typed}
 use Rattle.ar_syntax.specs.Parse.{parse_of}
-use Rattle.ar_syntax.specs.declared.error.SyntaxError.{SyntaxError}
-use Rattle.ar_syntax.specs.declared.error.SyntaxError.TheVariants as syntax
 use Rattle.ar_check.specs.Check.{checked}
-use Rattle.ar_check.specs.declared.error.TypeError.{TypeError}
-use Rattle.ar_check.specs.declared.error.TypeError.TheVariants as types
 use Rattle.ar_compile.specs.Compiled.{compiled}
 use Rattle.ar_compile.specs.Length.{length_of}
-use Rattle.ar_compile.specs.declared.error.CompileError.{CompileError}
 use Rattle.ar_compile.specs.declared.error.CompileError.TheVariants.{TooManyOps}
-use Rattle.ar_compile.specs.declared.error.CompileError.TheVariants as compile_error
-use Rattle.ar_safety.specs.Verdict.{IsFault, IsVerified, Verified}
-use Rattle.ar_safety.specs.declared.error.Cause.{Cause}
-use Rattle.ar_safety.specs.declared.error.Cause.TheVariants as causes
+use Rattle.ar_safety.specs.Verdict.{IsFault}
 use Rattle.ar_safety.specs.declared.error.Reason.{Reason}
 use Rattle.ar_judge.specs.declared.error.BuildCause.{BuildCause}
 use Rattle.ar_judge.specs.declared.error.BuildCause.TheVariants.{Grammar, Kinds, Compiler, Verifier, OutOfMemory}
@@ -32,8 +23,8 @@ refused_as name (Ok x) = Ok x
 refused_as name (Err e) = Err (name e)
 
 -- the typed tree of a condition's text where `result` has a shape, or the first fault of its grammar or its kinds
-abbrev pub typed_of : Shape → List ℕ → Result Typed BuildCause
-typed_of shape text = refused_as Grammar (parse_of text) >>= λ tree. refused_as Kinds (checked shape tree)
+abbrev pub text_typed : Shape → List ℕ → Result Typed BuildCause
+text_typed shape text = refused_as Grammar (parse_of text) >>= λ tree. refused_as Kinds (checked shape tree)
 
 -- ---- what a condition says
 
@@ -43,68 +34,27 @@ said_by value (Err cause) = None
 
 -- what a condition's text says of a value, by its meaning: true, false or a fault. A text that is no condition says nothing.
 abbrev pub said : Shape → List ℕ → Value → Option (Result Bool Fault)
-said shape text value = said_by value (typed_of shape text)
+said shape text value = said_by value (text_typed shape text)
 
 -- ---- what a text is built to
-
--- a condition that can be run: its text, and its verified code
-pub record Condition : Type 0 where
-  pub text : List ℕ
-  pub verified : Verified
-
-abbrev pub condition_of : List ℕ → Verified → Condition
-condition_of text verified = record { text = text; verified = verified }
-
--- this is the condition of a text where `result` has a shape: the verifier accepts the code of its typed tree
-pub record IsBuilt (shape : Shape) (text : List ℕ) (condition : Condition) : Type 0 where
-  pub text_is : condition.text ≡ text
-  pub shape_is : shape_view condition.verified.shape ≡ shape
-  pub tree : Typed
-  pub typed : typed_of shape text ≡ Ok tree
-  pub short : length_of tree ≤ most_code_entries
-  pub code_is : condition.verified.code ≡ compiled tree
-  pub accepted : IsVerified (compiled tree) shape condition.verified.budget condition.verified.depth
 
 -- the code of a text's typed tree would have too many operations
 pub record IsTooLong (shape : Shape) (text : List ℕ) : Type 0 where
   pub tree : Typed
-  pub typed : typed_of shape text ≡ Ok tree
+  pub typed : text_typed shape text ≡ Ok tree
   pub long : most_code_entries < length_of tree
 
 -- the verifier refuses the code of a text's typed tree at a place
 pub record IsUnsafe (shape : Shape) (text : List ℕ) (place : ℕ) (reason : Reason) : Type 0 where
   pub tree : Typed
-  pub typed : typed_of shape text ≡ Ok tree
+  pub typed : text_typed shape text ≡ Ok tree
   pub short : length_of tree ≤ most_code_entries
   pub fault : IsFault (compiled tree) shape place reason
 
 -- why a text is no condition that can be run, if it isn't out of memory
 abbrev pub IsRefused : Shape → List ℕ → BuildCause → Type 0
-IsRefused shape text (Grammar error) = typed_of shape text ≡ Err (Grammar error)
-IsRefused shape text (Kinds error) = typed_of shape text ≡ Err (Kinds error)
+IsRefused shape text (Grammar error) = text_typed shape text ≡ Err (Grammar error)
+IsRefused shape text (Kinds error) = text_typed shape text ≡ Err (Kinds error)
 IsRefused shape text (Compiler error) = (error ≡ TooManyOps) × IsTooLong shape text
 IsRefused shape text (Verifier place reason) = IsUnsafe shape text place reason
 IsRefused shape text OutOfMemory = Unit {0}
-
--- what a text is built to, or why it isn't
-abbrev pub BuildsTo : Shape → List ℕ → Result Condition BuildCause → Type 0
-BuildsTo shape text (Ok condition) = IsBuilt shape text condition
-BuildsTo shape text (Err cause) = IsRefused shape text cause
-
--- ---- causes, as they are answered
-
-abbrev pub of_syntax : SyntaxError → BuildCause
-of_syntax syntax.OutOfMemory = OutOfMemory
-of_syntax error = Grammar error
-
-abbrev pub of_type : TypeError → BuildCause
-of_type types.OutOfMemory = OutOfMemory
-of_type error = Kinds error
-
-abbrev pub of_compiler : CompileError → BuildCause
-of_compiler compile_error.OutOfMemory = OutOfMemory
-of_compiler error = Compiler error
-
-abbrev pub of_verifier : Cause → BuildCause
-of_verifier causes.OutOfMemory = OutOfMemory
-of_verifier (causes.Fault place reason) = Verifier place reason

@@ -7,7 +7,8 @@ use Rattle.ar_machine.specs.Memory.{keeps_items}
 use Rattle.ar_tree.specs.Typed.{Typed, Typeds}
 use Rattle.ar_tree.specs.Typed as typed
 use Rattle.ar_machine.specs.Filter.{BeginsNoFilter}
-use Rattle.ar_judge.specs.Condition.{Condition, typed_of}
+use Rattle.ar_judge.specs.Built.{Condition}
+use Rattle.ar_judge.specs.Condition.{text_typed}
 
 abbrev mutual
   pub has_filter : Typed → Bool
@@ -29,4 +30,4 @@ abbrev mutual
 
 -- where a text's typed tree has no `filter`, no run of its condition's code begins one
 abbrev pub FiltersAsWritten : Shape → (text : List ℕ) → Condition → Type 0
-FiltersAsWritten shape text condition = (tree : Typed) → typed_of shape text ≡ Ok tree → has_filter tree ≡ false → (value : Value) → BeginsNoFilter condition.verified.code value
+FiltersAsWritten shape text condition = (tree : Typed) → text_typed shape text ≡ Ok tree → has_filter tree ≡ false → (value : Value) → BeginsNoFilter condition.verified.code value

@@ -1,5 +1,10 @@
 pub mod Private
+pub mod Text
+pub mod Built
 pub mod Condition
+pub mod Building
 pub mod Verdict
+pub mod Judging
 pub mod Headline
+pub mod JudgeHeadline
 pub mod Filters

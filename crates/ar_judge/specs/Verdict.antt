@@ -1,20 +1,16 @@
 -- What a sample comes to under a metric's conditions.
-use Rattle.std.specs.Prelude.{◌≡◌, ◌≢◌, ℕ, Bool, true, if◌then◌else◌, List, Option, Some, None, option_and_then, Result, Ok, Err}
-use Rattle.ar_value.specs.Fits.{fits}
+use Rattle.std.specs.Prelude.{◌≡◌, ◌≢◌, ℕ, Bool, if◌then◌else◌, List, Option, Some, None, option_and_then, Result, Ok, Err}
 use Rattle.ar_value.specs.Shape.{Shape}
 use Rattle.ar_value.specs.Value.{Value}
 use Rattle.ar_value.specs.View.{shape_view, value_view}
 use Rattle.ar_value.specs.declared.fault.Fault.{Fault}
 use Rattle.ar_json.specs.declared.value_reading.ShapeFault.{ShapeFault}
-use Rattle.ar_json.specs.declared.value_reading.ShapeFault.TheVariants as shape_fault
-use Rattle.ar_machine.specs.Filter.{BeginsNoFilter}
-use Rattle.ar_judge.specs.Condition.{Condition, IsBuilt, IsRefused, said}
+use Rattle.ar_judge.specs.Built.{Condition, IsBuilt}
+use Rattle.ar_judge.specs.Condition.{IsRefused, said}
 use Rattle.ar_judge.specs.declared.error.BuildCause.{BuildCause}
 use Rattle.ar_judge.specs.declared.error.BuildCause.TheVariants as causes
 use Rattle.ar_judge.specs.declared.error.BuildError.{BuildError}
 use Rattle.ar_judge.specs.declared.error.BuildError.TheVariants as errors
-use Rattle.ar_judge.specs.declared.judge.Which.{Which}
-use Rattle.ar_judge.specs.declared.judge.Which.TheVariants.{Success, Failure}
 use Rattle.ar_judge.specs.declared.sample.Sample as code
 use Rattle.ar_judge.specs.declared.sample.Sample.TheVariants as samples
 use Rattle.ar_judge.specs.declared.verdict.Cause.TheVariants as error
@@ -54,11 +50,6 @@ pub record Judge : Type 0 where
 abbrev pub judge_of : (success failure : Option Condition) → Judge
 judge_of success failure = record { success = success; failure = failure }
 
--- one of the two
-abbrev pub condition_of : Which → Judge → Option Condition
-condition_of Success judge = judge.success
-condition_of Failure judge = judge.failure
-
 abbrev pub said_of : Value → Condition → Option (Result Bool Fault)
 said_of value condition = said (shape_view condition.verified.shape) condition.text value
 
@@ -66,34 +57,6 @@ abbrev pub verdict : Judge → Sample → Verdict
 verdict judge provider = Error error.Provider
 verdict judge (misfit fault) = Error (error.Shape fault)
 verdict judge (measured value) = verdict_by (option_and_then (said_of value) judge.success) (option_and_then (said_of value) judge.failure)
-
--- ---- which samples a judge takes
-
-abbrev pub FitsEach : Value → Option Condition → Type 0
-FitsEach value (Some condition) = fits value (shape_view condition.verified.shape) ≡ true
-FitsEach value None = Unit {0}
-
--- a measured value fits the shape that the conditions are for, and a misfit is never out of memory
-abbrev pub Suits : Judge → Sample → Type 0
-Suits judge provider = Unit {0}
-Suits judge (misfit fault) = fault ≢ shape_fault.OutOfMemory
-Suits judge (measured value) = FitsEach value judge.success × FitsEach value judge.failure
-
--- the run of a condition that is there begins no loop of a `filter` over items
-abbrev pub BeginsNoFilterIfThere : Value → Option Condition → Type 0
-BeginsNoFilterIfThere value (Some condition) = BeginsNoFilter condition.verified.code value
-BeginsNoFilterIfThere value None = Unit {0}
-
-abbrev pub UnlessFault : Option (Result Bool Fault) → Type 0 → Type 0
-UnlessFault (Some (Err fault)) P = Unit {0}
-UnlessFault said P = P
-
--- judging takes no memory: nothing was measured, or no run of a condition begins a loop of a `filter` over items; the
--- failure condition is not run where the success condition comes to a fault
-abbrev pub TakesNoMemory : Judge → Sample → Type 0
-TakesNoMemory judge provider = Unit {0}
-TakesNoMemory judge (misfit fault) = Unit {0}
-TakesNoMemory judge (measured value) = BeginsNoFilterIfThere value judge.success × UnlessFault (option_and_then (said_of value) judge.success) (BeginsNoFilterIfThere value judge.failure)
 
 -- ---- judges of texts
 
@@ -120,11 +83,11 @@ pub record RefusesText (shape : Shape) (text : Option (List ℕ)) (cause : Build
   pub is : IsRefused shape refused_text cause
 
 -- a text that is there is a condition that can be run
-abbrev pub Stands : Shape → Option (List ℕ) → Type 0
-Stands shape text = (condition : Option Condition) × AreBuilt shape text condition
+abbrev pub CanBeBuilt : Shape → Option (List ℕ) → Type 0
+CanBeBuilt shape text = (condition : Option Condition) × AreBuilt shape text condition
 
 -- why there is no judge: the first text that is refused
 abbrev pub RefusesTexts : Shape → (success failure : Option (List ℕ)) → BuildError → Type 0
 RefusesTexts shape success failure (errors.Success cause) = RefusesText shape success cause
-RefusesTexts shape success failure (errors.Failure cause) = Stands shape success × RefusesText shape failure cause
+RefusesTexts shape success failure (errors.Failure cause) = CanBeBuilt shape success × RefusesText shape failure cause
 RefusesTexts shape success failure errors.OutOfMemory = Unit {0}

@@ -4,7 +4,8 @@ ghost use Rattle.std.specs.Prelude.{◌≡◌, Some, true, IfOk, IsOk};
 ghost use Rattle.ar_value.specs.Fits.{fits};
 ghost use Rattle.ar_value.specs.View.{shape_view, value_view};
 ghost use Rattle.ar_machine.specs.Filter.{BeginsNoFilter};
-ghost use Rattle.ar_judge.specs.Condition.{BuildsTo, said};
+ghost use Rattle.ar_judge.specs.Building.{BuildsTo};
+ghost use Rattle.ar_judge.specs.Condition.{said};
 ghost use Rattle.ar_judge.specs.Headline.{HeadlineHolds};
 ghost use Rattle.ar_judge.specs.Private.Readiness.{HasCode};
 
@@ -25,7 +26,7 @@ use std::marker::Model;
 use std::mem;
 
 /// A condition's text with its verified code. Contracts see it as the `Condition` of
-/// `specs/Condition`.
+/// `specs/Built`.
 #[derive(Drop)]
 pub struct Condition {
     text: Text,
@@ -35,14 +36,14 @@ pub struct Condition {
 impl Model for Condition {
     ghost use Rattle.std.specs.Coded.{codes};
     ghost use Rattle.ar_value.specs.contracts.shape.Shape as shape_row;
-    ghost use Rattle.ar_judge.specs.Condition.{Condition as Parts, condition_of};
+    ghost use Rattle.ar_judge.specs.Built.{Condition as Parts, condition_with};
     ghost use Rattle.ar_judge.specs.Private.Readiness.{IsReady};
 
     ghost Value = { Parts };
 
     ghost coded = { Prim.hlevel (codes, shape_row.the_row.coded) };
 
-    ghost view = { λ c. condition_of c.text c.verified };
+    ghost view = { λ c. condition_with c.text c.verified };
 
     ghost invariant = { λ c. IsReady c.text c.verified };
 }

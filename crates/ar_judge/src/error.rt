@@ -40,7 +40,7 @@ pub enum BuildError {
 
 impl From<SyntaxError> for BuildCause {
     ghost use Rattle.std.specs.Prelude.{◌≡◌};
-    ghost use Rattle.ar_judge.specs.Condition.{of_syntax};
+    ghost use Rattle.ar_judge.specs.Building.{of_syntax};
 
     ghost from_gives = { λ error e. e ≡ of_syntax error };
 
@@ -54,7 +54,7 @@ impl From<SyntaxError> for BuildCause {
 
 impl From<TypeError> for BuildCause {
     ghost use Rattle.std.specs.Prelude.{◌≡◌};
-    ghost use Rattle.ar_judge.specs.Condition.{of_type};
+    ghost use Rattle.ar_judge.specs.Building.{of_type};
 
     ghost from_gives = { λ error e. e ≡ of_type error };
 
@@ -68,7 +68,7 @@ impl From<TypeError> for BuildCause {
 
 impl From<CompileError> for BuildCause {
     ghost use Rattle.std.specs.Prelude.{◌≡◌};
-    ghost use Rattle.ar_judge.specs.Condition.{of_compiler};
+    ghost use Rattle.ar_judge.specs.Building.{of_compiler};
 
     ghost from_gives = { λ error e. e ≡ of_compiler error };
 
@@ -82,7 +82,7 @@ impl From<CompileError> for BuildCause {
 
 impl From<ar_safety::Cause> for BuildCause {
     ghost use Rattle.std.specs.Prelude.{◌≡◌};
-    ghost use Rattle.ar_judge.specs.Condition.{of_verifier};
+    ghost use Rattle.ar_judge.specs.Building.{of_verifier};
 
     ghost from_gives = { λ cause e. e ≡ of_verifier cause };
 

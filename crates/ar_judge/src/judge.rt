@@ -2,8 +2,9 @@
 
 ghost use Rattle.std.specs.Prelude.{◌≡◌, IfOk, IfSome, IsOk, None, Some, option_and_then, option_map};
 ghost use Rattle.ar_value.specs.View.{shape_view, value_view};
-ghost use Rattle.ar_judge.specs.Headline.{BuildsJudge};
-ghost use Rattle.ar_judge.specs.Verdict.{AreBuilt, FitsEach, BeginsNoFilterIfThere, Suits, TakesNoMemory, condition_of, said_of, sample_view, verdict, verdict_by};
+ghost use Rattle.ar_judge.specs.JudgeHeadline.{BuildsJudge};
+ghost use Rattle.ar_judge.specs.Judging.{FitsEach, BeginsNoFilterIfThere, Suits, TakesNoMemory, own_condition};
+ghost use Rattle.ar_judge.specs.Verdict.{AreBuilt, said_of, sample_view, verdict, verdict_by};
 ghost use Rattle.ar_judge.specs.Private.Building.{BuildsEach, failure_refused, success_refused};
 
 use crate::condition::Condition;
@@ -94,7 +95,7 @@ impl Judge {
 
     /// One of its conditions, where it is there.
     pub fn condition(&self, which: Which) -> Option<&SharedCondition>
-        ensures { option_map (λ condition. condition.now) result ≡ condition_of which self.now }
+        ensures { option_map (λ condition. condition.now) result ≡ own_condition which self.now }
     {
         match which {
             Which::Success => self.success.as_ref(),

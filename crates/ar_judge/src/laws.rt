@@ -1,22 +1,36 @@
 //! The first half of the headline, and which conditions are judged whatever memory is left. A law is the
 //! contract of a function that does nothing.
 
-ghost use Rattle.std.specs.Prelude.{ℕ, List, Option};
+ghost use Rattle.std.specs.Prelude.{◌≡◌, ◌↔◌, ℕ, Bool, List, Option, Result, Some};
 ghost use Rattle.ar_value.specs.Shape.{Shape};
-ghost use Rattle.ar_judge.specs.Condition.{Condition, IsBuilt};
+ghost use Rattle.ar_value.specs.Value.{Value};
+ghost use Rattle.ar_value.specs.declared.fault.Fault.{Fault};
+ghost use Rattle.ar_judge.specs.Built.{Condition, IsBuilt};
+ghost use Rattle.ar_judge.specs.Condition.{said};
 ghost use Rattle.ar_judge.specs.Filters.{FiltersAsWritten};
-ghost use Rattle.ar_judge.specs.Headline.{HeadlineHolds, JudgeHeadlineHolds};
+ghost use Rattle.ar_judge.specs.Headline.{HeadlineHolds};
+ghost use Rattle.ar_judge.specs.JudgeHeadline.{JudgeHeadlineHolds};
+ghost use Rattle.ar_judge.specs.Text.{TextSays};
 ghost use Rattle.ar_judge.specs.Verdict.{IsJudge, Judge};
 
 /// A condition that the verifier accepts, run on any measurement of its declared shape, ends within
 /// its budget, never meets a missing or ill-kinded operand or a jump outside its code, and gives the
 /// verdict or named fault of its expression's definition.
 pub fn headline()
-    ensures conditions { (shape : Shape) (text : List ℕ) (condition : Condition)
+    ensures { (shape : Shape) (text : List ℕ) (condition : Condition)
         → IsBuilt shape text condition → HeadlineHolds shape text condition }
-    // And the verdict of a metric's measured value is by what its conditions' code answers.
-    ensures judges { (shape : Shape) (success failure : Option (List ℕ)) (judge : Judge)
+{}
+
+/// The verdict of a metric's measured value is by what its conditions' code answers.
+pub fn judge_headline()
+    ensures { (shape : Shape) (success failure : Option (List ℕ)) (judge : Judge)
         → IsJudge shape success failure judge → JudgeHeadlineHolds shape success failure judge }
+{}
+
+/// What the parser makes of a text says of a value what the text says by the grammar.
+pub fn said_is_by_grammar()
+    ensures { (shape : Shape) (text : List ℕ) (value : Value) (answer : Result Bool Fault)
+        → (said shape text value ≡ Some answer) ↔ TextSays shape text value answer }
 {}
 
 /// A condition whose tree has no `filter` has code without one, so that it is run whatever memory is left.

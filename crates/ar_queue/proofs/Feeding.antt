@@ -1,13 +1,13 @@
--- The feeder's pass, while items are put, passes split off and joined, and what is named at all desks.
+-- The feeder's pass, while items are put, passes split off and after_join, and what is named at all desks.
 use Rattle.std.proofs.Common.{◌≡◌, ◌<◌, ◌≤◌, ℕ, suc, ◌+◌, List, [], ◌∷◌, ◌++◌, refl, sym, ◌∙◌, ap, subst, arith}
 use Rattle.ar_bundle.specs.Lawful.{times_in}
-use Rattle.ar_queue.specs.Rule.{CanPut, IsDone, after_put, joined, split_off}
+use Rattle.ar_queue.specs.Rule.{CanPut, IsDone, after_put, after_join, split_off}
 use Rattle.ar_queue.specs.Workers.{AreNamed, IsFeeder, all_named, at_end, feeding}
 use Rattle.ar_queue.specs.declared.queue.Item.TheVariants.{Number, End}
 use Rattle.ar_queue.specs.declared.queue.View.{View}
 use Rattle.ar_queue.proofs.Steps.{times_both}
 
--- ---- all passes are joined
+-- ---- all passes are after_join
 
 pub is_done : (view : View) (workers : ℕ) → 1 ≤ workers → IsFeeder view 0 workers → IsDone view
 is_done view workers some is =
@@ -32,7 +32,7 @@ next_mark events marks out before after is put =
     let next : suc marks ≡ marks + 1 = omega arith in
     put ∙ (ap (λ (view : View). after_put view End) is ∙ ap (λ (marks : ℕ). feeding events marks out) next)
 
--- ---- passes are split off and joined
+-- ---- passes are split off and after_join
 
 pub next_split : (before after : View) (out : ℕ) → before ≡ feeding 0 0 out → after ≡ split_off before → after ≡ feeding 0 0 (suc out)
 next_split before after out is split = split ∙ ap split_off is
@@ -44,7 +44,7 @@ still_feeding view put marks out is = is ∙ ap (feeding put marks) (sym (ap (λ
 pub is_feeder : (view : View) (put marks out : ℕ) → view ≡ feeding put marks out → IsFeeder view out 0 × (view.taken ≡ [])
 is_feeder view put marks out is = subst (λ (view : View). IsFeeder view out 0 × (view.taken ≡ [])) (sym is) (record { feeds = refl; live = refl; has_out = refl; has_joined = refl }, refl)
 
-pub feeder_join : (before other after : View) (out joined_before : ℕ) → IsFeeder before (suc out) joined_before → other ≡ at_end other.taken → after ≡ joined before other → IsFeeder after out (suc joined_before)
+pub feeder_join : (before other after : View) (out joined_before : ℕ) → IsFeeder before (suc out) joined_before → other ≡ at_end other.taken → after ≡ after_join before other → IsFeeder after out (suc joined_before)
 feeder_join before other after out joined_before is ended join =
     let out_now = ap (λ (view : View). view.out) join in
     let out_was = is.has_out in
@@ -68,7 +68,7 @@ all_named_push numbers number (first ∷ desks) desk =
     let before = times_both number (numbers first) (all_named numbers desks) in
     omega arith
 
-pub named_join : {Desk : Type 0} (numbers : Desk → List ℕ) (before other after : View) (desks : List Desk) (desk : Desk) → AreNamed before.taken (all_named numbers desks) → AreNamed other.taken (numbers desk) → after ≡ joined before other
+pub named_join : {Desk : Type 0} (numbers : Desk → List ℕ) (before other after : View) (desks : List Desk) (desk : Desk) → AreNamed before.taken (all_named numbers desks) → AreNamed other.taken (numbers desk) → after ≡ after_join before other
     → AreNamed after.taken (all_named numbers (desks ++ desk ∷ []))
 named_join numbers before other after desks desk all own join number =
     let taken = ap (λ (view : View). times_in number view.taken) join in

@@ -5,7 +5,8 @@ use Rattle.std.specs.List.{AllByRecursion}
 use Rattle.std.proofs.lemmas.Bool.Decides.{nat_tests}
 use Rattle.std.proofs.lemmas.List.Sums.{sum_by-cons, sum_by_push}
 use Rattle.ar_bundle.specs.Lawful.{Rise}
-use Rattle.ar_queue.specs.Rule.{MarksLast, mark_of, marks_queued, numbers_in, once_below, times_of, times_queued}
+use Rattle.ar_queue.specs.Numbers.{once_below}
+use Rattle.ar_queue.specs.Rule.{MarksLast, item_mark, marks_queued, numbers_of_items, times_of, times_queued}
 use Rattle.ar_queue.specs.declared.queue.Item.{Item}
 use Rattle.ar_queue.specs.declared.queue.Item.TheVariants.{Number, End}
 use Rattle.ar_bundle.proofs.HistoryLemmas.{all_push}
@@ -70,17 +71,17 @@ pub first_mark : (number : ℕ) (items : List Item) → times_queued number (End
 first_mark number items = let all = sum_by-cons (times_of number) End items in omega arith
 
 -- numbers that are there are below one, where all that stand there are
-pub all_below : (upto : ℕ) (items : List Item) → ((number : ℕ) → 0 < times_queued number items → number < upto) → AllByRecursion (λ number. number < upto) (numbers_in items)
+pub all_below : (upto : ℕ) (items : List Item) → ((number : ℕ) → 0 < times_queued number items → number < upto) → AllByRecursion (λ number. number < upto) (numbers_of_items items)
 all_below upto [] below = tt
 all_below upto (Number number ∷ items) below = (below number (first_there number items), all_below upto items (λ other there. below other (let all = first_number other number items in omega arith)))
 all_below upto (End ∷ items) below = all_below upto items (λ other there. below other (let all = first_mark other items in omega arith))
 
-pub numbers_push : (items : List Item) (number : ℕ) → numbers_in (items ++ Number number ∷ []) ≡ numbers_in items ++ number ∷ []
+pub numbers_push : (items : List Item) (number : ℕ) → numbers_of_items (items ++ Number number ∷ []) ≡ numbers_of_items items ++ number ∷ []
 numbers_push [] number = refl
 numbers_push (Number own ∷ items) number = ap (λ (rest : List ℕ). own ∷ rest) (numbers_push items number)
 numbers_push (End ∷ items) number = numbers_push items number
 
-pub numbers_mark : (items : List Item) → numbers_in (items ++ End ∷ []) ≡ numbers_in items
+pub numbers_mark : (items : List Item) → numbers_of_items (items ++ End ∷ []) ≡ numbers_of_items items
 numbers_mark [] = refl
 numbers_mark (Number own ∷ items) = ap (λ (rest : List ℕ). own ∷ rest) (numbers_mark items)
 numbers_mark (End ∷ items) = numbers_mark items
@@ -89,18 +90,18 @@ pub rise_push : (numbers : List ℕ) (last : ℕ) → Rise numbers → AllByRecu
 rise_push [] last rise below = (tt, tt)
 rise_push (number ∷ numbers) last rise below = (all_push (λ later. number < later) numbers last rise.0 below.0, rise_push numbers last rise.1 below.1)
 
-pub none_queued : (number : ℕ) (items : List Item) → numbers_in items ≡ [] → times_queued number items ≡ 0
+pub none_queued : (number : ℕ) (items : List Item) → numbers_of_items items ≡ [] → times_queued number items ≡ 0
 none_queued number [] none = refl
 none_queued number (Number own ∷ items) none = absurd cc
 none_queued number (End ∷ items) none = first_mark number items ∙ none_queued number items none
 
 -- ---- end marks
 
-pub marks_push : (items : List Item) (item : Item) → marks_queued (items ++ item ∷ []) ≡ marks_queued items + mark_of item
-marks_push items item = sum_by_push mark_of items item
+pub marks_push : (items : List Item) (item : Item) → marks_queued (items ++ item ∷ []) ≡ marks_queued items + item_mark item
+marks_push items item = sum_by_push item_mark items item
 
-pub marks_first : (item : Item) (items : List Item) → marks_queued (item ∷ items) ≡ mark_of item + marks_queued items
-marks_first item items = sum_by-cons mark_of item items
+pub marks_first : (item : Item) (items : List Item) → marks_queued (item ∷ items) ≡ item_mark item + marks_queued items
+marks_first item items = sum_by-cons item_mark item items
 
 -- a number after numbers alone, and an end mark after anything
 pub last_number : (items : List Item) (number : ℕ) → marks_queued items ≡ 0 → MarksLast (items ++ Number number ∷ [])
@@ -116,7 +117,7 @@ last_mark (End ∷ items) last = numbers_mark items ∙ last
 -- after an end mark that is taken
 pub behind_mark : (items : List Item) → MarksLast (End ∷ items) → MarksLast items
 behind_mark items none = all_marks items none where
-  all_marks : (items : List Item) → numbers_in items ≡ [] → MarksLast items
+  all_marks : (items : List Item) → numbers_of_items items ≡ [] → MarksLast items
   all_marks [] none = tt
   all_marks (Number own ∷ items) none = absurd cc
   all_marks (End ∷ items) none = none

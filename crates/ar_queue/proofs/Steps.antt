@@ -5,7 +5,8 @@ use mathlib.Core.Option.{some}
 use lib.ListN.{get_elem?}
 use Rattle.crossbeam_queue.specs.Fifo.{Forks, Learns, Merges, Pops, Pushes}
 use Rattle.ar_bundle.specs.Lawful.{Rise, times_in}
-use Rattle.ar_queue.specs.Rule.{CanPut, CanTake, HasTakenAll, IsDone, IsQueue, IsTaken, after_put, after_take, fed_by_others, feeder, joined, numbers_in, once_below, spent, split_off, times_in_spent, times_of, times_queued, total, worker}
+use Rattle.ar_queue.specs.Numbers.{once_below}
+use Rattle.ar_queue.specs.Rule.{CanPut, CanTake, HasTakenAll, IsDone, IsQueue, IsTaken, after_put, after_take, fed_by_others, feeder, after_join, numbers_of_items, spent, split_off, times_in_spent, times_of, times_queued, total, worker}
 use Rattle.ar_queue.specs.declared.queue.Item.{Item}
 use Rattle.ar_queue.specs.declared.queue.Item.TheVariants.{Number, End}
 use Rattle.ar_queue.specs.declared.queue.View.{View}
@@ -82,7 +83,7 @@ put_number events n at number v feeds no_marks next less items views room is the
             let sum : total (λ view. times_in other view.taken) (set views at w) + times_queued other (items ++ Number number ∷ []) ≡ once_below other (suc number) = omega arith in
             sum ∙ ap (once_below other) (sym put_next);
         put = omega arith;
-        rising = subst Rise (sym (numbers_push items number)) (rise_push (numbers_in items) number is.rising (all_below number items (λ other stands.
+        rising = subst Rise (sym (numbers_push items number)) (rise_push (numbers_of_items items) number is.rising (all_below number items (λ other stands.
             below_of other number (let once : total (λ view. times_in other view.taken) views + times_queued other items ≡ once_below other number = is.once other ∙ ap (once_below other) (put ∙ sym next) in omega arith))));
         marks_last = last_number items number (omega arith);
         marks = omega arith;
@@ -235,7 +236,7 @@ pub takes : (events at : ℕ) (v : View) → CanTake v → Pops (IsQueue events)
 takes events at v can (Number number) items views is there = take_number events at number v can items views is there
 takes events at v can End items views is there = take_mark events at v can items views is there
 
--- ---- passes are split off and joined
+-- ---- passes are split off and after_join
 
 pub splits : (events at : ℕ) (v : View) → v.feeds ≡ 1 → Forks (IsQueue events) at v (split_off v) worker
 splits events at v feeds items views is there =
@@ -294,9 +295,9 @@ put_there [] at v w there = absurd cc
 put_there (u ∷ views) zero v w there = refl
 put_there (u ∷ views) (suc at) v w there = put_there views at v w there
 
-pub joins : (events at : ℕ) (v : View) (other : ℕ) (u : View) → v.feeds ≡ 1 → v.live ≡ 1 → u.feeds ≡ 0 → u.live ≡ 1 → Merges (IsQueue events) at v other u (joined v u) spent
+pub joins : (events at : ℕ) (v : View) (other : ℕ) (u : View) → v.feeds ≡ 1 → v.live ≡ 1 → u.feeds ≡ 0 → u.live ≡ 1 → Merges (IsQueue events) at v other u (after_join v u) spent
 joins events at v other u feeds is_on no_feeder is_live_too items views is there away other_there =
-    let w : View = joined v u in
+    let w : View = after_join v u in
     let changed : List View = set views at w in
     let last : List View = set changed other spent in
     let first_sum : (f : View → ℕ) → total f changed + f v ≡ total f views + f w = λ f. swap f views at v w there in
@@ -323,7 +324,7 @@ joins events at v other u feeds is_on no_feeder is_live_too items views is there
     let live = is.live in
     let most = is.marks in
     let few = is.put in
-    -- the feeder's pass stands beside the one that is joined, so one is out
+    -- the feeder's pass stands beside the one that is after_join, so one is out
     let kept = still_there changed at other w away spent (put_there views at v w there) in
     let own_live = within (λ view. view.live) last at w kept in
     let all_out = all_out_by views at v there is.feeder feeds is.alone in

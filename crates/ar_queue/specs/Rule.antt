@@ -1,12 +1,13 @@
 -- The rule of the queue from which workers take the numbers of a bundle. One pass feeds it: it puts the numbers in their
 -- order, then an end mark for each worker. It splits off a pass for each worker, and joins these again. What a pass has done
 -- is its view.
-use Rattle.std.specs.Prelude.{◌≡◌, ◌<◌, ◌≤◌, ◌+◌, ◌-◌, ◌==◌, ◌++◌, ℕ, suc, nat_lt, if◌then◌else◌, List, [], ◌∷◌}
+use Rattle.std.specs.Prelude.{◌≡◌, ◌<◌, ◌≤◌, ◌+◌, ◌-◌, ◌==◌, ◌++◌, ℕ, suc, if◌then◌else◌, List, [], ◌∷◌}
 use Rattle.std.specs.List.{sum_by}
 use Rattle.ar_bundle.specs.Lawful.{Rise, times_in}
 use Rattle.ar_queue.specs.declared.queue.Item.{Item}
 use Rattle.ar_queue.specs.declared.queue.Item.TheVariants.{Number, End}
 use Rattle.ar_queue.specs.declared.queue.View.{View}
+use Rattle.ar_queue.specs.Numbers.{once_below}
 
 -- ---- what the queue holds
 
@@ -18,23 +19,23 @@ times_of number End = 0
 abbrev pub times_queued : (number : ℕ) → List Item → ℕ
 times_queued number items = sum_by (times_of number) items
 
-abbrev pub mark_of : Item → ℕ
-mark_of (Number own) = 0
-mark_of End = 1
+abbrev pub item_mark : Item → ℕ
+item_mark (Number own) = 0
+item_mark End = 1
 
 abbrev pub marks_queued : List Item → ℕ
-marks_queued items = sum_by mark_of items
+marks_queued items = sum_by item_mark items
 
-abbrev pub numbers_in : List Item → List ℕ
-numbers_in [] = []
-numbers_in (Number number ∷ items) = number ∷ numbers_in items
-numbers_in (End ∷ items) = numbers_in items
+abbrev pub numbers_of_items : List Item → List ℕ
+numbers_of_items [] = []
+numbers_of_items (Number number ∷ items) = number ∷ numbers_of_items items
+numbers_of_items (End ∷ items) = numbers_of_items items
 
 -- end marks stand after all numbers
 abbrev pub MarksLast : List Item → Type 0
 MarksLast [] = Unit {0}
 MarksLast (Number number ∷ items) = MarksLast items
-MarksLast (End ∷ items) = numbers_in items ≡ []
+MarksLast (End ∷ items) = numbers_of_items items ≡ []
 
 -- ---- what the passes have done
 
@@ -47,27 +48,23 @@ fed_by_others view = if view.feeds == 0 then view.put + (view.marks + view.out) 
 abbrev pub times_in_spent : (number : ℕ) → View → ℕ
 times_in_spent number view = if view.live == 0 then times_in number view.taken else 0
 
--- whether a number was put, as a count
-abbrev pub once_below : (number upto : ℕ) → ℕ
-once_below number upto = if nat_lt number upto then 1 else 0
-
 pub record IsQueue (events : ℕ) (items : List Item) (views : List View) : Type 0 where
   -- one pass feeds the queue, and no other has put or split anything
   pub feeder : total (λ view. view.feeds) views ≡ 1
   pub alone : total fed_by_others views ≡ 0
-  -- as many passes aren't spent as were split off and not joined, and the feeder; one that is spent has no number
+  -- as many passes aren't spent as were split off and not after_join, and the feeder; one that is spent has no number
   pub live : total (λ view. view.live) views ≡ total (λ view. view.out) views + 1
   pub spent : (number : ℕ) → total (times_in_spent number) views ≡ 0
   -- each number that was put stands just once in the queue or with a pass
   pub once : (number : ℕ) → total (λ view. times_in number view.taken) views + times_queued number items ≡ once_below number (total (λ view. view.put) views)
   pub put : total (λ view. view.put) views ≤ events
-  pub rising : Rise (numbers_in items)
+  pub rising : Rise (numbers_of_items items)
   -- end marks come after the last number
   pub marks_last : MarksLast items
   pub marks : marks_queued items ≤ total (λ view. view.marks) views
   pub all_put : 0 < total (λ view. view.marks) views → total (λ view. view.put) views ≡ events
   -- a pass has met an end mark only where all numbers were put, and none is left
-  pub ended : 0 < total (λ view. view.ended) views → (total (λ view. view.put) views ≡ events) × (numbers_in items ≡ [])
+  pub ended : 0 < total (λ view. view.ended) views → (total (λ view. view.put) views ≡ events) × (numbers_of_items items ≡ [])
 
 -- ---- the kinds of step; one that finds the queue empty or full changes nothing
 
@@ -106,15 +103,15 @@ abbrev pub worker : View
 worker = record { feeds = 0; live = 1; put = 0; marks = 0; out = 0; ended = 0; taken = [] }
 
 -- the feeder joins a worker's pass, which is spent then
-abbrev pub joined : View → View → View
-joined view other = record { feeds = view.feeds; live = view.live; put = view.put; marks = view.marks; out = view.out - 1; ended = view.ended + other.ended; taken = view.taken ++ other.taken }
+abbrev pub after_join : View → View → View
+after_join view other = record { feeds = view.feeds; live = view.live; put = view.put; marks = view.marks; out = view.out - 1; ended = view.ended + other.ended; taken = view.taken ++ other.taken }
 
 abbrev pub spent : View
 spent = record { feeds = 0; live = 0; put = 0; marks = 0; out = 0; ended = 0; taken = [] }
 
 -- ---- what the feeder learns
 
--- all passes are joined, and one of them has met an end mark
+-- all passes are after_join, and one of them has met an end mark
 pub record IsDone (view : View) : Type 0 where
   pub feeds : view.feeds ≡ 1
   pub live : view.live ≡ 1

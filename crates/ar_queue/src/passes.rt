@@ -2,7 +2,7 @@
 
 ghost use Rattle.std.specs.Prelude.{◌≡◌, ◌<◌, IfOk, length};
 ghost use Rattle.crossbeam_queue.specs.Passes.{IsPassOf, ruled_capacity, view};
-ghost use Rattle.ar_queue.specs.Rule.{CanPut, CanTake, HasTakenAll, IsDone, IsTaken, after_put, after_take, feeder, joined, split_off, worker};
+ghost use Rattle.ar_queue.specs.Rule.{CanPut, CanTake, HasTakenAll, IsDone, IsTaken, after_put, after_take, feeder, after_join, split_off, worker};
 
 use crate::queue::{Item, Joins, Puts, Queue, SplitsOff, TakenAll, Takes, View};
 use crate::waiting::Waiting;
@@ -86,7 +86,7 @@ pub fn join<M: BundleName>(queue: &Queue<M>, pass: &mut Pass<Item, View>, other:
     requires other { IsPassOf queue.now other }
     requires worker { ((view other).feeds ≡ 0) × ((view other).live ≡ 1) }
     ensures pass { IsPassOf queue.now pass.new }
-    ensures joined { view pass.new ≡ joined (view pass.old) (view other) }
+    ensures joined { view pass.new ≡ after_join (view pass.old) (view other) }
 {
     queue.absorb::<Joins>(pass, other);
 }

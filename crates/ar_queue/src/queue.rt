@@ -85,9 +85,9 @@ impl Split<View> for SplitsOff {
 pub struct Joins;
 
 impl Join<View> for Joins {
-    ghost use Rattle.ar_queue.specs.Rule.{joined, spent};
+    ghost use Rattle.ar_queue.specs.Rule.{after_join, spent};
 
-    ghost both = { joined };
+    ghost both = { after_join };
 
     ghost spent = { spent };
 }

@@ -10,7 +10,7 @@ use Rattle.ar_limits.specs.declared.counts.Counts.{Counts}
 use Rattle.ar_limits.specs.declared.limits.Limits.{Limits}
 use Rattle.ar_limits.specs.declared.phase.Phase.{Phase}
 use Rattle.ar_bundle.proofs.Bundles.{of_each}
-use Rattle.ar_bundle.specs.Bundle.{Bundle, events_of, found, found_of}
+use Rattle.ar_bundle.specs.Bundle.{Bundle, events_of, finding_at, found_of}
 use Rattle.ar_bundle.specs.declared.bundle.EventPart.{EventPart}
 use Rattle.ar_bundle.specs.declared.finding.Finding.{Finding}
 use Rattle.ar_bundle.specs.Lawful.{numbers_of}
@@ -33,13 +33,13 @@ none_left (first ∷ rest) (suc place) past = none_left rest place (omega arith)
 
 -- ---- findings
 
-pub found_inside : (bundle : Bundle) (number : ℕ) (said : Finding) → found bundle number ≡ Some said → number < length bundle.entries
+pub found_inside : (bundle : Bundle) (number : ℕ) (said : Finding) → finding_at bundle number ≡ Some said → number < length bundle.entries
 found_inside bundle number said is = by_entry (slice_get bundle.entries number) refl is where
   by_entry : (entry : Option EventPart) → slice_get bundle.entries number ≡ entry → option_and_then (λ (entry : EventPart). found_of bundle entry.run entry.what) entry ≡ Some said → number < length bundle.entries
   by_entry None there none = absurd cc
   by_entry (Some entry) there none = slice_get_within bundle.entries number entry there
 
-pub found_text_is : (bundle : Bundle) (number : ℕ) (entry : EventPart) (said : Finding) → found bundle number ≡ Some said → entry ≡ slice_index_or bundle.entries number entry → found_text bundle number ≡ finding_text bundle.metrics entry.what said
+pub found_text_is : (bundle : Bundle) (number : ℕ) (entry : EventPart) (said : Finding) → finding_at bundle number ≡ Some said → entry ≡ slice_index_or bundle.entries number entry → found_text bundle number ≡ finding_text bundle.metrics entry.what said
 found_text_is bundle number entry said is read =
     let there = slice_get_read bundle.entries (length bundle.entries) number entry refl (found_inside bundle number said is) read in
     let own : found_of bundle entry.run entry.what ≡ Some said = sym (ap (λ entry. option_and_then (λ (entry : EventPart). found_of bundle entry.run entry.what) entry) there) ∙ is in
@@ -79,8 +79,8 @@ pub no_event : (bundle : Bundle) (entries : List Entry) (place : ℕ) (written t
 no_event bundle entries place written total past so_far =
     sym (append-nil written) ∙ (ap (λ entries. written ++ entry_lines bundle entries) (sym (none_left entries place past)) ∙ so_far)
 
-pub is_found : (bundle : Bundle) (entries : List Entry) (place : ℕ) (entry : Entry) → AreFound bundle entries → place < length entries → entry ≡ slice_index_or entries place entry → found bundle entry.number ≡ Some entry.finding
-is_found bundle entries place entry all inside read = of_each (λ (entry : Entry). found bundle entry.number ≡ Some entry.finding) entries place entry all (slice_get_read entries (length entries) place entry refl inside read)
+pub is_found : (bundle : Bundle) (entries : List Entry) (place : ℕ) (entry : Entry) → AreFound bundle entries → place < length entries → entry ≡ slice_index_or entries place entry → finding_at bundle entry.number ≡ Some entry.finding
+is_found bundle entries place entry all inside read = of_each (λ (entry : Entry). finding_at bundle entry.number ≡ Some entry.finding) entries place entry all (slice_get_read entries (length entries) place entry refl inside read)
 
 lines_of : (bundle : Bundle) (entries : List Entry) → entry_lines bundle entries ≡ event_lines bundle (numbers_of entries) (map (λ (entry : Entry). entry.effect) entries)
 lines_of bundle [] = refl

@@ -5,10 +5,11 @@ use Rattle.std.proofs.Math.Seq.{take-suc}
 use Rattle.std.proofs.lemmas.List.{map_push, take_all}
 use Rattle.std.proofs.lemmas.Option.{get_or_from_slice_get, slice_get-get_or}
 use Rattle.std.proofs.lemmas.List.Elements.{filter_map-append}
-use Rattle.ar_limits.specs.Replay.{ForEachReplay, IsOfMetricBelow, Replays, Standing}
+use Rattle.ar_limits.specs.Replay.{ForEachReplay, IsOfMetricBelow, Replays, Standing, most_events}
 use Rattle.ar_limits.specs.declared.event.Event.{Event}
 use Rattle.ar_limits.specs.declared.limits.Limits.{Limits}
-use Rattle.ar_bundle.specs.Bundle.{Bundle, IsRun, events_of, happened, most_events}
+use Rattle.ar_bundle.specs.Sound.{IsRun}
+use Rattle.ar_bundle.specs.Bundle.{Bundle, events_of, happened}
 use Rattle.ar_bundle.specs.Lawful.{numbers_of}
 use Rattle.ar_bundle.specs.declared.bundle.RunPart.{RunPart}
 use Rattle.ar_bundle.specs.declared.history.Entry.{Entry}

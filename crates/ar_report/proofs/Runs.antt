@@ -9,7 +9,9 @@ use Rattle.ar_limits.specs.Run.{effects, run_phase}
 use Rattle.ar_limits.specs.declared.phase.Phase.{Phase}
 use Rattle.ar_bundle.proofs.Bundles.{of_each}
 use Rattle.ar_bundle.proofs.Room.{at_most}
-use Rattle.ar_bundle.specs.Bundle.{Bundle, IsBundle, IsRun, events_of, most_events}
+use Rattle.ar_bundle.specs.Sound.{IsBundle, IsRun}
+use Rattle.ar_limits.specs.Replay.{most_events}
+use Rattle.ar_bundle.specs.Bundle.{Bundle, events_of}
 use Rattle.ar_bundle.specs.Lawful.{AreHistories, AreHistoriesSoFar, AtMostOnce, IsFound, IsHistory, numbers_of}
 use Rattle.ar_bundle.specs.declared.bundle.EventPart.{EventPart}
 use Rattle.ar_bundle.specs.declared.bundle.RunPart.{RunPart}

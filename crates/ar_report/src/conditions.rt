@@ -1,7 +1,7 @@
 //! What is known of conditions before any run.
 
 ghost use Rattle.std.specs.Prelude.{◌≡◌, ◌++◌, IfOk, OnOk, option_map, string_bytes};
-ghost use Rattle.ar_bundle.specs.Bundle.{IsRun};
+ghost use Rattle.ar_bundle.specs.Sound.{IsRun};
 ghost use Rattle.ar_report.specs.Check.{bounds_text, check_text, condition_name, condition_text, judge_text, judges_text, list_text, listed_text, runs_text};
 ghost use Rattle.ar_report.specs.Private.Shown.{shown_text};
 

@@ -1,13 +1,14 @@
 //! The lines of a report, and the phases of runs.
 
 ghost use Rattle.std.specs.Prelude.{◌≡◌, ◌≤◌, ◌++◌, IfOk, OnOk, Some, codes, decimal, length, map, string_bytes};
-ghost use Rattle.ar_limits.specs.Replay.{Replays};
-ghost use Rattle.ar_bundle.specs.Bundle.{IsRun, events_of, found, most_events};
+ghost use Rattle.ar_limits.specs.Replay.{Replays, most_events};
+ghost use Rattle.ar_bundle.specs.Sound.{IsRun};
+ghost use Rattle.ar_bundle.specs.Bundle.{events_of, finding_at};
 ghost use Rattle.ar_limits.specs.Run.{effects};
 ghost use Rattle.ar_report.specs.Private.Entries.{AreFound, entry_lines};
 ghost use Rattle.ar_bundle.specs.Lawful.{AreHistoriesSoFar, numbers_of};
 ghost use Rattle.ar_report.specs.Names.{effect_text};
-ghost use Rattle.ar_report.specs.Report.{counted, counts_text, dry_text, errors_text, event_line, finding_text, name_at, metric_line, metric_lines, report, run_line, run_phases, run_text};
+ghost use Rattle.ar_report.specs.Report.{counter_text, counts_text, dry_text, errors_text, event_line, finding_text, name_at, metric_line, metric_lines, report, run_line, run_phases, run_text};
 
 use crate::names::{phase_name, put_effect, put_verdict};
 use ar_bundle::{Bundle, Entry, Finding, Histories, MetricPart, RunPart, What};
@@ -22,9 +23,9 @@ fn put_number(out: &mut String, number: u64) -> Result<(), AllocError>
     out.push_str(buffer.format(number))
 }
 
-#[tactic(auto, unfolding(crate::specs::Report::counted))]
+#[tactic(auto, unfolding(crate::specs::Report::counter_text))]
 pub(crate) fn put_counted(out: &mut String, name: &str, number: u64) -> Result<(), AllocError>
-    ensures { OnOk result (string_bytes out.new ≡ string_bytes out.old ++ counted name.now number) }
+    ensures { OnOk result (string_bytes out.new ≡ string_bytes out.old ++ counter_text name.now number) }
 {
     out.push_str(" ")?;
     out.push_str(name)?;
@@ -108,7 +109,7 @@ fn put_finding(
 
 #[tactic(auto, using(crate::proofs::Lines::found_inside))]
 fn put_event(out: &mut String, bundle: &Bundle, entry: Entry) -> Result<(), AllocError>
-    requires { found bundle.now entry.number ≡ Some entry.finding }
+    requires { finding_at bundle.now entry.number ≡ Some entry.finding }
     ensures { OnOk result
         (string_bytes out.new ≡ string_bytes out.old ++ event_line bundle.now entry.number entry.effect) }
 {

@@ -9,10 +9,10 @@ use Rattle.std.proofs.lemmas.Bool.{eqb-true, leb-true, le-ltb, ltb-false, ltb-tr
 use Rattle.std.proofs.lemmas.List.{length-take-le}
 use Rattle.std.proofs.lemmas.List.Sums.{take_while-cons}
 use Rattle.std.proofs.lemmas.Str.{IsCharBoundary-after_ascii, IsCharBoundary-from_rest, IsCharBoundary-start, IsUtf8-drop}
-use Rattle.ar_syntax.specs.Token.{Spells, begins_word, comparison_sign, continues_word, is_digit_in, is_quote, letters, predicate_letters, spelling, test_letters}
-use Rattle.ar_syntax.specs.Token as spelled
-use Rattle.ar_syntax.specs.Tokens.{BeginsWithGap, begins_block_comment, comment_end, in_line, is_blank, line_comment, word_at}
-use Rattle.ar_syntax.specs.Tokens as cuts
+use Rattle.ar_syntax.specs.Spelling.{BeginsWithGap, Spells}
+use Rattle.ar_syntax.specs.Token.{begins_word, comparison_sign, continues_word, is_digit_in, is_quote, letters, predicate_letters, radix, spelling, test_letters}
+use Rattle.ar_syntax.specs.Spelling as spelled
+use Rattle.ar_syntax.specs.Tokens.{begins_block_comment, comment_end, in_line, is_blank, line_comment, word_at}
 use Rattle.ar_syntax.specs.declared.token.Base.{Base}
 use Rattle.ar_syntax.specs.declared.token.Base.TheVariants.{Binary, Octal, Hexadecimal}
 use Rattle.ar_tree.specs.declared.tree.Comparison.{Comparison}
@@ -89,7 +89,7 @@ continues-small byte h = elim (or_cases _ (byte == 95) h) [
 digit_value-large : (byte : ℕ) → 128 ≤ byte → digit_value byte ≡ 36
 digit_value-large byte large = rw (le-ltb byte 48 (omega arith), le-ltb byte 58 (omega arith), le-ltb byte 65 (omega arith), le-ltb byte 91 (omega arith), le-ltb byte 97 (omega arith), le-ltb byte 123 (omega arith)) refl
 
-no_digit : (base : Base) (value : ℕ) → value ≡ 36 → nat_lt value (spelled.radix base) ≡ true → ⊥
+no_digit : (base : Base) (value : ℕ) → value ≡ 36 → nat_lt value (radix base) ≡ true → ⊥
 no_digit Binary value is h = let below = ltb-true value 2 h in omega arith
 no_digit Octal value is h = let below = ltb-true value 8 h in omega arith
 no_digit Hexadecimal value is h = let below = ltb-true value 16 h in omega arith
@@ -232,9 +232,9 @@ blank-small byte h = elim (or_cases _ (byte == 10) h) [
 ]
 
 gap_end-begins : (bytes : List ℕ) (len : ℕ) → IsUtf8 bytes → 0 < len → len ≤ length bytes → BeginsWithGap bytes len → IsCharBoundary bytes len
-gap_end-begins bytes len utf8 some within (cuts.blank is) = IsCharBoundary-after_ascii bytes 0 utf8 (omega arith) (blank-small (slice_index bytes 0) is)
-gap_end-begins bytes len utf8 some within (cuts.line is) = line_boundary bytes
-gap_end-begins bytes len utf8 some within (cuts.block is ends) =
+gap_end-begins bytes len utf8 some within (spelled.blank is) = IsCharBoundary-after_ascii bytes 0 utf8 (omega arith) (blank-small (slice_index bytes 0) is)
+gap_end-begins bytes len utf8 some within (spelled.line is) = line_boundary bytes
+gap_end-begins bytes len utf8 some within (spelled.block is ends) =
     let slash = comment_slash 2 false (drop 2 bytes) len ends in
     block_boundary bytes len utf8 (omega (arith, within, slash.1)) is ends
 

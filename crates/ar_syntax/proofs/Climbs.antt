@@ -3,7 +3,7 @@ use Rattle.std.proofs.Common.{◌≡◌, ℕ, zero, suc, ◌<◌, Some, true, fa
 use Rattle.std.specs.Prelude.{slice_get}
 use Rattle.ar_tree.specs.Expression.{Expression}
 use Rattle.ar_syntax.specs.Machine.{Frame, RightOf, Prefixed, No, Have, climbed, unwound}
-use Rattle.ar_syntax.specs.Private.Frames.{closed_by, ended, ends, ends_below, frame_of, frames_of, top_ends, unwinds}
+use Rattle.ar_syntax.specs.Private.Frames.{closed_by, phrase_ended, ends, ends_below, frame_of, frames_of, top_ends, unwinds}
 use Rattle.ar_syntax.specs.declared.climb.Reach.{Reach}
 use Rattle.ar_syntax.specs.declared.climb.Reach.TheVariants.{Level, Ender}
 use Rattle.ar_syntax.specs.declared.machine.Frame as rust
@@ -43,11 +43,11 @@ unwound-stays (Prefixed at operator ∷ stack) tree stays = absurd cc
 unwound-stays (No at condition met ∷ stack) tree stays = absurd cc
 unwound-stays (frame ∷ stack) tree stays = refl
 
-pub ended-ends : (reach : Reach) (frame : Frame) (stack : List Frame) (tree : Expression) → ends reach frame ≡ true → ended reach (frame ∷ stack) tree ≡ ended reach stack (closed_by frame tree)
+pub ended-ends : (reach : Reach) (frame : Frame) (stack : List Frame) (tree : Expression) → ends reach frame ≡ true → phrase_ended reach (frame ∷ stack) tree ≡ phrase_ended reach stack (closed_by frame tree)
 ended-ends (Level level) frame stack tree is = climbed-ended level frame stack tree is
 ended-ends Ender frame stack tree is = unwound-ended frame stack tree is
 
-pub ended-stays : (reach : Reach) (stack : List Frame) (tree : Expression) → top_ends reach stack ≡ false → ended reach stack tree ≡ Have stack tree
+pub ended-stays : (reach : Reach) (stack : List Frame) (tree : Expression) → top_ends reach stack ≡ false → phrase_ended reach stack tree ≡ Have stack tree
 ended-stays (Level level) stack tree stays = climbed-stays level stack tree stays
 ended-stays Ender stack tree stays = unwound-stays stack tree stays
 

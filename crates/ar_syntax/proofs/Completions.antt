@@ -4,8 +4,8 @@ use Rattle.std.specs.Prelude.{pred}
 use Rattle.ar_tree.specs.Expression.{Expression, FieldAt, IndexAt, LiteralAt, UnaryAt, BinaryAt, ChoiceAt, ListAt, expressions}
 use Rattle.ar_syntax.specs.Grammar.{Arguments, ArgumentsBehind, Further, Items, ItemsBehind, Phrase, Primary, Rules, Selections, may_continue, may_open, most_openers, takes_all, takes_more, ternary}
 use Rattle.ar_syntax.specs.Grammar as grammar
-use Rattle.ar_syntax.specs.Machine.{Frame, State, RightOf, Prefixed, Yes, No, Grouped, Listed, Indexed, Argued, Body, Braced, Want, Have, WantName, WantIndex, HaveText, WantIn, WantGroup, WantArgument, HaveArgument, inside, left, wanted}
-use Rattle.ar_syntax.specs.Roles.{Call, Ends, Comma, Colon, EndGroup, EndBracket, EndBrace, called, follows, is_body, is_group, is_in, looseness, name_of, starts, text_value}
+use Rattle.ar_syntax.specs.Machine.{Frame, ParserState, RightOf, Prefixed, Yes, No, Grouped, Listed, Indexed, Argued, Body, Braced, Want, Have, WantName, WantIndex, HaveText, WantIn, WantGroup, WantArgument, HaveArgument, inside, openers_left, wanted}
+use Rattle.ar_syntax.specs.Roles.{Call, Ends, Comma, Colon, EndGroup, EndBracket, EndBrace, called, follows, is_body, is_group, is_in, looseness, token_name, begins_as, token_text}
 use Rattle.ar_syntax.specs.declared.token.Token.{Token}
 use Rattle.ar_syntax.specs.declared.token.Sign.TheVariants as signs
 use Rattle.ar_syntax.specs.declared.token.Word.TheVariants as words
@@ -42,12 +42,12 @@ digit = token_of (kinds.Whole (pos 0))
 abbrev zero_leaf : Expression
 zero_leaf = LiteralAt 0 (literals.Whole (pos 0))
 
-digit-starts : (b : Bool) → starts b digit ≡ Leaf zero_leaf
-unfolding starts digit token_of
+digit-starts : (b : Bool) → begins_as b digit ≡ Leaf zero_leaf
+unfolding begins_as digit token_of
 digit-starts b = refl
 
-no_text : text_value digit ≡ None
-unfolding text_value digit token_of
+no_text : token_text digit ≡ None
+unfolding token_text digit token_of
 no_text = refl
 
 comma : Token
@@ -102,8 +102,8 @@ in_word-is = refl
 unfoldable pub name : Token
 name = token_of (kinds.Name [])
 
-pub name-is : name_of name ≡ Some []
-unfolding name_of name token_of
+pub name-is : token_name name ≡ Some []
+unfolding token_name name token_of
 name-is = refl
 
 module _ (rules : Rules) where
@@ -120,16 +120,16 @@ module _ (rules : Rules) where
   complete-had : (stack : List Frame) → Completes stack → (tree : Expression) → (final : Expression) × (tokens : List Token) × Had rules stack (After rules final stack) tree tokens
   complete-had stack completes tree =
       let end = completes tree in
-      (end.0, end.1, (tree, end.1, grammar.nothing_more, rise-stay rules (wanted stack) 0 (inside stack) (left stack) (After rules end.0 stack) tree end.1 end.2))
+      (end.0, end.1, (tree, end.1, grammar.nothing_more, rise-stay rules (wanted stack) 0 (inside stack) (openers_left stack) (After rules end.0 stack) tree end.1 end.2))
 
   -- one argument more
-  digit-argument : (stack : List Frame) (function : Call) (so_far arguments : List Expression) (mid rest : List Token) → ArgumentsBehind rules (inside stack) (pred (left stack)) function (so_far ++ zero_leaf ∷ []) mid arguments rest
-      → Arguments rules (inside stack) (pred (left stack)) function so_far (digit ∷ mid) arguments rest
+  digit-argument : (stack : List Frame) (function : Call) (so_far arguments : List Expression) (mid rest : List Token) → ArgumentsBehind rules (inside stack) (pred (openers_left stack)) function (so_far ++ zero_leaf ∷ []) mid arguments rest
+      → Arguments rules (inside stack) (pred (openers_left stack)) function so_far (digit ∷ mid) arguments rest
   digit-argument stack function so_far arguments mid rest behind = chosen (is_body function (length so_far)) refl
     where
-      chosen : (body : Bool) → is_body function (length so_far) ≡ body → Arguments rules (inside stack) (pred (left stack)) function so_far (digit ∷ mid) arguments rest
-      chosen false is = grammar.argument is (digit-phrase ternary (inside stack) (pred (left stack)) mid).1 behind
-      chosen true is = grammar.body is (digit-phrase ternary true (pred (left stack)) mid).1 behind
+      chosen : (body : Bool) → is_body function (length so_far) ≡ body → Arguments rules (inside stack) (pred (openers_left stack)) function so_far (digit ∷ mid) arguments rest
+      chosen false is = grammar.argument is (digit-phrase ternary (inside stack) (pred (openers_left stack)) mid).1 behind
+      chosen true is = grammar.body is (digit-phrase ternary true (pred (openers_left stack)) mid).1 behind
 
   module _ (stack : List Frame) (completes : Completes stack) (at : ℕ) (function : Call) where
     all-arguments : (so_far : List Expression) → takes_all rules function (length so_far) ≡ true → (final : Expression) × (tokens : List Token) × Argument rules stack at function so_far (After rules final stack) tokens
@@ -157,13 +157,13 @@ module _ (rules : Rules) where
   complete [] is tree = (tree, [], (refl, refl))
   complete (RightOf at operator first ∷ stack) is tree =
       let end = complete stack is (BinaryAt at operator first tree) in
-      (end.0, end.1, rise-stay rules (wanted stack - looseness operator) (looseness operator) (inside stack) (left stack) (After rules end.0 stack) (BinaryAt at operator first tree) end.1 end.2)
+      (end.0, end.1, rise-stay rules (wanted stack - looseness operator) (looseness operator) (inside stack) (openers_left stack) (After rules end.0 stack) (BinaryAt at operator first tree) end.1 end.2)
   complete (Prefixed at operator ∷ stack) is tree =
       let end = complete stack is (UnaryAt at operator tree) in
-      (end.0, end.1, rise-stay rules (wanted stack) 0 (inside stack) (left stack) (After rules end.0 stack) (UnaryAt at operator tree) end.1 end.2)
+      (end.0, end.1, rise-stay rules (wanted stack) 0 (inside stack) (openers_left stack) (After rules end.0 stack) (UnaryAt at operator tree) end.1 end.2)
   complete (Yes at condition ∷ stack) is tree =
       let end = complete stack is (ChoiceAt at condition tree zero_leaf) in
-      (end.0, colon ∷ digit ∷ end.1, (colon-follows, (zero_leaf, end.1, (digit-phrase ternary (inside stack) (pred (left stack)) end.1).1, end.2)))
+      (end.0, colon ∷ digit ∷ end.1, (colon-follows, (zero_leaf, end.1, (digit-phrase ternary (inside stack) (pred (openers_left stack)) end.1).1, end.2)))
   complete (No at condition met ∷ stack) is tree = complete stack is (ChoiceAt at condition met tree)
   complete (Grouped ∷ stack) is tree =
       let had = complete-had stack (complete stack is) tree in
@@ -183,7 +183,7 @@ module _ (rules : Rules) where
   complete-want : (stack : List Frame) → IsCounted rules stack → (final : Expression) × (tokens : List Token) × Wanted rules final stack (digit ∷ tokens)
   complete-want stack is =
       let end = complete stack is zero_leaf in
-      (end.0, end.1, (zero_leaf, end.1, (digit-phrase (wanted stack) (inside stack) (left stack) end.1).1, end.2))
+      (end.0, end.1, (zero_leaf, end.1, (digit-phrase (wanted stack) (inside stack) (openers_left stack) end.1).1, end.2))
 
   complete-argument : (stack : List Frame) (at : ℕ) (function : Call) (so_far : List Expression) → IsCounted rules stack → takes_more rules function (length so_far) ≡ true → (final : Expression) × (tokens : List Token) × Called rules final stack at function so_far tokens
   complete-argument stack at function so_far is more =
@@ -192,7 +192,7 @@ module _ (rules : Rules) where
       (behind.0, digit ∷ behind.1, (inner.0, inner.1, digit-argument stack function so_far inner.0 behind.1 inner.1 inner.2, inner.3))
 
   -- some tokens after a state lead to a tree
-  pub complete-state : (state : State) → IsCountedState rules state → (final : Expression) × (tokens : List Token) × Leads rules final state tokens
+  pub complete-state : (state : ParserState) → IsCountedState rules state → (final : Expression) × (tokens : List Token) × Leads rules final state tokens
   complete-state (Want stack) is = let wants = complete-want stack is in (wants.0, digit ∷ wants.1, wants.2)
   complete-state (Have stack tree) is = complete-had stack (complete stack is) tree
   complete-state (WantName stack at whole) is = let had = complete-had stack (complete stack is) (FieldAt at whole []) in (had.0, name ∷ had.1, ([], name-is, had.2))
@@ -209,7 +209,7 @@ module _ (rules : Rules) where
 
   -- ---- what begins a condition
 
-  pub run-append : (state : Option State) (first second : List Token) → run rules state (first ++ second) ≡ run rules (run rules state first) second
+  pub run-append : (state : Option ParserState) (first second : List Token) → run rules state (first ++ second) ≡ run rules (run rules state first) second
   run-append state [] second = refl
   run-append state (c ∷ first) second = run-append (step_from rules state c) first second
 
@@ -217,30 +217,30 @@ module _ (rules : Rules) where
   run-none [] = refl
   run-none (c ∷ tokens) = run-none tokens
 
-  pub reached-is : (state : Option State) (tokens : List Token) → IsStateFrom state → IsStateFrom (run rules state tokens)
+  pub reached-is : (state : Option ParserState) (tokens : List Token) → IsStateFrom state → IsStateFrom (run rules state tokens)
   reached-is state [] is = is
   reached-is state (c ∷ tokens) is = reached-is (step_from rules state c) tokens (keeps_from rules zero_leaf state c is)
 
-  counts_from : (state : Option State) (c : Token) → IsCountedFrom rules state → IsCountedFrom rules (step_from rules state c)
+  counts_from : (state : Option ParserState) (c : Token) → IsCountedFrom rules state → IsCountedFrom rules (step_from rules state c)
   counts_from (Some state) c is = counts rules state c is
   counts_from None c is = tt
 
-  pub reached-counted : (state : Option State) (tokens : List Token) → IsCountedFrom rules state → IsCountedFrom rules (run rules state tokens)
+  pub reached-counted : (state : Option ParserState) (tokens : List Token) → IsCountedFrom rules state → IsCountedFrom rules (run rules state tokens)
   reached-counted state [] is = is
   reached-counted state (c ∷ tokens) is = reached-counted (step_from rules state c) tokens (counts_from state c is)
 
   -- tokens that reach a state begin a condition
-  pub BeginsBy-reached : (tokens : List Token) (state : State) → reached rules tokens ≡ Some state → BeginsBy rules tokens
+  pub BeginsBy-reached : (tokens : List Token) (state : ParserState) → reached rules tokens ≡ Some state → BeginsBy rules tokens
   BeginsBy-reached tokens state there =
       let is : IsState state = subst IsStateFrom there (reached-is (Some start_state) tokens tt) in
       let counted : IsCountedState rules state = subst (IsCountedFrom rules) there (reached-counted (Some start_state) tokens tt) in
       let end = complete-state state counted in
       let finished_is = from-end rules end.0 (run rules (Some state) end.1) (run-to rules end.0 (Some state) end.1 is end.2) in
-      (end.1, end.0, DerivesBy-from_tree_by rules end.0 (tokens ++ end.1) (ap finished_from (run-append (Some start_state) tokens end.1 ∙ ap (λ (s : Option State). run rules s end.1) there) ∙ finished_is))
+      (end.1, end.0, DerivesBy-from_tree_by rules end.0 (tokens ++ end.1) (ap finished_from (run-append (Some start_state) tokens end.1 ∙ ap (λ (s : Option ParserState). run rules s end.1) there) ∙ finished_is))
 
   -- and those that begin a condition reach one
   pub reached-BeginsBy : (tokens : List Token) → BeginsBy rules tokens → reached rules tokens ≢ None
   reached-BeginsBy tokens begins none =
       let e = tree_by-DerivesBy rules begins.1 (tokens ++ begins.0) begins.2 in
-      let f = ap finished_from (run-append (Some start_state) tokens begins.0 ∙ ap (λ (s : Option State). run rules s begins.0) none ∙ run-none begins.0) in
+      let f = ap finished_from (run-append (Some start_state) tokens begins.0 ∙ ap (λ (s : Option ParserState). run rules s begins.0) none ∙ run-none begins.0) in
       absurd cc

@@ -3,8 +3,8 @@ use Rattle.std.proofs.Common.{◌≡◌, ℕ, suc, Bool, true, false, List, [], 
 use Rattle.std.specs.Prelude.{pred}
 use Rattle.ar_tree.specs.Expression.{Expression, LiteralAt, UnaryAt, BinaryAt, ChoiceAt}
 use Rattle.ar_syntax.specs.Grammar.{Rules, may_continue, may_open, takes_all, takes_more}
-use Rattle.ar_syntax.specs.Machine.{Frame, State, RightOf, Prefixed, Yes, No, Grouped, Listed, Indexed, Argued, Body, Braced, Want, Have, WantName, WantIndex, HaveText, WantIn, WantGroup, WantArgument, HaveArgument, inside, left}
-use Rattle.ar_syntax.specs.Roles.{Call, Ender, Follow, Start, Ends, Comma, Colon, EndGroup, EndBracket, EndBrace, Operator, NotOf, Choose, Select, Open, NoFollow, follows, is_body, is_brace, is_group, is_in, looseness, name_of, starts, text_value}
+use Rattle.ar_syntax.specs.Machine.{Frame, ParserState, RightOf, Prefixed, Yes, No, Grouped, Listed, Indexed, Argued, Body, Braced, Want, Have, WantName, WantIndex, HaveText, WantIn, WantGroup, WantArgument, HaveArgument, inside, openers_left}
+use Rattle.ar_syntax.specs.Roles.{Call, Ender, Follow, Start, Ends, Comma, Colon, EndGroup, EndBracket, EndBrace, Operator, NotOf, Choose, Select, Open, NoFollow, follows, is_body, is_brace, is_group, is_in, looseness, token_name, begins_as, token_text}
 use Rattle.ar_syntax.specs.declared.token.Token.{Token}
 use Rattle.ar_tree.specs.declared.tree.Binary.{Binary}
 use Rattle.ar_tree.specs.declared.tree.Literal.TheVariants.{Text}
@@ -40,7 +40,7 @@ module _ (rules : Rules) where
   abbrev pub Fits : Call → List Expression → Type 0
   Fits function arguments = (takes_all rules function (length arguments) ≡ true) ⊎ (takes_more rules function (length arguments) ≡ true)
 
-  abbrev pub IsCountedState : State → Type 0
+  abbrev pub IsCountedState : ParserState → Type 0
   IsCountedState (Want stack) = IsCounted stack
   IsCountedState (Have stack tree) = IsCounted stack
   IsCountedState (WantName stack at whole) = IsCounted stack
@@ -51,7 +51,7 @@ module _ (rules : Rules) where
   IsCountedState (WantArgument stack at function so_far) = (takes_more rules function (length so_far) ≡ true) × IsCounted stack
   IsCountedState (HaveArgument stack at function arguments) = (takes_all rules function (length arguments) ≡ true) × IsCounted stack
 
-  abbrev pub IsCountedFrom : Option State → Type 0
+  abbrev pub IsCountedFrom : Option ParserState → Type 0
   IsCountedFrom (Some state) = IsCountedState state
   IsCountedFrom None = Unit {0}
 
@@ -75,20 +75,20 @@ module _ (rules : Rules) where
 
   -- ---- the machine counts its stack in order
 
-  counts-when : (test : Bool) (state : State) → IsCountedState state → IsCountedFrom (when rules test state)
+  counts-when : (test : Bool) (state : ParserState) → IsCountedState state → IsCountedFrom (when rules test state)
   counts-when true state is = is
   counts-when false state is = tt
 
-  counts-more : (test : Bool) (state : State) → (test ≡ true → IsCountedState state) → IsCountedFrom (when rules test state)
+  counts-more : (test : Bool) (state : ParserState) → (test ≡ true → IsCountedState state) → IsCountedFrom (when rules test state)
   counts-more true state is = is refl
   counts-more false state is = tt
 
   counts-begin : (stack : List Frame) (at : ℕ) (s : Start) → IsCounted stack → IsCountedFrom (begin rules stack at s)
   counts-begin stack at (Leaf tree) is = is
-  counts-begin stack at (Prefix operator) is = counts-when (may_open rules (left stack)) _ is
-  counts-begin stack at Group is = counts-when (may_open rules (left stack)) _ is
-  counts-begin stack at Bracket is = counts-when (may_open rules (left stack)) _ is
-  counts-begin stack at (Calls function) is = counts-when (may_open rules (left stack)) _ is
+  counts-begin stack at (Prefix operator) is = counts-when (may_open rules (openers_left stack)) _ is
+  counts-begin stack at Group is = counts-when (may_open rules (openers_left stack)) _ is
+  counts-begin stack at Bracket is = counts-when (may_open rules (openers_left stack)) _ is
+  counts-begin stack at (Calls function) is = counts-when (may_open rules (openers_left stack)) _ is
   counts-begin stack at ItemPoint is = is
   counts-begin stack at NoStart is = tt
 
@@ -106,16 +106,16 @@ module _ (rules : Rules) where
   counts-climbed l (Body at function so_far ∷ stack) tree is = is
   counts-climbed l (Braced at function so_far ∷ stack) tree is = is
 
-  counts-operate : (at : ℕ) (operator : Binary) (state : State) → IsCountedState state → IsCountedFrom (operate rules at operator state)
+  counts-operate : (at : ℕ) (operator : Binary) (state : ParserState) → IsCountedState state → IsCountedFrom (operate rules at operator state)
   counts-operate at operator (Have stack tree) is = is
   counts-operate at operator state is = tt
 
-  counts-negate : (at : ℕ) (state : State) → IsCountedState state → IsCountedFrom (negate rules at state)
+  counts-negate : (at : ℕ) (state : ParserState) → IsCountedState state → IsCountedFrom (negate rules at state)
   counts-negate at (Have stack tree) is = is
   counts-negate at state is = tt
 
-  counts-choose : (at : ℕ) (state : State) → IsCountedState state → IsCountedFrom (choose rules at state)
-  counts-choose at (Have stack tree) is = counts-when (may_open rules (left stack)) _ is
+  counts-choose : (at : ℕ) (state : ParserState) → IsCountedState state → IsCountedFrom (choose rules at state)
+  counts-choose at (Have stack tree) is = counts-when (may_open rules (openers_left stack)) _ is
   counts-choose at state is = tt
 
   counts-end : (stack : List Frame) (tree : Expression) (ender : Ender) → IsCounted stack → IsCountedFrom (end_with rules ender (unwound stack tree))
@@ -150,7 +150,7 @@ module _ (rules : Rules) where
   counts-follow stack tree at NotOf is = counts-negate at (climbed 2 stack tree) (counts-climbed 2 stack tree is)
   counts-follow stack tree at Choose is = counts-choose at (climbed 5 stack tree) (counts-climbed 5 stack tree is)
   counts-follow stack tree at Select is = is
-  counts-follow stack tree at Open is = counts-when (may_open rules (left stack)) _ is
+  counts-follow stack tree at Open is = counts-when (may_open rules (openers_left stack)) _ is
   counts-follow stack tree at (Ends ender) is = counts-end stack tree ender is
   counts-follow stack tree at NoFollow is = tt
 
@@ -160,16 +160,16 @@ module _ (rules : Rules) where
 
   counts-open : (stack : List Frame) (at : ℕ) (whole : Expression) (c : Token) (text : Option (List ℕ)) → IsCounted stack → IsCountedFrom (open_index rules stack at whole c text)
   counts-open stack at whole c (Some text) is = is
-  counts-open stack at whole c None is = counts-begin (Indexed at whole ∷ stack) c.span.start (starts (inside stack) c) is
+  counts-open stack at whole c None is = counts-begin (Indexed at whole ∷ stack) c.span.start (begins_as (inside stack) c) is
 
   counts-close_text : (stack : List Frame) (at : ℕ) (whole : Expression) (text_at : ℕ) (text : List ℕ) (c : Token) (r : Follow) → IsCounted stack → IsCountedFrom (close_text rules stack at whole text_at text c r)
   counts-close_text stack at whole text_at text c (Ends EndBracket) is = is
   counts-close_text stack at whole text_at text c r is = counts-follow (Indexed at whole ∷ stack) (LiteralAt text_at (Text text)) c.span.start (follows c) is
 
   counts-argue : (stack : List Frame) (at : ℕ) (function : Call) (so_far : List Expression) (c : Token) (body brace : Bool) → is_body function (length so_far) ≡ body → (takes_more rules function (length so_far) ≡ true) × IsCounted stack → IsCountedFrom (argue rules stack at function so_far c body brace)
-  counts-argue stack at function so_far c false brace b is = counts-begin (Argued at function so_far ∷ stack) c.span.start (starts (inside stack) c) is
-  counts-argue stack at function so_far c true false b is = counts-begin (Body at function so_far ∷ stack) c.span.start (starts true c) is
-  counts-argue stack at function so_far c true true b is = counts-when (may_open rules (pred (left stack))) _ (is.0, b, is.1)
+  counts-argue stack at function so_far c false brace b is = counts-begin (Argued at function so_far ∷ stack) c.span.start (begins_as (inside stack) c) is
+  counts-argue stack at function so_far c true false b is = counts-begin (Body at function so_far ∷ stack) c.span.start (begins_as true c) is
+  counts-argue stack at function so_far c true true b is = counts-when (may_open rules (pred (openers_left stack))) _ (is.0, b, is.1)
 
   counts-close_empty : (stack : List Frame) (at : ℕ) (function : Call) (c : Token) (so_far : List Expression) (r : Follow) → (takes_more rules function (length so_far) ≡ true) × IsCounted stack → IsCountedFrom (close_empty rules stack at function c so_far r)
   counts-close_empty stack at function c [] (Ends EndGroup) is = counts-when (takes_all rules function 0) _ is.1
@@ -180,12 +180,12 @@ module _ (rules : Rules) where
   counts-close_braced stack at function arguments (Ends Comma) is = counts-more (takes_more rules function (length arguments)) _ (λ more. (more, is))
   counts-close_braced stack at function arguments r is = tt
 
-  pub counts : (state : State) (c : Token) → IsCountedState state → IsCountedFrom (step rules state c)
+  pub counts : (state : ParserState) (c : Token) → IsCountedState state → IsCountedFrom (step rules state c)
   unfolding step
-  counts (Want stack) c is = counts-begin stack c.span.start (starts (inside stack) c) is
+  counts (Want stack) c is = counts-begin stack c.span.start (begins_as (inside stack) c) is
   counts (Have stack tree) c is = counts-follow stack tree c.span.start (follows c) is
-  counts (WantName stack at whole) c is = counts-select stack at whole (name_of c) is
-  counts (WantIndex stack at whole) c is = counts-open stack at whole c (text_value c) is
+  counts (WantName stack at whole) c is = counts-select stack at whole (token_name c) is
+  counts (WantIndex stack at whole) c is = counts-open stack at whole c (token_text c) is
   counts (HaveText stack at whole text_at text) c is = counts-close_text stack at whole text_at text c (follows c) is
   counts (WantIn stack at first) c is = counts-when (is_in c) _ is
   counts (WantGroup stack at function) c is = counts-when (is_group c) _ (takes_one function, is)

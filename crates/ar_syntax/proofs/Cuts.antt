@@ -8,11 +8,12 @@ use Rattle.std.proofs.lemmas.List.Elements.{All-from_recursion}
 use Rattle.ar_value.specs.Answer.{Gives}
 use Rattle.ar_value.specs.Limits.{most_text_bytes}
 use Rattle.ar_syntax.specs.Token.{takes_field}
-use Rattle.ar_syntax.specs.Tokens.{AreInOrder, IsGapBetween, IsSpelled, front_of, is_blank, is_memory, tokens_behind, tokens_of, with_front}
+use Rattle.ar_syntax.specs.Spelling.{AreTokensInOrder, IsGapBetween, IsSpelled, is_syntax_memory}
+use Rattle.ar_syntax.specs.Tokens.{front_of, is_blank, tokens_behind, tokens_of, with_front}
 use Rattle.ar_syntax.specs.declared.error.SyntaxError.{SyntaxError}
 use Rattle.ar_syntax.specs.declared.error.SyntaxError.TheVariants.{TooLong}
 use Rattle.ar_syntax.specs.declared.token.Token.{Token}
-use Rattle.ar_syntax.specs.Tokens as cuts
+use Rattle.ar_syntax.specs.Spelling as cuts
 use Rattle.ar_syntax.specs.declared.scanner.Piece.{Piece}
 use Rattle.ar_syntax.specs.declared.scanner.Piece.TheVariants.{Gap, Found}
 use Rattle.ar_syntax.proofs.Fronts.{bind_ok}
@@ -20,7 +21,7 @@ use Rattle.ar_syntax.proofs.Pieces.{IsFront, IsFront-front_of, IsFrontGap, IsFro
 
 -- the tokens are those of the text between two places
 pub record AreCut (text : List ℕ) (start end : ℕ) (tokens : List Token) : Type 0 where
-  pub in_order : AreInOrder start end tokens
+  pub in_order : AreTokensInOrder start end tokens
   pub spelled : AllByRecursion (IsSpelled text) tokens
   pub apart : IsGapBetween text start tokens
 
@@ -101,14 +102,14 @@ items_of tokens = tokens.items
 
 -- what `tokens` answers by its exact clause
 module _ (text : List ℕ) where
-  pub in_order : (answer : Result (Vec Token) SyntaxError) → Gives is_memory items_of answer (tokens_of text) → IfOk answer (λ tokens. AreInOrder 0 (length text) tokens.items)
+  pub in_order : (answer : Result (Vec Token) SyntaxError) → Gives is_syntax_memory items_of answer (tokens_of text) → IfOk answer (λ tokens. AreTokensInOrder 0 (length text) tokens.items)
   in_order (Ok tokens) gives = (AreCut-from_tokens_of text tokens.items gives).in_order
   in_order (Err error) gives = tt
 
-  pub spelled : (answer : Result (Vec Token) SyntaxError) → Gives is_memory items_of answer (tokens_of text) → IfOk answer (λ tokens. All (IsSpelled text) tokens.items)
+  pub spelled : (answer : Result (Vec Token) SyntaxError) → Gives is_syntax_memory items_of answer (tokens_of text) → IfOk answer (λ tokens. All (IsSpelled text) tokens.items)
   spelled (Ok tokens) gives = All-from_recursion (IsSpelled text) tokens.items (AreCut-from_tokens_of text tokens.items gives).spelled
   spelled (Err error) gives = tt
 
-  pub gap_between : (answer : Result (Vec Token) SyntaxError) → Gives is_memory items_of answer (tokens_of text) → IfOk answer (λ tokens. IsGapBetween text 0 tokens.items)
+  pub gap_between : (answer : Result (Vec Token) SyntaxError) → Gives is_syntax_memory items_of answer (tokens_of text) → IfOk answer (λ tokens. IsGapBetween text 0 tokens.items)
   gap_between (Ok tokens) gives = (AreCut-from_tokens_of text tokens.items gives).apart
   gap_between (Err error) gives = tt

@@ -5,7 +5,7 @@ use Rattle.std.specs.Prelude.{◌&&◌, slice_index_or}
 use Rattle.std.proofs.Math.ListN.{drop_of_length-le}
 use Rattle.ar_tree.specs.Expression.{Expression, expressions}
 use Rattle.ar_tree.specs.Expression as trees
-use Rattle.ar_syntax.specs.Refusal.{depth, items_depth}
+use Rattle.ar_syntax.specs.Condition.{depth, items_depth}
 use Rattle.ar_tree.specs.Views.{expression_of}
 use Rattle.ar_tree.specs.declared.tree.Tree.{Tree}
 

@@ -11,8 +11,9 @@ use Rattle.std.proofs.lemmas.List.{take_at}
 use Rattle.std.specs.Char.{is_ascii_digit}
 use Rattle.std.specs.Int.{is_in_range}
 use Rattle.ar_value.specs.Answer.{◌>>=◌}
-use Rattle.ar_syntax.specs.Token.{begins_word, continues_word, is_digit_in, named, prefix, spelling}
-use Rattle.ar_syntax.specs.Tokens.{all_signs, base_digits, base_named, base_of, begins_number, digits_at, digits_behind_point, found, fraction_at, number_text, sign_at, with_digit, word_at}
+use Rattle.ar_syntax.specs.Spelling.{prefix}
+use Rattle.ar_syntax.specs.Token.{begins_word, continues_word, is_digit_in, word_or_name, spelling}
+use Rattle.ar_syntax.specs.Tokens.{all_signs, base_digits, base_named, base_of, begins_number, digits_at, digits_behind_point, piece_found, fraction_at, number_text, sign_at, with_digit, word_at}
 use Rattle.ar_syntax.specs.declared.error.SyntaxError.{SyntaxError}
 use Rattle.ar_syntax.specs.declared.token.Base.{Base}
 use Rattle.ar_syntax.specs.declared.token.Base.TheVariants.{Binary, Octal, Hexadecimal}

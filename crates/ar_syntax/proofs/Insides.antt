@@ -2,8 +2,8 @@
 use Rattle.std.proofs.Common.{◌≡◌, ◌≢◌, ℕ, Bool, true, false, List, [], ◌∷◌, ◌++◌, length, refl, ◌∙◌, ap, subst, arith, Option, Some, None}
 use Rattle.ar_tree.specs.Expression.{Expression, FieldAt, ItemAt, LiteralAt, UnaryAt, BinaryAt, ChoiceAt}
 use Rattle.ar_syntax.specs.Grammar.{Rules, may_open, takes_all}
-use Rattle.ar_syntax.specs.Machine.{Frame, State, RightOf, Prefixed, Yes, No, Grouped, Listed, Indexed, Argued, Body, Braced, Want, Have, WantName, WantIndex, HaveText, WantIn, WantGroup, WantArgument, HaveArgument, inside, left}
-use Rattle.ar_syntax.specs.Roles.{Call, Ender, Follow, Start, Ends, Comma, Colon, EndGroup, EndBracket, EndBrace, Operator, NotOf, Choose, Select, Open, NoFollow, called, follows, is_body, is_brace, is_group, is_in, looseness, name_of, starts, text_value}
+use Rattle.ar_syntax.specs.Machine.{Frame, ParserState, RightOf, Prefixed, Yes, No, Grouped, Listed, Indexed, Argued, Body, Braced, Want, Have, WantName, WantIndex, HaveText, WantIn, WantGroup, WantArgument, HaveArgument, inside, openers_left}
+use Rattle.ar_syntax.specs.Roles.{Call, Ender, Follow, Start, Ends, Comma, Colon, EndGroup, EndBracket, EndBrace, Operator, NotOf, Choose, Select, Open, NoFollow, called, follows, is_body, is_brace, is_group, is_in, looseness, token_name, begins_as, token_text}
 use Rattle.ar_syntax.specs.declared.token.Token.{Token}
 use Rattle.ar_syntax.specs.declared.token.Sign.TheVariants as signs
 use Rattle.ar_syntax.specs.declared.token.Word.TheVariants as words
@@ -23,19 +23,19 @@ use Rattle.ar_syntax.proofs.Passes.{either}
 use Rattle.ar_syntax.proofs.Runs.{IsState}
 use Rattle.ar_syntax.proofs.Counts.{IsCountedState}
 use Rattle.std.proofs.Math.Bool.{or-true}
-use Rattle.ar_syntax.specs.Refusal.{strict}
+use Rattle.ar_syntax.specs.Condition.{strict}
 use Rattle.ar_syntax.specs.Fault.{accepts, is_inside, wants_operand}
 use Rattle.ar_syntax.specs.Refusal.{has_no_comma, is_comma}
 use Rattle.ar_syntax.specs.Roles.{kind_is_group, kind_is_in, kind_name}
 use Rattle.ar_syntax.proofs.Completions.{group, group-is, group_end, group_end-follows, in_word, in_word-is, name, name-is, token_of}
 
-abbrev pub Out : Bool → Option State → Type 0
+abbrev pub Out : Bool → Option ParserState → Type 0
 Out b (Some state) = is_inside state ≡ true → b ≡ true
 Out b None = Unit {0}
 
 climbed-inside : (l : ℕ) (stack : List Frame) (tree : Expression) → is_inside (climbed l stack tree) ≡ inside stack
 climbed-inside l (RightOf at operator first ∷ stack) tree =
-    either (λ (state : State). is_inside state ≡ inside stack) (nat_le (looseness operator) l) (climbed l stack (BinaryAt at operator first tree)) (Have (RightOf at operator first ∷ stack) tree) (λ tight. climbed-inside l stack (BinaryAt at operator first tree)) (λ loose. refl)
+    either (λ (state : ParserState). is_inside state ≡ inside stack) (nat_le (looseness operator) l) (climbed l stack (BinaryAt at operator first tree)) (Have (RightOf at operator first ∷ stack) tree) (λ tight. climbed-inside l stack (BinaryAt at operator first tree)) (λ loose. refl)
 climbed-inside l (Prefixed at operator ∷ stack) tree = climbed-inside l stack (UnaryAt at operator tree)
 climbed-inside l [] tree = refl
 climbed-inside l (Yes at condition ∷ stack) tree = refl
@@ -64,42 +64,42 @@ no_comma c is role = let other = kind_comma c.kind role in absurd cc
 
 -- nothing but an operand may have the token, and no operand begins with it
 pub record IsIdle (b : Bool) (c : Token) : Type 0 where
-  pub begins : (within : Bool) → (within ≡ true → b ≡ true) → starts within c ≡ NoStart
-  pub text : text_value c ≡ None
+  pub begins : (within : Bool) → (within ≡ true → b ≡ true) → begins_as within c ≡ NoStart
+  pub text : token_text c ≡ None
   pub brace : is_brace c ≡ false
   pub end : follows c ≢ Ends EndGroup
 
 -- and no other state has it
 pub record IsUseless (c : Token) : Type 0 where
   pub follow : follows c ≡ NoFollow
-  pub named : name_of c ≡ None
+  pub named : token_name c ≡ None
   pub in_word : is_in c ≡ false
   pub group : is_group c ≡ false
 
 module _ (rules : Rules) where
-  out-when : (b test : Bool) (state : State) → (is_inside state ≡ true → b ≡ true) → Out b (when rules test state)
+  out-when : (b test : Bool) (state : ParserState) → (is_inside state ≡ true → b ≡ true) → Out b (when rules test state)
   out-when b true state out = out
   out-when b false state out = tt
 
   out-begin : (stack : List Frame) (at : ℕ) (s : Start) → Out (inside stack) (begin rules stack at s)
   out-begin stack at (Leaf tree) = λ h. h
-  out-begin stack at (Prefix operator) = out-when (inside stack) (may_open rules (left stack)) _ (λ h. h)
-  out-begin stack at Group = out-when (inside stack) (may_open rules (left stack)) _ (λ h. h)
-  out-begin stack at Bracket = out-when (inside stack) (may_open rules (left stack)) _ (λ h. h)
-  out-begin stack at (Calls function) = out-when (inside stack) (may_open rules (left stack)) _ (λ h. h)
+  out-begin stack at (Prefix operator) = out-when (inside stack) (may_open rules (openers_left stack)) _ (λ h. h)
+  out-begin stack at Group = out-when (inside stack) (may_open rules (openers_left stack)) _ (λ h. h)
+  out-begin stack at Bracket = out-when (inside stack) (may_open rules (openers_left stack)) _ (λ h. h)
+  out-begin stack at (Calls function) = out-when (inside stack) (may_open rules (openers_left stack)) _ (λ h. h)
   out-begin stack at ItemPoint = λ h. h
   out-begin stack at NoStart = tt
 
-  out-operate : (at : ℕ) (operator : Binary) (state : State) → Out (is_inside state) (operate rules at operator state)
+  out-operate : (at : ℕ) (operator : Binary) (state : ParserState) → Out (is_inside state) (operate rules at operator state)
   out-operate at operator (Have stack tree) = λ h. h
   out-operate at operator state = tt
 
-  out-negate : (at : ℕ) (state : State) → Out (is_inside state) (negate rules at state)
+  out-negate : (at : ℕ) (state : ParserState) → Out (is_inside state) (negate rules at state)
   out-negate at (Have stack tree) = λ h. h
   out-negate at state = tt
 
-  out-choose : (at : ℕ) (state : State) → Out (is_inside state) (choose rules at state)
-  out-choose at (Have stack tree) = out-when (inside stack) (may_open rules (left stack)) _ (λ h. h)
+  out-choose : (at : ℕ) (state : ParserState) → Out (is_inside state) (choose rules at state)
+  out-choose at (Have stack tree) = out-when (inside stack) (may_open rules (openers_left stack)) _ (λ h. h)
   out-choose at state = tt
 
   out-end : (stack : List Frame) (tree : Expression) (ender : Ender) → ender ≢ Comma → Out (inside stack) (end_with rules ender (unwound stack tree))
@@ -131,7 +131,7 @@ module _ (rules : Rules) where
   out-follow stack tree at NotOf none = subst (λ (b : Bool). Out b (negate rules at (climbed 2 stack tree))) (climbed-inside 2 stack tree) (out-negate at (climbed 2 stack tree))
   out-follow stack tree at Choose none = subst (λ (b : Bool). Out b (choose rules at (climbed 5 stack tree))) (climbed-inside 5 stack tree) (out-choose at (climbed 5 stack tree))
   out-follow stack tree at Select none = λ h. h
-  out-follow stack tree at Open none = out-when (inside stack) (may_open rules (left stack)) _ (λ h. h)
+  out-follow stack tree at Open none = out-when (inside stack) (may_open rules (openers_left stack)) _ (λ h. h)
   out-follow stack tree at (Ends ender) none = out-end stack tree ender (λ same. none (ap (λ (e : Ender). Ends e) same))
   out-follow stack tree at NoFollow none = tt
 
@@ -141,7 +141,7 @@ module _ (rules : Rules) where
 
   out-index : (stack : List Frame) (at : ℕ) (whole : Expression) (c : Token) (text : Option (List ℕ)) → Out (inside stack) (open_index rules stack at whole c text)
   out-index stack at whole c (Some text) = λ h. h
-  out-index stack at whole c None = out-begin (Indexed at whole ∷ stack) c.span.start (starts (inside stack) c)
+  out-index stack at whole c None = out-begin (Indexed at whole ∷ stack) c.span.start (begins_as (inside stack) c)
 
   out-text : (stack : List Frame) (at : ℕ) (whole : Expression) (text_at : ℕ) (text : List ℕ) (c : Token) (r : Follow) → follows c ≢ Ends Comma → Out (inside stack) (close_text rules stack at whole text_at text c r)
   out-text stack at whole text_at text c (Ends EndBracket) none = λ h. h
@@ -151,16 +151,16 @@ module _ (rules : Rules) where
   or-drop true h = refl
   or-drop false h = h
 
-  out-weaken : (a b : Bool) (state : Option State) → Out a state → Out (a || b) state
+  out-weaken : (a b : Bool) (state : Option ParserState) → Out a state → Out (a || b) state
   out-weaken a b (Some state) out = λ h. or-left a b (out h)
   out-weaken a b None out = tt
 
-  out-any : (a : Bool) (state : Option State) → Out (a || true) state
+  out-any : (a : Bool) (state : Option ParserState) → Out (a || true) state
   out-any a (Some state) = λ h. or-true a
   out-any a None = tt
 
   out-argue : (stack : List Frame) (at : ℕ) (function : Call) (so_far : List Expression) (c : Token) (body brace : Bool) → Out (inside stack || body) (argue rules stack at function so_far c body brace)
-  out-argue stack at function so_far c false brace = out-weaken (inside stack) false _ (out-begin (Argued at function so_far ∷ stack) c.span.start (starts (inside stack) c))
+  out-argue stack at function so_far c false brace = out-weaken (inside stack) false _ (out-begin (Argued at function so_far ∷ stack) c.span.start (begins_as (inside stack) c))
   out-argue stack at function so_far c true brace = out-any (inside stack) _
 
   out-empty : (stack : List Frame) (at : ℕ) (function : Call) (c : Token) (so_far : List Expression) (r : Follow) → Out (inside stack || is_body function (length so_far)) (close_empty rules stack at function c so_far r)
@@ -179,12 +179,12 @@ module _ (rules : Rules) where
   first_argument Default b h = or-drop b h
 
   -- without a comma no predicate begins
-  pub out-step : (state : State) (c : Token) → is_comma c.kind ≡ false → Out (is_inside state) (step rules state c)
+  pub out-step : (state : ParserState) (c : Token) → is_comma c.kind ≡ false → Out (is_inside state) (step rules state c)
   unfolding step
-  out-step (Want stack) c is = out-begin stack c.span.start (starts (inside stack) c)
+  out-step (Want stack) c is = out-begin stack c.span.start (begins_as (inside stack) c)
   out-step (Have stack tree) c is = out-follow stack tree c.span.start (follows c) (no_comma c is)
-  out-step (WantName stack at whole) c is = out-select stack at whole (name_of c)
-  out-step (WantIndex stack at whole) c is = out-index stack at whole c (text_value c)
+  out-step (WantName stack at whole) c is = out-select stack at whole (token_name c)
+  out-step (WantIndex stack at whole) c is = out-index stack at whole c (token_text c)
   out-step (HaveText stack at whole text_at text) c is = out-text stack at whole text_at text c (follows c) (no_comma c is)
   out-step (WantIn stack at first) c is = out-when (inside stack) (is_in c) _ (λ h. h)
   out-step (WantGroup stack at function) c is = out-when (inside stack) (is_group c) _ (first_argument function (inside stack))
@@ -193,7 +193,7 @@ module _ (rules : Rules) where
 
   -- ---- tokens that no state takes
 
-  stop-want : (stack : List Frame) (c : Token) → starts (inside stack) c ≡ NoStart → want rules stack c ≡ None
+  stop-want : (stack : List Frame) (c : Token) → begins_as (inside stack) c ≡ NoStart → want rules stack c ≡ None
   stop-want stack c e = ap (begin rules stack c.span.start) e
 
   stop-argue : (stack : List Frame) (at : ℕ) (function : Call) (so_far : List Expression) (c : Token) (body : Bool) → IsIdle (inside stack || body) c → argue rules stack at function so_far c body false ≡ None
@@ -204,7 +204,7 @@ module _ (rules : Rules) where
   stop-empty stack at function c [] (Ends EndGroup) other e = absurd (other refl)
   stop-empty stack at function c so_far r other e = e
 
-  pub stop-operand : (state : State) (c : Token) → wants_operand state ≡ true → IsIdle (is_inside state) c → step rules state c ≡ None
+  pub stop-operand : (state : ParserState) (c : Token) → wants_operand state ≡ true → IsIdle (is_inside state) c → step rules state c ≡ None
   unfolding step
   stop-operand (Want stack) c wants idle = stop-want stack c (idle.begins (inside stack) (λ h. h))
   stop-operand (WantIndex stack at whole) c wants idle = ap (open_index rules stack at whole c) idle.text ∙ stop-want (Indexed at whole ∷ stack) c (idle.begins (inside stack) (λ h. h))
@@ -216,7 +216,7 @@ module _ (rules : Rules) where
   stop-text : (stack : List Frame) (at : ℕ) (whole : Expression) (text_at : ℕ) (text : List ℕ) (c : Token) → follows c ≡ NoFollow → close_text rules stack at whole text_at text c (follows c) ≡ None
   stop-text stack at whole text_at text c e = ap (close_text rules stack at whole text_at text c) e ∙ ap (follow rules (Indexed at whole ∷ stack) (LiteralAt text_at (Text text)) c.span.start) e
 
-  pub stop-other : (state : State) (c : Token) → wants_operand state ≡ false → IsUseless c → step rules state c ≡ None
+  pub stop-other : (state : ParserState) (c : Token) → wants_operand state ≡ false → IsUseless c → step rules state c ≡ None
   unfolding step
   stop-other (Have stack tree) c wants useless = ap (follow rules stack tree c.span.start) useless.follow
   stop-other (WantName stack at whole) c wants useless = ap (select rules stack at whole) useless.named
@@ -232,7 +232,7 @@ module _ (rules : Rules) where
 
 module _ (c : Token) where
   name-idle : (name : List ℕ) (b : Bool) → c.kind ≡ kinds.Name name → IsIdle b c
-  unfolding starts text_value is_brace follows
+  unfolding begins_as token_text is_brace follows
   name-idle name b is = record {
     begins = λ within h. ap (kind_start within c.span.start) is;
     text = ap kind_text is;
@@ -240,12 +240,12 @@ module _ (c : Token) where
     end = λ e. let f = ap kind_follow is in absurd cc;
   }
 
-  hash-out : (within : Bool) → within ≡ false → c.kind ≡ kinds.Sign signs.Hash → starts within c ≡ NoStart
-  unfolding starts
+  hash-out : (within : Bool) → within ≡ false → c.kind ≡ kinds.Sign signs.Hash → begins_as within c ≡ NoStart
+  unfolding begins_as
   hash-out within out is = ap (λ (b : Bool). kind_start b c.span.start c.kind) out ∙ ap (kind_start false c.span.start) is
 
-  point-out : (within : Bool) → within ≡ false → c.kind ≡ kinds.Sign signs.Point → starts within c ≡ NoStart
-  unfolding starts
+  point-out : (within : Bool) → within ≡ false → c.kind ≡ kinds.Sign signs.Point → begins_as within c ≡ NoStart
+  unfolding begins_as
   point-out within out is = ap (λ (b : Bool). kind_start b c.span.start c.kind) out ∙ ap (kind_start false c.span.start) is
 
   not_true : (a b : Bool) → (a ≡ true → b ≡ true) → b ≡ false → a ≡ false
@@ -253,7 +253,7 @@ module _ (c : Token) where
   not_true false b f e = refl
 
   pub hash-idle : c.kind ≡ kinds.Sign signs.Hash → (b : Bool) → b ≡ false → IsIdle b c
-  unfolding text_value is_brace follows
+  unfolding token_text is_brace follows
   hash-idle is b out = record {
     begins = λ within h. hash-out within (not_true within b h out) is;
     text = ap kind_text is;
@@ -262,7 +262,7 @@ module _ (c : Token) where
   }
 
   pub point-idle : c.kind ≡ kinds.Sign signs.Point → (b : Bool) → b ≡ false → IsIdle b c
-  unfolding text_value is_brace follows
+  unfolding token_text is_brace follows
   point-idle is b out = record {
     begins = λ within h. point-out within (not_true within b h out) is;
     text = ap kind_text is;
@@ -271,17 +271,17 @@ module _ (c : Token) where
   }
 
   pub hash-useless : c.kind ≡ kinds.Sign signs.Hash → IsUseless c
-  unfolding follows name_of is_in is_group
+  unfolding follows token_name is_in is_group
   hash-useless is = record { follow = ap kind_follow is; named = ap kind_name is; in_word = ap kind_is_in is; group = ap kind_is_group is }
 
   -- a word that isn't named is no operand
-  pub name-stops : (rules : Rules) (state : State) (name : List ℕ) → c.kind ≡ kinds.Name name → wants_operand state ≡ true → step rules state c ≡ None
+  pub name-stops : (rules : Rules) (state : ParserState) (name : List ℕ) → c.kind ≡ kinds.Name name → wants_operand state ≡ true → step rules state c ≡ None
   name-stops rules state name is wants = stop-operand rules state c wants (name-idle name (is_inside state) is)
 
-  pub point-stops : (rules : Rules) (state : State) → c.kind ≡ kinds.Sign signs.Point → wants_operand state ≡ true → is_inside state ≡ false → step rules state c ≡ None
+  pub point-stops : (rules : Rules) (state : ParserState) → c.kind ≡ kinds.Sign signs.Point → wants_operand state ≡ true → is_inside state ≡ false → step rules state c ≡ None
   point-stops rules state is wants out = stop-operand rules state c wants (point-idle is (is_inside state) out)
 
-  pub hash-stops : (rules : Rules) (state : State) → c.kind ≡ kinds.Sign signs.Hash → is_inside state ≡ false → step rules state c ≡ None
+  pub hash-stops : (rules : Rules) (state : ParserState) → c.kind ≡ kinds.Sign signs.Hash → is_inside state ≡ false → step rules state c ≡ None
   hash-stops rules state is out = chosen (wants_operand state) refl
     where
       chosen : (wants : Bool) → wants_operand state ≡ wants → step rules state c ≡ None
@@ -300,8 +300,8 @@ plus-follows : follows plus ≡ Operator binaries.Add
 unfolding follows plus token_of
 plus-follows = refl
 
-hash-starts : starts true hash ≡ Leaf (ItemAt 0)
-unfolding starts hash token_of
+hash-starts : begins_as true hash ≡ Leaf (ItemAt 0)
+unfolding begins_as hash token_of
 hash-starts = refl
 
 hash-follows : follows hash ≡ NoFollow
@@ -312,8 +312,8 @@ hash-no_brace : is_brace hash ≡ false
 unfolding is_brace hash token_of
 hash-no_brace = refl
 
-hash-no_text : text_value hash ≡ None
-unfolding text_value hash token_of
+hash-no_text : token_text hash ≡ None
+unfolding token_text hash token_of
 hash-no_text = refl
 
 pub hash-is : hash.kind ≡ kinds.Sign signs.Hash
@@ -321,17 +321,17 @@ unfolding hash token_of
 hash-is = refl
 
 -- where one is inside, `#` may stand next, or after a few tokens without a comma
-abbrev pub Arrives : State → List Token → Type 0
+abbrev pub Arrives : ParserState → List Token → Type 0
 Arrives state further = accepts (run strict (Some state) (further ++ hash ∷ [])) ≡ true
 
 at-want : (stack : List Frame) → inside stack ≡ true → want strict stack hash ≡ Some (Have stack (ItemAt 0))
-at-want stack is = ap (λ (b : Bool). begin strict stack hash.span.start (starts b hash)) is ∙ ap (begin strict stack hash.span.start) hash-starts
+at-want stack is = ap (λ (b : Bool). begin strict stack hash.span.start (begins_as b hash)) is ∙ ap (begin strict stack hash.span.start) hash-starts
 
 want-arrives : (stack : List Frame) → inside stack ≡ true → Arrives (Want stack) []
 unfolding step
 want-arrives stack is = ap accepts (at-want stack is)
 
-operand-arrives : (at : ℕ) (state : State) → Climbed 1 state → is_inside state ≡ true → accepts (run strict (operate strict at binaries.Add state) (hash ∷ [])) ≡ true
+operand-arrives : (at : ℕ) (state : ParserState) → Climbed 1 state → is_inside state ≡ true → accepts (run strict (operate strict at binaries.Add state) (hash ∷ [])) ≡ true
 operand-arrives at (Have stack tree) is within = want-arrives (RightOf at binaries.Add tree ∷ stack) within
 operand-arrives at state is within = absurd is
 
@@ -340,7 +340,7 @@ have-plus stack tree = ap (follow strict stack tree plus.span.start) plus-follow
 
 have-arrives : (stack : List Frame) (tree : Expression) → IsStack stack → inside stack ≡ true → accepts (run strict (have strict stack tree plus) (hash ∷ [])) ≡ true
 have-arrives stack tree is within =
-    ap (λ (s : Option State). accepts (run strict s (hash ∷ []))) (have-plus stack tree)
+    ap (λ (s : Option ParserState). accepts (run strict s (hash ∷ []))) (have-plus stack tree)
     ∙ operand-arrives plus.span.start (climbed 1 stack tree) (climbed-is 1 (omega arith) stack tree is) (climbed-inside 1 stack tree ∙ within)
 
 state-arrives : (stack : List Frame) (tree : Expression) → IsStack stack → inside stack ≡ true → Arrives (Have stack tree) (plus ∷ [])
@@ -384,7 +384,7 @@ group_end-no_comma = refl
 no_comma-cons : (c : Token) (tokens : List Token) → is_comma c.kind ≡ false → has_no_comma tokens ≡ true → has_no_comma (c ∷ tokens) ≡ true
 no_comma-cons c tokens is others = rw (is, others) refl
 
-pub arrives : (state : State) → IsState state → IsCountedState strict state → is_inside state ≡ true → (further : List Token) × (has_no_comma further ≡ true) × Arrives state further
+pub arrives : (state : ParserState) → IsState state → IsCountedState strict state → is_inside state ≡ true → (further : List Token) × (has_no_comma further ≡ true) × Arrives state further
 unfolding step
 arrives (Want stack) is counted within = ([], refl, want-arrives stack within)
 arrives (Have stack tree) is counted within = (plus ∷ [], no_comma-cons plus [] plus-no_comma refl, have-arrives stack tree is within)

@@ -11,11 +11,12 @@ use Rattle.ar_tree.specs.Views.{expression_of}
 use Rattle.ar_tree.specs.declared.tree.Tree.{Tree}
 use Rattle.ar_syntax.specs.Grammar.{Arguments, ArgumentsBehind, Further, Items, ItemsBehind, Phrase, Primary, Selections, may_continue}
 use Rattle.ar_syntax.specs.Grammar as grammar
-use Rattle.ar_syntax.specs.Parse.{SaysTree, parse_of}
-use Rattle.ar_syntax.specs.Refusal.{strict}
-use Rattle.ar_syntax.specs.Roles.{Call, Len, IsNil, Default, Over, Start, Leaf, called, kind_name, kind_start, kind_text, name_of, sign_start, starts, text_value, word_start}
-use Rattle.ar_syntax.specs.Token.{Spells, escape_of, letters, predicate_letters, test_letters, text_at, unescaped, with_byte, with_escape}
-use Rattle.ar_syntax.specs.Tokens.{IsSpelled, is_memory, tokens_behind, tokens_of}
+use Rattle.ar_syntax.specs.Parse.{parse_of}
+use Rattle.ar_syntax.specs.Condition.{SaysTree, strict}
+use Rattle.ar_syntax.specs.Roles.{Call, Len, IsNil, Default, Over, Start, Leaf, called, kind_name, kind_start, kind_text, token_name, sign_start, begins_as, token_text, word_start}
+use Rattle.ar_syntax.specs.Spelling.{IsSpelled, Spells, is_syntax_memory, text_in_span}
+use Rattle.ar_syntax.specs.Token.{escape_of, letters, predicate_letters, test_letters, unescaped, with_byte, with_escape}
+use Rattle.ar_syntax.specs.Tokens.{tokens_behind, tokens_of}
 use Rattle.ar_syntax.specs.declared.error.SyntaxError.{SyntaxError}
 use Rattle.ar_syntax.specs.declared.error.SyntaxError.TheVariants.{TooLong}
 use Rattle.ar_syntax.specs.declared.token.Sign.{Sign}
@@ -87,7 +88,7 @@ module _ (text : List ℕ) (few : IsShort text) where
 
   tokens_short : (tokens : List Token) → AllByRecursion (IsSpelled text) tokens → AreShort tokens
   tokens_short [] spelled = tt
-  tokens_short (token ∷ tokens) spelled = (kind_short token.span.start (text_at text token.span) token.kind spelled.0 (part_short (token.span.end - token.span.start) token.span.start), tokens_short tokens spelled.1)
+  tokens_short (token ∷ tokens) spelled = (kind_short token.span.start (text_in_span text token.span) token.kind spelled.0 (part_short (token.span.end - token.span.start) token.span.start), tokens_short tokens spelled.1)
 
 condition_chosen : (text : List ℕ) (long : Bool) (answer : Result (List Token) SyntaxError) (tokens : List Token) → nat_lt most_text_bytes (length text) ≡ long → (if long then Err TooLong else answer) ≡ Ok tokens → IsShort text
 condition_chosen text true answer tokens is e = absurd cc
@@ -132,16 +133,16 @@ kind_name_short (kinds.Word word) name short is = let same : letters word ≡ na
 kind_name_short (kinds.Name other) name short is = let same : other ≡ name = cc in subst IsShort same short
 kind_name_short kind name short is = absurd cc
 
-name_short : (token : Token) (name : List ℕ) → IsShortKind token.kind → name_of token ≡ Some name → IsShort name
-unfolding name_of
+name_short : (token : Token) (name : List ℕ) → IsShortKind token.kind → token_name token ≡ Some name → IsShort name
+unfolding token_name
 name_short token name short is = kind_name_short token.kind name short is
 
 kind_text_short : (kind : TokenKind) (text : List ℕ) → IsShortKind kind → kind_text kind ≡ Some text → IsShort text
 kind_text_short (kinds.Text other) text short is = let same : other ≡ text = cc in subst IsShort same short
 kind_text_short kind text short is = absurd cc
 
-text_short : (token : Token) (text : List ℕ) → IsShortKind token.kind → text_value token ≡ Some text → IsShort text
-unfolding text_value
+text_short : (token : Token) (text : List ℕ) → IsShortKind token.kind → token_text token ≡ Some text → IsShort text
+unfolding token_text
 text_short token text short is = kind_text_short token.kind text short is
 
 abbrev StartInLimits : Start → Type 0
@@ -165,8 +166,8 @@ kind_in_limits inside at (kinds.Decimal millionths) short = tt
 kind_in_limits inside at (kinds.Text text) short = short
 kind_in_limits inside at (kinds.Sign sign) short = sign_in_limits inside at sign
 
-leaf_in_limits : (inside : Bool) (token : Token) (tree : Expression) → IsShortKind token.kind → starts inside token ≡ Leaf tree → WrittenInLimits tree
-unfolding starts
+leaf_in_limits : (inside : Bool) (token : Token) (tree : Expression) → IsShortKind token.kind → begins_as inside token ≡ Leaf tree → WrittenInLimits tree
+unfolding begins_as
 leaf_in_limits inside token tree short is = subst StartInLimits is (kind_in_limits inside token.span.start token.kind short)
 
 -- ---- lists and calls
@@ -257,6 +258,6 @@ pub parsed_in_limits : (text : List ℕ) (tree : Expression) → parse_of text �
 parsed_in_limits text tree is = says_in_limits text tree (SaysTree-from_parse_of text tree is)
 
 -- what `parse` answers by its exact clause
-pub in_limits : (text : List ℕ) (answer : Result Tree SyntaxError) → Gives is_memory expression_of answer (parse_of text) → IfOk answer (λ tree. WrittenInLimits (expression_of tree))
+pub in_limits : (text : List ℕ) (answer : Result Tree SyntaxError) → Gives is_syntax_memory expression_of answer (parse_of text) → IfOk answer (λ tree. WrittenInLimits (expression_of tree))
 in_limits text (Ok tree) gives = says_in_limits text (expression_of tree) (SaysTree-from_parse_of text (expression_of tree) gives)
 in_limits text (Err error) gives = tt

@@ -6,11 +6,12 @@ use Rattle.ar_value.specs.Decimal.{is_i64}
 use Rattle.ar_value.specs.Digits.{magnitude_of}
 use Rattle.ar_value.specs.Answer.{◌>>=◌}
 use Rattle.ar_value.specs.Limits.{most_text_bytes}
-use Rattle.ar_syntax.specs.Refusal.{IsNamedBehind, IsRefused, IsRefusedBehind}
+use Rattle.ar_syntax.specs.Refusal.{IsNamedBehind, AreRefused, IsRefusedBehind}
 use Rattle.ar_syntax.specs.Refusal as refusal
-use Rattle.ar_syntax.specs.Parse.{IsRefusal, token_fault, grammar_fault, parse_of}
+use Rattle.ar_syntax.specs.Parsed.{IsRefusal, token_fault, grammar_fault}
+use Rattle.ar_syntax.specs.Parse.{parse_of}
 use Rattle.ar_syntax.specs.Token.{begins_word, continues_word, escape_of, is_quote, radix, takes_field, text_end, unescaped, with_byte, with_escape}
-use Rattle.ar_syntax.specs.Tokens.{base_digits, base_of, begins_block_comment, begins_line_comment, begins_number, block_comment, comment_end, comment_of, digits_at, ended, found, fraction_at, front_of, is_blank, is_coalescing, line_comment, number_in, number_of, number_text, sign_at, sign_of, sign_token, text_in, text_of, token, token_of, tokens_behind, tokens_of, value_of, whole_of, with_front, word_at, word_token}
+use Rattle.ar_syntax.specs.Tokens.{base_digits, base_of, begins_block_comment, begins_line_comment, begins_number, block_comment, comment_end, comment_of, digits_at, number_ended, piece_found, fraction_at, front_of, is_blank, is_coalescing, line_comment, number_in, number_at_front, number_text, sign_at, sign_of, sign_token, text_in, text_at_front, token, token_of, tokens_behind, tokens_of, number_spelled, whole_spelled, with_front, word_at, word_token}
 use Rattle.ar_syntax.specs.declared.error.SyntaxError.{SyntaxError}
 use Rattle.ar_syntax.specs.declared.error.SyntaxError.TheVariants.{BadCharacter, OutOfMemory}
 use Rattle.ar_syntax.specs.declared.scanner.Piece.{Piece}
@@ -35,26 +36,26 @@ IsDefined-cond : {A : Type 0} (b : Bool) (r s : Result A SyntaxError) → IsDefi
 IsDefined-cond true r s r-is s-is = r-is
 IsDefined-cond false r s r-is s-is = s-is
 
-whole_of-defined : (at magnitude : ℕ) → IsDefined (whole_of at magnitude)
+whole_of-defined : (at magnitude : ℕ) → IsDefined (whole_spelled at magnitude)
 whole_of-defined at magnitude = IsDefined-cond (is_i64 (pos magnitude)) _ _ tt (λ same. absurd cc)
 
-value_of-defined : (at : ℕ) (whole fraction : List ℕ) → IsDefined (value_of at whole fraction)
+value_of-defined : (at : ℕ) (whole fraction : List ℕ) → IsDefined (number_spelled at whole fraction)
 value_of-defined at whole [] = whole_of-defined at (digits_value 10 whole)
 value_of-defined at whole (digit ∷ fraction) =
     IsDefined-cond (nat_lt 6 (length (digit ∷ fraction))) _ _ (λ same. absurd cc)
     (IsDefined-cond (is_i64 (pos (magnitude_of whole (digit ∷ fraction)))) _ _ tt (λ same. absurd cc))
 
-ended-defined : (at len : ℕ) (bytes : List ℕ) (kind : TokenKind) → IsDefined (ended at len bytes kind)
+ended-defined : (at len : ℕ) (bytes : List ℕ) (kind : TokenKind) → IsDefined (number_ended at len bytes kind)
 ended-defined at len bytes kind = IsDefined-cond (continues_word (slice_index bytes len)) _ _ (λ same. absurd cc) tt
 
 number_in-defined : (at : ℕ) (bytes : List ℕ) (base : Option Base) → IsDefined (number_in at bytes base)
 number_in-defined at bytes (Some base) =
-    IsDefined-then (whole_of at (digits_value (radix base) (base_digits base bytes))) (ended at (2 + length (base_digits base bytes)) bytes) (whole_of-defined at (digits_value (radix base) (base_digits base bytes))) (ended-defined at (2 + length (base_digits base bytes)) bytes)
+    IsDefined-then (whole_spelled at (digits_value (radix base) (base_digits base bytes))) (number_ended at (2 + length (base_digits base bytes)) bytes) (whole_of-defined at (digits_value (radix base) (base_digits base bytes))) (ended-defined at (2 + length (base_digits base bytes)) bytes)
 number_in-defined at bytes None =
-    IsDefined-then (value_of at (digits_at bytes) (fraction_at bytes)) (ended at (length (number_text (digits_at bytes) (fraction_at bytes))) bytes) (value_of-defined at (digits_at bytes) (fraction_at bytes)) (ended-defined at (length (number_text (digits_at bytes) (fraction_at bytes))) bytes)
+    IsDefined-then (number_spelled at (digits_at bytes) (fraction_at bytes)) (number_ended at (length (number_text (digits_at bytes) (fraction_at bytes))) bytes) (value_of-defined at (digits_at bytes) (fraction_at bytes)) (ended-defined at (length (number_text (digits_at bytes) (fraction_at bytes))) bytes)
 
-number_of-defined : (at : ℕ) (bytes : List ℕ) → IsDefined (number_of at bytes)
-unfolding number_of
+number_of-defined : (at : ℕ) (bytes : List ℕ) → IsDefined (number_at_front at bytes)
+unfolding number_at_front
 number_of-defined at bytes = number_in-defined at bytes (base_of bytes)
 
 with_byte-defined : (byte : ℕ) (behind : Result (List ℕ) SyntaxError) → IsDefined behind → IsDefined (with_byte byte behind)
@@ -74,8 +75,8 @@ text_in-defined : (at : ℕ) (bytes : List ℕ) (end : Option ℕ) → IsDefined
 text_in-defined at bytes None = λ same. absurd cc
 text_in-defined at bytes (Some len) = IsDefined-then (unescaped at false (take len (drop 1 bytes))) (λ value. Ok (token (kinds.Text value) at (len + 2))) (unescaped-defined at false (take len (drop 1 bytes))) (λ value. tt)
 
-text_of-defined : (at : ℕ) (bytes : List ℕ) → IsDefined (text_of at bytes)
-unfolding text_of
+text_of-defined : (at : ℕ) (bytes : List ℕ) → IsDefined (text_at_front at bytes)
+unfolding text_at_front
 text_of-defined at bytes = text_in-defined at bytes (text_end (slice_index bytes 0) 0 false (drop 1 bytes))
 
 sign_token-defined : (at : ℕ) (sign : Option Sign) → IsDefined (sign_token at sign)
@@ -86,8 +87,8 @@ token_of-defined : (at : ℕ) (field : Bool) (bytes : List ℕ) → IsDefined (t
 unfolding token_of
 token_of-defined at field bytes =
     IsDefined-cond (begins_word (slice_index bytes 0)) (Ok (word_token at (word_at bytes))) _ tt
-    (IsDefined-cond (begins_number field bytes) (number_of at bytes) _ (number_of-defined at bytes)
-    (IsDefined-cond (is_quote (slice_index bytes 0)) (text_of at bytes) (sign_of at bytes) (text_of-defined at bytes)
+    (IsDefined-cond (begins_number field bytes) (number_at_front at bytes) _ (number_of-defined at bytes)
+    (IsDefined-cond (is_quote (slice_index bytes 0)) (text_at_front at bytes) (sign_of at bytes) (text_of-defined at bytes)
     (IsDefined-cond (is_coalescing bytes) (Err (BadCharacter at)) (sign_token at (sign_at bytes)) (λ same. absurd cc) (sign_token-defined at (sign_at bytes)))))
 
 comment_of-defined : (at : ℕ) (end : Option ℕ) → IsDefined (comment_of at end)
@@ -99,8 +100,8 @@ unfolding front_of
 front_of-defined at field bytes =
     IsDefined-cond (is_blank (slice_index bytes 0)) (Ok (Gap 1)) _ tt
     (IsDefined-cond (begins_line_comment bytes) (Ok (Gap (length (line_comment bytes)))) _ tt
-    (IsDefined-cond (begins_block_comment bytes) (block_comment at bytes) (token_of at field bytes >>= found) (comment_of-defined at (comment_end 2 false (drop 2 bytes)))
-    (IsDefined-then (token_of at field bytes) found (token_of-defined at field bytes) (λ token. tt))))
+    (IsDefined-cond (begins_block_comment bytes) (block_comment at bytes) (token_of at field bytes >>= piece_found) (comment_of-defined at (comment_end 2 false (drop 2 bytes)))
+    (IsDefined-then (token_of at field bytes) piece_found (token_of-defined at field bytes) (λ token. tt))))
 
 with_front-defined : (at : ℕ) (front : Piece) (behind : ℕ → Bool → Result (List Token) SyntaxError) → ((skip : ℕ) (word : Bool) → IsDefined (behind skip word)) → IsDefined (with_front at front behind)
 with_front-defined at (Gap len) behind behind-is = behind-is _ false
@@ -134,7 +135,7 @@ behind-defined : (before : List Token) (token : Token) (error : SyntaxError) →
 behind-defined before token error (refusal.named is) same = named-defined before token error is same
 behind-defined before token error (refusal.unexpected none) same = absurd cc
 
-refused-chosen : (end : ℕ) (tokens : List Token) (error : SyntaxError) → IsRefused end tokens error → error ≢ OutOfMemory
+refused-chosen : (end : ℕ) (tokens : List Token) (error : SyntaxError) → AreRefused end tokens error → error ≢ OutOfMemory
 refused-chosen end tokens error (refusal.at_token before token rest are begins stops why) same = behind-defined before token error why same
 refused-chosen end tokens error (refusal.at_end begins none) same = absurd cc
 refused-chosen end tokens error (refusal.at_depth tree derived deep) same = absurd cc

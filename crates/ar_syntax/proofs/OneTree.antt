@@ -4,7 +4,7 @@ use Rattle.std.specs.Prelude.{pred}
 use Rattle.ar_tree.specs.Expression.{Expression, UnaryAt, BinaryAt, ChoiceAt}
 use Rattle.ar_syntax.specs.Grammar.{Arguments, ArgumentsBehind, Further, Items, ItemsBehind, Phrase, Primary, Rules, Selections, may_continue, may_open, most_openers, takes_all, takes_more, ternary}
 use Rattle.ar_syntax.specs.Grammar as grammar
-use Rattle.ar_syntax.specs.Machine.{Frame, State, RightOf, Prefixed, Yes, No, Grouped, Listed, Indexed, Argued, Body, Braced, Want, Have, WantName, WantIndex, HaveText, WantIn, WantGroup, WantArgument, HaveArgument, inside, left, wanted}
+use Rattle.ar_syntax.specs.Machine.{Frame, ParserState, RightOf, Prefixed, Yes, No, Grouped, Listed, Indexed, Argued, Body, Braced, Want, Have, WantName, WantIndex, HaveText, WantIn, WantGroup, WantArgument, HaveArgument, inside, openers_left, wanted}
 use Rattle.ar_syntax.specs.Roles.{Call, looseness}
 use Rattle.ar_syntax.specs.declared.token.Token.{Token}
 use Rattle.ar_syntax.specs.Grammar.{ends_bracket, is_alone, is_text_alone}
@@ -20,15 +20,15 @@ use Rattle.ar_syntax.proofs.Runs.{IsStateFrom, keeps, step-back, step-to}
 module _ (rules : Rules) (final : Expression) where
   -- ---- the end
 
-  no_called : (stack : List Frame) (at : ℕ) (function : Call) (so_far arguments : List Expression) (rest : List Token) → ¬ Arguments rules (inside stack) (pred (left stack)) function so_far [] arguments rest
-  no_called stack at function so_far arguments rest (grammar.argument plain phrase behind) = no_phrase_on rules (inside stack) (pred (left stack)) ternary _ _ phrase
-  no_called stack at function so_far arguments rest (grammar.body body phrase behind) = no_phrase_on rules true (pred (left stack)) ternary _ _ phrase
+  no_called : (stack : List Frame) (at : ℕ) (function : Call) (so_far arguments : List Expression) (rest : List Token) → ¬ Arguments rules (inside stack) (pred (openers_left stack)) function so_far [] arguments rest
+  no_called stack at function so_far arguments rest (grammar.argument plain phrase behind) = no_phrase_on rules (inside stack) (pred (openers_left stack)) ternary _ _ phrase
+  no_called stack at function so_far arguments rest (grammar.body body phrase behind) = no_phrase_on rules true (pred (openers_left stack)) ternary _ _ phrase
 
   after-end : (stack : List Frame) (tree : Expression) → After rules final stack tree [] → whole (unwound stack tree) ≡ Some final
   after-end [] tree after = ap (λ (t : Expression). Some t) after.0
   after-end (RightOf at operator first ∷ stack) tree after =
-      after-end stack (BinaryAt at operator first tree) (rise-end rules (wanted stack - looseness operator) (looseness operator) (inside stack) (left stack) (After rules final stack) (BinaryAt at operator first tree) after)
-  after-end (Prefixed at operator ∷ stack) tree after = after-end stack (UnaryAt at operator tree) (rise-end rules (wanted stack) 0 (inside stack) (left stack) (After rules final stack) (UnaryAt at operator tree) after)
+      after-end stack (BinaryAt at operator first tree) (rise-end rules (wanted stack - looseness operator) (looseness operator) (inside stack) (openers_left stack) (After rules final stack) (BinaryAt at operator first tree) after)
+  after-end (Prefixed at operator ∷ stack) tree after = after-end stack (UnaryAt at operator tree) (rise-end rules (wanted stack) 0 (inside stack) (openers_left stack) (After rules final stack) (UnaryAt at operator tree) after)
   after-end (Yes at condition ∷ stack) tree after = absurd after
   after-end (No at condition met ∷ stack) tree after = after-end stack (ChoiceAt at condition met tree) after
   after-end (Grouped ∷ stack) tree after = absurd after
@@ -38,7 +38,7 @@ module _ (rules : Rules) (final : Expression) where
   after-end (Body at function so_far ∷ stack) tree after = elim after.2 [ ]
   after-end (Braced at function so_far ∷ stack) tree after = absurd after
 
-  leads-end : (state : State) → Leads rules final state [] → finished state ≡ Some final
+  leads-end : (state : ParserState) → Leads rules final state [] → finished state ≡ Some final
   leads-end (Want stack) leads = absurd (no_wanted rules final stack leads)
   leads-end (Have stack tree) leads = after-end stack tree (had-end rules final stack tree leads)
   leads-end (WantName stack at whole) leads = absurd leads
@@ -53,42 +53,42 @@ module _ (rules : Rules) (final : Expression) where
   end-after : (stack : List Frame) (tree : Expression) → whole (unwound stack tree) ≡ Some final → After rules final stack tree []
   end-after [] tree e = (cc, refl)
   end-after (RightOf at operator first ∷ stack) tree e =
-      rise-stay rules (wanted stack - looseness operator) (looseness operator) (inside stack) (left stack) (After rules final stack) (BinaryAt at operator first tree) [] (end-after stack (BinaryAt at operator first tree) e)
-  end-after (Prefixed at operator ∷ stack) tree e = rise-stay rules (wanted stack) 0 (inside stack) (left stack) (After rules final stack) (UnaryAt at operator tree) [] (end-after stack (UnaryAt at operator tree) e)
+      rise-stay rules (wanted stack - looseness operator) (looseness operator) (inside stack) (openers_left stack) (After rules final stack) (BinaryAt at operator first tree) [] (end-after stack (BinaryAt at operator first tree) e)
+  end-after (Prefixed at operator ∷ stack) tree e = rise-stay rules (wanted stack) 0 (inside stack) (openers_left stack) (After rules final stack) (UnaryAt at operator tree) [] (end-after stack (UnaryAt at operator tree) e)
   end-after (No at condition met ∷ stack) tree e = end-after stack (ChoiceAt at condition met tree) e
   end-after (frame ∷ stack) tree e = absurd cc
 
-  end-leads : (state : State) → finished state ≡ Some final → Leads rules final state []
-  end-leads (Have stack tree) e = (tree, [], grammar.nothing_more, rise-stay rules (wanted stack) 0 (inside stack) (left stack) (After rules final stack) tree [] (end-after stack tree e))
+  end-leads : (state : ParserState) → finished state ≡ Some final → Leads rules final state []
+  end-leads (Have stack tree) e = (tree, [], grammar.nothing_more, rise-stay rules (wanted stack) 0 (inside stack) (openers_left stack) (After rules final stack) tree [] (end-after stack tree e))
   end-leads state e = absurd cc
 
   -- ---- all tokens
 
-  step_from-to : (state : Option State) (c : Token) (tokens : List Token) → IsStateFrom state → LeadsFrom rules final state (c ∷ tokens) → LeadsFrom rules final (step_from rules state c) tokens
+  step_from-to : (state : Option ParserState) (c : Token) (tokens : List Token) → IsStateFrom state → LeadsFrom rules final state (c ∷ tokens) → LeadsFrom rules final (step_from rules state c) tokens
   step_from-to (Some state) c tokens is leads = step-to rules final state c tokens is leads
   step_from-to None c tokens is leads = leads
 
-  step_from-back : (state : Option State) (c : Token) (tokens : List Token) → IsStateFrom state → LeadsFrom rules final (step_from rules state c) tokens → LeadsFrom rules final state (c ∷ tokens)
+  step_from-back : (state : Option ParserState) (c : Token) (tokens : List Token) → IsStateFrom state → LeadsFrom rules final (step_from rules state c) tokens → LeadsFrom rules final state (c ∷ tokens)
   step_from-back (Some state) c tokens is leads = step-back rules final state c tokens is leads
   step_from-back None c tokens is leads = leads
 
-  pub keeps_from : (state : Option State) (c : Token) → IsStateFrom state → IsStateFrom (step_from rules state c)
+  pub keeps_from : (state : Option ParserState) (c : Token) → IsStateFrom state → IsStateFrom (step_from rules state c)
   keeps_from (Some state) c is = keeps rules state c is
   keeps_from None c is = tt
 
-  pub run-to : (state : Option State) (tokens : List Token) → IsStateFrom state → LeadsFrom rules final state tokens → LeadsFrom rules final (run rules state tokens) []
+  pub run-to : (state : Option ParserState) (tokens : List Token) → IsStateFrom state → LeadsFrom rules final state tokens → LeadsFrom rules final (run rules state tokens) []
   run-to state [] is leads = leads
   run-to state (c ∷ tokens) is leads = run-to (step_from rules state c) tokens (keeps_from state c is) (step_from-to state c tokens is leads)
 
-  run-back : (state : Option State) (tokens : List Token) → IsStateFrom state → LeadsFrom rules final (run rules state tokens) [] → LeadsFrom rules final state tokens
+  run-back : (state : Option ParserState) (tokens : List Token) → IsStateFrom state → LeadsFrom rules final (run rules state tokens) [] → LeadsFrom rules final state tokens
   run-back state [] is leads = leads
   run-back state (c ∷ tokens) is leads = step_from-back state c tokens is (run-back (step_from rules state c) tokens (keeps_from state c is) leads)
 
-  pub from-end : (state : Option State) → LeadsFrom rules final state [] → finished_from state ≡ Some final
+  pub from-end : (state : Option ParserState) → LeadsFrom rules final state [] → finished_from state ≡ Some final
   from-end (Some state) leads = leads-end state leads
   from-end None leads = absurd leads
 
-  end-from : (state : Option State) → finished_from state ≡ Some final → LeadsFrom rules final state []
+  end-from : (state : Option ParserState) → finished_from state ≡ Some final → LeadsFrom rules final state []
   end-from (Some state) e = end-leads state e
   end-from None e = absurd cc
 

@@ -3,14 +3,14 @@ use Rattle.std.proofs.Common.{◌≡◌, ℕ, zero, suc, ◌<◌, ◌≤◌, Boo
 use Rattle.std.proofs.lemmas.Bool.Decides.{nat_tests}
 use Rattle.std.specs.Prelude.{nat_eq, nat_lt, pred}
 use Rattle.ar_syntax.specs.Grammar.{Rules, ends_bracket, may_continue, may_open, takes_all, takes_more}
-use Rattle.ar_syntax.specs.Machine.{Argued, Body, Braced, Frame, Grouped, Have, Indexed, Listed, No, Prefixed, RightOf, State, Yes, argue, close_empty, close_text, end_with, have, step, when, whole}
-use Rattle.ar_syntax.specs.Refusal.{at_any_depth, of_any_count, of_any_items, strict}
+use Rattle.ar_syntax.specs.Machine.{Argued, Body, Braced, Frame, Grouped, Have, Indexed, Listed, No, Prefixed, RightOf, ParserState, Yes, argue, close_empty, close_text, end_with, have, step, when, whole}
+use Rattle.ar_syntax.specs.Condition.{at_any_depth, of_any_count, of_any_items, strict}
 use Rattle.ar_syntax.specs.Roles.{Call, Colon, Comma, Default, EndBrace, EndBracket, EndGroup, Ender, Ends, Follow, IsNil, Len, Over, arity, is_body, is_brace}
 use Rattle.ar_syntax.specs.Private.Frames.{unwinds}
 use Rattle.ar_syntax.specs.Private.Steps.{IsOperand, Steps, fault_by, forbids, is_empty_call}
 use Rattle.ar_value.specs.Answer.{Unless}
-use Rattle.ar_syntax.specs.Tokens.{is_memory}
-use Rattle.ar_syntax.specs.Parse.{stepped}
+use Rattle.ar_syntax.specs.Spelling.{is_syntax_memory}
+use Rattle.ar_syntax.specs.Parse.{state_after}
 use Rattle.ar_syntax.proofs.Answers.{unless_holds}
 use Rattle.ar_syntax.specs.Fault.{accepts, fault_of, is_inside, kind_fault, wants_operand}
 use Rattle.ar_syntax.specs.declared.error.SyntaxError.TheVariants.{TooDeep, TooManyItems, WrongCount}
@@ -27,31 +27,31 @@ pub length_of_map : (xs : List Tree) → length (map expression_of xs) ≡ lengt
 length_of_map [] = refl
 length_of_map (x ∷ xs) = ap suc (length_of_map xs)
 
-pub opener_left : (n : ℕ) (state : State) → (n ≡ 0 → ⊥) → when strict (may_open strict n) state ≡ Some state
+pub opener_left : (n : ℕ) (state : ParserState) → (n ≡ 0 → ⊥) → when strict (may_open strict n) state ≡ Some state
 opener_left zero state h = absurd (h refl)
 opener_left (suc n) state h = let some : nat_lt 0 (suc n) ≡ true = grind (arith, nat_tests) in rw some refl
 
-pub no_opener_left : (n : ℕ) (state : State) → n ≡ 0 → (when strict (may_open strict n) state ≡ None) × (forbids (λ rules. when rules (may_open rules n) state) ≡ Depth)
+pub no_opener_left : (n : ℕ) (state : ParserState) → n ≡ 0 → (when strict (may_open strict n) state ≡ None) × (forbids (λ rules. when rules (may_open rules n) state) ≡ Depth)
 no_opener_left n state h = rw h (refl, refl)
 
-pub item_left : (items : List Tree) (n : ℕ) (state : State) → n ≡ length items → n < 16 → when strict (may_continue strict (length (map expression_of items))) state ≡ Some state
+pub item_left : (items : List Tree) (n : ℕ) (state : ParserState) → n ≡ length items → n < 16 → when strict (may_continue strict (length (map expression_of items))) state ≡ Some state
 item_left items n state is below = let some : nat_lt (length (map expression_of items)) 16 ≡ true = rw (length_of_map items) (grind (arith, nat_tests)) in rw some refl
 
-pub no_item_left : (items : List Tree) (n : ℕ) (state : State) → n ≡ length items → 16 ≤ n
+pub no_item_left : (items : List Tree) (n : ℕ) (state : ParserState) → n ≡ length items → 16 ≤ n
     → (when strict (may_continue strict (length (map expression_of items))) state ≡ None) × (forbids (λ rules. when rules (may_continue rules (length (map expression_of items))) state) ≡ Items)
 no_item_left items n state is past = let none : nat_lt (length (map expression_of items)) 16 ≡ false = rw (length_of_map items) (grind (arith, nat_tests)) in rw none (refl, refl)
 
-pub argument_left : (function : Call) (arguments : List Tree) (n : ℕ) (state : State) → n ≡ length arguments → n < arity function → when strict (takes_more strict function (length (map expression_of arguments))) state ≡ Some state
+pub argument_left : (function : Call) (arguments : List Tree) (n : ℕ) (state : ParserState) → n ≡ length arguments → n < arity function → when strict (takes_more strict function (length (map expression_of arguments))) state ≡ Some state
 argument_left function arguments n state is below = let some : nat_lt (length (map expression_of arguments)) (arity function) ≡ true = rw (length_of_map arguments) (grind (arith, nat_tests)) in rw some refl
 
-pub no_argument_left : (function : Call) (arguments : List Tree) (n : ℕ) (state : State) → n ≡ length arguments → arity function ≤ n
+pub no_argument_left : (function : Call) (arguments : List Tree) (n : ℕ) (state : ParserState) → n ≡ length arguments → arity function ≤ n
     → (when strict (takes_more strict function (length (map expression_of arguments))) state ≡ None) × (forbids (λ rules. when rules (takes_more rules function (length (map expression_of arguments))) state) ≡ Arguments)
 no_argument_left function arguments n state is past = let none : nat_lt (length (map expression_of arguments)) (arity function) ≡ false = rw (length_of_map arguments) (grind (arith, nat_tests)) in rw none (refl, refl)
 
-pub all_arguments : (function : Call) (arguments : List Tree) (n : ℕ) (state : State) → n ≡ length arguments → n ≡ arity function → when strict (takes_all strict function (length (map expression_of arguments))) state ≡ Some state
+pub all_arguments : (function : Call) (arguments : List Tree) (n : ℕ) (state : ParserState) → n ≡ length arguments → n ≡ arity function → when strict (takes_all strict function (length (map expression_of arguments))) state ≡ Some state
 all_arguments function arguments n state is all = let some : nat_eq (length (map expression_of arguments)) (arity function) ≡ true = rw (length_of_map arguments) (grind (arith, nat_tests)) in rw some refl
 
-pub not_all_arguments : (function : Call) (arguments : List Tree) (n : ℕ) (state : State) → n ≡ length arguments → (n ≡ arity function → ⊥)
+pub not_all_arguments : (function : Call) (arguments : List Tree) (n : ℕ) (state : ParserState) → n ≡ length arguments → (n ≡ arity function → ⊥)
     → (when strict (takes_all strict function (length (map expression_of arguments))) state ≡ None) × (forbids (λ rules. when rules (takes_all rules function (length (map expression_of arguments))) state) ≡ Arguments)
 not_all_arguments function arguments n state is other = let none : nat_eq (length (map expression_of arguments)) (arity function) ≡ false = rw (length_of_map arguments) (grind (arith, nat_tests)) in rw none (refl, refl)
 
@@ -79,7 +79,7 @@ pub text_gives_field : (stack : List Frame) (at : ℕ) (whole : Expression) (tex
 text_gives_field stack at whole text_at text token (Ends EndBracket) r h is = is stack
 text_gives_field stack at whole text_at text token role r h is = absurd cc
 
-gives_operand : (steps : Rules → Option State) (stack : List Frame) (tree : Expression) (r : Result rust.State Refusal) → steps strict ≡ Some (Have stack tree) → IsOperand tree r → Steps steps stack r
+gives_operand : (steps : Rules → Option ParserState) (stack : List Frame) (tree : Expression) (r : Result rust.State Refusal) → steps strict ≡ Some (Have stack tree) → IsOperand tree r → Steps steps stack r
 gives_operand steps stack tree (Ok state) leads is = leads ∙ is stack
 gives_operand steps stack tree (Err OutOfMemory) leads is = tt
 gives_operand steps stack tree (Err refusal) leads is = let none : Some (Have stack tree) ≡ None = (is stack).0 in absurd cc
@@ -109,10 +109,10 @@ above_one zero h = absurd (h (omega arith))
 above_one (suc zero) h = absurd (h (omega arith))
 above_one (suc (suc n)) h = grind (arith, nat_tests)
 
-pub braces_left : (n : ℕ) (state : State) → 2 ≤ n → when strict (may_open strict (pred n)) state ≡ Some state
+pub braces_left : (n : ℕ) (state : ParserState) → 2 ≤ n → when strict (may_open strict (pred n)) state ≡ Some state
 braces_left n state h = let some : nat_lt 0 (pred n) ≡ true = above_one n (λ below. omega arith) in rw some refl
 
-pub no_braces_left : (n : ℕ) (state : State) → n < 2 → (when strict (may_open strict (pred n)) state ≡ None) × (forbids (λ rules. when rules (may_open rules (pred n)) state) ≡ Depth)
+pub no_braces_left : (n : ℕ) (state : ParserState) → n < 2 → (when strict (may_open strict (pred n)) state ≡ None) × (forbids (λ rules. when rules (may_open rules (pred n)) state) ≡ Depth)
 no_braces_left n state h = let none : nat_lt 0 (pred n) ≡ false = below_two n h in rw none (refl, refl)
 
 -- `)` directly after `(` ends no call, and it is the number of arguments that forbids it
@@ -140,20 +140,20 @@ chosen false false true wants inside token = refl
 chosen false false false wants inside token = refl
 
 -- the name of a fault, by the limit that alone forbids the token
-pub fault_forbidden : (state : State) (token : Token) (refusal : Refusal) (wants inside : Bool) → forbids (λ rules. step rules state token) ≡ refusal → wants ≡ wants_operand state → inside ≡ is_inside state
+pub fault_forbidden : (state : ParserState) (token : Token) (refusal : Refusal) (wants inside : Bool) → forbids (λ rules. step rules state token) ≡ refusal → wants ≡ wants_operand state → inside ≡ is_inside state
     → fault_of state token ≡ fault_by refusal wants inside token
 unfolding fault_of
 fault_forbidden state token refusal wants inside is is_wants is_inside_ =
     rw (← is, is_wants, is_inside_) (chosen (accepts (step of_any_count state token)) (accepts (step of_any_items state token)) (accepts (step at_any_depth state token)) (wants_operand state) (is_inside state) token)
 
-refused : (state : State) (token : Token) (refusal : Refusal) (wants inside : Bool) → (step strict state token ≡ None) × (forbids (λ rules. step rules state token) ≡ refusal) → wants ≡ wants_operand state → inside ≡ is_inside state
-    → Unless (is_memory (fault_by refusal wants inside token)) (stepped state token (step strict state token) ≡ Err (fault_by refusal wants inside token))
+refused : (state : ParserState) (token : Token) (refusal : Refusal) (wants inside : Bool) → (step strict state token ≡ None) × (forbids (λ rules. step rules state token) ≡ refusal) → wants ≡ wants_operand state → inside ≡ is_inside state
+    → Unless (is_syntax_memory (fault_by refusal wants inside token)) (state_after state token (step strict state token) ≡ Err (fault_by refusal wants inside token))
 refused state token refusal wants inside h is_wants is_in_predicate =
-    unless_holds (is_memory (fault_by refusal wants inside token)) (stepped state token (step strict state token) ≡ Err (fault_by refusal wants inside token)) (rw h.0 (ap Err (fault_forbidden state token refusal wants inside h.1 is_wants is_in_predicate)))
+    unless_holds (is_syntax_memory (fault_by refusal wants inside token)) (state_after state token (step strict state token) ≡ Err (fault_by refusal wants inside token)) (rw h.0 (ap Err (fault_forbidden state token refusal wants inside h.1 is_wants is_in_predicate)))
 
 -- a step that is refused is refused by its name
-pub stepped_refused : (state : State) (token : Token) (refusal : Refusal) (wants inside : Bool) (stack : List Frame) → Steps (λ rules. step rules state token) stack (Err refusal) → wants ≡ wants_operand state → inside ≡ is_inside state
-    → Unless (is_memory (fault_by refusal wants inside token)) (stepped state token (step strict state token) ≡ Err (fault_by refusal wants inside token))
+pub stepped_refused : (state : ParserState) (token : Token) (refusal : Refusal) (wants inside : Bool) (stack : List Frame) → Steps (λ rules. step rules state token) stack (Err refusal) → wants ≡ wants_operand state → inside ≡ is_inside state
+    → Unless (is_syntax_memory (fault_by refusal wants inside token)) (state_after state token (step strict state token) ≡ Err (fault_by refusal wants inside token))
 stepped_refused state token OutOfMemory wants inside stack h is_wants is_in_predicate = tt
 stepped_refused state token Arguments wants inside stack h is_wants is_in_predicate = refused state token Arguments wants inside h is_wants is_in_predicate
 stepped_refused state token Items wants inside stack h is_wants is_in_predicate = refused state token Items wants inside h is_wants is_in_predicate
@@ -161,7 +161,7 @@ stepped_refused state token Depth wants inside stack h is_wants is_in_predicate 
 stepped_refused state token Other wants inside stack h is_wants is_in_predicate = refused state token Other wants inside h is_wants is_in_predicate
 
 -- tokens that end with frames left have no tree
-pub no_whole : (stack : List Frame) (tree : Expression) (state : State) → Have stack tree ≡ state → (length stack ≡ 0 → ⊥) → None ≡ whole state
+pub no_whole : (stack : List Frame) (tree : Expression) (state : ParserState) → Have stack tree ≡ state → (length stack ≡ 0 → ⊥) → None ≡ whole state
 no_whole [] tree state is some = absurd (some refl)
 no_whole (frame ∷ stack) tree state is some = rw (← is) refl
 

@@ -10,10 +10,10 @@ use Rattle.std.specs.Str.Parse.{digits_value}
 use Rattle.ar_value.specs.Decimal.{is_i64}
 use Rattle.ar_value.specs.Digits.{magnitude_of}
 use Rattle.ar_value.specs.Answer.{◌>>=◌}
-use Rattle.ar_syntax.specs.Token.{Spells, SpellsText, SpellsWhole, begins_word, continues_word, comparison_sign, is_digit_in, is_quote, letters, named, named_words, prefix, radix, spelling, text_end, unescaped, word_of}
-use Rattle.ar_syntax.specs.Token as spelled
-use Rattle.ar_syntax.specs.Tokens.{BeginsWithGap, all_signs, base_digits, base_named, base_of, begins_block_comment, begins_line_comment, begins_number, block_comment, comment_end, comment_of, digits_at, digits_behind_point, ended, found, fraction_at, front_of, is_blank, is_coalescing, line_comment, number_in, number_of, number_text, plain_number, prefixed_number, sign_at, sign_of, sign_token, text_in, text_of, token, token_of, value_of, whole_of, with_digit, word_at, word_token}
-use Rattle.ar_syntax.specs.Tokens as cuts
+use Rattle.ar_syntax.specs.Spelling.{BeginsWithGap, Spells, SpellsText, SpellsWhole, prefix}
+use Rattle.ar_syntax.specs.Token.{begins_word, continues_word, comparison_sign, is_digit_in, is_quote, letters, word_or_name, named_words, radix, spelling, text_end, unescaped, word_of}
+use Rattle.ar_syntax.specs.Spelling as spelled
+use Rattle.ar_syntax.specs.Tokens.{all_signs, base_digits, base_named, base_of, begins_block_comment, begins_line_comment, begins_number, block_comment, comment_end, comment_of, digits_at, digits_behind_point, fraction_at, front_of, in_line, is_blank, is_coalescing, line_comment, number_at_front, number_ended, number_in, number_spelled, number_text, piece_found, plain_number, prefixed_number, sign_at, sign_of, sign_token, text_at_front, text_in, token, token_of, whole_spelled, with_digit, word_at, word_token}
 use Rattle.ar_syntax.specs.declared.error.SyntaxError.TheVariants.{BadCharacter, LiteralTooFine, NumberTooLarge}
 use Rattle.ar_syntax.specs.declared.scanner.Piece.{Piece}
 use Rattle.ar_syntax.specs.declared.scanner.Piece.TheVariants.{Gap, Found}
@@ -50,7 +50,7 @@ IsFront-part at bytes front rest kind len are is some spells =
 -- ---- numbers
 
 -- digits spell a whole
-Spells-whole_of : (at magnitude : ℕ) (bytes : List ℕ) (kind : TokenKind) → SpellsWhole bytes magnitude → whole_of at magnitude ≡ Ok kind → Spells at bytes kind
+Spells-whole_of : (at magnitude : ℕ) (bytes : List ℕ) (kind : TokenKind) → SpellsWhole bytes magnitude → whole_spelled at magnitude ≡ Ok kind → Spells at bytes kind
 Spells-whole_of at magnitude bytes kind spells e =
     elim (chosen (is_i64 (pos magnitude)) (Ok (kinds.Whole (pos magnitude))) (Err (NumberTooLarge at)) (Ok kind) e) [
       | inl fits ↦ let same : kinds.Whole (pos magnitude) ≡ kind = cc in subst (Spells at bytes) same (magnitude, spells, refl)
@@ -59,7 +59,7 @@ Spells-whole_of at magnitude bytes kind spells e =
 
 -- the value of a number's digits
 Spells-value_of : (at : ℕ) (whole fraction : List ℕ) (kind : TokenKind) → list_all is_ascii_digit whole ≡ true → list_all is_ascii_digit fraction ≡ true → (fraction ≡ [] → 0 < length whole)
-    → value_of at whole fraction ≡ Ok kind → Spells at (number_text whole fraction) kind
+    → number_spelled at whole fraction ≡ Ok kind → Spells at (number_text whole fraction) kind
 Spells-value_of at whole [] kind w f some e = Spells-whole_of at (digits_value 10 whole) whole kind (spelled.decimal (some refl, w) refl) e
 Spells-value_of at whole (digit ∷ fraction) kind w f some e =
     elim (chosen (nat_lt 6 (length (digit ∷ fraction))) (Err (LiteralTooFine at)) (cond (is_i64 (pos (magnitude_of whole (digit ∷ fraction)))) (Ok (kinds.Decimal (pos (magnitude_of whole (digit ∷ fraction))))) (Err (NumberTooLarge at))) (Ok kind) e) [
@@ -74,7 +74,7 @@ Spells-value_of at whole (digit ∷ fraction) kind w f some e =
     ]
 
 -- a number that ends in front of no letter, digit or `_`
-IsFront-ended : (at len : ℕ) (bytes front rest : List ℕ) (kind : TokenKind) (found : Token) → bytes ≡ front ++ rest → length front ≡ len → 0 < len → Spells at front kind → ended at len bytes kind ≡ Ok found → IsFront at bytes found
+IsFront-ended : (at len : ℕ) (bytes front rest : List ℕ) (kind : TokenKind) (found : Token) → bytes ≡ front ++ rest → length front ≡ len → 0 < len → Spells at front kind → number_ended at len bytes kind ≡ Ok found → IsFront at bytes found
 IsFront-ended at len bytes front rest kind found are is some spells e =
     elim (chosen (continues_word (slice_index bytes len)) (Err (BadCharacter (at + len))) (Ok (token kind at len)) (Ok found) e) [
       | inl continued ↦ absurd cc
@@ -85,7 +85,7 @@ IsFront-plain : (at : ℕ) (field : Bool) (bytes : List ℕ) (found : Token) →
 IsFront-plain at field bytes found begins e =
     let whole = digits_at bytes in
     let fraction = fraction_at bytes in
-    let value = bind_ok (value_of at whole fraction) (ended at (length (number_text whole fraction)) bytes) found e in
+    let value = bind_ok (number_spelled at whole fraction) (number_ended at (length (number_text whole fraction)) bytes) found e in
     let spells = Spells-value_of at whole fraction value.0 (list_all-take_while is_ascii_digit bytes) (list_all-digits_behind_point (drop (length whole) bytes)) (number-some field bytes begins) value.1 in
     let front = number_front bytes in
     IsFront-ended at (length (number_text whole fraction)) bytes (number_text whole fraction) front.0 value.0 found front.1 refl (number_text-some whole fraction (number-some field bytes begins)) spells value.2
@@ -94,7 +94,7 @@ IsFront-prefixed : (at : ℕ) (bytes : List ℕ) (base : Base) (found : Token) �
 IsFront-prefixed at bytes base found prefixed e =
     let digits = base_digits base bytes in
     let is = IsPrefixed-base_of base bytes prefixed in
-    let value = bind_ok (whole_of at (digits_value (radix base) digits)) (ended at (2 + length digits) bytes) found e in
+    let value = bind_ok (whole_spelled at (digits_value (radix base) digits)) (number_ended at (2 + length digits) bytes) found e in
     let front = prefixed_front base bytes is in
     let spells = Spells-whole_of at (digits_value (radix base) digits) (prefix base ++ digits) value.0 (spelled.prefixed base digits refl is.some (list_all-take_while (is_digit_in base) (drop 2 bytes)) refl) value.1 in
     IsFront-ended at (2 + length digits) bytes (prefix base ++ digits) front.0 value.0 found front.1 (prefixed_len base bytes) (omega arith) spells value.2
@@ -103,13 +103,13 @@ IsFront-number_in : (at : ℕ) (field : Bool) (bytes : List ℕ) (base : Option 
 IsFront-number_in at field bytes (Some base) found begins is e = IsFront-prefixed at bytes base found is e
 IsFront-number_in at field bytes None found begins is e = IsFront-plain at field bytes found begins e
 
-IsFront-number : (at : ℕ) (field : Bool) (bytes : List ℕ) (found : Token) → begins_number field bytes ≡ true → number_of at bytes ≡ Ok found → IsFront at bytes found
-unfolding number_of
+IsFront-number : (at : ℕ) (field : Bool) (bytes : List ℕ) (found : Token) → begins_number field bytes ≡ true → number_at_front at bytes ≡ Ok found → IsFront at bytes found
+unfolding number_at_front
 IsFront-number at field bytes found begins e = IsFront-number_in at field bytes (base_of bytes) found begins refl e
 
 -- ---- words
 
-Spells-named : (at : ℕ) (bytes : List ℕ) (word : Option Word) → word_of bytes ≡ word → begins_word (slice_index bytes 0) ≡ true → list_all continues_word bytes ≡ true → Spells at bytes (named bytes word)
+Spells-named : (at : ℕ) (bytes : List ℕ) (word : Option Word) → word_of bytes ≡ word → begins_word (slice_index bytes 0) ≡ true → list_all continues_word bytes ≡ true → Spells at bytes (word_or_name bytes word)
 unfolding word_of
 Spells-named at bytes (Some word) is begins continues =
     let passes : bytes_eq (letters word) bytes ≡ true = passes-from_find (λ word. bytes_eq (letters word) bytes) named_words word is in
@@ -118,7 +118,7 @@ Spells-named at bytes None is begins continues = (refl, begins, continues, is)
 
 IsFront-word : (at : ℕ) (bytes : List ℕ) → begins_word (slice_index bytes 0) ≡ true → IsFront at bytes (word_token at (word_at bytes))
 IsFront-word at bytes begins =
-    IsFront-part at bytes (word_at bytes) (drop (length (word_at bytes)) bytes) (named (word_at bytes) (word_of (word_at bytes))) (length (word_at bytes)) (take_while-front continues_word bytes) refl (word_at-some bytes begins)
+    IsFront-part at bytes (word_at bytes) (drop (length (word_at bytes)) bytes) (word_or_name (word_at bytes) (word_of (word_at bytes))) (length (word_at bytes)) (take_while-front continues_word bytes) refl (word_at-some bytes begins)
     (Spells-named at (word_at bytes) (word_of (word_at bytes)) refl (word_at-first bytes begins) (list_all-take_while continues_word bytes))
 
 -- ---- texts
@@ -171,8 +171,8 @@ IsFront-text_in : (at quote : ℕ) (behind : List ℕ) (end : Option ℕ) (found
 IsFront-text_in at quote behind None found quotes ends e = absurd cc
 IsFront-text_in at quote behind (Some len) found quotes ends e = IsFront-quoted at quote len behind found quotes ends e
 
-IsFront-text : (at : ℕ) (bytes : List ℕ) (found : Token) → is_quote (slice_index bytes 0) ≡ true → text_of at bytes ≡ Ok found → IsFront at bytes found
-unfolding text_of
+IsFront-text : (at : ℕ) (bytes : List ℕ) (found : Token) → is_quote (slice_index bytes 0) ≡ true → text_at_front at bytes ≡ Ok found → IsFront at bytes found
+unfolding text_at_front
 IsFront-text at [] found quotes e = absurd cc
 IsFront-text at (quote ∷ behind) found quotes e = IsFront-text_in at quote behind (text_end quote 0 false behind) found quotes refl e
 
@@ -202,16 +202,16 @@ IsFront-sign at bytes found e = elim (chosen (is_coalescing bytes) (Err (BadChar
   | inr sign ↦ IsFront-sign_token at bytes (sign_at bytes) found refl sign.1
 ]
 
--- ---- what is found
+-- ---- what is piece_found
 
 IsFront-token_of : (at : ℕ) (field : Bool) (bytes : List ℕ) (found : Token) → token_of at field bytes ≡ Ok found → IsFront at bytes found
 unfolding token_of
 IsFront-token_of at field bytes found e =
     elim (chosen (begins_word (slice_index bytes 0)) (Ok (word_token at (word_at bytes))) _ (Ok found) e) [
       | inl word ↦ let same : word_token at (word_at bytes) ≡ found = cc in subst (IsFront at bytes) same (IsFront-word at bytes word.0)
-      | inr no_word ↦ elim (chosen (begins_number field bytes) (number_of at bytes) _ (Ok found) no_word.1) [
+      | inr no_word ↦ elim (chosen (begins_number field bytes) (number_at_front at bytes) _ (Ok found) no_word.1) [
         | inl number ↦ IsFront-number at field bytes found number.0 number.1
-        | inr no_number ↦ elim (chosen (is_quote (slice_index bytes 0)) (text_of at bytes) (sign_of at bytes) (Ok found) no_number.1) [
+        | inr no_number ↦ elim (chosen (is_quote (slice_index bytes 0)) (text_at_front at bytes) (sign_of at bytes) (Ok found) no_number.1) [
           | inl text ↦ IsFront-text at bytes found text.0 text.1
           | inr sign ↦ IsFront-sign at bytes found sign.1
         ]
@@ -232,16 +232,16 @@ comment_end-within at star (byte ∷ bytes) len e = elim (chosen (star && byte =
 ]
 
 IsFrontGap-blank : (bytes : List ℕ) → 0 < length bytes → is_blank (slice_index bytes 0) ≡ true → IsFrontGap bytes 1
-IsFrontGap-blank bytes some is = record { some = omega arith; within = omega arith; begins = cuts.blank is }
+IsFrontGap-blank bytes some is = record { some = omega arith; within = omega arith; begins = spelled.blank is }
 
 line_comment-some : (bytes : List ℕ) → begins_line_comment bytes ≡ true → 0 < length (line_comment bytes)
 line_comment-some [] is = absurd cc
 line_comment-some (byte ∷ bytes) is =
     let slash : byte ≡ 47 = eqb-true byte 47 (both_pass (byte == 47) (slice_index bytes 0 == 47) is).0 in
-    take_while-some cuts.in_line byte bytes (rw slash refl)
+    take_while-some in_line byte bytes (rw slash refl)
 
 IsFrontGap-line : (bytes : List ℕ) → begins_line_comment bytes ≡ true → IsFrontGap bytes (length (line_comment bytes))
-IsFrontGap-line bytes is = record { some = line_comment-some bytes is; within = length-front (line_comment bytes) _ bytes (take_while-front cuts.in_line bytes); begins = cuts.line is }
+IsFrontGap-line bytes is = record { some = line_comment-some bytes is; within = length-front (line_comment bytes) _ bytes (take_while-front in_line bytes); begins = spelled.line is }
 
 block_comment-two : (bytes : List ℕ) → begins_block_comment bytes ≡ true → 2 ≤ length bytes
 block_comment-two [] is = absurd cc
@@ -253,16 +253,16 @@ IsFrontGap-block at len bytes None is ends e = absurd cc
 IsFrontGap-block at len bytes (Some end) is ends e =
     let same : end ≡ len = cc in
     let within = comment_end-within 2 false (drop 2 bytes) end ends in
-    subst (IsFrontGap bytes) same (record { some = omega (arith, within.0); within = omega (arith, within.1, length-drop 2 bytes, block_comment-two bytes is); begins = cuts.block is ends })
+    subst (IsFrontGap bytes) same (record { some = omega (arith, within.0); within = omega (arith, within.1, length-drop 2 bytes, block_comment-two bytes is); begins = spelled.block is ends })
 
-found-is : (at : ℕ) (field : Bool) (bytes : List ℕ) (piece : Piece) → (token_of at field bytes >>= found) ≡ Ok piece → (token : Token) × (token_of at field bytes ≡ Ok token) × (piece ≡ Found token)
-found-is at field bytes piece e = let inner = bind_ok (token_of at field bytes) found piece e in (inner.0, inner.1, cc)
+found-is : (at : ℕ) (field : Bool) (bytes : List ℕ) (piece : Piece) → (token_of at field bytes >>= piece_found) ≡ Ok piece → (token : Token) × (token_of at field bytes ≡ Ok token) × (piece ≡ Found token)
+found-is at field bytes piece e = let inner = bind_ok (token_of at field bytes) piece_found piece e in (inner.0, inner.1, cc)
 
 no_token_comment : (at : ℕ) (end : Option ℕ) (token : Token) → comment_of at end ≡ Ok (Found token) → ⊥
 no_token_comment at None token e = cc
 no_token_comment at (Some len) token e = cc
 
--- the token that is found at the front stands there
+-- the token that is piece_found at the front stands there
 pub IsFront-front_of : (at : ℕ) (field : Bool) (bytes : List ℕ) (token : Token) → front_of at field bytes ≡ Ok (Found token) → IsFront at bytes token
 unfolding front_of
 IsFront-front_of at field bytes token e =
@@ -270,7 +270,7 @@ IsFront-front_of at field bytes token e =
       | inl blank ↦ absurd cc
       | inr no_blank ↦ elim (chosen (begins_line_comment bytes) (Ok (Gap (length (line_comment bytes)))) _ (Ok (Found token)) no_blank.1) [
         | inl line ↦ absurd cc
-        | inr no_line ↦ elim (chosen (begins_block_comment bytes) (block_comment at bytes) (token_of at field bytes >>= found) (Ok (Found token)) no_line.1) [
+        | inr no_line ↦ elim (chosen (begins_block_comment bytes) (block_comment at bytes) (token_of at field bytes >>= piece_found) (Ok (Found token)) no_line.1) [
           | inl block ↦ absurd (no_token_comment at (comment_end 2 false (drop 2 bytes)) token block.1)
           | inr no_block ↦
               let inner = found-is at field bytes (Found token) no_block.1 in
@@ -288,7 +288,7 @@ IsFrontGap-front_of at len field bytes some e =
       | inl blank ↦ let same : 1 ≡ len = cc in subst (IsFrontGap bytes) same (IsFrontGap-blank bytes some blank.0)
       | inr no_blank ↦ elim (chosen (begins_line_comment bytes) (Ok (Gap (length (line_comment bytes)))) _ (Ok (Gap len)) no_blank.1) [
         | inl line ↦ let same : length (line_comment bytes) ≡ len = cc in subst (IsFrontGap bytes) same (IsFrontGap-line bytes line.0)
-        | inr no_line ↦ elim (chosen (begins_block_comment bytes) (block_comment at bytes) (token_of at field bytes >>= found) (Ok (Gap len)) no_line.1) [
+        | inr no_line ↦ elim (chosen (begins_block_comment bytes) (block_comment at bytes) (token_of at field bytes >>= piece_found) (Ok (Gap len)) no_line.1) [
           | inl block ↦ IsFrontGap-block at len bytes (comment_end 2 false (drop 2 bytes)) block.0 refl block.1
           | inr no_block ↦ let inner = found-is at field bytes (Gap len) no_block.1 in absurd cc
         ]

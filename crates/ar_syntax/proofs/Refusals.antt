@@ -1,8 +1,8 @@
 -- The place and the name of a fault are those that the definitions give.
 use Rattle.std.proofs.Common.{◌≡◌, ◌≢◌, ℕ, Bool, true, false, List, [], ◌∷◌, ◌++◌, length, refl, sym, ◌∙◌, ap, subst, Option, Some, None}
 use Rattle.ar_syntax.specs.Grammar.{Rules}
-use Rattle.ar_syntax.specs.Machine.{State, Want, WantIndex, WantArgument}
-use Rattle.ar_syntax.specs.Roles.{follows, is_body, is_brace, is_group, is_in, name_of, starts, text_value}
+use Rattle.ar_syntax.specs.Machine.{ParserState, Want, WantIndex, WantArgument}
+use Rattle.ar_syntax.specs.Roles.{follows, is_body, is_brace, is_group, is_in, token_name, begins_as, token_text}
 use Rattle.ar_syntax.specs.declared.token.Token.{Token}
 use Rattle.ar_syntax.specs.declared.token.Sign.TheVariants as signs
 use Rattle.ar_syntax.specs.declared.token.TokenKind.{TokenKind}
@@ -21,7 +21,8 @@ use Rattle.ar_syntax.specs.Fault.{accepts, is_inside, wants_operand}
 use Rattle.ar_syntax.specs.Roles.{kind_is_group, kind_is_in, kind_name}
 use Rattle.ar_syntax.proofs.Completions.{BeginsBy-reached, reached-BeginsBy, reached-counted, reached-is, run-append, run-none, token_of}
 use Rattle.ar_syntax.specs.Fault.{fault_of, kind_fault}
-use Rattle.ar_syntax.specs.Refusal.{BeginsCondition, Derives, IsInside, IsNamedBehind, IsRefused, IsRefusedBehind, WantsOperand, at_any_depth, has_no_comma, is_comma, of_any_count, of_any_items, strict}
+use Rattle.ar_syntax.specs.Condition.{Derives, at_any_depth, of_any_count, of_any_items, strict}
+use Rattle.ar_syntax.specs.Refusal.{BeginsCondition, IsInside, IsNamedBehind, AreRefused, IsRefusedBehind, WantsOperand, has_no_comma, is_comma}
 use Rattle.ar_syntax.specs.Refusal as refusal
 use Rattle.ar_syntax.specs.declared.error.SyntaxError.{SyntaxError}
 use Rattle.ar_syntax.specs.declared.error.SyntaxError.TheVariants.{Unexpected, WrongCount, TooManyItems, TooDeep}
@@ -31,19 +32,19 @@ use Rattle.ar_syntax.proofs.Counts.{IsCountedFrom, IsCountedState}
 use Rattle.ar_syntax.proofs.Insides.{IsUseless, Out, arrives, hash, hash-is, hash-stops, name-stops, out-step, point-stops, stop-other}
 use Rattle.ar_syntax.proofs.Relaxed.{reached-relaxed}
 
-pub accepted : (next : Option State) → accepts next ≡ true → (state : State) × (next ≡ Some state)
+pub accepted : (next : Option ParserState) → accepts next ≡ true → (state : ParserState) × (next ≡ Some state)
 accepted (Some state) is = (state, refl)
 accepted None is = absurd cc
 
-pub accepts-some : (next : Option State) → next ≢ None → accepts next ≡ true
+pub accepts-some : (next : Option ParserState) → next ≢ None → accepts next ≡ true
 accepts-some (Some state) some = refl
 accepts-some None some = absurd (some refl)
 
 -- ---- one token more
 
-module _ (rules : Rules) (before : List Token) (state : State) (there : reached rules before ≡ Some state) where
+module _ (rules : Rules) (before : List Token) (state : ParserState) (there : reached rules before ≡ Some state) where
   push-run : (c : Token) → reached rules (before ++ c ∷ []) ≡ step rules state c
-  push-run c = run-append rules (Some start_state) before (c ∷ []) ∙ ap (λ (s : Option State). step_from rules s c) there
+  push-run c = run-append rules (Some start_state) before (c ∷ []) ∙ ap (λ (s : Option ParserState). step_from rules s c) there
 
   pub begins-accepts : (c : Token) → BeginsBy rules (before ++ c ∷ []) → accepts (step rules state c) ≡ true
   begins-accepts c begins = accepts-some (step rules state c) (λ none. reached-BeginsBy rules (before ++ c ∷ []) begins (push-run c ∙ none))
@@ -53,11 +54,11 @@ module _ (rules : Rules) (before : List Token) (state : State) (there : reached 
       let next = accepted (step rules state c) accepts_is in
       BeginsBy-reached rules (before ++ c ∷ []) next.0 (push-run c ∙ next.1)
 
-pub none-refused : (next : Option State) → accepts next ≡ false → next ≡ None
+pub none-refused : (next : Option ParserState) → accepts next ≡ false → next ≡ None
 none-refused (Some state) is = absurd cc
 none-refused None is = refl
 
-module _ (before : List Token) (state : State) (there : reached strict before ≡ Some state) where
+module _ (before : List Token) (state : ParserState) (there : reached strict before ≡ Some state) where
   is_state : IsState state
   is_state = subst IsStateFrom there (reached-is strict (Some start_state) before tt)
 
@@ -67,7 +68,7 @@ module _ (before : List Token) (state : State) (there : reached strict before �
   -- ---- where an operand is wanted
 
   kind_number-useless : (value : ℤ) (number : Token) → number.kind ≡ kinds.Whole value → IsUseless number
-  unfolding follows name_of is_in is_group
+  unfolding follows token_name is_in is_group
   kind_number-useless value number is = record { follow = ap kind_follow is; named = ap kind_name is; in_word = ap kind_is_in is; group = ap kind_is_group is }
 
   wants-from : WantsOperand before → wants_operand state ≡ true
@@ -80,8 +81,8 @@ module _ (before : List Token) (state : State) (there : reached strict before �
           let stops = stop-other strict state wants.0 is (kind_number-useless wants.1 wants.0 wants.2) in
           let e = ap accepts stops in absurd cc
 
-  digit-taken : (state : State) → wants_operand state ≡ true → accepts (step strict state digit) ≡ true
-  unfolding step starts text_value follows is_brace digit token_of
+  digit-taken : (state : ParserState) → wants_operand state ≡ true → accepts (step strict state digit) ≡ true
+  unfolding step begins_as token_text follows is_brace digit token_of
   digit-taken (Want stack) is = refl
   digit-taken (WantIndex stack at whole) is = refl
   digit-taken (WantArgument stack at function []) is = argued (is_body function 0)
@@ -105,7 +106,7 @@ module _ (before : List Token) (state : State) (there : reached strict before �
 
   -- ---- where one is inside a predicate
 
-  out-run : (tokens : List Token) (first last : State) → has_no_comma tokens ≡ true → run strict (Some first) tokens ≡ Some last → is_inside last ≡ true → is_inside first ≡ true
+  out-run : (tokens : List Token) (first last : ParserState) → has_no_comma tokens ≡ true → run strict (Some first) tokens ≡ Some last → is_inside last ≡ true → is_inside first ≡ true
   out-run [] first last free e is = let same : first ≡ last = cc in ap is_inside same ∙ is
   out-run (c ∷ tokens) first last free e is = stepped (step strict first c) (out-step strict first c (no_comma-head (is_comma c.kind) (has_no_comma tokens) free)) (λ next f. out-run tokens next last (no_comma-tail (is_comma c.kind) (has_no_comma tokens) free) f is) e
     where
@@ -117,7 +118,7 @@ module _ (before : List Token) (state : State) (there : reached strict before �
       no_comma-tail false b h = h
       no_comma-tail true b h = absurd cc
 
-      stepped : (next : Option State) → Out (is_inside first) next → ((next : State) → run strict (Some next) tokens ≡ Some last → is_inside next ≡ true) → run strict next tokens ≡ Some last → is_inside first ≡ true
+      stepped : (next : Option ParserState) → Out (is_inside first) next → ((next : ParserState) → run strict (Some next) tokens ≡ Some last → is_inside next ≡ true) → run strict next tokens ≡ Some last → is_inside first ≡ true
       stepped (Some next) out go e = out (go next e)
       stepped None out go e = let none = run-none strict tokens in absurd cc
 
@@ -125,25 +126,25 @@ module _ (before : List Token) (state : State) (there : reached strict before �
   inside-from inside_is = reached_there (run strict (Some state) inside_is.0) refl
     where
       joined : reached strict (before ++ inside_is.0) ≡ run strict (Some state) inside_is.0
-      joined = run-append strict (Some start_state) before inside_is.0 ∙ ap (λ (s : Option State). run strict s inside_is.0) there
+      joined = run-append strict (Some start_state) before inside_is.0 ∙ ap (λ (s : Option ParserState). run strict s inside_is.0) there
 
-      at_item : (last : State) → run strict (Some state) inside_is.0 ≡ Some last → (b : Bool) → is_inside last ≡ b → is_inside last ≡ true
+      at_item : (last : ParserState) → run strict (Some state) inside_is.0 ≡ Some last → (b : Bool) → is_inside last ≡ b → is_inside last ≡ true
       at_item last e true is = is
       at_item last e false is =
           let taken = begins-accepts strict (before ++ inside_is.0) last (joined ∙ e) inside_is.1 inside_is.4 in
           let stops = ap accepts (hash-stops inside_is.1 strict last inside_is.3 is) in absurd cc
 
-      reached_there : (last : Option State) → run strict (Some state) inside_is.0 ≡ last → is_inside state ≡ true
+      reached_there : (last : Option ParserState) → run strict (Some state) inside_is.0 ≡ last → is_inside state ≡ true
       reached_there (Some last) e = out-run inside_is.0 state last inside_is.2 e (at_item last e (is_inside last) refl)
       reached_there None e =
-          let all = run-append strict (Some start_state) (before ++ inside_is.0) (inside_is.1 ∷ []) ∙ ap (λ (s : Option State). run strict s (inside_is.1 ∷ [])) (joined ∙ e) in
+          let all = run-append strict (Some start_state) (before ++ inside_is.0) (inside_is.1 ∷ []) ∙ ap (λ (s : Option ParserState). run strict s (inside_is.1 ∷ [])) (joined ∙ e) in
           absurd (reached-BeginsBy strict ((before ++ inside_is.0) ++ inside_is.1 ∷ []) inside_is.4 all)
 
   inside-to : is_inside state ≡ true → IsInside before
   inside-to is =
       let further = arrives state is_state is_counted is in
       let last = accepted (run strict (Some state) (further.0 ++ hash ∷ [])) further.2 in
-      let joined = run-append strict (Some start_state) before (further.0 ++ hash ∷ []) ∙ ap (λ (s : Option State). run strict s (further.0 ++ hash ∷ [])) there in
+      let joined = run-append strict (Some start_state) before (further.0 ++ hash ∷ []) ∙ ap (λ (s : Option ParserState). run strict s (further.0 ++ hash ∷ [])) there in
       (further.0, hash, further.1, hash-is, BeginsBy-reached strict ((before ++ further.0) ++ hash ∷ []) last.0 (ap (reached strict) (append_assoc before further.0 (hash ∷ [])) ∙ joined ∙ last.1))
 
 -- ---- the name of a fault
@@ -151,7 +152,7 @@ module _ (before : List Token) (state : State) (there : reached strict before �
 other_fault : (b c d : Bool) (x y z w e : SyntaxError) → b ≡ false → c ≡ false → d ≡ false → w ≡ e → cond b x (cond c y (cond d z w)) ≡ e
 other_fault b c d x y z w e f g h i = rw (f, g, h) i
 
-accepts-none : (next : Option State) → next ≡ None → accepts next ≡ false
+accepts-none : (next : Option ParserState) → next ≡ None → accepts next ≡ false
 accepts-none next is = ap accepts is
 
 refuses : (b : Bool) (A : Type 0) → (b ≡ true → A) → ¬ A → b ≡ false
@@ -162,7 +163,7 @@ pub fault-not : (b : Bool) → b ≢ true → b ≡ false
 fault-not false none = refl
 fault-not true none = absurd (none refl)
 
-module _ (before : List Token) (state : State) (there : reached strict before ≡ Some state) (c : Token) where
+module _ (before : List Token) (state : ParserState) (there : reached strict before ≡ Some state) (c : Token) where
   relaxed : (rules : Rules) → reached rules before ≡ Some state
   relaxed rules = reached-relaxed rules before state there
 

@@ -4,8 +4,8 @@ use Rattle.std.specs.Prelude.{pred}
 use Rattle.ar_tree.specs.Expression.{Expression, LiteralAt, UnaryAt, BinaryAt, ChoiceAt}
 use Rattle.ar_syntax.specs.Grammar.{Arguments, ArgumentsBehind, Further, Items, ItemsBehind, Phrase, Primary, Rules, Selections, may_continue, may_open, most_openers, takes_all, takes_more, ternary}
 use Rattle.ar_syntax.specs.Grammar as grammar
-use Rattle.ar_syntax.specs.Machine.{Frame, State, RightOf, Prefixed, Yes, No, Grouped, Listed, Indexed, Argued, Body, Braced, Want, Have, WantName, WantIndex, HaveText, WantIn, WantGroup, WantArgument, HaveArgument, inside, left, wanted}
-use Rattle.ar_syntax.specs.Roles.{Call, Ender, Follow, Start, Ends, Comma, Colon, EndGroup, EndBracket, EndBrace, Operator, NotOf, Choose, Select, Open, NoFollow, called, follows, is_body, is_brace, is_group, is_in, looseness, name_of, starts, text_value}
+use Rattle.ar_syntax.specs.Machine.{Frame, ParserState, RightOf, Prefixed, Yes, No, Grouped, Listed, Indexed, Argued, Body, Braced, Want, Have, WantName, WantIndex, HaveText, WantIn, WantGroup, WantArgument, HaveArgument, inside, openers_left, wanted}
+use Rattle.ar_syntax.specs.Roles.{Call, Ender, Follow, Start, Ends, Comma, Colon, EndGroup, EndBracket, EndBrace, Operator, NotOf, Choose, Select, Open, NoFollow, called, follows, is_body, is_brace, is_group, is_in, looseness, token_name, begins_as, token_text}
 use Rattle.ar_syntax.specs.declared.token.Token.{Token}
 use Rattle.ar_syntax.specs.declared.token.Sign.{Sign}
 use Rattle.ar_syntax.specs.declared.token.Sign.TheVariants as signs
@@ -25,7 +25,7 @@ use Rattle.ar_syntax.specs.Machine.{whole}
 use Rattle.ar_syntax.proofs.Steps.{arguments-from, arguments-to, have-from, have-to, want-from, want-to, when-from, when-to}
 
 -- a state as the machine makes it
-abbrev pub IsState : State → Type 0
+abbrev pub IsState : ParserState → Type 0
 IsState (Want stack) = IsStack stack
 IsState (Have stack tree) = IsStack stack
 IsState (WantName stack at whole) = IsStack stack
@@ -36,36 +36,36 @@ IsState (WantGroup stack at function) = IsStack stack
 IsState (WantArgument stack at function so_far) = IsStack stack
 IsState (HaveArgument stack at function arguments) = IsStack stack
 
-abbrev pub IsStateFrom : Option State → Type 0
+abbrev pub IsStateFrom : Option ParserState → Type 0
 IsStateFrom (Some state) = IsState state
 IsStateFrom None = Unit {0}
 
 module _ (rules : Rules) where
   -- ---- the machine keeps its stack in order
 
-  keeps-when : (test : Bool) (state : State) → IsState state → IsStateFrom (when rules test state)
+  keeps-when : (test : Bool) (state : ParserState) → IsState state → IsStateFrom (when rules test state)
   keeps-when true state is = is
   keeps-when false state is = tt
 
   keeps-begin : (stack : List Frame) (at : ℕ) (s : Start) → IsStack stack → IsStateFrom (begin rules stack at s)
   keeps-begin stack at (Leaf tree) is = is
-  keeps-begin stack at (Prefix operator) is = keeps-when (may_open rules (left stack)) _ is
-  keeps-begin stack at Group is = keeps-when (may_open rules (left stack)) _ is
-  keeps-begin stack at Bracket is = keeps-when (may_open rules (left stack)) _ is
-  keeps-begin stack at (Calls function) is = keeps-when (may_open rules (left stack)) _ is
+  keeps-begin stack at (Prefix operator) is = keeps-when (may_open rules (openers_left stack)) _ is
+  keeps-begin stack at Group is = keeps-when (may_open rules (openers_left stack)) _ is
+  keeps-begin stack at Bracket is = keeps-when (may_open rules (openers_left stack)) _ is
+  keeps-begin stack at (Calls function) is = keeps-when (may_open rules (openers_left stack)) _ is
   keeps-begin stack at ItemPoint is = is
   keeps-begin stack at NoStart is = tt
 
-  keeps-operate : (l at : ℕ) (operator : Binary) (state : State) → looseness operator ≡ l → Climbed l state → IsStateFrom (operate rules at operator state)
+  keeps-operate : (l at : ℕ) (operator : Binary) (state : ParserState) → looseness operator ≡ l → Climbed l state → IsStateFrom (operate rules at operator state)
   keeps-operate l at operator (Have stack tree) same is = (omega (arith, same, is.0), is.1)
   keeps-operate l at operator state same is = absurd is
 
-  keeps-negate : (at : ℕ) (state : State) → Climbed 2 state → IsStateFrom (negate rules at state)
+  keeps-negate : (at : ℕ) (state : ParserState) → Climbed 2 state → IsStateFrom (negate rules at state)
   keeps-negate at (Have stack tree) is = is
   keeps-negate at state is = absurd is
 
-  keeps-choose : (at : ℕ) (state : State) → Climbed 5 state → IsStateFrom (choose rules at state)
-  keeps-choose at (Have stack tree) is = keeps-when (may_open rules (left stack)) _ (omega (arith, is.0, wanted-le stack), is.1)
+  keeps-choose : (at : ℕ) (state : ParserState) → Climbed 5 state → IsStateFrom (choose rules at state)
+  keeps-choose at (Have stack tree) is = keeps-when (may_open rules (openers_left stack)) _ (omega (arith, is.0, wanted-le stack), is.1)
   keeps-choose at state is = absurd is
 
   keeps-end : (stack : List Frame) (tree : Expression) (ender : Ender) → IsStack stack → IsStateFrom (end_with rules ender (unwound stack tree))
@@ -100,7 +100,7 @@ module _ (rules : Rules) where
   keeps-follow stack tree at NotOf is = keeps-negate at (climbed 2 stack tree) (climbed-is 2 (omega arith) stack tree is)
   keeps-follow stack tree at Choose is = keeps-choose at (climbed 5 stack tree) (climbed-is 5 (omega arith) stack tree is)
   keeps-follow stack tree at Select is = is
-  keeps-follow stack tree at Open is = keeps-when (may_open rules (left stack)) _ is
+  keeps-follow stack tree at Open is = keeps-when (may_open rules (openers_left stack)) _ is
   keeps-follow stack tree at (Ends ender) is = keeps-end stack tree ender is
   keeps-follow stack tree at NoFollow is = tt
 
@@ -110,16 +110,16 @@ module _ (rules : Rules) where
 
   keeps-open : (stack : List Frame) (at : ℕ) (whole : Expression) (c : Token) (text : Option (List ℕ)) → IsStack stack → IsStateFrom (open_index rules stack at whole c text)
   keeps-open stack at whole c (Some text) is = is
-  keeps-open stack at whole c None is = keeps-begin (Indexed at whole ∷ stack) c.span.start (starts (inside stack) c) is
+  keeps-open stack at whole c None is = keeps-begin (Indexed at whole ∷ stack) c.span.start (begins_as (inside stack) c) is
 
   keeps-close_text : (stack : List Frame) (at : ℕ) (whole : Expression) (text_at : ℕ) (text : List ℕ) (c : Token) (r : Follow) → IsStack stack → IsStateFrom (close_text rules stack at whole text_at text c r)
   keeps-close_text stack at whole text_at text c (Ends EndBracket) is = is
   keeps-close_text stack at whole text_at text c r is = keeps-follow (Indexed at whole ∷ stack) (LiteralAt text_at (Text text)) c.span.start (follows c) is
 
   keeps-argue : (stack : List Frame) (at : ℕ) (function : Call) (so_far : List Expression) (c : Token) (body brace : Bool) → IsStack stack → IsStateFrom (argue rules stack at function so_far c body brace)
-  keeps-argue stack at function so_far c false brace is = keeps-begin (Argued at function so_far ∷ stack) c.span.start (starts (inside stack) c) is
-  keeps-argue stack at function so_far c true false is = keeps-begin (Body at function so_far ∷ stack) c.span.start (starts true c) is
-  keeps-argue stack at function so_far c true true is = keeps-when (may_open rules (pred (left stack))) _ is
+  keeps-argue stack at function so_far c false brace is = keeps-begin (Argued at function so_far ∷ stack) c.span.start (begins_as (inside stack) c) is
+  keeps-argue stack at function so_far c true false is = keeps-begin (Body at function so_far ∷ stack) c.span.start (begins_as true c) is
+  keeps-argue stack at function so_far c true true is = keeps-when (may_open rules (pred (openers_left stack))) _ is
 
   keeps-close_empty : (stack : List Frame) (at : ℕ) (function : Call) (c : Token) (so_far : List Expression) (r : Follow) → IsStack stack → IsStateFrom (close_empty rules stack at function c so_far r)
   keeps-close_empty stack at function c [] (Ends EndGroup) is = keeps-when (takes_all rules function 0) _ is
@@ -130,12 +130,12 @@ module _ (rules : Rules) where
   keeps-close_braced stack at function arguments (Ends Comma) is = keeps-when (takes_more rules function (length arguments)) _ is
   keeps-close_braced stack at function arguments r is = tt
 
-  pub keeps : (state : State) (c : Token) → IsState state → IsStateFrom (step rules state c)
+  pub keeps : (state : ParserState) (c : Token) → IsState state → IsStateFrom (step rules state c)
   unfolding step
-  keeps (Want stack) c is = keeps-begin stack c.span.start (starts (inside stack) c) is
+  keeps (Want stack) c is = keeps-begin stack c.span.start (begins_as (inside stack) c) is
   keeps (Have stack tree) c is = keeps-follow stack tree c.span.start (follows c) is
-  keeps (WantName stack at whole) c is = keeps-select stack at whole (name_of c) is
-  keeps (WantIndex stack at whole) c is = keeps-open stack at whole c (text_value c) is
+  keeps (WantName stack at whole) c is = keeps-select stack at whole (token_name c) is
+  keeps (WantIndex stack at whole) c is = keeps-open stack at whole c (token_text c) is
   keeps (HaveText stack at whole text_at text) c is = keeps-close_text stack at whole text_at text c (follows c) is
   keeps (WantIn stack at first) c is = keeps-when (is_in c) _ is
   keeps (WantGroup stack at function) c is = keeps-when (is_group c) _ is
@@ -158,8 +158,8 @@ module _ (rules : Rules) where
     kind_ender-start b at (kinds.Word word) is = absurd (word_no_ender word is)
     kind_ender-start b at kind is = absurd cc
 
-    ender-start : (b : Bool) (c : Token) → follows c ≡ Ends EndGroup → starts b c ≡ NoStart
-    unfolding follows starts
+    ender-start : (b : Bool) (c : Token) → follows c ≡ Ends EndGroup → begins_as b c ≡ NoStart
+    unfolding follows begins_as
     ender-start b c role = kind_ender-start b c.span.start c.kind role
 
     -- `)` directly after `(`, or an argument
@@ -180,11 +180,11 @@ module _ (rules : Rules) where
     kind_brace-start b at (kinds.Sign signs.OpenBrace) is = refl
     kind_brace-start b at kind is = absurd cc
 
-    brace-start : (b : Bool) (c : Token) → is_brace c ≡ true → starts b c ≡ NoStart
-    unfolding is_brace starts
+    brace-start : (b : Bool) (c : Token) → is_brace c ≡ true → begins_as b c ≡ NoStart
+    unfolding is_brace begins_as
     brace-start b c is = kind_brace-start b c.span.start c.kind is
 
-    called-to : (stack : List Frame) (at : ℕ) (function : Call) (so_far arguments : List Expression) (c : Token) (tokens rest : List Token) → Arguments rules (inside stack) (pred (left stack)) function so_far (c ∷ tokens) arguments rest
+    called-to : (stack : List Frame) (at : ℕ) (function : Call) (so_far arguments : List Expression) (c : Token) (tokens rest : List Token) → Arguments rules (inside stack) (pred (openers_left stack)) function so_far (c ∷ tokens) arguments rest
         → Had rules stack (After rules final stack) (called at function arguments) rest → LeadsFrom rules final (close_empty rules stack at function c so_far (follows c)) tokens
     called-to stack at function so_far arguments c tokens rest (grammar.no_argument role all) had =
         subst (λ (r : Follow). LeadsFrom rules final (close_empty rules stack at function c [] r) tokens) (sym role) (when-to rules final (takes_all rules function 0) _ tokens all had)
@@ -202,7 +202,7 @@ module _ (rules : Rules) where
         braced true is = absurd (subst (λ (s : Start). LeadsFrom rules final (begin rules (Body at function so_far ∷ stack) c.span.start s) tokens) (brace-start true c is) wants)
     called-to stack at function so_far arguments c tokens rest (grammar.braced {close = close} {mid = mid} {first = first} body brace opens phrase closes behind) had =
         empty-to stack at function so_far c tokens (follows c) refl
-        (argue-at stack at function so_far c tokens true true body brace (when-to rules final (may_open rules (pred (left stack))) _ tokens opens (first, close ∷ mid, phrase, (closes, (arguments, rest, behind, had)))))
+        (argue-at stack at function so_far c tokens true true body brace (when-to rules final (may_open rules (pred (openers_left stack))) _ tokens opens (first, close ∷ mid, phrase, (closes, (arguments, rest, behind, had)))))
 
     argue-from : (stack : List Frame) (at : ℕ) (function : Call) (so_far : List Expression) (c : Token) (tokens : List Token) (body brace : Bool) → is_body function (length so_far) ≡ body → is_brace c ≡ brace
         → LeadsFrom rules final (argue rules stack at function so_far c body brace) tokens → Called rules final stack at function so_far (c ∷ tokens)
@@ -215,10 +215,10 @@ module _ (rules : Rules) where
         let behind = wants.3 in
         (behind.0, behind.1, grammar.body body wants.2 behind.2, behind.3)
     argue-from stack at function so_far c tokens true true body is leads =
-        let opened = when-from rules final (may_open rules (pred (left stack))) _ tokens leads in
+        let opened = when-from rules final (may_open rules (pred (openers_left stack))) _ tokens leads in
         ended opened.0 opened.1.0 opened.1.1 opened.1.2 opened.1.3
       where
-        ended : may_open rules (pred (left stack)) ≡ true → (first : Expression) (rest : List Token) → Phrase rules ternary true (pred (pred (left stack))) tokens first rest
+        ended : may_open rules (pred (openers_left stack)) ≡ true → (first : Expression) (rest : List Token) → Phrase rules ternary true (pred (pred (openers_left stack))) tokens first rest
             → Ended rules EndBrace (λ body rest. Argument rules stack at function (so_far ++ body ∷ []) (After rules final stack) rest) first rest → Called rules final stack at function so_far (c ∷ tokens)
         ended opens first [] phrase leads = absurd leads
         ended opens first (close ∷ mid) phrase leads = let behind = leads.1 in (behind.0, behind.1, grammar.braced body is opens phrase leads.0 behind.2, behind.3)
@@ -246,28 +246,28 @@ module _ (rules : Rules) where
     inner-from stack at whole c tokens (Some text) leads = leads
     inner-from stack at whole c tokens None leads = want-from rules final (Indexed at whole ∷ stack) c tokens leads
 
-    select-step-from : (stack : List Frame) (at : ℕ) (whole : Expression) (c : Token) (tokens : List Token) (word : Option (List ℕ)) → name_of c ≡ word → LeadsFrom rules final (select rules stack at whole word) tokens → Named rules final stack at whole (c ∷ tokens)
+    select-step-from : (stack : List Frame) (at : ℕ) (whole : Expression) (c : Token) (tokens : List Token) (word : Option (List ℕ)) → token_name c ≡ word → LeadsFrom rules final (select rules stack at whole word) tokens → Named rules final stack at whole (c ∷ tokens)
     select-step-from stack at whole c tokens (Some word) is leads = (word, is, leads)
     select-step-from stack at whole c tokens None is leads = absurd leads
 
-    pub step-to : (state : State) (c : Token) (tokens : List Token) → IsState state → Leads rules final state (c ∷ tokens) → LeadsFrom rules final (step rules state c) tokens
+    pub step-to : (state : ParserState) (c : Token) (tokens : List Token) → IsState state → Leads rules final state (c ∷ tokens) → LeadsFrom rules final (step rules state c) tokens
     unfolding step
     step-to (Want stack) c tokens is leads = want-to rules final stack c tokens leads
     step-to (Have stack tree) c tokens is leads = have-to rules final stack tree c tokens is leads
     step-to (WantName stack at whole) c tokens is leads = subst (λ (w : Option (List ℕ)). LeadsFrom rules final (select rules stack at whole w) tokens) (sym leads.1) leads.2
-    step-to (WantIndex stack at whole) c tokens is leads = inner-to stack at whole c tokens (text_value c) leads
+    step-to (WantIndex stack at whole) c tokens is leads = inner-to stack at whole c tokens (token_text c) leads
     step-to (HaveText stack at whole text_at text) c tokens is leads = text-step-to stack at whole text_at text c tokens (follows c) is leads
     step-to (WantIn stack at first) c tokens is leads = when-to rules final (is_in c) _ tokens leads.0 leads.1
     step-to (WantGroup stack at function) c tokens is leads = when-to rules final (is_group c) _ tokens leads.0 leads.1
     step-to (WantArgument stack at function so_far) c tokens is leads = called-to stack at function so_far leads.0 c tokens leads.1 leads.2 leads.3
     step-to (HaveArgument stack at function arguments) c tokens is leads = arguments-to rules final stack at function arguments leads.0 c tokens leads.1 leads.2 leads.3
 
-    pub step-back : (state : State) (c : Token) (tokens : List Token) → IsState state → LeadsFrom rules final (step rules state c) tokens → Leads rules final state (c ∷ tokens)
+    pub step-back : (state : ParserState) (c : Token) (tokens : List Token) → IsState state → LeadsFrom rules final (step rules state c) tokens → Leads rules final state (c ∷ tokens)
     unfolding step
     step-back (Want stack) c tokens is leads = want-from rules final stack c tokens leads
     step-back (Have stack tree) c tokens is leads = have-from rules final stack tree c tokens is leads
-    step-back (WantName stack at whole) c tokens is leads = select-step-from stack at whole c tokens (name_of c) refl leads
-    step-back (WantIndex stack at whole) c tokens is leads = inner-from stack at whole c tokens (text_value c) leads
+    step-back (WantName stack at whole) c tokens is leads = select-step-from stack at whole c tokens (token_name c) refl leads
+    step-back (WantIndex stack at whole) c tokens is leads = inner-from stack at whole c tokens (token_text c) leads
     step-back (HaveText stack at whole text_at text) c tokens is leads = text-step-from stack at whole text_at text c tokens (follows c) is leads
     step-back (WantIn stack at first) c tokens is leads = when-from rules final (is_in c) _ tokens leads
     step-back (WantGroup stack at function) c tokens is leads = when-from rules final (is_group c) _ tokens leads

@@ -2,8 +2,11 @@
 use Rattle.std.proofs.Common.{◌≡◌, ℕ, List, length, refl, ◌∙◌, ap, Result, Ok, Err}
 use Rattle.std.specs.Prelude.{IfOk, IfErr}
 use Rattle.ar_value.specs.Answer.{◌>>=◌, Gives}
-use Rattle.ar_syntax.specs.Parse.{SaysTree, IsRefusal, token_fault, grammar_fault, IsNoCondition, parse_of, tree_of}
-use Rattle.ar_syntax.specs.Tokens.{is_memory, tokens_of}
+use Rattle.ar_syntax.specs.Condition.{SaysTree}
+use Rattle.ar_syntax.specs.Parsed.{IsRefusal, token_fault, grammar_fault, IsNoCondition}
+use Rattle.ar_syntax.specs.Parse.{parse_of, tree_of}
+use Rattle.ar_syntax.specs.Spelling.{is_syntax_memory}
+use Rattle.ar_syntax.specs.Tokens.{tokens_of}
 use Rattle.ar_tree.specs.Expression.{Expression}
 use Rattle.ar_syntax.specs.declared.error.SyntaxError.{SyntaxError}
 use Rattle.ar_syntax.specs.declared.error.SyntaxError.TheVariants as errors
@@ -47,11 +50,11 @@ module _ (text : List ℕ) where
   no_condition error e = (no_tree error e, IsRefusal-from_parse_of error e)
 
   -- what `parse` answers by its exact clause
-  pub says_tree : (answer : Result Tree SyntaxError) → Gives is_memory expression_of answer (parse_of text) → IfOk answer (λ tree. SaysTree text (expression_of tree))
+  pub says_tree : (answer : Result Tree SyntaxError) → Gives is_syntax_memory expression_of answer (parse_of text) → IfOk answer (λ tree. SaysTree text (expression_of tree))
   says_tree (Ok tree) gives = SaysTree-from_parse_of (expression_of tree) gives
   says_tree (Err error) gives = tt
 
-  pub is_no_condition : (answer : Result Tree SyntaxError) → Gives is_memory expression_of answer (parse_of text) → IfErr answer (IsNoCondition text)
+  pub is_no_condition : (answer : Result Tree SyntaxError) → Gives is_syntax_memory expression_of answer (parse_of text) → IfErr answer (IsNoCondition text)
   is_no_condition (Ok tree) gives = tt
   is_no_condition (Err errors.TooLong) gives = no_condition errors.TooLong gives
   is_no_condition (Err (errors.BadCharacter at)) gives = no_condition (errors.BadCharacter at) gives

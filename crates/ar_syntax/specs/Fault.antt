@@ -1,7 +1,7 @@
 -- The name of a fault, found from the state that the machine reached.
 use Rattle.std.specs.Prelude.{ℕ, Bool, true, false, ◌||◌, ◌&&◌, not, if◌then◌else◌, length, Option, Some, None}
-use Rattle.ar_syntax.specs.Machine.{State, Want, Have, WantName, WantIndex, HaveText, WantIn, WantGroup, WantArgument, HaveArgument, inside, step}
-use Rattle.ar_syntax.specs.Refusal.{at_any_depth, of_any_count, of_any_items}
+use Rattle.ar_syntax.specs.Machine.{ParserState, Want, Have, WantName, WantIndex, HaveText, WantIn, WantGroup, WantArgument, HaveArgument, inside, step}
+use Rattle.ar_syntax.specs.Condition.{at_any_depth, of_any_count, of_any_items}
 use Rattle.ar_syntax.specs.Roles.{is_body}
 use Rattle.ar_syntax.specs.declared.error.SyntaxError.{SyntaxError}
 use Rattle.ar_syntax.specs.declared.error.SyntaxError.TheVariants.{Unexpected, UnknownName, WrongCount, ItemOutside, TooManyItems, TooDeep}
@@ -10,19 +10,19 @@ use Rattle.ar_syntax.specs.declared.token.Token.{Token}
 use Rattle.ar_syntax.specs.declared.token.TokenKind.{TokenKind}
 use Rattle.ar_syntax.specs.declared.token.TokenKind.TheVariants as kinds
 
-abbrev pub accepts : Option State → Bool
+abbrev pub accepts : Option ParserState → Bool
 accepts (Some state) = true
 accepts None = false
 
 -- an operand may stand next
-abbrev pub wants_operand : State → Bool
+abbrev pub wants_operand : ParserState → Bool
 wants_operand (Want stack) = true
 wants_operand (WantIndex stack at owner) = true
 wants_operand (WantArgument stack at function so_far) = true
 wants_operand state = false
 
 -- what stands next stands inside a predicate
-abbrev pub is_inside : State → Bool
+abbrev pub is_inside : ParserState → Bool
 is_inside (Want stack) = inside stack
 is_inside (Have stack tree) = inside stack
 is_inside (WantName stack at owner) = inside stack
@@ -41,7 +41,7 @@ kind_fault wants inside (kinds.Sign Point) at = if wants && not inside then Item
 kind_fault wants inside kind at = Unexpected at
 
 -- the refusal of a token that the state doesn't accept
-unfoldable pub fault_of : State → Token → SyntaxError
+unfoldable pub fault_of : ParserState → Token → SyntaxError
 fault_of state token =
     if accepts (step of_any_count state token) then WrongCount token.span.start
     else (if accepts (step of_any_items state token) then TooManyItems token.span.start

@@ -19,7 +19,7 @@
 use Rattle.std.specs.Prelude.{◌≡◌, ℕ, zero, suc, Bool, true, false, ◌||◌, nat_eq, nat_lt, List, [], ◌∷◌, ◌++◌, length, Option, Some, None, pred}
 use Rattle.ar_value.specs.Limits.{most_literal_items}
 use Rattle.ar_tree.specs.Expression.{Expression, FieldAt, IndexAt, ItemAt, UnaryAt, BinaryAt, ChoiceAt, ListAt, expressions}
-use Rattle.ar_syntax.specs.Roles.{Call, Follow, Ends, Comma, Colon, EndGroup, EndBracket, EndBrace, Operator, NotOf, Choose, Select, Open, Leaf, Prefix, Group, Bracket, Calls, ItemPoint, arity, called, follows, is_body, is_brace, is_group, is_in, looseness, name_of, starts, text_value}
+use Rattle.ar_syntax.specs.Roles.{Call, Follow, Ends, Comma, Colon, EndGroup, EndBracket, EndBrace, Operator, NotOf, Choose, Select, Open, Leaf, Prefix, Group, Bracket, Calls, ItemPoint, arity, called, follows, is_body, is_brace, is_group, is_in, looseness, token_name, begins_as, token_text}
 use Rattle.ar_syntax.specs.declared.token.Token.{Token}
 use Rattle.ar_tree.specs.declared.tree.Binary.{Binary}
 use Rattle.ar_tree.specs.declared.tree.Binary.TheVariants.{NotIn}
@@ -63,7 +63,7 @@ is_alone (Some text) (close ∷ behind) = ends_bracket (follows close)
 
 abbrev pub is_text_alone : List Token → Bool
 is_text_alone [] = false
-is_text_alone (text ∷ behind) = is_alone (text_value text) behind
+is_text_alone (text ∷ behind) = is_alone (token_text text) behind
 
 -- ---- levels: 0 is `una`, and further ones have one kind of operators more: `mul`, `add`, `cmp`, `and`, `or`, `tern`
 
@@ -83,7 +83,7 @@ module _ (rules : Rules) where
           → Phrase d inside left tokens first mid → Further d inside left first mid tree rest → Phrase (suc d) inside left tokens tree rest
       -- una = ("-" | "+" | "!" | "not") una
       prefixed : {inside : Bool} {left : ℕ} {token : Token} {behind rest : List Token} {operator : Unary} {operand : Expression}
-          → starts inside token ≡ Prefix operator → may_open rules left ≡ true → Phrase zero inside (pred left) behind operand rest
+          → begins_as inside token ≡ Prefix operator → may_open rules left ≡ true → Phrase zero inside (pred left) behind operand rest
           → Phrase zero inside left (token ∷ behind) (UnaryAt token.span.start operator operand) rest
       -- una = post = prim { .. }
       postfixed : {inside : Bool} {left : ℕ} {tokens mid rest : List Token} {first tree : Expression}
@@ -110,10 +110,10 @@ module _ (rules : Rules) where
     pub data Selections : Bool → ℕ → Expression → List Token → Expression → List Token → Type 0 where
       nothing_more : {inside : Bool} {left : ℕ} {tree : Expression} {rest : List Token} → Selections inside left tree rest tree rest
       field : {inside : Bool} {left : ℕ} {point name : Token} {behind rest : List Token} {word : List ℕ} {owner tree : Expression}
-          → follows point ≡ Select → name_of name ≡ Some word → Selections inside left (FieldAt point.span.start owner word) behind tree rest
+          → follows point ≡ Select → token_name name ≡ Some word → Selections inside left (FieldAt point.span.start owner word) behind tree rest
           → Selections inside left owner (point ∷ name ∷ behind) tree rest
       text_field : {inside : Bool} {left : ℕ} {opener text close : Token} {behind rest : List Token} {word : List ℕ} {owner tree : Expression}
-          → follows opener ≡ Open → may_open rules left ≡ true → text_value text ≡ Some word → follows close ≡ Ends EndBracket
+          → follows opener ≡ Open → may_open rules left ≡ true → token_text text ≡ Some word → follows close ≡ Ends EndBracket
           → Selections inside left (FieldAt opener.span.start owner word) behind tree rest → Selections inside left owner (opener ∷ text ∷ close ∷ behind) tree rest
       index : {inside : Bool} {left : ℕ} {opener close : Token} {behind after rest : List Token} {owner found tree : Expression}
           → follows opener ≡ Open → may_open rules left ≡ true → is_text_alone behind ≡ false → Phrase ternary inside (pred left) behind found (close ∷ after)
@@ -121,21 +121,21 @@ module _ (rules : Rules) where
 
     pub data Primary : Bool → ℕ → List Token → Expression → List Token → Type 0 where
       -- number | text | "true" | "false" | "nil" | "result" | "#"
-      leaf : {inside : Bool} {left : ℕ} {token : Token} {rest : List Token} {tree : Expression} → starts inside token ≡ Leaf tree → Primary inside left (token ∷ rest) tree rest
+      leaf : {inside : Bool} {left : ℕ} {token : Token} {rest : List Token} {tree : Expression} → begins_as inside token ≡ Leaf tree → Primary inside left (token ∷ rest) tree rest
       -- "." word
-      item_field : {inside : Bool} {left : ℕ} {point name : Token} {rest : List Token} {word : List ℕ} → starts inside point ≡ ItemPoint → name_of name ≡ Some word
+      item_field : {inside : Bool} {left : ℕ} {point name : Token} {rest : List Token} {word : List ℕ} → begins_as inside point ≡ ItemPoint → token_name name ≡ Some word
           → Primary inside left (point ∷ name ∷ rest) (FieldAt point.span.start (ItemAt point.span.start) word) rest
       -- "(" tern ")"
       group : {inside : Bool} {left : ℕ} {opener close : Token} {behind rest : List Token} {tree : Expression}
-          → starts inside opener ≡ Group → may_open rules left ≡ true → Phrase ternary inside (pred left) behind tree (close ∷ rest)
+          → begins_as inside opener ≡ Group → may_open rules left ≡ true → Phrase ternary inside (pred left) behind tree (close ∷ rest)
           → follows close ≡ Ends EndGroup → Primary inside left (opener ∷ behind) tree rest
       -- "[" tern { "," tern } "]"
       list : {inside : Bool} {left : ℕ} {opener : Token} {behind rest : List Token} {items : List Expression}
-          → starts inside opener ≡ Bracket → may_open rules left ≡ true → Items inside (pred left) [] behind items rest
+          → begins_as inside opener ≡ Bracket → may_open rules left ≡ true → Items inside (pred left) [] behind items rest
           → Primary inside left (opener ∷ behind) (ListAt opener.span.start (expressions items)) rest
       -- call
       call : {inside : Bool} {left : ℕ} {name opener : Token} {behind rest : List Token} {function : Call} {arguments : List Expression}
-          → starts inside name ≡ Calls function → may_open rules left ≡ true → is_group opener ≡ true → Arguments inside (pred left) function [] behind arguments rest
+          → begins_as inside name ≡ Calls function → may_open rules left ≡ true → is_group opener ≡ true → Arguments inside (pred left) function [] behind arguments rest
           → Primary inside left (name ∷ opener ∷ behind) (called name.span.start function arguments) rest
 
     -- a list's items after those so far, up to the bracket

@@ -2,13 +2,16 @@ pub use Rattle.ar_value.specs.Decimal
 pub use Rattle.ar_value.specs.Digits
 pub use Rattle.ar_tree.specs.Expression
 pub mod Token
+pub mod Spelling
 pub mod Tokens
 pub mod Roles
 pub mod Grammar
+pub mod Condition
 pub mod Machine
 pub mod Refusal
 pub mod Fault
 pub mod Parse
+pub mod Parsed
 pub mod Examples
 pub mod RefusalExamples
 pub mod Private

@@ -2,7 +2,7 @@
 use Rattle.std.specs.Prelude.{ℕ, Bool, true, false, nat_le, if◌then◌else◌, List, [], ◌∷◌, ◌++◌, length, Option, Some, None, pred}
 use Rattle.ar_tree.specs.Expression.{Expression, FieldAt, IndexAt, ItemAt, LiteralAt, UnaryAt, BinaryAt, ChoiceAt, ListAt, expressions}
 use Rattle.ar_syntax.specs.Grammar.{Rules, may_continue, may_open, most_openers, takes_all, takes_more, ternary}
-use Rattle.ar_syntax.specs.Roles.{Call, Ender, Follow, Start, Ends, Comma, Colon, EndGroup, EndBracket, EndBrace, Operator, NotOf, Choose, Select, Open, NoFollow, Leaf, Prefix, Group, Bracket, Calls, ItemPoint, NoStart, called, follows, is_body, is_brace, is_group, is_in, looseness, name_of, starts, text_value}
+use Rattle.ar_syntax.specs.Roles.{Call, Ender, Follow, Start, Ends, Comma, Colon, EndGroup, EndBracket, EndBrace, Operator, NotOf, Choose, Select, Open, NoFollow, Leaf, Prefix, Group, Bracket, Calls, ItemPoint, NoStart, called, follows, is_body, is_brace, is_group, is_in, looseness, token_name, begins_as, token_text}
 use Rattle.ar_syntax.specs.declared.token.Token.{Token}
 use Rattle.ar_tree.specs.declared.tree.Binary.{Binary}
 use Rattle.ar_tree.specs.declared.tree.Binary.TheVariants.{NotIn}
@@ -28,21 +28,21 @@ pub data Frame : Type 0 where
   Braced : (at : ℕ) (function : Call) (so_far : List Expression) → Frame
 
 -- the newest frame first
-pub data State : Type 0 where
+pub data ParserState : Type 0 where
   -- an operand is wanted; one is there
-  Want : (stack : List Frame) → State
-  Have : (stack : List Frame) (tree : Expression) → State
+  Want : (stack : List Frame) → ParserState
+  Have : (stack : List Frame) (tree : Expression) → ParserState
   -- a word is wanted, after the point of a field
-  WantName : (stack : List Frame) (at : ℕ) (owner : Expression) → State
+  WantName : (stack : List Frame) (at : ℕ) (owner : Expression) → ParserState
   -- after the `[` of an index or field, and after a text there
-  WantIndex : (stack : List Frame) (at : ℕ) (owner : Expression) → State
-  HaveText : (stack : List Frame) (at : ℕ) (owner : Expression) (text_at : ℕ) (text : List ℕ) → State
+  WantIndex : (stack : List Frame) (at : ℕ) (owner : Expression) → ParserState
+  HaveText : (stack : List Frame) (at : ℕ) (owner : Expression) (text_at : ℕ) (text : List ℕ) → ParserState
   -- `in` is wanted, after `not`
-  WantIn : (stack : List Frame) (at : ℕ) (first : Expression) → State
+  WantIn : (stack : List Frame) (at : ℕ) (first : Expression) → ParserState
   -- `(` is wanted, after the name of a call; an argument is wanted; one in braces is there
-  WantGroup : (stack : List Frame) (at : ℕ) (function : Call) → State
-  WantArgument : (stack : List Frame) (at : ℕ) (function : Call) (so_far : List Expression) → State
-  HaveArgument : (stack : List Frame) (at : ℕ) (function : Call) (so_far : List Expression) → State
+  WantGroup : (stack : List Frame) (at : ℕ) (function : Call) → ParserState
+  WantArgument : (stack : List Frame) (at : ℕ) (function : Call) (so_far : List Expression) → ParserState
+  HaveArgument : (stack : List Frame) (at : ℕ) (function : Call) (so_far : List Expression) → ParserState
 
 -- the level of the operand that the newest frame wants
 abbrev pub wanted : List Frame → ℕ
@@ -58,23 +58,23 @@ inside (Braced at function so_far ∷ stack) = true
 inside (frame ∷ stack) = inside stack
 
 -- how many openers may still be unfinished
-abbrev pub left : List Frame → ℕ
-left [] = most_openers
-left (RightOf at operator first ∷ stack) = left stack
-left (Braced at function so_far ∷ stack) = pred (pred (left stack))
-left (frame ∷ stack) = pred (left stack)
+abbrev pub openers_left : List Frame → ℕ
+openers_left [] = most_openers
+openers_left (RightOf at operator first ∷ stack) = openers_left stack
+openers_left (Braced at function so_far ∷ stack) = pred (pred (openers_left stack))
+openers_left (frame ∷ stack) = pred (openers_left stack)
 
 -- ---- what an operand ends
 
 -- the phrases of levels up to this one end with an operand
-abbrev pub climbed : ℕ → List Frame → Expression → State
+abbrev pub climbed : ℕ → List Frame → Expression → ParserState
 climbed level (RightOf at operator first ∷ stack) tree =
     if nat_le (looseness operator) level then climbed level stack (BinaryAt at operator first tree) else Have (RightOf at operator first ∷ stack) tree
 climbed level (Prefixed at operator ∷ stack) tree = climbed level stack (UnaryAt at operator tree)
 climbed level stack tree = Have stack tree
 
 -- and so do choices, where something ends that stands in brackets or before `:`
-abbrev pub unwound : List Frame → Expression → State
+abbrev pub unwound : List Frame → Expression → ParserState
 unwound (RightOf at operator first ∷ stack) tree = unwound stack (BinaryAt at operator first tree)
 unwound (Prefixed at operator ∷ stack) tree = unwound stack (UnaryAt at operator tree)
 unwound (No at condition met ∷ stack) tree = unwound stack (ChoiceAt at condition met tree)
@@ -83,24 +83,24 @@ unwound stack tree = Have stack tree
 -- ---- steps
 
 module _ (rules : Rules) where
-  abbrev pub when : Bool → State → Option State
+  abbrev pub when : Bool → ParserState → Option ParserState
   when test state = if test then Some state else None
 
   -- where an operand is wanted
-  abbrev pub begin : List Frame → ℕ → Start → Option State
+  abbrev pub begin : List Frame → ℕ → Start → Option ParserState
   begin stack at (Leaf tree) = Some (Have stack tree)
-  begin stack at (Prefix operator) = when (may_open rules (left stack)) (Want (Prefixed at operator ∷ stack))
-  begin stack at Group = when (may_open rules (left stack)) (Want (Grouped ∷ stack))
-  begin stack at Bracket = when (may_open rules (left stack)) (Want (Listed at [] ∷ stack))
-  begin stack at (Calls function) = when (may_open rules (left stack)) (WantGroup stack at function)
+  begin stack at (Prefix operator) = when (may_open rules (openers_left stack)) (Want (Prefixed at operator ∷ stack))
+  begin stack at Group = when (may_open rules (openers_left stack)) (Want (Grouped ∷ stack))
+  begin stack at Bracket = when (may_open rules (openers_left stack)) (Want (Listed at [] ∷ stack))
+  begin stack at (Calls function) = when (may_open rules (openers_left stack)) (WantGroup stack at function)
   begin stack at ItemPoint = Some (WantName stack at (ItemAt at))
   begin stack at NoStart = None
 
-  abbrev pub want : List Frame → Token → Option State
-  want stack token = begin stack token.span.start (starts (inside stack) token)
+  abbrev pub want : List Frame → Token → Option ParserState
+  want stack token = begin stack token.span.start (begins_as (inside stack) token)
 
   -- after the operand that ends what stands in brackets or before `:`
-  abbrev pub end_with : Ender → State → Option State
+  abbrev pub end_with : Ender → ParserState → Option ParserState
   end_with Colon (Have (Yes at condition ∷ stack) tree) = Some (Want (No at condition tree ∷ stack))
   end_with EndGroup (Have (Grouped ∷ stack) tree) = Some (Have stack tree)
   end_with EndBracket (Have (Indexed at list ∷ stack) tree) = Some (Have stack (IndexAt at list tree))
@@ -114,102 +114,102 @@ module _ (rules : Rules) where
   end_with ender state = None
 
   -- an operator after the operand that is its first
-  abbrev pub operate : ℕ → Binary → State → Option State
+  abbrev pub operate : ℕ → Binary → ParserState → Option ParserState
   operate at operator (Have stack tree) = Some (Want (RightOf at operator tree ∷ stack))
   operate at operator state = None
 
-  abbrev pub negate : ℕ → State → Option State
+  abbrev pub negate : ℕ → ParserState → Option ParserState
   negate at (Have stack tree) = Some (WantIn stack at tree)
   negate at state = None
 
-  abbrev pub choose : ℕ → State → Option State
-  choose at (Have stack tree) = when (may_open rules (left stack)) (Want (Yes at tree ∷ stack))
+  abbrev pub choose : ℕ → ParserState → Option ParserState
+  choose at (Have stack tree) = when (may_open rules (openers_left stack)) (Want (Yes at tree ∷ stack))
   choose at state = None
 
   -- after an operand
-  abbrev pub follow : List Frame → Expression → ℕ → Follow → Option State
+  abbrev pub follow : List Frame → Expression → ℕ → Follow → Option ParserState
   follow stack tree at (Operator operator) = operate at operator (climbed (looseness operator) stack tree)
   follow stack tree at NotOf = negate at (climbed (looseness NotIn) stack tree)
   follow stack tree at Choose = choose at (climbed 5 stack tree)
   follow stack tree at Select = Some (WantName stack at tree)
-  follow stack tree at Open = when (may_open rules (left stack)) (WantIndex stack at tree)
+  follow stack tree at Open = when (may_open rules (openers_left stack)) (WantIndex stack at tree)
   follow stack tree at (Ends ender) = end_with ender (unwound stack tree)
   follow stack tree at NoFollow = None
 
-  abbrev pub have : List Frame → Expression → Token → Option State
+  abbrev pub have : List Frame → Expression → Token → Option ParserState
   have stack tree token = follow stack tree token.span.start (follows token)
 
   -- after the point of a field
-  abbrev pub select : List Frame → ℕ → Expression → Option (List ℕ) → Option State
+  abbrev pub select : List Frame → ℕ → Expression → Option (List ℕ) → Option ParserState
   select stack at owner (Some word) = Some (Have stack (FieldAt at owner word))
   select stack at owner None = None
 
   -- after `[`: a text may be a field's name
-  abbrev pub open_index : List Frame → ℕ → Expression → Token → Option (List ℕ) → Option State
+  abbrev pub open_index : List Frame → ℕ → Expression → Token → Option (List ℕ) → Option ParserState
   open_index stack at owner token (Some text) = Some (HaveText stack at owner token.span.start text)
   open_index stack at owner token None = want (Indexed at owner ∷ stack) token
 
   -- it is where `]` stands after it, and else an operand
-  abbrev pub close_text : List Frame → ℕ → Expression → ℕ → List ℕ → Token → Follow → Option State
+  abbrev pub close_text : List Frame → ℕ → Expression → ℕ → List ℕ → Token → Follow → Option ParserState
   close_text stack at owner text_at text token (Ends EndBracket) = Some (Have stack (FieldAt at owner text))
   close_text stack at owner text_at text token role = have (Indexed at owner ∷ stack) (LiteralAt text_at (Text text)) token
 
   -- an argument, in braces or not
-  abbrev pub argue : List Frame → ℕ → Call → List Expression → Token → Bool → Bool → Option State
+  abbrev pub argue : List Frame → ℕ → Call → List Expression → Token → Bool → Bool → Option ParserState
   argue stack at function so_far token false brace = want (Argued at function so_far ∷ stack) token
   argue stack at function so_far token true false = want (Body at function so_far ∷ stack) token
-  argue stack at function so_far token true true = when (may_open rules (pred (left stack))) (Want (Braced at function so_far ∷ stack))
+  argue stack at function so_far token true true = when (may_open rules (pred (openers_left stack))) (Want (Braced at function so_far ∷ stack))
 
   -- `)` directly after `(`
-  abbrev pub close_empty : List Frame → ℕ → Call → Token → List Expression → Follow → Option State
+  abbrev pub close_empty : List Frame → ℕ → Call → Token → List Expression → Follow → Option ParserState
   close_empty stack at function token [] (Ends EndGroup) = when (takes_all rules function 0) (Have stack (called at function []))
   close_empty stack at function token so_far role = argue stack at function so_far token (is_body function (length so_far)) (is_brace token)
 
   -- after an argument in braces
-  abbrev pub close_braced : List Frame → ℕ → Call → List Expression → Follow → Option State
+  abbrev pub close_braced : List Frame → ℕ → Call → List Expression → Follow → Option ParserState
   close_braced stack at function arguments (Ends EndGroup) = when (takes_all rules function (length arguments)) (Have stack (called at function arguments))
   close_braced stack at function arguments (Ends Comma) = when (takes_more rules function (length arguments)) (WantArgument stack at function arguments)
   close_braced stack at function arguments role = None
 
   -- the state after one token more, where a condition may have it
-  unfoldable pub step : State → Token → Option State
+  unfoldable pub step : ParserState → Token → Option ParserState
   step (Want stack) token = want stack token
   step (Have stack tree) token = have stack tree token
-  step (WantName stack at owner) token = select stack at owner (name_of token)
-  step (WantIndex stack at owner) token = open_index stack at owner token (text_value token)
+  step (WantName stack at owner) token = select stack at owner (token_name token)
+  step (WantIndex stack at owner) token = open_index stack at owner token (token_text token)
   step (HaveText stack at owner text_at text) token = close_text stack at owner text_at text token (follows token)
   step (WantIn stack at first) token = when (is_in token) (Want (RightOf at NotIn first ∷ stack))
   step (WantGroup stack at function) token = when (is_group token) (WantArgument stack at function [])
   step (WantArgument stack at function so_far) token = close_empty stack at function token so_far (follows token)
   step (HaveArgument stack at function arguments) token = close_braced stack at function arguments (follows token)
 
-  abbrev pub step_from : Option State → Token → Option State
+  abbrev pub step_from : Option ParserState → Token → Option ParserState
   step_from (Some state) token = step state token
   step_from None token = None
 
   -- the state after tokens
-  abbrev pub run : Option State → List Token → Option State
+  abbrev pub run : Option ParserState → List Token → Option ParserState
   run state [] = state
   run state (token ∷ tokens) = run (step_from state token) tokens
 
-abbrev pub start_state : State
+abbrev pub start_state : ParserState
 start_state = Want []
 
 -- the tree, where the tokens end
-abbrev pub whole : State → Option Expression
+abbrev pub whole : ParserState → Option Expression
 whole (Have [] tree) = Some tree
 whole state = None
 
-abbrev pub finished : State → Option Expression
+abbrev pub finished : ParserState → Option Expression
 finished (Have stack tree) = whole (unwound stack tree)
 finished state = None
 
-abbrev pub finished_from : Option State → Option Expression
+abbrev pub finished_from : Option ParserState → Option Expression
 finished_from (Some state) = finished state
 finished_from None = None
 
 -- the state after tokens from the start
-abbrev pub reached : Rules → List Token → Option State
+abbrev pub reached : Rules → List Token → Option ParserState
 reached rules tokens = run rules (Some start_state) tokens
 
 -- the tree of tokens

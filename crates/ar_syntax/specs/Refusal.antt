@@ -1,8 +1,8 @@
--- Which tokens are a condition, and the place and name of the fault of those that are none.
-use Rattle.std.specs.Prelude.{◌≡◌, ℕ, ◌+◌, ℤ, Bool, true, false, ◌&&◌, not, max, nat_le, List, [], ◌∷◌, ◌++◌}
-use Rattle.ar_tree.specs.Expression.{Expression, Expressions}
-use Rattle.ar_tree.specs.Expression as trees
-use Rattle.ar_syntax.specs.Grammar.{BeginsBy, DerivesBy, Rules}
+-- The place and name of the fault of tokens that are no condition.
+use Rattle.std.specs.Prelude.{◌≡◌, ℕ, ℤ, Bool, true, false, ◌&&◌, not, nat_le, List, [], ◌∷◌, ◌++◌}
+use Rattle.ar_tree.specs.Expression.{Expression}
+use Rattle.ar_syntax.specs.Condition.{Derives, at_any_depth, depth, most_depth, of_any_count, of_any_items, strict}
+use Rattle.ar_syntax.specs.Grammar.{BeginsBy}
 use Rattle.ar_syntax.specs.declared.error.SyntaxError.{SyntaxError}
 use Rattle.ar_syntax.specs.declared.error.SyntaxError.TheVariants.{Unexpected, UnknownName, WrongCount, ItemOutside, TooManyItems, TooDeep}
 use Rattle.ar_syntax.specs.declared.token.Sign.TheVariants.{Hash, Point, Comma}
@@ -11,23 +11,6 @@ use Rattle.ar_syntax.specs.declared.token.TokenKind.{TokenKind}
 use Rattle.ar_syntax.specs.declared.token.TokenKind.TheVariants as kinds
 
 -- ---- conditions
-
--- all limits hold; all but one
-abbrev pub strict : Rules
-strict = record { any_depth = false; any_items = false; any_count = false }
-
-abbrev pub at_any_depth : Rules
-at_any_depth = record { any_depth = true; any_items = false; any_count = false }
-
-abbrev pub of_any_items : Rules
-of_any_items = record { any_depth = false; any_items = true; any_count = false }
-
-abbrev pub of_any_count : Rules
-of_any_count = record { any_depth = false; any_items = false; any_count = true }
-
--- all of the tokens are a condition but for the depth of its tree, which the tree says
-abbrev pub Derives : List Token → Expression → Type 0
-Derives tokens tree = DerivesBy strict tokens tree
 
 -- with some further tokens these are a condition, its length and depth set aside
 abbrev pub BeginsCondition : List Token → Type 0
@@ -70,37 +53,12 @@ pub data IsRefusedBehind (before : List Token) (token : Token) : SyntaxError →
   named : {error : SyntaxError} → IsNamedBehind before token error → IsRefusedBehind before token error
   unexpected : ((error : SyntaxError) → ¬ IsNamedBehind before token error) → IsRefusedBehind before token (Unexpected token.span.start)
 
--- ---- depth
-
-abbrev mutual
-  pub depth : Expression → ℕ
-  depth (trees.ResultAt at) = 1
-  depth (trees.ItemAt at) = 1
-  depth (trees.LiteralAt at literal) = 1
-  depth (trees.FieldAt at owner name) = depth owner + 1
-  depth (trees.IndexAt at list index) = max (depth list) (depth index) + 1
-  depth (trees.UnaryAt at operator operand) = depth operand + 1
-  depth (trees.BinaryAt at operator left right) = max (depth left) (depth right) + 1
-  depth (trees.ChoiceAt at condition met unmet) = max (depth condition) (max (depth met) (depth unmet)) + 1
-  depth (trees.ListAt at items) = items_depth items + 1
-  depth (trees.LenAt at list) = depth list + 1
-  depth (trees.IsNilAt at operand) = depth operand + 1
-  depth (trees.DefaultAt at operand otherwise) = max (depth operand) (depth otherwise) + 1
-  depth (trees.PredicateAt at predicate list body) = max (depth list) (depth body) + 1
-
-  pub items_depth : Expressions → ℕ
-  items_depth trees.none = 0
-  items_depth (trees.more first others) = max (depth first) (items_depth others)
-
-abbrev pub most_depth : ℕ
-most_depth = 64
-
 -- ---- the refusal of tokens
 
 -- The refusal of tokens that are no condition: it stands at the first token that, with those before it, begins none.
 -- The end of the text counts as a token. Last, a tree may be too deep.
-pub data IsRefused (end : ℕ) (tokens : List Token) : SyntaxError → Type 0 where
+pub data AreRefused (end : ℕ) (tokens : List Token) : SyntaxError → Type 0 where
   at_token : (before : List Token) (token : Token) (rest : List Token) {error : SyntaxError} → tokens ≡ before ++ token ∷ rest
-      → BeginsCondition before → ¬ BeginsCondition (before ++ token ∷ []) → IsRefusedBehind before token error → IsRefused end tokens error
-  at_end : BeginsCondition tokens → ((tree : Expression) → ¬ Derives tokens tree) → IsRefused end tokens (Unexpected end)
-  at_depth : (tree : Expression) → Derives tokens tree → nat_le (depth tree) most_depth ≡ false → IsRefused end tokens (TooDeep 0)
+      → BeginsCondition before → ¬ BeginsCondition (before ++ token ∷ []) → IsRefusedBehind before token error → AreRefused end tokens error
+  at_end : BeginsCondition tokens → ((tree : Expression) → ¬ Derives tokens tree) → AreRefused end tokens (Unexpected end)
+  at_depth : (tree : Expression) → Derives tokens tree → nat_le (depth tree) most_depth ≡ false → AreRefused end tokens (TooDeep 0)

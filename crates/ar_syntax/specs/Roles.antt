@@ -89,8 +89,8 @@ kind_start inside at (kinds.Text text) = Leaf (LiteralAt at (literals.Text text)
 kind_start inside at (kinds.Sign sign) = sign_start inside at sign
 
 -- what a token begins where an operand is wanted, inside a predicate or not
-unfoldable pub starts : Bool → Token → Start
-starts inside token = kind_start inside token.span.start token.kind
+unfoldable pub begins_as : Bool → Token → Start
+begins_as inside token = kind_start inside token.span.start token.kind
 
 -- ---- after an operand
 
@@ -159,15 +159,15 @@ kind_name (kinds.Word word) = Some (letters word)
 kind_name (kinds.Name name) = Some name
 kind_name kind = None
 
-unfoldable pub name_of : Token → Option (List ℕ)
-name_of token = kind_name token.kind
+unfoldable pub token_name : Token → Option (List ℕ)
+token_name token = kind_name token.kind
 
 abbrev pub kind_text : TokenKind → Option (List ℕ)
 kind_text (kinds.Text text) = Some text
 kind_text kind = None
 
-unfoldable pub text_value : Token → Option (List ℕ)
-text_value token = kind_text token.kind
+unfoldable pub token_text : Token → Option (List ℕ)
+token_text token = kind_text token.kind
 
 abbrev pub kind_is_in : TokenKind → Bool
 kind_is_in (kinds.Word words.In) = true

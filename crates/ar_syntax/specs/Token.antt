@@ -1,10 +1,7 @@
 -- How tokens are spelled.
-use Rattle.std.specs.Prelude.{◌≡◌, ℕ, ◌+◌, ◌-◌, ◌<◌, ◌≤◌, pos, Bool, true, false, ◌||◌, ◌==◌, if◌then◌else◌, IsTrue, List, [], ◌∷◌, ◌++◌, length, take, drop, codes, find, slice_index, Option, Some, None, Result, Ok, Err}
-use Rattle.std.specs.Char.{is_ascii_alphabetic, is_ascii_alphanumeric, is_ascii_digit, is_digit}
-use Rattle.std.specs.List.{list_all}
+use Rattle.std.specs.Prelude.{ℕ, ◌+◌, Bool, true, false, ◌||◌, ◌==◌, if◌then◌else◌, List, [], ◌∷◌, codes, find, Option, Some, None, Result, Ok, Err}
+use Rattle.std.specs.Char.{is_ascii_alphabetic, is_ascii_alphanumeric, is_digit}
 use Rattle.std.specs.Str.{bytes_eq}
-use Rattle.std.specs.Str.Parse.{digits_value}
-use Rattle.ar_value.specs.Digits.{magnitude_of}
 use Rattle.ar_value.specs.Answer.{◌>>=◌}
 use Rattle.ar_syntax.specs.declared.error.SyntaxError.{SyntaxError}
 use Rattle.ar_syntax.specs.declared.error.SyntaxError.TheVariants.{BadEscape}
@@ -14,7 +11,6 @@ use Rattle.ar_tree.specs.declared.tree.Comparison.{Comparison}
 use Rattle.ar_tree.specs.declared.tree.Comparison.TheVariants as comparisons
 use Rattle.ar_syntax.specs.declared.token.Sign.{Sign}
 use Rattle.ar_syntax.specs.declared.token.Sign.TheVariants as signs
-use Rattle.ar_syntax.specs.declared.token.Span.{Span}
 use Rattle.ar_syntax.specs.declared.token.TokenKind.{TokenKind}
 use Rattle.ar_syntax.specs.declared.token.TokenKind.TheVariants as kinds
 use Rattle.ar_syntax.specs.declared.token.Word.{Word}
@@ -76,9 +72,9 @@ unfoldable pub word_of : List ℕ → Option Word
 word_of bytes = find (λ word. bytes_eq (letters word) bytes) named_words
 
 -- a word that the language doesn't name is a name
-abbrev pub named : List ℕ → Option Word → TokenKind
-named bytes (Some word) = kinds.Word word
-named bytes None = kinds.Name bytes
+abbrev pub word_or_name : List ℕ → Option Word → TokenKind
+word_or_name bytes (Some word) = kinds.Word word
+word_or_name bytes None = kinds.Name bytes
 
 -- ---- signs
 
@@ -124,35 +120,14 @@ takes_field kind = false
 
 -- ---- numbers
 
--- one digit or more, and nothing else
-abbrev pub AreDigits : List ℕ → Type 0
-AreDigits bytes = (0 < length bytes) × IsTrue (list_all is_ascii_digit bytes)
-
 -- the bases that have a prefix, as `0x`
 abbrev pub radix : Base → ℕ
 radix Binary = 2
 radix Octal = 8
 radix Hexadecimal = 16
 
-abbrev pub prefix : Base → List ℕ
-prefix Binary = codes "0b"
-prefix Octal = codes "0o"
-prefix Hexadecimal = codes "0x"
-
 abbrev pub is_digit_in : Base → ℕ → Bool
 is_digit_in base byte = is_digit byte (radix base)
-
--- a whole: digits, or a prefix and digits of its base
-pub data SpellsWhole (bytes : List ℕ) (magnitude : ℕ) : Type 0 where
-  decimal : AreDigits bytes → magnitude ≡ digits_value 10 bytes → SpellsWhole bytes magnitude
-  prefixed : (base : Base) (digits : List ℕ) → bytes ≡ prefix base ++ digits → 0 < length digits → IsTrue (list_all (is_digit_in base) digits) → magnitude ≡ digits_value (radix base) digits → SpellsWhole bytes magnitude
-
--- a decimal: digits, a point and one to six digits; before the point there may be none
-pub record SpellsDecimal (bytes whole fraction : List ℕ) : Type 0 where
-  pub parts : bytes ≡ whole ++ 46 ∷ fraction
-  pub whole_digits : IsTrue (list_all is_ascii_digit whole)
-  pub fraction_digits : AreDigits fraction
-  pub fine : length fraction ≤ 6
 
 -- ---- texts
 
@@ -188,27 +163,3 @@ abbrev pub unescaped : ℕ → Bool → List ℕ → Result (List ℕ) SyntaxErr
 unescaped before escaped [] = Ok []
 unescaped before true (byte ∷ bytes) = with_escape before (escape_of byte) (unescaped (before + 1) false bytes)
 unescaped before false (byte ∷ bytes) = if byte == 92 then unescaped (before + 1) true bytes else with_byte byte (unescaped (before + 1) false bytes)
-
--- a text at a place: its end is the first quote of its kind that no backslash stands before
-pub record SpellsText (at : ℕ) (bytes value : List ℕ) : Type 0 where
-  pub quote : ℕ
-  pub inside : List ℕ
-  pub are : bytes ≡ quote ∷ inside ++ quote ∷ []
-  pub quotes : IsTrue (is_quote quote)
-  pub ends : text_end quote 0 false (inside ++ quote ∷ []) ≡ Some (length inside)
-  pub means : unescaped at false inside ≡ Ok value
-
--- ---- tokens
-
--- the bytes at a place are the text of such a token
-abbrev pub Spells : ℕ → List ℕ → TokenKind → Type 0
-Spells at bytes (kinds.Word word) = bytes ≡ letters word
-Spells at bytes (kinds.Name name) = (bytes ≡ name) × IsTrue (begins_word (slice_index bytes 0)) × IsTrue (list_all continues_word bytes) × (word_of bytes ≡ None)
-Spells at bytes (kinds.Whole value) = (magnitude : ℕ) × SpellsWhole bytes magnitude × (value ≡ pos magnitude)
-Spells at bytes (kinds.Decimal millionths) = (whole : List ℕ) × (fraction : List ℕ) × SpellsDecimal bytes whole fraction × (millionths ≡ pos (magnitude_of whole fraction))
-Spells at bytes (kinds.Text value) = SpellsText at bytes value
-Spells at bytes (kinds.Sign sign) = bytes ≡ spelling sign
-
--- the part of a text at a span
-abbrev pub text_at : List ℕ → Span → List ℕ
-text_at text span = take (span.end - span.start) (drop span.start text)

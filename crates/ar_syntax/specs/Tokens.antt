@@ -1,16 +1,15 @@
 -- Cutting a text into tokens, from left to right; each is the longest that stands there.
-use Rattle.std.specs.Prelude.{◌≡◌, ℕ, zero, suc, ◌+◌, ◌-◌, ◌<◌, ◌≤◌, pos, Bool, false, true, ◌&&◌, ◌||◌, not, ◌==◌, nat_eq, nat_lt, if◌then◌else◌, List, [], ◌∷◌, ◌++◌, length, take, drop, slice_index, find, take_while, Option, Some, None, Result, Ok, Err, IfOk, All, Vec}
-use Rattle.std.specs.declared.alloc.Global.{Global}
+use Rattle.std.specs.Prelude.{ℕ, zero, suc, ◌+◌, ◌-◌, pos, Bool, false, ◌&&◌, ◌||◌, not, ◌==◌, nat_eq, nat_lt, if◌then◌else◌, List, [], ◌∷◌, ◌++◌, length, take, drop, slice_index, find, take_while, Option, Some, None, Result, Ok, Err}
 use Rattle.std.specs.Char.{is_ascii_digit}
 use Rattle.std.specs.List.{starts_with}
 use Rattle.std.specs.Str.Parse.{digits_value}
 use Rattle.ar_value.specs.Decimal.{is_i64}
 use Rattle.ar_value.specs.Digits.{magnitude_of}
-use Rattle.ar_value.specs.Answer.{◌>>=◌, Gives}
+use Rattle.ar_value.specs.Answer.{◌>>=◌}
 use Rattle.ar_value.specs.Limits.{most_text_bytes}
-use Rattle.ar_syntax.specs.Token.{Spells, begins_word, continues_word, is_digit_in, is_quote, named, radix, spelling, takes_field, text_at, text_end, unescaped, word_of}
+use Rattle.ar_syntax.specs.Token.{begins_word, continues_word, is_digit_in, is_quote, word_or_name, radix, spelling, takes_field, text_end, unescaped, word_of}
 use Rattle.ar_syntax.specs.declared.error.SyntaxError.{SyntaxError}
-use Rattle.ar_syntax.specs.declared.error.SyntaxError.TheVariants.{TooLong, BadCharacter, OpenText, OpenComment, LiteralTooFine, NumberTooLarge, OutOfMemory}
+use Rattle.ar_syntax.specs.declared.error.SyntaxError.TheVariants.{TooLong, BadCharacter, OpenText, OpenComment, LiteralTooFine, NumberTooLarge}
 use Rattle.ar_syntax.specs.declared.scanner.Piece.{Piece}
 use Rattle.ar_syntax.specs.declared.scanner.Piece.TheVariants.{Gap, Found}
 use Rattle.ar_syntax.specs.declared.token.Base.{Base}
@@ -59,7 +58,7 @@ abbrev pub word_at : List ℕ → List ℕ
 word_at bytes = take_while continues_word bytes
 
 abbrev pub word_token : ℕ → List ℕ → Token
-word_token at word = token (named word (word_of word)) at (length word)
+word_token at word = token (word_or_name word (word_of word)) at (length word)
 
 -- ---- numbers
 
@@ -85,27 +84,27 @@ abbrev pub begins_number : Bool → List ℕ → Bool
 begins_number field bytes = is_ascii_digit (slice_index bytes 0) || (slice_index bytes 0 == 46 && is_ascii_digit (slice_index bytes 1) && not field)
 
 -- a whole is an i64
-abbrev pub whole_of : ℕ → ℕ → Result TokenKind SyntaxError
-whole_of at value = if is_i64 (pos value) then Ok (kinds.Whole (pos value)) else Err (NumberTooLarge at)
+abbrev pub whole_spelled : ℕ → ℕ → Result TokenKind SyntaxError
+whole_spelled at value = if is_i64 (pos value) then Ok (kinds.Whole (pos value)) else Err (NumberTooLarge at)
 
 -- digits with a point spell a decimal, which has six digits after the point at most and is an i64 in millionths
-abbrev pub decimal_of : ℕ → List ℕ → List ℕ → Result TokenKind SyntaxError
-decimal_of at whole fraction =
+abbrev pub decimal_spelled : ℕ → List ℕ → List ℕ → Result TokenKind SyntaxError
+decimal_spelled at whole fraction =
     if nat_lt 6 (length fraction) then Err (LiteralTooFine at)
     else (if is_i64 (pos (magnitude_of whole fraction)) then Ok (kinds.Decimal (pos (magnitude_of whole fraction)))
     else Err (NumberTooLarge at))
 
-abbrev pub value_of : ℕ → List ℕ → List ℕ → Result TokenKind SyntaxError
-value_of at whole [] = whole_of at (digits_value 10 whole)
-value_of at whole (digit ∷ fraction) = decimal_of at whole (digit ∷ fraction)
+abbrev pub number_spelled : ℕ → List ℕ → List ℕ → Result TokenKind SyntaxError
+number_spelled at whole [] = whole_spelled at (digits_value 10 whole)
+number_spelled at whole (digit ∷ fraction) = decimal_spelled at whole (digit ∷ fraction)
 
 -- no letter, digit or `_` stands directly after a number (after the last byte `slice_index` is 0)
-abbrev pub ended : ℕ → ℕ → List ℕ → TokenKind → Result Token SyntaxError
-ended at len bytes kind = if continues_word (slice_index bytes len) then Err (BadCharacter (at + len)) else Ok (token kind at len)
+abbrev pub number_ended : ℕ → ℕ → List ℕ → TokenKind → Result Token SyntaxError
+number_ended at len bytes kind = if continues_word (slice_index bytes len) then Err (BadCharacter (at + len)) else Ok (token kind at len)
 
 -- a number without a prefix
 abbrev pub plain_number : ℕ → List ℕ → Result Token SyntaxError
-plain_number at bytes = value_of at (digits_at bytes) (fraction_at bytes) >>= ended at (length (number_text (digits_at bytes) (fraction_at bytes))) bytes
+plain_number at bytes = number_spelled at (digits_at bytes) (fraction_at bytes) >>= number_ended at (length (number_text (digits_at bytes) (fraction_at bytes))) bytes
 
 -- the base that a letter after a 0 names
 abbrev pub base_named : ℕ → Option Base
@@ -129,15 +128,15 @@ abbrev pub base_digits : Base → List ℕ → List ℕ
 base_digits base bytes = take_while (is_digit_in base) (drop 2 bytes)
 
 abbrev pub prefixed_number : ℕ → List ℕ → Base → Result Token SyntaxError
-prefixed_number at bytes base = whole_of at (digits_value (radix base) (base_digits base bytes)) >>= ended at (2 + length (base_digits base bytes)) bytes
+prefixed_number at bytes base = whole_spelled at (digits_value (radix base) (base_digits base bytes)) >>= number_ended at (2 + length (base_digits base bytes)) bytes
 
 abbrev pub number_in : ℕ → List ℕ → Option Base → Result Token SyntaxError
 number_in at bytes (Some base) = prefixed_number at bytes base
 number_in at bytes None = plain_number at bytes
 
 -- the number at the front
-unfoldable pub number_of : ℕ → List ℕ → Result Token SyntaxError
-number_of at bytes = number_in at bytes (base_of bytes)
+unfoldable pub number_at_front : ℕ → List ℕ → Result Token SyntaxError
+number_at_front at bytes = number_in at bytes (base_of bytes)
 
 -- ---- texts
 
@@ -147,8 +146,8 @@ text_in at bytes None = Err (OpenText at)
 text_in at bytes (Some len) = unescaped at false (take len (drop 1 bytes)) >>= λ value. Ok (token (kinds.Text value) at (len + 2))
 
 -- the text at the front, up to the quote that it begins with
-unfoldable pub text_of : ℕ → List ℕ → Result Token SyntaxError
-text_of at bytes = text_in at bytes (text_end (slice_index bytes 0) 0 false (drop 1 bytes))
+unfoldable pub text_at_front : ℕ → List ℕ → Result Token SyntaxError
+text_at_front at bytes = text_in at bytes (text_end (slice_index bytes 0) 0 false (drop 1 bytes))
 
 -- ---- signs
 
@@ -176,13 +175,8 @@ sign_of at bytes = if is_coalescing bytes then Err (BadCharacter at) else sign_t
 
 -- ---- all tokens
 
--- out of memory, which is a refusal of no text
-abbrev pub is_memory : SyntaxError → Bool
-is_memory OutOfMemory = true
-is_memory error = false
-
-abbrev pub found : Token → Result Piece SyntaxError
-found token = Ok (Found token)
+abbrev pub piece_found : Token → Result Piece SyntaxError
+piece_found token = Ok (Found token)
 
 abbrev pub begins_line_comment : List ℕ → Bool
 begins_line_comment bytes = slice_index bytes 0 == 47 && slice_index bytes 1 == 47
@@ -194,8 +188,8 @@ begins_block_comment bytes = slice_index bytes 0 == 47 && slice_index bytes 1 ==
 unfoldable pub token_of : ℕ → Bool → List ℕ → Result Token SyntaxError
 token_of at field bytes =
     if begins_word (slice_index bytes 0) then Ok (word_token at (word_at bytes))
-    else (if begins_number field bytes then number_of at bytes
-    else (if is_quote (slice_index bytes 0) then text_of at bytes
+    else (if begins_number field bytes then number_at_front at bytes
+    else (if is_quote (slice_index bytes 0) then text_at_front at bytes
     else sign_of at bytes))
 
 -- what stands at the front of bytes that begin at a place of the text: a blank, a comment or a token
@@ -204,7 +198,7 @@ front_of at field bytes =
     if is_blank (slice_index bytes 0) then Ok (Gap 1)
     else (if begins_line_comment bytes then Ok (Gap (length (line_comment bytes)))
     else (if begins_block_comment bytes then block_comment at bytes
-    else token_of at field bytes >>= found))
+    else token_of at field bytes >>= piece_found))
 
 -- a token, and those after it
 abbrev pub with_front : ℕ → Piece → (ℕ → Bool → Result (List Token) SyntaxError) → Result (List Token) SyntaxError
@@ -220,43 +214,3 @@ tokens_behind zero at field (byte ∷ bytes) = front_of at field (byte ∷ bytes
 -- the tokens of a text that isn't too long, or its first fault
 unfoldable pub tokens_of : List ℕ → Result (List Token) SyntaxError
 tokens_of text = if nat_lt most_text_bytes (length text) then Err TooLong else tokens_behind 0 0 false text
-
--- ---- what tokens are, as parts of their text
-
--- the tokens stand between two places, in order, and each has a byte at least
-abbrev pub AreInOrder : ℕ → ℕ → List Token → Type 0
-AreInOrder start end [] = start ≤ end
-AreInOrder start end (token ∷ tokens) = (start ≤ token.span.start) × (token.span.start < token.span.end) × AreInOrder token.span.end end tokens
-
--- the text at a token's span spells it
-abbrev pub IsSpelled : List ℕ → Token → Type 0
-IsSpelled text token = Spells token.span.start (text_at text token.span) token.kind
-
--- the blank or comment at the front
-pub data BeginsWithGap : List ℕ → ℕ → Type 0 where
-  blank : {bytes : List ℕ} (is : is_blank (slice_index bytes 0) ≡ true) → BeginsWithGap bytes 1
-  line : {bytes : List ℕ} (is : begins_line_comment bytes ≡ true) → BeginsWithGap bytes (length (line_comment bytes))
-  block : {bytes : List ℕ} {len : ℕ} (is : begins_block_comment bytes ≡ true) → comment_end 2 false (drop 2 bytes) ≡ Some len → BeginsWithGap bytes len
-
--- nothing but blanks and comments stands before the rest of bytes
-pub data IsGap : List ℕ → List ℕ → Type 0 where
-  none : {rest : List ℕ} → IsGap rest rest
-  more : {bytes rest : List ℕ} {len : ℕ} → BeginsWithGap bytes len → IsGap (drop len bytes) rest → IsGap bytes rest
-
--- nothing but blanks and comments stands between a place and the tokens after it, and between and after these
-abbrev pub IsGapBetween : List ℕ → ℕ → List Token → Type 0
-IsGapBetween text place [] = IsGap (drop place text) []
-IsGapBetween text place (token ∷ tokens) = IsGap (drop place text) (drop token.span.start text) × IsGapBetween text token.span.end tokens
-
--- what cutting a text into tokens answers
-pub record CutsTo (text : List ℕ) (result : Result (Vec Token Global) SyntaxError) : Type 0 where
-  -- these tokens, or this fault
-  pub exact : Gives is_memory (λ tokens. tokens.items) result (tokens_of text)
-  -- a text that is too long is refused for that alone
-  pub too_long : most_text_bytes < length text → result ≡ Err TooLong
-  -- the tokens are the text's parts: they stand in order,
-  pub in_order : IfOk result (λ tokens. AreInOrder 0 (length text) tokens.items)
-  -- the text at each of them spells it,
-  pub spelled : IfOk result (λ tokens. All (IsSpelled text) tokens.items)
-  -- and all else in the text is blanks and comments
-  pub gap_between : IfOk result (λ tokens. IsGapBetween text 0 tokens.items)

@@ -2,7 +2,7 @@
 
 ghost use Rattle.std.specs.Prelude.{◌≡◌, ◌∷◌, true, false, IfOk, MatchOption};
 ghost use Rattle.ar_syntax.specs.Machine.{Have};
-ghost use Rattle.ar_syntax.specs.Private.Frames.{closed_by, ended, ends, ends_below, frame_of, frames_of, top_ends};
+ghost use Rattle.ar_syntax.specs.Private.Frames.{closed_by, phrase_ended, ends, ends_below, frame_of, frames_of, top_ends};
 ghost use Rattle.ar_tree.specs.Views.{expression_of};
 
 use crate::build::boxed;
@@ -28,7 +28,7 @@ pub(crate) fn climb(
     tree: Box<Tree>,
 ) -> Result<Box<Tree>, AllocError>
     ensures { IfOk result (λ last. Have (frames_of stack.new.items) (expression_of last.value)
-        ≡ ended reach (frames_of stack.old.items) (expression_of tree.value)) }
+        ≡ phrase_ended reach (frames_of stack.old.items) (expression_of tree.value)) }
 {
     let mut tree = tree;
     while let Some(frame) = pop_ended(stack, reach) {

@@ -2,7 +2,7 @@
 
 ghost use Rattle.std.specs.Prelude.{◌≡◌, map, nat_le};
 ghost use Rattle.ar_tree.specs.Expression.{expressions};
-ghost use Rattle.ar_syntax.specs.Refusal.{depth, items_depth};
+ghost use Rattle.ar_syntax.specs.Condition.{depth, items_depth};
 ghost use Rattle.ar_tree.specs.Views.{expression_of};
 
 use ar_tree::tree::Tree;

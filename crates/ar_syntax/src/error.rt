@@ -1,7 +1,7 @@
 //! Why a text is no condition.
 
 ghost use Rattle.std.specs.Prelude.{◌≡◌};
-ghost use Rattle.ar_syntax.specs.Refused.{refused_at};
+ghost use Rattle.ar_syntax.specs.Refused.{syntax_refused_at};
 ghost use Rattle.ar_syntax.specs.declared.error.SyntaxError.TheVariants.{OutOfMemory};
 
 use ar_value::limits::MOST_TEXT_BYTES;
@@ -47,7 +47,7 @@ pub enum SyntaxError {
 impl SyntaxError {
     /// The byte at which the text stops being a condition.
     pub fn place(self) -> Option<usize>
-        ensures { result ≡ refused_at self }
+        ensures { result ≡ syntax_refused_at self }
     {
         match self {
             SyntaxError::TooLong => Some(MOST_TEXT_BYTES),

@@ -2,8 +2,10 @@
 //! does nothing.
 
 ghost use Rattle.std.specs.Prelude.{◌≡◌, ◌≢◌, ◌↔◌, ℕ, nat_le, false, List, Some};
-ghost use Rattle.ar_syntax.specs.Refusal.{Derives, IsRefused, depth, most_depth};
-ghost use Rattle.ar_syntax.specs.Parse.{IsRefusal, SaysTree, parse_of};
+ghost use Rattle.ar_syntax.specs.Condition.{Derives, SaysTree, depth, most_depth};
+ghost use Rattle.ar_syntax.specs.Refusal.{AreRefused};
+ghost use Rattle.ar_syntax.specs.Parsed.{IsRefusal};
+ghost use Rattle.ar_syntax.specs.Parse.{parse_of};
 ghost use Rattle.ar_tree.specs.Expression.{Expression};
 ghost use Rattle.ar_syntax.specs.declared.error.SyntaxError.{SyntaxError};
 ghost use Rattle.ar_syntax.specs.Token.{letters, word_of};
@@ -19,9 +21,9 @@ pub fn one_tree()
 /// Tokens have a tree that isn't too deep or a refusal, not both, and at most one refusal.
 pub fn one_refusal()
     ensures apart { (end : ℕ) (tokens : List Token) (error : SyntaxError) (tree : Expression)
-        → IsRefused end tokens error → Derives tokens tree → nat_le (depth tree) most_depth ≡ false }
+        → AreRefused end tokens error → Derives tokens tree → nat_le (depth tree) most_depth ≡ false }
     ensures one { (end : ℕ) (tokens : List Token) (first second : SyntaxError)
-        → IsRefused end tokens first → IsRefused end tokens second → first ≡ second }
+        → AreRefused end tokens first → AreRefused end tokens second → first ≡ second }
 {}
 
 /// What is parsed is what the text says, and what is refused is what the grammar refuses: each text

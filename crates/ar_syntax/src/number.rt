@@ -8,7 +8,7 @@ ghost use Rattle.std.specs.Str.Parse.{digits_value};
 ghost use Rattle.ar_value.specs.Decimal.{is_i64};
 ghost use Rattle.ar_value.specs.Digits.{magnitude_of};
 ghost use Rattle.ar_syntax.specs.Token.{continues_word, is_digit_in, radix};
-ghost use Rattle.ar_syntax.specs.Tokens.{base_digits, base_named, base_of, begins_number, digits_at, digits_behind_point, ended, number_of, number_text, plain_number, prefixed_number, value_of};
+ghost use Rattle.ar_syntax.specs.Tokens.{base_digits, base_named, base_of, begins_number, digits_at, digits_behind_point, number_ended, number_at_front, number_text, plain_number, prefixed_number, number_spelled};
 
 use crate::error::SyntaxError;
 use crate::token::{Base, Token, TokenKind, continues_word, placed};
@@ -33,10 +33,10 @@ pub(crate) fn begins_number(bytes: &[u8], field: bool) -> bool
 }
 
 /// The number at the front.
-#[tactic(auto, unfolding(crate::specs::Tokens::number_of))]
+#[tactic(auto, unfolding(crate::specs::Tokens::number_at_front))]
 pub(crate) fn number_token(bytes: &[u8], at: usize) -> Result<Token, SyntaxError>
     requires { at + length bytes.now < 2 ^ 64 }
-    ensures { result ≡ number_of at bytes.now }
+    ensures { result ≡ number_at_front at bytes.now }
 {
     match base(bytes) {
         Some(base) => prefixed_number(bytes, at, base),
@@ -167,7 +167,7 @@ fn plain_number(bytes: &[u8], at: usize) -> Result<Token, SyntaxError>
 fn ended(bytes: &[u8], at: usize, len: usize, kind: TokenKind) -> Result<Token, SyntaxError>
     requires within { len ≤ length bytes.now }
     requires in_range { at + length bytes.now < 2 ^ 64 }
-    ensures { result ≡ ended at len bytes.now kind }
+    ensures { result ≡ number_ended at len bytes.now kind }
 {
     if len < bytes.len() && continues_word(bytes[len]) {
         return Err(SyntaxError::BadCharacter(at + len));
@@ -219,7 +219,7 @@ fn number_len(whole: &[u8], fraction: &[u8]) -> usize
 fn value(whole: &[u8], fraction: &[u8], at: usize) -> Result<TokenKind, SyntaxError>
     requires whole { list_all is_ascii_digit whole.now ≡ true }
     requires fraction { list_all is_ascii_digit fraction.now ≡ true }
-    ensures { result ≡ value_of at whole.now fraction.now }
+    ensures { result ≡ number_spelled at whole.now fraction.now }
 {
     if fraction.len() > MOST_FRACTION_DIGITS {
         return Err(SyntaxError::LiteralTooFine(at));

@@ -4,11 +4,12 @@ ghost use Rattle.std.specs.Prelude.{◌≡◌, ◌<◌, length, Err, IfOk, false
 ghost use Rattle.ar_value.specs.Answer.{Gives};
 ghost use Rattle.ar_value.specs.Limits.{most_text_bytes};
 ghost use Rattle.ar_syntax.specs.Machine.{Have, finished, step, whole};
-ghost use Rattle.ar_syntax.specs.Parse.{ParsesTo, ended, limited, parse_of, stepped, tree_of};
-ghost use Rattle.ar_syntax.specs.Refusal.{strict};
+ghost use Rattle.ar_syntax.specs.Parsed.{ParsesTo};
+ghost use Rattle.ar_syntax.specs.Parse.{tree_at_end, limited, parse_of, state_after, tree_of};
+ghost use Rattle.ar_syntax.specs.Condition.{strict};
 ghost use Rattle.ar_syntax.specs.declared.error.SyntaxError.TheVariants.{TooLong};
 ghost use Rattle.ar_syntax.specs.Private.Steps.{at_state};
-ghost use Rattle.ar_syntax.specs.Tokens.{is_memory};
+ghost use Rattle.ar_syntax.specs.Spelling.{is_syntax_memory};
 ghost use Rattle.ar_syntax.specs.Private.Frames.{frames_of};
 ghost use Rattle.ar_tree.specs.Views.{expression_of};
 
@@ -48,7 +49,7 @@ pub fn parse(alloc: Global, text: &str) -> Result<Tree, SyntaxError>
 #[tactic(auto, unfolding(crate::specs::Parse::parse_of))]
 fn tree(alloc: Global, text: &str) -> Result<Tree, SyntaxError>
     ensures too_long { most_text_bytes < length text.now → result ≡ Err TooLong }
-    ensures exact { Gives is_memory expression_of result (parse_of text.now) }
+    ensures exact { Gives is_syntax_memory expression_of result (parse_of text.now) }
 {
     let tokens = tokens(alloc, text)?;
     tree_of_tokens(alloc, &tokens, text.len())
@@ -57,7 +58,7 @@ fn tree(alloc: Global, text: &str) -> Result<Tree, SyntaxError>
 /// The tree of tokens whose text ends at a place.
 #[tactic(auto, unfolding(crate::specs::Parse::tree_of))]
 fn tree_of_tokens(alloc: Global, tokens: &[Token], end: usize) -> Result<Tree, SyntaxError>
-    ensures { Gives is_memory expression_of result (tree_of end tokens.now) }
+    ensures { Gives is_syntax_memory expression_of result (tree_of end tokens.now) }
 {
     let mut stack = Vec::new(alloc);
     let mut state = State::Want;
@@ -75,8 +76,9 @@ fn stepped(
     state: State,
     token: &Token,
 ) -> Result<State, SyntaxError>
-    ensures { Gives is_memory (λ next. at_state stack.new.items next) result
-        (stepped (at_state stack.old.items state) token.now (step strict (at_state stack.old.items state) token.now)) }
+    ensures { Gives is_syntax_memory (λ next. at_state stack.new.items next) result
+        (state_after (at_state stack.old.items state) token.now
+        (step strict (at_state stack.old.items state) token.now)) }
 {
     let wants = wants_operand(&state);
     let inside = is_inside(stack, &state);
@@ -88,7 +90,7 @@ fn stepped(
 
 /// The tree where the tokens end.
 fn ended(alloc: Global, stack: Vec<Frame>, state: State, end: usize) -> Result<Tree, SyntaxError>
-    ensures { Gives is_memory expression_of result (ended end (finished (at_state stack.items state))) }
+    ensures { Gives is_syntax_memory expression_of result (tree_at_end end (finished (at_state stack.items state))) }
 {
     let tree = finished(alloc, stack, state)?;
     complete(tree, end)
@@ -96,7 +98,8 @@ fn ended(alloc: Global, stack: Vec<Frame>, state: State, end: usize) -> Result<T
 
 /// The tree of tokens that end at a place, where they are a condition.
 fn complete(tree: Option<Box<Tree>>, end: usize) -> Result<Tree, SyntaxError>
-    ensures { Gives (λ _. false) expression_of result (ended end (option_map (λ tree. expression_of tree.value) tree)) }
+    ensures { Gives (λ _. false) expression_of result
+        (tree_at_end end (option_map (λ tree. expression_of tree.value) tree)) }
 {
     match tree {
         Some(tree) => limited(tree),

@@ -3,7 +3,8 @@
 ghost use Rattle.std.specs.Prelude.{◌≡◌, ◌+◌, ◌^◌, ◌<◌, length, false, IfSome, slice_index, true};
 ghost use Rattle.ar_value.specs.Answer.{Gives};
 ghost use Rattle.ar_syntax.specs.Token.{escape_of, is_quote, text_end, unescaped};
-ghost use Rattle.ar_syntax.specs.Tokens.{is_memory, text_of};
+ghost use Rattle.ar_syntax.specs.Spelling.{is_syntax_memory};
+ghost use Rattle.ar_syntax.specs.Tokens.{text_at_front};
 
 use crate::error::SyntaxError;
 use crate::token::{Token, TokenKind, placed};
@@ -20,12 +21,12 @@ pub(crate) fn is_quote(byte: u8) -> bool
 }
 
 /// The text at the front, up to the quote that it begins with.
-#[tactic(auto, unfolding(crate::specs::Tokens::text_of))]
+#[tactic(auto, unfolding(crate::specs::Tokens::text_at_front))]
 pub(crate) fn text_token(alloc: Global, text: &str, at: usize) -> Result<Token, SyntaxError>
     requires some_byte { 0 < length text.now }
     requires begins { is_quote (slice_index text.now 0) ≡ true }
     requires in_range { at + length text.now < 2 ^ 64 }
-    ensures { Gives is_memory (λ token. token) result (text_of at text.now) }
+    ensures { Gives is_syntax_memory (λ token. token) result (text_at_front at text.now) }
 {
     let bytes = text.as_bytes();
     let inside = &text[1..];
@@ -57,7 +58,7 @@ fn text_end(bytes: &[u8], quote: u8) -> Option<usize>
 /// What a text directly after a place stands for.
 fn unescaped(alloc: Global, text: &str, before: usize) -> Result<Text, SyntaxError>
     requires in_range { before + length text.now < 2 ^ 64 }
-    ensures { Gives is_memory (λ value. value) result (unescaped before false text.now) }
+    ensures { Gives is_syntax_memory (λ value. value) result (unescaped before false text.now) }
 {
     let bytes = unescaped_bytes(alloc, text.as_bytes(), before)?;
     match String::from_utf8(bytes) {
@@ -70,7 +71,7 @@ fn unescaped(alloc: Global, text: &str, before: usize) -> Result<Text, SyntaxErr
 #[tactic(auto, using(crate::proofs::Quotes::text_values))]
 fn unescaped_bytes(alloc: Global, bytes: &[u8], before: usize) -> Result<Vec<u8>, SyntaxError>
     requires in_range { before + length bytes.now < 2 ^ 64 }
-    ensures { Gives is_memory (λ value. value.items) result (unescaped before false bytes.now) }
+    ensures { Gives is_syntax_memory (λ value. value.items) result (unescaped before false bytes.now) }
 {
     let mut value = Vec::new(alloc);
     let mut escaped = false;

@@ -3,9 +3,10 @@
 ghost use Rattle.std.specs.Prelude.{◌≡◌, ◌+◌, ◌^◌, ◌<◌, ◌≤◌, length, false, drop, Err, IfOk, Ok};
 ghost use Rattle.ar_value.specs.Answer.{Gives};
 ghost use Rattle.ar_value.specs.Limits.{most_text_bytes};
-ghost use Rattle.ar_syntax.specs.Tokens.{begins_block_comment, begins_line_comment, block_comment, comment_end, front_of, is_blank, line_comment, sign_at, sign_of, is_coalescing, is_memory, token_of, tokens_behind, tokens_of, word_at, word_token, CutsTo};
+ghost use Rattle.ar_syntax.specs.Spelling.{is_syntax_memory, CutsTo};
+ghost use Rattle.ar_syntax.specs.Tokens.{begins_block_comment, begins_line_comment, block_comment, comment_end, front_of, is_blank, line_comment, sign_at, sign_of, is_coalescing, token_of, tokens_behind, tokens_of, word_at, word_token};
 ghost use Rattle.ar_syntax.specs.declared.error.SyntaxError.TheVariants.{TooLong};
-ghost use Rattle.ar_syntax.specs.Token.{named, word_of};
+ghost use Rattle.ar_syntax.specs.Token.{word_or_name, word_of};
 
 use crate::error::SyntaxError;
 use crate::number::{begins_number, number_token};
@@ -74,7 +75,7 @@ pub fn tokens(alloc: Global, text: &str) -> Result<Vec<Token>, SyntaxError>
 #[tactic(auto, unfolding(crate::specs::Tokens::tokens_of))]
 fn limited_tokens(alloc: Global, text: &str) -> Result<Vec<Token>, SyntaxError>
     ensures too_long { most_text_bytes < length text.now → result ≡ Err TooLong }
-    ensures exact { Gives is_memory (λ tokens. tokens.items) result (tokens_of text.now) }
+    ensures exact { Gives is_syntax_memory (λ tokens. tokens.items) result (tokens_of text.now) }
 {
     if text.len() > MOST_TEXT_BYTES {
         return Err(SyntaxError::TooLong);
@@ -84,7 +85,7 @@ fn limited_tokens(alloc: Global, text: &str) -> Result<Vec<Token>, SyntaxError>
 
 /// The tokens of a whole text.
 fn scan(alloc: Global, text: &str) -> Result<Vec<Token>, SyntaxError>
-    ensures { Gives is_memory (λ tokens. tokens.items) result (tokens_behind 0 0 false text.now) }
+    ensures { Gives is_syntax_memory (λ tokens. tokens.items) result (tokens_behind 0 0 false text.now) }
 {
     let mut tokens = Vec::new(alloc);
     let mut field = false;
@@ -112,7 +113,7 @@ fn scan(alloc: Global, text: &str) -> Result<Vec<Token>, SyntaxError>
 fn front(alloc: Global, text: &str, at: usize, field: bool) -> Result<Piece, SyntaxError>
     requires some_byte { 0 < length text.now }
     requires in_range { at + length text.now < 2 ^ 64 }
-    ensures { Gives is_memory (λ front. front) result (front_of at field text.now) }
+    ensures { Gives is_syntax_memory (λ front. front) result (front_of at field text.now) }
 {
     let bytes = text.as_bytes();
     if is_blank(bytes[0]) {
@@ -181,7 +182,7 @@ fn comment_len(bytes: &[u8]) -> Option<usize>
 fn front_token(alloc: Global, text: &str, at: usize, field: bool) -> Result<Token, SyntaxError>
     requires some_byte { 0 < length text.now }
     requires in_range { at + length text.now < 2 ^ 64 }
-    ensures { Gives is_memory (λ token. token) result (token_of at field text.now) }
+    ensures { Gives is_syntax_memory (λ token. token) result (token_of at field text.now) }
 {
     let bytes = text.as_bytes();
     if begins_word(bytes[0]) {
@@ -199,7 +200,7 @@ fn front_token(alloc: Global, text: &str, at: usize, field: bool) -> Result<Toke
 #[tactic(auto, using(crate::proofs::Fronts::front_parts))]
 fn word(alloc: Global, text: &str, at: usize) -> Result<Token, SyntaxError>
     requires in_range { at + length text.now < 2 ^ 64 }
-    ensures { Gives is_memory (λ token. token) result (Ok (word_token at (word_at text.now))) }
+    ensures { Gives is_syntax_memory (λ token. token) result (Ok (word_token at (word_at text.now))) }
 {
     let len = word_len(text.as_bytes());
     Ok(placed(word_kind(alloc, &text[..len])?, at, len))
@@ -217,7 +218,7 @@ fn word_len(bytes: &[u8]) -> usize
 
 /// A word of the language, or a name.
 fn word_kind(alloc: Global, name: &str) -> Result<TokenKind, AllocError>
-    ensures { IfOk result (λ kind. kind ≡ named name.now (word_of name.now)) }
+    ensures { IfOk result (λ kind. kind ≡ word_or_name name.now (word_of name.now)) }
 {
     match Word::of(name) {
         Some(word) => Ok(TokenKind::Word(word)),

@@ -1,7 +1,7 @@
 //! What the frames that are begun say of the next token.
 
 ghost use Rattle.std.specs.Prelude.{◌≡◌};
-ghost use Rattle.ar_syntax.specs.Machine.{inside, left};
+ghost use Rattle.ar_syntax.specs.Machine.{inside, openers_left};
 ghost use Rattle.ar_syntax.specs.Private.Frames.{frame_of, frames_of, is_predicate, openers};
 
 use crate::machine::Frame;
@@ -30,7 +30,7 @@ fn is_predicate(frame: &Frame) -> bool
 /// How many openers may still begin.
 #[tactic(auto, using(crate::proofs::Stacks::stacks))]
 pub(crate) fn left(stack: &[Frame]) -> usize
-    ensures { result ≡ left (frames_of stack.now) }
+    ensures { result ≡ openers_left (frames_of stack.now) }
 {
     let mut left = MOST_OPENERS;
     for frame in stack {

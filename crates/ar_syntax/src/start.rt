@@ -2,7 +2,7 @@
 
 ghost use Rattle.std.specs.Prelude.{◌≡◌, IfOk};
 ghost use Rattle.ar_tree.specs.Expression.{LiteralAt};
-ghost use Rattle.ar_syntax.specs.Roles.{Leaf, sign_start, starts, word_start};
+ghost use Rattle.ar_syntax.specs.Roles.{Leaf, sign_start, begins_as, word_start};
 ghost use Rattle.ar_syntax.specs.Private.Steps.{start_of};
 ghost use Rattle.ar_tree.specs.Views.{expression_of};
 
@@ -26,9 +26,9 @@ pub(crate) enum Begin {
 }
 
 /// What a token begins, inside a predicate or not.
-#[tactic(auto, unfolding(crate::specs::Roles::starts))]
+#[tactic(auto, unfolding(crate::specs::Roles::begins_as))]
 pub(crate) fn begin_of(alloc: Global, inside: bool, token: &Token) -> Result<Begin, AllocError>
-    ensures { IfOk result (λ begin. start_of begin ≡ starts inside token.now) }
+    ensures { IfOk result (λ begin. start_of begin ≡ begins_as inside token.now) }
 {
     let at = token.span.start;
     match &token.kind {

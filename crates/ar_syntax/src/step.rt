@@ -3,8 +3,8 @@
 ghost use Rattle.std.specs.Prelude.{◌≡◌, ◌∷◌, ◌++◌, [], length, map, pred, Some, IfOk};
 ghost use Rattle.ar_tree.specs.Expression.{LiteralAt};
 ghost use Rattle.ar_syntax.specs.Grammar.{ends_bracket, may_continue, may_open};
-ghost use Rattle.ar_syntax.specs.Machine.{Argued, Body, Braced, Frame, Grouped, Have, Indexed, Listed, RightOf, Yes, Want, WantArgument, argue, begin, choose, climbed, close_empty, close_text, end_with, have, left, open_index, operate, negate, select, step, unwound, want, when};
-ghost use Rattle.ar_syntax.specs.Roles.{follows, is_body, is_brace, is_in, looseness, name_of, text_value};
+ghost use Rattle.ar_syntax.specs.Machine.{Argued, Body, Braced, Frame, Grouped, Have, Indexed, Listed, RightOf, Yes, Want, WantArgument, argue, begin, choose, climbed, close_empty, close_text, end_with, have, openers_left, open_index, operate, negate, select, step, unwound, want, when};
+ghost use Rattle.ar_syntax.specs.Roles.{follows, is_body, is_brace, is_in, looseness, token_name, token_text};
 ghost use Rattle.ar_tree.specs.declared.tree.Binary.TheVariants.{NotIn};
 ghost use Rattle.ar_tree.specs.declared.tree.Literal.TheVariants.{Text as TextLiteral};
 ghost use Rattle.ar_syntax.specs.Private.Steps.{Steps, StepsFreely, is_empty_call, start_of, state_of};
@@ -43,7 +43,7 @@ fn wait(stack: &mut Vec<Frame>, frame: Frame) -> Result<State, Refusal>
 #[tactic(auto, using(crate::proofs::Openers::opener_left, crate::proofs::Openers::no_opener_left, crate::proofs::Climbs::pops))]
 fn open(stack: &mut Vec<Frame>, frame: Frame) -> Result<State, Refusal>
     ensures { Steps
-        (λ rules. when rules (may_open rules (left (frames_of stack.old.items)))
+        (λ rules. when rules (may_open rules (openers_left (frames_of stack.old.items)))
         (Want (frame_of frame ∷ frames_of stack.old.items)))
         (frames_of stack.new.items) result }
 {
@@ -59,7 +59,8 @@ fn open(stack: &mut Vec<Frame>, frame: Frame) -> Result<State, Refusal>
 #[tactic(auto, using(crate::proofs::Openers::opener_left, crate::proofs::Openers::no_opener_left))]
 fn with_opener(stack: &[Frame], state: State) -> Result<State, Refusal>
     ensures { Steps
-        (λ rules. when rules (may_open rules (left (frames_of stack.now))) (state_of (frames_of stack.now) state))
+        (λ rules. when rules
+        (may_open rules (openers_left (frames_of stack.now))) (state_of (frames_of stack.now) state))
         (frames_of stack.now) result }
 {
     if left(stack) == 0 {
@@ -430,7 +431,7 @@ fn next_item(stack: &mut Vec<Frame>, at: usize, so_far: Vec<Tree>) -> Result<Sta
 /// After the point of a field.
 fn select(alloc: Global, at: usize, owner: Box<Tree>, token: &Token) -> Result<State, Refusal>
     ensures { (stack : _)
-        → Steps (λ rules. select rules stack at (expression_of owner.value) (name_of token.now)) stack result }
+        → Steps (λ rules. select rules stack at (expression_of owner.value) (token_name token.now)) stack result }
 {
     match name_of(alloc, token)? {
         Some(name) => operand(alloc, Tree::Field { at, owner, name }),
@@ -439,9 +440,9 @@ fn select(alloc: Global, at: usize, owner: Box<Tree>, token: &Token) -> Result<S
 }
 
 /// What a token names after a point.
-#[tactic(auto, unfolding(crate::specs::Roles::name_of))]
+#[tactic(auto, unfolding(crate::specs::Roles::token_name))]
 fn name_of(alloc: Global, token: &Token) -> Result<Option<Text>, AllocError>
-    ensures { IfOk result (λ name. name ≡ name_of token.now) }
+    ensures { IfOk result (λ name. name ≡ token_name token.now) }
 {
     let name = match &token.kind {
         TokenKind::Word(word) => word.letters(),
@@ -452,9 +453,9 @@ fn name_of(alloc: Global, token: &Token) -> Result<Option<Text>, AllocError>
 }
 
 /// A text token's text.
-#[tactic(auto, unfolding(crate::specs::Roles::text_value))]
+#[tactic(auto, unfolding(crate::specs::Roles::token_text))]
 fn text_of(alloc: Global, token: &Token) -> Result<Option<Text>, AllocError>
-    ensures { IfOk result (λ text. text ≡ text_value token.now) }
+    ensures { IfOk result (λ text. text ≡ token_text token.now) }
 {
     match &token.kind {
         TokenKind::Text(text) => Ok(Some(Text::of(alloc, text.as_str())?)),
@@ -473,7 +474,7 @@ fn open_index(
 ) -> Result<State, Refusal>
     ensures { Steps
         (λ rules. open_index rules (frames_of stack.old.items) at (expression_of owner.value) token.now
-        (text_value token.now))
+        (token_text token.now))
         (frames_of stack.new.items) result }
 {
     match text_of(alloc, token)? {
@@ -656,7 +657,7 @@ fn open_braces(
     so_far: Vec<Tree>,
 ) -> Result<State, Refusal>
     ensures { Steps
-        (λ rules. when rules (may_open rules (pred (left (frames_of stack.old.items))))
+        (λ rules. when rules (may_open rules (pred (openers_left (frames_of stack.old.items))))
         (Want (Braced at function (map expression_of so_far.items) ∷ frames_of stack.old.items)))
         (frames_of stack.new.items) result }
 {

@@ -8,38 +8,38 @@ use Rattle.serde_json.specs.Data.{Data}
 use Rattle.serde_json.specs.View.{view}
 use Rattle.serde_json.specs.declared.value.Value.{Value}
 use Rattle.ar_quote.specs.Shown.{quoted}
-use Rattle.ar_words.specs.Names.{name_of, names_listed}
+use Rattle.ar_words.specs.Names.{item_name, names_listed}
 use Rattle.ar_words.specs.Private.Listed.{name_listed, names_after}
 
 abbrev after_comma : (name : List ℕ) → List ℕ
 after_comma name = codes ", " ++ quoted name
 
 -- each name after others
-after_others : (items : List Data) → names_after true items ≡ flat_map after_comma (filter_map name_of items)
+after_others : (items : List Data) → names_after true items ≡ flat_map after_comma (filter_map item_name items)
 after_others [] = refl
-after_others (item ∷ items) = by (name_of item) (after_others items) where
-  by : (name : Option (List ℕ)) → names_after true items ≡ flat_map after_comma (filter_map name_of items)
-      → name_listed true name ++ names_after (true || is_some name) items ≡ flat_map after_comma (cons_option name (filter_map name_of items))
+after_others (item ∷ items) = by (item_name item) (after_others items) where
+  by : (name : Option (List ℕ)) → names_after true items ≡ flat_map after_comma (filter_map item_name items)
+      → name_listed true name ++ names_after (true || is_some name) items ≡ flat_map after_comma (cons_option name (filter_map item_name items))
   by None rest = rest
   by (Some name) rest = ap (λ rest. after_comma name ++ rest) rest
 
 -- the first without a comma
 from_first : (items : List Data) → names_after false items ≡ names_listed items
 from_first [] = refl
-from_first (item ∷ items) = by (name_of item) (from_first items) where
+from_first (item ∷ items) = by (item_name item) (from_first items) where
   by : (name : Option (List ℕ)) → names_after false items ≡ names_listed items
-      → name_listed false name ++ names_after (false || is_some name) items ≡ join_by quoted (codes ", ") (cons_option name (filter_map name_of items))
+      → name_listed false name ++ names_after (false || is_some name) items ≡ join_by quoted (codes ", ") (cons_option name (filter_map item_name items))
   by None rest = rest
   by (Some name) rest = ap (λ rest. quoted name ++ rest) (after_others items)
 
 -- one more name stands after those that were written
 pub next_name : (items : List Value) (place : ℕ) (item : Value) (listed : Bool) (written total : List ℕ) → place < length items → item ≡ slice_index_or items place item
     → written ++ names_after listed (map (λ item. view item) (drop place items)) ≡ total
-    → (written ++ name_listed listed (name_of (view item))) ++ names_after (listed || is_some (name_of (view item))) (map (λ item. view item) (drop (place + 1) items)) ≡ total
+    → (written ++ name_listed listed (item_name (view item))) ++ names_after (listed || is_some (item_name (view item))) (map (λ item. view item) (drop (place + 1) items)) ≡ total
 next_name items place item listed written total within is so_far =
     let left : drop place items ≡ item ∷ drop (suc place) items = drop-cons items place item within ∙ ap (λ first. first ∷ drop (suc place) items) (sym is) in
     rw (add-one place)
-    (append_assoc written (name_listed listed (name_of (view item))) (names_after (listed || is_some (name_of (view item))) (map (λ item. view item) (drop (suc place) items)))
+    (append_assoc written (name_listed listed (item_name (view item))) (names_after (listed || is_some (item_name (view item))) (map (λ item. view item) (drop (suc place) items)))
     ∙ ap (λ items. written ++ names_after listed (map (λ item. view item) items)) (sym left) ∙ so_far)
 
 pub no_name : (items : List Value) (place : ℕ) (listed : Bool) (written before : List ℕ) → length items ≤ place

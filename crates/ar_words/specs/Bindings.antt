@@ -12,7 +12,7 @@ use Rattle.ar_manifest.specs.Template.{template_of}
 use Rattle.ar_manifest.specs.declared.bound.BoundMetric.{BoundMetric}
 use Rattle.ar_manifest.specs.declared.found.RefusedLimit.{RefusedLimit}
 use Rattle.ar_manifest.specs.declared.template.Template.{Template}
-use Rattle.ar_words.specs.Lists.{item_at, runs}
+use Rattle.ar_words.specs.Lists.{list_item, runs}
 
 -- what was made, unless it was refused
 abbrev pub made : {A E : Type 0} → Result A E → Option A
@@ -21,14 +21,14 @@ made (Err e) = None
 
 -- the arguments of a run
 abbrev pub own_of : Data → (run : ℕ) → Option RunArguments
-own_of document run = option_and_then (λ item. made (own_arguments (get (codes "args") item))) (item_at run (runs document))
+own_of document run = option_and_then (λ item. made (own_arguments (get (codes "args") item))) (list_item run (runs document))
 
-abbrev pub template_in : Data → Option Template
-template_in document = option_and_then (λ manifest. made (template_of manifest)) (get (codes "manifest") document)
+abbrev pub given_template : Data → Option Template
+given_template document = option_and_then (λ manifest. made (template_of manifest)) (get (codes "manifest") document)
 
 -- the template, and the arguments that a run gives it
 abbrev pub binding_of : Data → (run : ℕ) → Option (Template × RunArguments)
-binding_of document run = option_and_then (λ own. option_map (λ template. (template, own)) (template_in document)) (own_of document run)
+binding_of document run = option_and_then (λ own. option_map (λ template. (template, own)) (given_template document)) (own_of document run)
 
 -- ---- conditions
 
@@ -44,14 +44,14 @@ refused_condition OutOfMemory metric = None
 abbrev pub condition_in : Option (List BoundMetric) → (metric : ℕ) → BuildError → Option (List ℕ)
 condition_in metrics metric error = option_and_then (refused_condition error) (option_and_then (λ metrics. slice_get metrics metric) metrics)
 
-unfoldable pub bound_condition : Data → (run metric : ℕ) → BuildError → Option (List ℕ)
-bound_condition document run metric error = condition_in (bound_metrics document run) metric error
+unfoldable pub condition_bound_for : Data → (run metric : ℕ) → BuildError → Option (List ℕ)
+condition_bound_for document run metric error = condition_in (bound_metrics document run) metric error
 
 -- ---- refusals of binding
 
 -- the first reference in the texts of a metric that has no value
-abbrev pub unbound_in : Data → (run metric : ℕ) → Option (List ℕ)
-unbound_in document run metric = option_and_then (λ binding. unbound_reference binding.0 binding.1 metric) (binding_of document run)
+abbrev pub unbound_in_metric : Data → (run metric : ℕ) → Option (List ℕ)
+unbound_in_metric document run metric = option_and_then (λ binding. unbound_reference binding.0 binding.1 metric) (binding_of document run)
 
 -- the limit of a metric that is refused
 abbrev pub limit_in : Data → (run metric : ℕ) → Option RefusedLimit

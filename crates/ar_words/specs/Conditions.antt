@@ -10,7 +10,7 @@ use Rattle.ar_judge.specs.declared.error.BuildCause.{BuildCause}
 use Rattle.ar_judge.specs.declared.error.BuildCause.TheVariants.{Grammar, Kinds}
 use Rattle.ar_judge.specs.declared.error.BuildError.{BuildError}
 use Rattle.ar_judge.specs.declared.error.BuildError.TheVariants.{Success, Failure, OutOfMemory}
-use Rattle.ar_syntax.specs.Refused.{refused_at as syntax_refused_at}
+use Rattle.ar_syntax.specs.Refused.{syntax_refused_at}
 use Rattle.ar_syntax.specs.declared.error.SyntaxError.TheVariants as syntax
 use Rattle.ar_quote.specs.Shown.{quoted}
 use Rattle.ar_quote.specs.Quote.{quoted_round}
@@ -21,11 +21,11 @@ use Rattle.ar_words.specs.Operands.{are_two, operands_said, refused_operands}
 -- ---- places
 
 -- the byte of a condition at which it is refused; one that is too long isn't quoted
-abbrev pub place_of : BuildCause → Option ℕ
-place_of (Grammar syntax.TooLong) = None
-place_of (Grammar error) = syntax_refused_at error
-place_of (Kinds error) = kinds_refused_at error
-place_of cause = None
+abbrev pub refused_place : BuildCause → Option ℕ
+refused_place (Grammar syntax.TooLong) = None
+refused_place (Grammar error) = syntax_refused_at error
+refused_place (Kinds error) = kinds_refused_at error
+refused_place cause = None
 
 abbrev pub token_in : (condition : Option (List ℕ)) → (place : Option ℕ) → Option TokenAt
 token_in (Some condition) (Some place) = token_at place condition
@@ -106,7 +106,7 @@ with_quote cause operands text (Some found) = cause_words cause found operands t
 
 -- a condition where `result` has a shape
 unfoldable pub condition_words : Option Shape → (condition : Option (List ℕ)) → BuildCause → (text : List ℕ) → List ℕ
-condition_words shape condition cause text = with_quote cause (refused_operands shape condition cause) text (token_in condition (place_of cause))
+condition_words shape condition cause text = with_quote cause (refused_operands shape condition cause) text (token_in condition (refused_place cause))
 
 -- of a metric's condition, which is bound already
 unfoldable pub build_words : Option Shape → (condition : Option (List ℕ)) → BuildError → (text : List ℕ) → List ℕ

@@ -17,12 +17,12 @@ metrics document = template_list (codes "metrics") document
 abbrev pub runs : Data → Option (List Data)
 runs document = list_in (codes "runs") document
 
-abbrev pub item_at : (number : ℕ) → Option (List Data) → Option Data
-item_at number items = option_and_then (λ items. slice_get items number) items
+abbrev pub list_item : (number : ℕ) → Option (List Data) → Option Data
+list_item number items = option_and_then (λ items. slice_get items number) items
 
 -- a text of an item of a list
 abbrev pub text_at : (name : List ℕ) → (number : ℕ) → Option (List Data) → Option (List ℕ)
-text_at name number items = option_and_then (text_member name) (item_at number items)
+text_at name number items = option_and_then (text_member name) (list_item number items)
 
 -- the text that an entry has by a name
 abbrev pub entry_text : (name : List ℕ) → (entry : ℕ) → Data → Option (List ℕ)

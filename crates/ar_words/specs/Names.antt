@@ -6,8 +6,8 @@ use Rattle.ar_json.specs.Members.{text_member}
 use Rattle.ar_quote.specs.Shown.{quoted}
 
 -- an item's name, if it has one
-abbrev pub name_of : Data → Option (List ℕ)
-name_of item = text_member (codes "name") item
+abbrev pub item_name : Data → Option (List ℕ)
+item_name item = text_member (codes "name") item
 
 -- ---- items
 
@@ -22,7 +22,7 @@ after_blank (Some name) = codes " " ++ quoted name
 
 -- an item by its kind, its number and its name
 abbrev pub item_text : (kind : List ℕ) → (number : ℕ) → Data → List ℕ
-item_text kind number item = numbered kind number ++ after_blank (name_of item)
+item_text kind number item = numbered kind number ++ after_blank (item_name item)
 
 -- ---- lists
 
@@ -32,7 +32,7 @@ most_listed = 8
 
 -- the names of the items that have one, each but the first after a comma
 abbrev pub names_listed : List Data → List ℕ
-names_listed items = join_by quoted (codes ", ") (filter_map name_of items)
+names_listed items = join_by quoted (codes ", ") (filter_map item_name items)
 
 -- how many items stand after those that are listed
 abbrev pub others_counted : (count : ℕ) → List ℕ

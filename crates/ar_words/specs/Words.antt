@@ -14,11 +14,11 @@ use Rattle.ar_eval.specs.declared.eval.EvalError.{EvalError}
 use Rattle.ar_eval.specs.declared.eval.EvalError.TheVariants.{Grammar, Kinds}
 use Rattle.ar_judge.specs.declared.error.BuildCause.TheVariants as build
 use Rattle.ar_judge.specs.declared.error.BuildError.{BuildError}
-use Rattle.ar_words.specs.Bindings.{bound_condition, limit_in, unbound_in}
+use Rattle.ar_words.specs.Bindings.{condition_bound_for, limit_in, unbound_in_metric}
 use Rattle.ar_words.specs.Conditions.{after_name, build_words, condition_words}
 use Rattle.ar_words.specs.Fields.{misfit}
 use Rattle.ar_words.specs.Found.{found_after, limit_said, reference_said}
-use Rattle.ar_words.specs.Lists.{entry_text, item_at, list_in, metrics, runs, template_list, text_at}
+use Rattle.ar_words.specs.Lists.{entry_text, list_item, list_in, metrics, runs, template_list, text_at}
 use Rattle.ar_quote.specs.Shown.{quoted}
 use Rattle.ar_syntax.specs.declared.error.SyntaxError.{SyntaxError}
 use Rattle.ar_syntax.specs.declared.error.SyntaxError.TheVariants.{Unexpected}
@@ -34,7 +34,7 @@ in_place words (Some shown) text = unwrap_or (option_map (λ cut. cut.0 ++ (show
 
 -- after an item's kind and number stands its name
 abbrev pub beside_item : (kind : List ℕ) → (number : ℕ) → Option (List Data) → (text : List ℕ) → List ℕ
-beside_item kind number items text = in_place (numbered kind number) (option_map (item_text kind number) (item_at number items)) text
+beside_item kind number items text = in_place (numbered kind number) (option_map (item_text kind number) (list_item number items)) text
 
 abbrev pub beside_metric : Data → (number : ℕ) → (text : List ℕ) → List ℕ
 beside_metric document number text = beside_item (codes "metric") number (metrics document) text
@@ -44,7 +44,7 @@ beside_run document number text = beside_item (codes "run") number (runs documen
 
 -- `spec.args` gives way to the argument
 abbrev pub with_argument : Data → (number : ℕ) → (text : List ℕ) → List ℕ
-with_argument document number text = in_place (codes "spec.args") (option_map (item_text (codes "argument") number) (item_at number (template_list (codes "args") document))) text
+with_argument document number text = in_place (codes "spec.args") (option_map (item_text (codes "argument") number) (list_item number (template_list (codes "args") document))) text
 
 -- after `the name` stands the name that two runs have
 abbrev pub with_double_name : Data → (number : ℕ) → (text : List ℕ) → List ℕ
@@ -71,15 +71,15 @@ template_words document (causes.BadArgs number) text = with_argument document nu
 template_words document (causes.UnknownDryRun number) text = with_names (text_at (codes "metricName") number (template_list (codes "dryRun") document)) (codes "metrics") (metrics document) text
 template_words document (causes.Unsupported number) text = beside_metric document number text
 template_words document (causes.DoubleMetric number) text = beside_metric document number text
-template_words document (causes.BadField number) text = beside_metric document number (found_after (codes "BadField: ") (option_and_then misfit (item_at number (metrics document))) text)
+template_words document (causes.BadField number) text = beside_metric document number (found_after (codes "BadField: ") (option_and_then misfit (list_item number (metrics document))) text)
 template_words document (causes.OpenBraces number) text = beside_metric document number text
 template_words document (causes.IntervalMissing number) text = beside_metric document number text
 template_words document cause text = text
 
 -- where the arguments of a run are bound
 abbrev pub bind_words : Data → (run : ℕ) → ManifestError → (text : List ℕ) → List ℕ
-bind_words document run (causes.UnknownArg metric) text = with_arguments document (beside_metric document metric (found_after (codes "UnknownArg: ") (option_map (reference_said (codes " in braces; expected args.NAME with a name of `spec.args`")) (unbound_in document run metric)) text))
-bind_words document run (causes.NoValue metric) text = beside_metric document metric (found_after (codes "NoValue: ") (option_map (reference_said (codes " in braces has no value; expected one from the run or the template")) (unbound_in document run metric)) text)
+bind_words document run (causes.UnknownArg metric) text = with_arguments document (beside_metric document metric (found_after (codes "UnknownArg: ") (option_map (reference_said (codes " in braces; expected args.NAME with a name of `spec.args`")) (unbound_in_metric document run metric)) text))
+bind_words document run (causes.NoValue metric) text = beside_metric document metric (found_after (codes "NoValue: ") (option_map (reference_said (codes " in braces has no value; expected one from the run or the template")) (unbound_in_metric document run metric)) text)
 bind_words document run (causes.BadLimit metric) text = beside_metric document metric (found_after (codes "BadLimit: ") (option_map limit_said (limit_in document run metric)) text)
 bind_words document run cause text = template_words document cause text
 
@@ -120,7 +120,7 @@ manifest_words document cause text = with_place document (template_words documen
 unfoldable pub built_words : Data → (run metric : ℕ) → BuildError → (text : List ℕ) → List ℕ
 built_words document run metric error text =
     beside_run document run (beside_metric document metric
-    (build_words (declared_shape (declaration_in document metric)) (bound_condition document run metric error) error text))
+    (build_words (declared_shape (declaration_in document metric)) (condition_bound_for document run metric error) error text))
 
 abbrev pub bundle_words : Data → BundleError → (text : List ℕ) → List ℕ
 bundle_words document (errors.Manifest cause) text = manifest_words document cause text

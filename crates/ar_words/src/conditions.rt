@@ -2,7 +2,7 @@
 
 ghost use Rattle.std.specs.Prelude.{◌≡◌, ◌<◌, ◌++◌, IfOk, OnOk, length, option_map, string_bytes};
 ghost use Rattle.ar_value.specs.View.{shape_view};
-ghost use Rattle.ar_words.specs.Conditions.{advice, after_name, build_words, cause_words, condition_words, conversion_advice, has_predicate, is_conversion, is_field, is_membership, place_of, taken, takes_alike, takes_numbers, takes_texts, token_in, unexpected, with_quote, wrong_operand};
+ghost use Rattle.ar_words.specs.Conditions.{advice, after_name, build_words, cause_words, condition_words, conversion_advice, has_predicate, is_conversion, is_field, is_membership, refused_place, taken, takes_alike, takes_numbers, takes_texts, token_in, unexpected, with_quote, wrong_operand};
 ghost use Rattle.ar_quote.specs.Tokens.{found};
 
 use crate::cuts::cut_at;
@@ -19,7 +19,7 @@ use std::alloc::{AllocError, Global};
 
 /// The byte of a condition at which it is refused. One that is too long isn't quoted.
 fn place_of(cause: BuildCause) -> Option<usize>
-    ensures { result ≡ place_of cause }
+    ensures { result ≡ refused_place cause }
 {
     match cause {
         BuildCause::Grammar(SyntaxError::TooLong) => None,

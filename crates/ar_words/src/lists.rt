@@ -2,7 +2,7 @@
 
 ghost use Rattle.std.specs.Prelude.{◌≡◌, map, option_map};
 ghost use Rattle.serde_json.specs.View.{view};
-ghost use Rattle.ar_words.specs.Lists.{entry_text, item_at, list_in, metrics, runs, template_list, text_at};
+ghost use Rattle.ar_words.specs.Lists.{entry_text, list_item, list_in, metrics, runs, template_list, text_at};
 
 use ar_json::members::{list_of, member, member_of_member, text_member};
 use serde_json::Value as Json;
@@ -36,7 +36,7 @@ pub(crate) fn runs(document: &Json) -> Option<&[Json]>
 
 pub(crate) fn item_at(items: Option<&[Json]>, number: usize) -> Option<&Json>
     ensures { option_map (λ item. view item.now) result
-        ≡ item_at number (option_map (λ list. map (λ item. view item) list.now) items.entry) }
+        ≡ list_item number (option_map (λ list. map (λ item. view item) list.now) items.entry) }
 {
     items?.get(number)
 }

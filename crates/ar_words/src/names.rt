@@ -2,7 +2,7 @@
 
 ghost use Rattle.std.specs.Prelude.{◌≡◌, ◌++◌, IfOk, OnOk, map, option_map, string_bytes, take};
 ghost use Rattle.serde_json.specs.View.{view};
-ghost use Rattle.ar_words.specs.Names.{after_blank, item_text, most_listed, name_of, names_listed, names_text, others_counted};
+ghost use Rattle.ar_words.specs.Names.{after_blank, item_text, most_listed, item_name, names_listed, names_text, others_counted};
 ghost use Rattle.ar_words.specs.Private.Listed.{name_listed};
 
 use ar_json::members::text_member;
@@ -15,7 +15,7 @@ use std::fmt::Write;
 const MOST_LISTED: usize = 8;
 
 pub(crate) fn name_of(item: &Json) -> Option<&str>
-    ensures { option_map (λ name. name.now) result ≡ name_of (view item.now) }
+    ensures { option_map (λ name. name.now) result ≡ item_name (view item.now) }
 {
     text_member(item, "name")
 }

@@ -3,9 +3,9 @@
 ghost use Rattle.std.specs.Prelude.{◌≡◌, ◌<◌, ◌++◌, IfOk, OnOk, codes, length, map, option_map, string_bytes};
 ghost use Rattle.serde_json.specs.View.{view};
 ghost use Rattle.ar_manifest.specs.Cut.{cut_at};
-ghost use Rattle.ar_words.specs.Bindings.{bound_condition};
+ghost use Rattle.ar_words.specs.Bindings.{condition_bound_for};
 ghost use Rattle.ar_words.specs.Conditions.{build_words};
-ghost use Rattle.ar_words.specs.Lists.{item_at};
+ghost use Rattle.ar_words.specs.Lists.{list_item};
 ghost use Rattle.ar_quote.specs.Shown.{quoted};
 ghost use Rattle.ar_words.specs.Names.{item_text};
 ghost use Rattle.ar_words.specs.Words.{beside_item, beside_metric, beside_run, bind_words, built_words, bundle_words, eval_words, given_kind, has_braces, head_words, in_place, kind_of_list, list_kind, list_words, manifest_words, template_words, those_there, with_advice, with_argument, with_arguments, with_double_name, with_names, with_place};
@@ -72,7 +72,7 @@ fn shown_item(
 ) -> Result<Option<String>, AllocError>
     ensures { IfOk result (λ shown. option_map (λ shown. string_bytes shown) shown
         ≡ option_map (item_text kind.now number)
-        (item_at number (option_map (λ list. map (λ item. view item) list.now) items.entry))) }
+        (list_item number (option_map (λ list. map (λ item. view item) list.now) items.entry))) }
 {
     match item_at(items, number) {
         Some(item) => Ok(Some(item_text(alloc, kind, number, item)?)),
@@ -356,7 +356,7 @@ fn manifest_text(
 // ---- refusals
 
 /// The text of a refusal of a metric's condition, with the condition and the names of the run and the metric.
-#[tactic(auto, unfolding(crate::specs::Bindings::bound_condition, crate::specs::Words::built_words))]
+#[tactic(auto, unfolding(crate::specs::Bindings::condition_bound_for, crate::specs::Words::built_words))]
 fn built_text(
     alloc: Global,
     document: &Json,

@@ -4,22 +4,23 @@ use Rattle.std.specs.Prelude.{slice_get}
 use Rattle.std.specs.List.{AllByRecursion}
 use Rattle.ar_bundle.specs.Bundle.{Bundle}
 use Rattle.ar_bundle.specs.Lawful.{times_in}
-use Rattle.ar_board.specs.Board.{AreSeated, IsLost, Seat, seat_of}
+use Rattle.ar_board.specs.Lost.{IsLost}
+use Rattle.ar_board.specs.Board.{AreSeated, Seat, seat_of}
 use Rattle.ar_board.specs.declared.lost.Lost.{Lost as Losing}
 use Rattle.ar_board.specs.declared.cell.receipt.Receipt.{Receipt}
 use Rattle.ar_queue.specs.Rule.{HasTakenAll, IsDone}
 use Rattle.ar_queue.specs.declared.queue.View.{View}
 use Rattle.ar_queue.specs.Workers.{AreNamed, IsFeeder}
-use Rattle.ar_workers.specs.Joined.{IsCause, IsNotLost, IsShown, NameEachOnce, named_by}
+use Rattle.ar_workers.specs.Joined.{IsWorkCause, IsNotLost, IsShown, NameEachOnce, named_by}
 use Rattle.ar_workers.specs.Private.Early.{told}
 use Rattle.ar_workers.specs.Private.Settling.{AreEachOnce}
 use Rattle.ar_queue.specs.declared.side_by_side.Unfinished.{Unfinished}
 use Rattle.ar_queue.specs.declared.side_by_side.Unfinished.TheVariants as early
 use Rattle.ar_workers.specs.declared.error.WorkError.{WorkError}
 
-pub is_cause : (bundle : Bundle) (cause : Unfinished) (error : WorkError) → error ≡ told cause → IsCause bundle error
-is_cause bundle early.NoThread error is = subst (IsCause bundle) (sym is) tt
-is_cause bundle early.OutOfMemory error is = subst (IsCause bundle) (sym is) tt
+pub is_cause : (bundle : Bundle) (cause : Unfinished) (error : WorkError) → error ≡ told cause → IsWorkCause bundle error
+is_cause bundle early.NoThread error is = subst (IsWorkCause bundle) (sym is) tt
+is_cause bundle early.OutOfMemory error is = subst (IsWorkCause bundle) (sym is) tt
 
 pub is_not_lost : (cause : Unfinished) (error : WorkError) → error ≡ told cause → IsNotLost error
 is_not_lost early.NoThread error is = subst IsNotLost (sym is) tt

@@ -4,12 +4,12 @@ use Rattle.std.specs.Prelude.{slice_get, slice_index_or, ◌==◌, nat_lt, optio
 use Rattle.std.proofs.lemmas.List.{map_push}
 use Rattle.std.proofs.lemmas.Option.{get_or_from_slice_get, slice_get_within}
 use Rattle.std.proofs.lemmas.Bool.Decides.{nat_tests}
-use Rattle.ar_bundle.specs.Bundle.{Bundle, found, found_of}
+use Rattle.ar_bundle.specs.Bundle.{Bundle, finding_at, found_of}
 use Rattle.ar_bundle.specs.declared.bundle.EventPart.{EventPart}
 use Rattle.ar_bundle.specs.Lawful.{times_in}
 use Rattle.ar_bundle.specs.declared.finding.Finding.{Finding}
 use Rattle.ar_bundle.proofs.HistoryLemmas.{at_set_other, at_set_same, times_push}
-use Rattle.ar_queue.specs.Rule.{once_below}
+use Rattle.ar_queue.specs.Numbers.{once_below}
 use Rattle.ar_queue.proofs.Steps.{times_both}
 use Rattle.ar_queue.specs.Workers.{IsNamed, all_named}
 use Rattle.ar_workers.specs.Private.Judging.{AreJudged, AreKnown, IsKnown, numbers_judged}
@@ -25,14 +25,14 @@ judged_next number finding before after is other =
     let pushed = times_push other number (numbers_judged before) in
     omega arith
 
-pub exact_next : (bundle : Bundle) (number : ℕ) (finding : Finding) (before after : List Judged) → AreJudged bundle before → found bundle number ≡ Some finding → after ≡ before ++ (record { number = number; finding = finding }) ∷ [] → AreJudged bundle after
+pub exact_next : (bundle : Bundle) (number : ℕ) (finding : Finding) (before after : List Judged) → AreJudged bundle before → finding_at bundle number ≡ Some finding → after ≡ before ++ (record { number = number; finding = finding }) ∷ [] → AreJudged bundle after
 exact_next bundle number finding before after are is more =
     let one : Judged = record { number = number; finding = finding } in
     subst (AreJudged bundle) (sym more)
-    (map_push (λ (one : Judged). found bundle one.number) before one ∙ (ap (λ (last : List (Option Finding)). last ++ found bundle number ∷ []) are ∙ (ap (λ (last : Option Finding). map (λ (one : Judged). Some one.finding) before ++ last ∷ []) is ∙ sym (map_push (λ (one : Judged). Some one.finding) before one))))
+    (map_push (λ (one : Judged). finding_at bundle one.number) before one ∙ (ap (λ (last : List (Option Finding)). last ++ finding_at bundle number ∷ []) are ∙ (ap (λ (last : Option Finding). map (λ (one : Judged). Some one.finding) before ++ last ∷ []) is ∙ sym (map_push (λ (one : Judged). Some one.finding) before one))))
 
 -- the first of them is what its number comes to, and so are the others
-pub first_judged : (bundle : Bundle) (one : Judged) (judged : List Judged) → AreJudged bundle (one ∷ judged) → (found bundle one.number ≡ Some one.finding) × AreJudged bundle judged
+pub first_judged : (bundle : Bundle) (one : Judged) (judged : List Judged) → AreJudged bundle (one ∷ judged) → (finding_at bundle one.number ≡ Some one.finding) × AreJudged bundle judged
 first_judged bundle one judged are = (cc, cc)
 
 -- ---- the table
@@ -41,13 +41,13 @@ inside_by_entry : (bundle : Bundle) (number : ℕ) (finding : Finding) (entry : 
 inside_by_entry bundle number finding (Some entry) there is = slice_get_within bundle.entries number entry there
 inside_by_entry bundle number finding None there is = absurd cc
 
-found_inside : (bundle : Bundle) (number : ℕ) (finding : Finding) → found bundle number ≡ Some finding → number < length bundle.entries
+found_inside : (bundle : Bundle) (number : ℕ) (finding : Finding) → finding_at bundle number ≡ Some finding → number < length bundle.entries
 found_inside bundle number finding is = inside_by_entry bundle number finding (slice_get bundle.entries number) refl is
 
 pub judged_inside : (bundle : Bundle) (one : Judged) (judged : List Judged) → AreJudged bundle (one ∷ judged) → one.number < length bundle.entries
 judged_inside bundle one judged are = found_inside bundle one.number one.finding (first_judged bundle one judged are).0
 
-known_by_test : (bundle : Bundle) (number : ℕ) (one : Judged) (table : List (Option Finding)) (test : Bool) → (number == one.number) ≡ test → one.number < length table → found bundle one.number ≡ Some one.finding → IsKnown bundle table number → IsKnown bundle (set table one.number (Some one.finding)) number
+known_by_test : (bundle : Bundle) (number : ℕ) (one : Judged) (table : List (Option Finding)) (test : Bool) → (number == one.number) ≡ test → one.number < length table → finding_at bundle one.number ≡ Some one.finding → IsKnown bundle table number → IsKnown bundle (set table one.number (Some one.finding)) number
 known_by_test bundle number one table true is less judged known =
     let same : one.number ≡ number = grind (arith, nat_tests) in
     subst (IsKnown bundle (set table one.number (Some one.finding))) same (one.finding, at_set_same table one.number (Some one.finding) less, judged)
@@ -55,7 +55,7 @@ known_by_test bundle number one table false is less judged known =
     (known.0, at_set_other table one.number number (Some one.finding) (λ same. absurd (grind (arith, nat_tests))) ∙ known.1, known.2)
 
 -- a number stays known where another's finding is put into the table, or its own again
-pub still_known : (bundle : Bundle) (one : Judged) (before after : List (Option Finding)) → one.number < length before → found bundle one.number ≡ Some one.finding → after ≡ set before one.number (Some one.finding) → (number : ℕ) → IsKnown bundle before number → IsKnown bundle after number
+pub still_known : (bundle : Bundle) (one : Judged) (before after : List (Option Finding)) → one.number < length before → finding_at bundle one.number ≡ Some one.finding → after ≡ set before one.number (Some one.finding) → (number : ℕ) → IsKnown bundle before number → IsKnown bundle after number
 still_known bundle one before after less judged is number known = subst (λ table. IsKnown bundle table number) (sym is) (known_by_test bundle number one before (number == one.number) refl less judged known)
 
 -- ---- one finding more is in the table
@@ -76,7 +76,7 @@ both_known bundle first second table one other number stands =
     by_times zero is = (let both = times_both number first second in other number (omega arith))
     by_times (suc times) is = one number (omega arith)
 
-pub known_next : (bundle : Bundle) (judged : List Judged) (one : Judged) (before after : List (Option Finding)) → found bundle one.number ≡ Some one.finding → one.number < length before → after ≡ set before one.number (Some one.finding)
+pub known_next : (bundle : Bundle) (judged : List Judged) (one : Judged) (before after : List (Option Finding)) → finding_at bundle one.number ≡ Some one.finding → one.number < length before → after ≡ set before one.number (Some one.finding)
     → AreKnown bundle (numbers_judged judged) before → AreKnown bundle (numbers_judged (judged ++ one ∷ [])) after
 known_next bundle judged one before after here less is known =
     let more = map_push (λ (one : Judged). one.number) judged one in
@@ -114,5 +114,5 @@ pub known_inside : (bundle : Bundle) (number : ℕ) (table : List (Option Findin
 known_inside bundle number table known = slice_get_within table number (Some known.0) known.1
 
 -- what is read of the table is what its number comes to
-pub known_read : (bundle : Bundle) (number : ℕ) (table : List (Option Finding)) (d : Option Finding) → IsKnown bundle table number → slice_index_or table number d ≡ found bundle number
+pub known_read : (bundle : Bundle) (number : ℕ) (table : List (Option Finding)) (d : Option Finding) → IsKnown bundle table number → slice_index_or table number d ≡ finding_at bundle number
 known_read bundle number table d known = get_or_from_slice_get table number (Some known.0) d known.1 ∙ sym known.2

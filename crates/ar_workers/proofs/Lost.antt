@@ -8,11 +8,11 @@ use Rattle.ar_bundle.specs.Bundle.{Bundle}
 use Rattle.ar_bundle.specs.Lawful.{numbers_of, times, times_in}
 use Rattle.ar_bundle.specs.declared.history.Entry.{Entry}
 use Rattle.ar_bundle.proofs.HistoryLemmas.{times_by}
-use Rattle.ar_board.specs.Board.{IsUnmetAmong}
+use Rattle.ar_board.specs.Lost.{IsUnmetAmong}
 use Rattle.ar_board.specs.declared.lost.Lost.{Lost as Losing}
 use Rattle.ar_board.specs.declared.cell.receipt.Receipt.{Receipt}
 use Rattle.ar_board.proofs.ReceiptLemmas.{met_has_no_cause}
-use Rattle.ar_queue.specs.Rule.{once_below}
+use Rattle.ar_queue.specs.Numbers.{once_below}
 use Rattle.ar_queue.proofs.Steps.{times_both}
 use Rattle.ar_workers.specs.Joined.{IsDoubleOrUnmet, IsShown, named_by}
 

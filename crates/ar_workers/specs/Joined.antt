@@ -3,10 +3,10 @@ use Rattle.std.specs.Prelude.{◌≡◌, ◌<◌, ◌⊎◌, ◌+◌, ◌++◌, 
 use Rattle.ar_bundle.specs.Bundle.{Bundle}
 use Rattle.ar_bundle.specs.Lawful.{times_in}
 use Rattle.ar_bundle.specs.declared.history.Entry.{Entry}
-use Rattle.ar_board.specs.Board.{IsLost, IsUnmetAmong}
+use Rattle.ar_board.specs.Lost.{IsLost, IsUnmetAmong}
 use Rattle.ar_board.specs.declared.lost.Lost.{Lost as Losing}
 use Rattle.ar_board.specs.declared.cell.receipt.Receipt.{Receipt}
-use Rattle.ar_queue.specs.Rule.{once_below}
+use Rattle.ar_queue.specs.Numbers.{once_below}
 use Rattle.ar_workers.specs.declared.error.WorkError.{WorkError}
 use Rattle.ar_workers.specs.declared.error.WorkError.TheVariants.{Lost, NoThread, OutOfMemory}
 
@@ -34,10 +34,10 @@ abbrev pub IsDoubleOrUnmet : (number : ℕ) → List (List Entry) → List (List
 IsDoubleOrUnmet number histories receipts doubles = (0 < times_in number doubles) ⊎ IsUnmetAmong histories receipts number
 
 -- why workers give no histories: no cause is claimed where a thread couldn't be started or memory was wanting
-abbrev pub IsCause : Bundle → WorkError → Type 0
-IsCause bundle NoThread = Unit {0}
-IsCause bundle OutOfMemory = Unit {0}
-IsCause bundle (Lost lost doubles) = IsShown bundle lost doubles.items
+abbrev pub IsWorkCause : Bundle → WorkError → Type 0
+IsWorkCause bundle NoThread = Unit {0}
+IsWorkCause bundle OutOfMemory = Unit {0}
+IsWorkCause bundle (Lost lost doubles) = IsShown bundle lost doubles.items
 
 -- no number was lost
 abbrev pub IsNotLost : WorkError → Type 0

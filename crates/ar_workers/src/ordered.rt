@@ -1,7 +1,7 @@
 //! Ordered runs: judged by several workers, and applied in the order of the numbers.
 
 ghost use Rattle.std.specs.Prelude.{◌≡◌, ◌<◌, ◌≤◌, ℕ, IfErr, IfOk, length};
-ghost use Rattle.ar_bundle.specs.Bundle.{IsBundle};
+ghost use Rattle.ar_bundle.specs.Sound.{IsBundle};
 ghost use Rattle.ar_bundle.specs.Lawful.{AllRise, AreLawful};
 ghost use Rattle.ar_workers.specs.Joined.{IsNotLost};
 ghost use Rattle.ar_workers.specs.Private.Judging.{IsKnown};

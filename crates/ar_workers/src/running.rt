@@ -5,7 +5,7 @@ ghost use Rattle.std.specs.List.{AllByRecursion};
 ghost use Rattle.ar_bundle.specs.Lawful.{AreLawful};
 ghost use Rattle.ar_board.specs.Board.{receipts_of};
 ghost use Rattle.ar_board.specs.Locks.{AreOf};
-ghost use Rattle.ar_workers.specs.Joined.{IsCause, NameEachOnce};
+ghost use Rattle.ar_workers.specs.Joined.{IsWorkCause, NameEachOnce};
 
 use crate::error::WorkError;
 use crate::posting::{Posting, desks_of, seats_and_doubles};
@@ -34,7 +34,7 @@ pub fn run_all<G: Gate, R: Threads + Wait + Sync>(
 ) -> Result<Histories, WorkError>
     requires most { (1 ≤ workers) × (workers ≤ MOST_WORKERS) }
     ensures lawful { IfOk result (AreLawful bundle.now) }
-    ensures cause { IfErr result (IsCause bundle.now) }
+    ensures cause { IfErr result (IsWorkCause bundle.now) }
 {
     let blanks = Blanks::new(workers as u64);
     run_named::<Brand, Brand, G, R>(rt, alloc, bundle, workers, blanks, gate)
@@ -61,7 +61,7 @@ where
     requires blanks { AreOf L.names L.parts blanks }
     requires parts { L.parts ≡ M.workers }
     ensures lawful { IfOk result (AreLawful M.bundle) }
-    ensures cause { IfErr result (IsCause M.bundle) }
+    ensures cause { IfErr result (IsWorkCause M.bundle) }
 {
     let (board, seats) = Board::<M, L>::new(alloc, blanks, bundle, workers)?;
     let (seats, doubles) = posted_by::<M, L, G, R>(rt, alloc, bundle, &board, seats, gate)?;
@@ -104,7 +104,7 @@ fn closed<M: BundleName, L: LockNames>(
     requires seats { length seats.items ≡ M.workers }
     requires each_once { NameEachOnce (length M.bundle.entries) (receipts_of seats.items) doubles.items }
     ensures lawful { IfOk result (AreLawful M.bundle) }
-    ensures cause { IfErr result (IsCause M.bundle) }
+    ensures cause { IfErr result (IsWorkCause M.bundle) }
 {
     match board.close(seats) {
         Ok(histories) => Ok(histories),

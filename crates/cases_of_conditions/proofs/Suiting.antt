@@ -1,9 +1,10 @@
 -- Samples that suit the shape that a judge was built under.
 use Rattle.std.proofs.Common.{ℕ, List, Option, Some, None}
 use Rattle.ar_value.specs.Shape.{Shape}
-use Rattle.ar_judge.specs.Condition.{Condition}
-use Rattle.ar_judge.specs.Verdict.{AreBuilt, IsJudge, Judge, Sample, Suits}
-use Rattle.ar_bundle.specs.Bundle.{IsOfShape, JudgesShape, SampleSuits}
+use Rattle.ar_judge.specs.Built.{Condition}
+use Rattle.ar_judge.specs.Judging.{Suits}
+use Rattle.ar_judge.specs.Verdict.{AreBuilt, IsJudge, Judge, Sample}
+use Rattle.ar_bundle.specs.Sound.{IsOfShape, JudgesShape, SampleSuits}
 use Rattle.ar_bundle.proofs.Bundles.{sample_suits}
 
 condition_of_shape : (shape : Shape) (text : Option (List ℕ)) (condition : Option Condition) → AreBuilt shape text condition → IsOfShape shape condition

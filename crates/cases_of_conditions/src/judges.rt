@@ -3,7 +3,7 @@
 ghost use Rattle.std.specs.Prelude.{◌≡◌, IfOk, is_some};
 ghost use Rattle.cases_of_values.specs.Calls.{is_one_of};
 ghost use Rattle.cases_of_conditions.specs.Calls.{judge_calls};
-ghost use Rattle.ar_bundle.specs.Bundle.{JudgesShape, SampleSuits};
+ghost use Rattle.ar_bundle.specs.Sound.{JudgesShape, SampleSuits};
 ghost use Rattle.ar_judge.specs.Verdict.{sample_view};
 ghost use Rattle.ar_value.specs.View.{shape_view};
 

@@ -19,7 +19,7 @@
 #![tactic(auto)]
 
 ghost use Rattle.std.specs.Prelude.{◌≡◌, is_some};
-ghost use Rattle.conformance.specs.Calls.{is_call, is_own_call};
+ghost use Rattle.conformance.specs.Calls.{is_suite_call, is_own_call};
 
 mod boards;
 mod commands;
@@ -98,7 +98,7 @@ fn answer_to_case(alloc: Global, case: &Json) -> Result<String, LineFault> {
 
 /// What a call of any subject answers on a case; `None` where it is none.
 fn answer_to(alloc: Global, call: &str, case: &Json) -> Option<Result<String, CaseFault>>
-    ensures { is_some result ≡ is_call call.now }
+    ensures { is_some result ≡ is_suite_call call.now }
 {
     if let Some(answered) = cases_of_values::answer(alloc, call, case) {
         return Some(answered);

@@ -2,7 +2,7 @@
 //! what closing gives.
 
 ghost use Rattle.std.specs.Prelude.{◌≡◌, ◌<◌, ◌≤◌, Some, length};
-ghost use Rattle.ar_bundle.specs.Bundle.{found};
+ghost use Rattle.ar_bundle.specs.Bundle.{finding_at};
 ghost use Rattle.ar_board.specs.Locks.{AreOf};
 
 use crate::cells::TWO_RUNS;
@@ -79,7 +79,7 @@ fn put_held<M: BundleName, L: LockNames>(
     text: &mut String,
 ) -> Result<(), Fail>
     requires sizes { (2 ≤ length M.bundle.runs) × (2 ≤ length M.bundle.entries) }
-    requires finding { found M.bundle 1 ≡ Some finding }
+    requires finding { finding_at M.bundle 1 ≡ Some finding }
 {
     let cell = board.first.lock(rt);
     put_shown::<M, L>(alloc, &cell, seat.worker(), seat.receipts(), text)?;

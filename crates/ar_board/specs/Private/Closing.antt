@@ -3,14 +3,15 @@ use Rattle.std.specs.Prelude.{◌≡◌, ◌⊎◌, ◌<◌, ◌≤◌, ℕ, Boo
 use Rattle.std.specs.List.{AllByRecursion}
 use Rattle.std.specs.declared.alloc.Global.{Global}
 use Rattle.ar_value.specs.Limits.{most_runs}
-use Rattle.ar_bundle.specs.Bundle.{Bundle, run_of}
+use Rattle.ar_bundle.specs.Bundle.{Bundle, run_at}
 use Rattle.ar_bundle.specs.Lawful.{times}
 use Rattle.ar_bundle.specs.declared.history.Entry.{Entry}
-use Rattle.ar_board.specs.Cell.{ArePut, Cell, IsCell, histories_of, history_at, lock_of}
+use Rattle.ar_board.specs.Cell.{ArePut, Cell, IsCell, histories_of, history_at}
 use Rattle.ar_board.specs.Receipts.{Hold, IsMet, numbers_at}
 use Rattle.ar_board.specs.declared.cell.receipt.Receipt.{Receipt}
-use Rattle.ar_board.specs.Board.{IsUnmet, IsUnmetAmong, Seat, receipts_of, received_under}
-use Rattle.ar_board.specs.Locks.{at_lock}
+use Rattle.ar_board.specs.Lost.{IsUnmet, IsUnmetAmong, received_under}
+use Rattle.ar_board.specs.Board.{Seat, receipts_of}
+use Rattle.ar_board.specs.Locks.{at_lock, lock_of}
 use Rattle.ar_board.specs.Seats.{Held}
 use Rattle.ar_board.specs.declared.closing.Room.{Room}
 
@@ -32,7 +33,7 @@ lists_of receipts = map (λ own. own.items) receipts
 
 -- receipts of the runs of their numbers
 abbrev pub AreOwn : Bundle → List Receipt → Type 0
-AreOwn bundle receipts = AllByRecursion (λ receipt. run_of bundle receipt.number ≡ Some receipt.run) receipts
+AreOwn bundle receipts = AllByRecursion (λ receipt. run_at bundle receipt.number ≡ Some receipt.run) receipts
 
 -- what seats had: a list of receipts each, and shares of one part each, which have for each lock the number of the receipts for
 -- runs under it

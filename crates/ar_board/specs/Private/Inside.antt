@@ -3,11 +3,12 @@ use Rattle.std.specs.Prelude.{◌≡◌, ◌≤◌, ℕ, suc, min, true, List, [
 use Rattle.std.specs.Vec.{vec_capacity}
 use Rattle.std.specs.VecDeque.{deque_capacity}
 use Rattle.ar_limits.specs.Replay.{Replays}
-use Rattle.ar_bundle.specs.Bundle.{Bundle, IsBundle, entries_of, events_of, found}
-use Rattle.ar_board.specs.Core.{Core, State}
+use Rattle.ar_bundle.specs.Sound.{IsBundle, entries_of}
+use Rattle.ar_bundle.specs.Bundle.{Bundle, events_of, finding_at}
+use Rattle.ar_board.specs.Core.{Core, ScheduleState}
 use Rattle.ar_bundle.specs.Lawful.{numbers_of}
 use Rattle.ar_board.specs.Private.Kept.{AreInOrder, IsSound}
-use Rattle.ar_board.specs.Private.Own.{AreOwn, items_of}
+use Rattle.ar_board.specs.Private.Own.{AreOwn, items_of_each}
 use Rattle.ar_bundle.specs.declared.bundle.RunPart.{RunPart}
 use Rattle.ar_bundle.specs.declared.finding.Finding.{Finding}
 use Rattle.ar_bundle.specs.declared.history.Entry.{Entry}
@@ -17,7 +18,7 @@ use Rattle.ar_board.specs.declared.core_state.CoreState.TheInside.{Inside}
 abbrev pub histories_of : List RunHistory → List (List Entry)
 histories_of runs = map (λ run. run.entries.items) runs
 
-abbrev pub state_of : Inside → State
+abbrev pub state_of : Inside → ScheduleState
 state_of core = record { next = core.next; queue = core.queue.items; hands = core.hands.items; parked = core.parked.items; histories = histories_of core.runs.items }
 
 abbrev pub core_of : Inside → Core
@@ -37,7 +38,7 @@ AreKept bundle from parts runs = ⊥
 -- the findings of the numbers below one
 pub record AreFound (bundle : Bundle) (upto : ℕ) (findings : List Finding) : Type 0 where
   pub all : length findings ≡ upto
-  pub found : (number : ℕ) (finding : Finding) → slice_get findings number ≡ Some finding → found bundle number ≡ Some finding
+  pub found : (number : ℕ) (finding : Finding) → slice_get findings number ≡ Some finding → finding_at bundle number ≡ Some finding
 
 -- the finding of each number
 abbrev pub AreJudged : Bundle → List Finding → Type 0
@@ -56,5 +57,5 @@ pub record IsCore (core : Inside) : Type 0 where
   pub queued : length core.queue.items ≤ core.places
   pub put : length core.queue.items ≤ core.next
   pub room : min core.places (length core.bundle.now.entries) ≤ deque_capacity core.queue
-  pub own : core.ordered ≡ true → AreOwn core.bundle.now core.bundle.now.entries (items_of core.own.items)
+  pub own : core.ordered ≡ true → AreOwn core.bundle.now core.bundle.now.entries (items_of_each core.own.items)
   pub in_order : core.ordered ≡ true → AreInOrder core.bundle.now (histories_of core.runs.items)

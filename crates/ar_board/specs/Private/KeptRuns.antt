@@ -1,10 +1,12 @@
 -- How a cell keeps runs, and how contracts see that.
 use Rattle.std.specs.Prelude.{◌≡◌, ◌≢◌, ◌<◌, ◌≤◌, ◌+◌, ◌==◌, ◌++◌, ℕ, suc, nat_lt, Bool, if◌then◌else◌, List, [], ◌∷◌, length, map, Option, Some, None, drop, get_or, replicate, set, slice_get, vec_capacity}
-use Rattle.ar_limits.specs.Replay.{IsOfMetricBelow, Replays}
+use Rattle.ar_limits.specs.Replay.{IsOfMetricBelow, Replays, most_events}
 use Rattle.ar_limits.specs.declared.event.Event.{Event}
 use Rattle.ar_limits.specs.declared.limits.Limits.{Limits}
-use Rattle.ar_bundle.specs.Bundle.{Bundle, IsBundle, entries_of, most_events, run_of}
-use Rattle.ar_board.specs.Cell.{Cell, IsCell, KeptRun, history_at, lock_of}
+use Rattle.ar_bundle.specs.Sound.{IsBundle, entries_of}
+use Rattle.ar_bundle.specs.Bundle.{Bundle, run_at}
+use Rattle.ar_board.specs.Locks.{lock_of}
+use Rattle.ar_board.specs.Cell.{Cell, IsCell, KeptRun, history_at}
 use Rattle.ar_bundle.specs.Lawful.{numbers_of, times_in}
 use Rattle.ar_board.specs.Posting.{HasOneMore}
 use Rattle.ar_board.specs.Receipts.{posted_from}
@@ -67,13 +69,13 @@ abbrev pub cell_of : List Declared → (total : ℕ) → Cell
 cell_of runs total = record { runs = map kept_of runs; total = total }
 
 -- whether a number stands among some
-abbrev pub is_among : (number : ℕ) → List ℕ → Bool
-is_among number numbers = nat_lt 0 (times_in number numbers)
+abbrev pub is_number_among : (number : ℕ) → List ℕ → Bool
+is_number_among number numbers = nat_lt 0 (times_in number numbers)
 
 -- whether each number stands in its run's history
 pub record IsTable (bundle : Bundle) (cell : Cell) (stored : List Bool) : Type 0 where
   pub as_many : length stored ≡ length bundle.entries
-  pub each : (number run : ℕ) → run_of bundle number ≡ Some run → slice_get stored number ≡ Some (is_among number (numbers_of (history_at cell run)))
+  pub each : (number run : ℕ) → run_at bundle number ≡ Some run → slice_get stored number ≡ Some (is_number_among number (numbers_of (history_at cell run)))
 
 -- room for all entries of a run that is under the lock
 pub record HasRoom (bundle : Bundle) (lock run : ℕ) (kept : Declared) : Type 0 where
@@ -81,7 +83,7 @@ pub record HasRoom (bundle : Bundle) (lock run : ℕ) (kept : Declared) : Type 0
   pub authors : lock_of run ≡ lock → entries_of bundle run ≤ vec_capacity kept.authors
 
 -- what always holds of a cell
-pub record IsInside (named : Bundle) (workers lock : ℕ) (bundle : Bundle) (runs : List Declared) (stored : List Bool) (total : ℕ) : Type 0 where
+pub record IsSoundCell (named : Bundle) (workers lock : ℕ) (bundle : Bundle) (runs : List Declared) (stored : List Bool) (total : ℕ) : Type 0 where
   pub is_named : bundle ≡ named
   pub is_bundle : IsBundle bundle
   pub cell : IsCell bundle workers lock (cell_of runs total)

@@ -5,8 +5,8 @@ use Rattle.ar_bundle.specs.Bundle.{Bundle}
 use Rattle.ar_board.specs.Core.{own_from}
 use Rattle.ar_bundle.specs.declared.bundle.EventPart.{EventPart}
 
-abbrev pub items_of : List (Vec ℕ Global) → List (List ℕ)
-items_of lists = map (λ list. list.items) lists
+abbrev pub items_of_each : List (Vec ℕ Global) → List (List ℕ)
+items_of_each lists = map (λ list. list.items) lists
 
 -- a list for each run of the bundle, of the numbers that the run has among these entries
 pub record AreOwn (bundle : Bundle) (entries : List EventPart) (lists : List (List ℕ)) : Type 0 where

@@ -1,7 +1,7 @@
 //! Which lock a run is under, and types that name a lock in contracts. No value of such a type is wanted: a
 //! function over them speaks of whichever lock its caller has.
 
-ghost use Rattle.ar_board.specs.Cell.{lock_of};
+ghost use Rattle.ar_board.specs.Locks.{lock_of};
 ghost use Rattle.std.specs.Prelude.{◌≡◌, ℕ};
 
 use std::marker::Brand;

@@ -1,7 +1,7 @@
 //! Posts of an ordered core.
 
 ghost use Rattle.std.specs.Prelude.{◌≡◌, ◌<◌, ◌↔◌, true, false, length};
-ghost use Rattle.ar_board.specs.Core.{stepped};
+ghost use Rattle.ar_board.specs.Core.{core_stepped};
 ghost use Rattle.ar_board.specs.Private.Posts.{IsTurn, next_own, settled_core};
 ghost use Rattle.ar_board.specs.declared.core_steps.CoreStep.TheVariants.{Post};
 ghost use Rattle.ar_board.specs.declared.core_steps.Moved.TheVariants.{Idle};
@@ -14,7 +14,7 @@ impl<'b> CoreState<'b> {
     /// history as far as it can.
     pub(super) fn post_in_order(&mut self, worker: usize) -> Moved
         requires { self.old.ordered ≡ true }
-        ensures after { self.new ≡ stepped self.old (Post worker) }
+        ensures after { self.new ≡ core_stepped self.old (Post worker) }
         ensures idle { (result ≡ Idle) ↔ (self.new.state ≡ self.old.state) }
     {
         let Some(number) = self.held(worker) else {

@@ -6,9 +6,9 @@ use Rattle.ar_command.specs.declared.serving.Refusal.{Refusal}
 use Rattle.ar_command.specs.declared.serving.ServeError.{ServeError}
 use Rattle.ar_command.specs.declared.serving.ServeError.TheVariants.{Read, Refused, Work, Write, OutOfMemory}
 
-abbrev pub is_memory : ServeError → Bool
-is_memory OutOfMemory = true
-is_memory error = false
+abbrev pub is_serve_memory : ServeError → Bool
+is_serve_memory OutOfMemory = true
+is_serve_memory error = false
 
 -- what a refusal says, and what an end of workers; no reader and no writer failed
 abbrev pub Tells : (Refusal → Type 0) → (WorkError → Type 0) → ServeError → Type 0

@@ -1,8 +1,9 @@
 -- Conditions that the parts of earlier runs have, while those of later runs are made.
 use Rattle.std.specs.Prelude.{◌≡◌, ℕ, List, slice_get, Some}
 use Rattle.ar_value.specs.View.{shape_view}
-use Rattle.ar_judge.specs.Condition.{Condition, IsBuilt}
-use Rattle.ar_judge.specs.Verdict.{Judge, condition_of}
+use Rattle.ar_judge.specs.Built.{Condition, IsBuilt}
+use Rattle.ar_judge.specs.Judging.{own_condition}
+use Rattle.ar_judge.specs.Verdict.{Judge}
 use Rattle.ar_judge.specs.declared.judge.Which.{Which}
 use Rattle.ar_bundle.specs.declared.bundle.MetricPart.{MetricPart}
 use Rattle.ar_bundle.specs.declared.bundle.RunPart.{RunPart}
@@ -11,7 +12,7 @@ use Rattle.ar_bundle.specs.declared.bundle.RunPart.{RunPart}
 pub record IsOfRun (part : RunPart) (which : Which) (number : ℕ) (condition : Condition) : Type 0 where
   pub judge : Judge
   pub judge_is : slice_get part.judges number ≡ Some judge
-  pub is : condition_of which judge ≡ Some condition
+  pub is : own_condition which judge ≡ Some condition
 
 pub record IsOfEarlier (earlier : List RunPart) (which : Which) (number : ℕ) (condition : Condition) : Type 0 where
   pub run : ℕ

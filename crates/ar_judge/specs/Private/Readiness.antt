@@ -12,7 +12,7 @@ use Rattle.ar_compile.specs.Compiled.{compiled}
 use Rattle.ar_compile.specs.Ends.{EndsWith}
 use Rattle.ar_compile.specs.Length.{length_of}
 use Rattle.ar_safety.specs.Verdict.{Verified}
-use Rattle.ar_judge.specs.Condition.{IsRefused, typed_of}
+use Rattle.ar_judge.specs.Condition.{IsRefused, text_typed}
 use Rattle.ar_judge.specs.declared.error.BuildCause.{BuildCause}
 
 -- on each value of a shape, code ends with what a tree means
@@ -22,13 +22,13 @@ Means shape tree code = (value : Value) → fits value shape ≡ true → EndsWi
 -- a text is typed so, and verified code comes to what it means
 pub record IsReady (text : List ℕ) (verified : Verified) : Type 0 where
   pub tree : Typed
-  pub typed : typed_of (shape_view verified.shape) text ≡ Ok tree
+  pub typed : text_typed (shape_view verified.shape) text ≡ Ok tree
   pub means : Means (shape_view verified.shape) tree verified.code
 
 -- the code of a text's tree where `result` has a shape, and what it comes to
 pub record IsCodeOf (shape : Shape) (text : List ℕ) (code : Code) : Type 0 where
   pub tree : Typed
-  pub typed : typed_of shape text ≡ Ok tree
+  pub typed : text_typed shape text ≡ Ok tree
   pub short : length_of tree ≤ most_code_entries
   pub code_is : code ≡ compiled tree
   pub means : Means shape tree code

@@ -1,7 +1,7 @@
--- What the stack in memory says of what is begun and not ended.
+-- What the stack in memory says of what is begun and not phrase_ended.
 use Rattle.std.specs.Prelude.{ℕ, Bool, true, false, nat_le, map, List, [], ◌∷◌, ◌++◌}
 use Rattle.ar_tree.specs.Expression.{Expression, UnaryAt, BinaryAt, ChoiceAt}
-use Rattle.ar_syntax.specs.Machine.{Frame, State, climbed, unwound, RightOf, Prefixed, Yes, No, Grouped, Listed, Indexed, Argued, Body, Braced}
+use Rattle.ar_syntax.specs.Machine.{Frame, ParserState, climbed, unwound, RightOf, Prefixed, Yes, No, Grouped, Listed, Indexed, Argued, Body, Braced}
 use Rattle.ar_syntax.specs.Roles.{looseness}
 use Rattle.ar_tree.specs.Views.{expression_of}
 use Rattle.ar_syntax.specs.declared.climb.Reach.{Reach}
@@ -57,9 +57,9 @@ top_ends reach [] = false
 top_ends reach (frame ∷ stack) = ends reach frame
 
 -- the phrases end with an operand, that far
-abbrev pub ended : Reach → List Frame → Expression → State
-ended (Level level) stack tree = climbed level stack tree
-ended Ender stack tree = unwound stack tree
+abbrev pub phrase_ended : Reach → List Frame → Expression → ParserState
+phrase_ended (Level level) stack tree = climbed level stack tree
+phrase_ended Ender stack tree = unwound stack tree
 
 -- whether what a frame waits for is a predicate
 abbrev pub is_predicate : Frame → Bool

@@ -3,8 +3,8 @@ use Rattle.std.specs.Prelude.{◌≡◌, Bool, true, false, if◌then◌else◌,
 use Rattle.ar_tree.specs.Expression.{Expression}
 use Rattle.ar_syntax.specs.Fault.{accepts, kind_fault}
 use Rattle.ar_syntax.specs.Grammar.{Rules}
-use Rattle.ar_syntax.specs.Machine.{Frame, State, Want, Have, WantName, WantIndex, HaveText, WantIn, WantGroup, WantArgument, HaveArgument}
-use Rattle.ar_syntax.specs.Refusal.{at_any_depth, of_any_count, of_any_items, strict}
+use Rattle.ar_syntax.specs.Machine.{Frame, ParserState, Want, Have, WantName, WantIndex, HaveText, WantIn, WantGroup, WantArgument, HaveArgument}
+use Rattle.ar_syntax.specs.Condition.{at_any_depth, of_any_count, of_any_items, strict}
 use Rattle.ar_syntax.specs.Roles.{EndGroup, Ends, Follow, Start, Leaf, Prefix, Group, Bracket, Calls, ItemPoint, NoStart}
 use Rattle.ar_tree.specs.Views.{expression_of}
 use Rattle.ar_syntax.specs.Private.Frames.{frames_of}
@@ -21,7 +21,7 @@ use Rattle.ar_syntax.specs.declared.state.Refusal.{Refusal}
 use Rattle.ar_syntax.specs.declared.state.Refusal.TheVariants.{Arguments, Items, Depth, Other, OutOfMemory}
 
 -- what a state in memory says
-abbrev pub state_of : List Frame → rust.State → State
+abbrev pub state_of : List Frame → rust.State → ParserState
 state_of stack states.Want = Want stack
 state_of stack (states.Have tree) = Have stack (expression_of tree.value)
 state_of stack (states.WantName at owner) = WantName stack at (expression_of owner.value)
@@ -33,7 +33,7 @@ state_of stack (states.WantArgument at function so_far) = WantArgument stack at 
 state_of stack (states.HaveArgument at function arguments) = HaveArgument stack at function (map expression_of arguments.items)
 
 -- the state that a stack and a state in memory say
-abbrev pub at_state : List rust_frames.Frame → rust.State → State
+abbrev pub at_state : List rust_frames.Frame → rust.State → ParserState
 at_state frames state = state_of (frames_of frames) state
 
 abbrev pub start_of : begins.Begin → Start
@@ -51,7 +51,7 @@ is_empty_call [] (Ends EndGroup) = true
 is_empty_call so_far role = false
 
 -- the limit that alone forbids a step, if one does
-abbrev pub forbids : (Rules → Option State) → Refusal
+abbrev pub forbids : (Rules → Option ParserState) → Refusal
 forbids steps =
     if accepts (steps of_any_count) then Arguments
     else (if accepts (steps of_any_items) then Items
@@ -59,7 +59,7 @@ forbids steps =
     else Other))
 
 -- a step leads to the machine's state, or is refused where the machine refuses it, by the same limit
-abbrev pub Steps : (Rules → Option State) → List Frame → Result rust.State Refusal → Type 0
+abbrev pub Steps : (Rules → Option ParserState) → List Frame → Result rust.State Refusal → Type 0
 Steps steps stack (Ok state) = steps strict ≡ Some (state_of stack state)
 Steps steps stack (Err OutOfMemory) = Unit {0}
 Steps steps stack (Err refusal) = (steps strict ≡ None) × (forbids steps ≡ refusal)
@@ -73,7 +73,7 @@ is_want OutOfMemory = true
 is_want refusal = false
 
 -- a step that takes no memory
-abbrev pub StepsFreely : (Rules → Option State) → List Frame → Result rust.State Refusal → Type 0
+abbrev pub StepsFreely : (Rules → Option ParserState) → List Frame → Result rust.State Refusal → Type 0
 StepsFreely steps stack result = Steps steps stack result × IfErr result (λ refusal. is_want refusal ≡ false)
 
 -- the refusal of a token, by the limit that alone forbids it or by its kind

@@ -2,7 +2,7 @@
 use Rattle.std.specs.Prelude.{ℕ, Bool, ◌||◌, if◌then◌else◌, List, [], ◌∷◌, ◌++◌, codes, is_some, Option, Some, None}
 use Rattle.serde_json.specs.Data.{Data}
 use Rattle.ar_quote.specs.Shown.{quoted}
-use Rattle.ar_words.specs.Names.{name_of}
+use Rattle.ar_words.specs.Names.{item_name}
 
 -- `listed`: a name stands before it
 abbrev pub name_listed : (listed : Bool) → Option (List ℕ) → List ℕ
@@ -12,4 +12,4 @@ name_listed listed (Some name) = (if listed then codes ", " else []) ++ quoted n
 -- likewise
 abbrev pub names_after : (listed : Bool) → List Data → List ℕ
 names_after listed [] = []
-names_after listed (item ∷ items) = name_listed listed (name_of item) ++ names_after (listed || is_some (name_of item)) items
+names_after listed (item ∷ items) = name_listed listed (item_name item) ++ names_after (listed || is_some (item_name item)) items

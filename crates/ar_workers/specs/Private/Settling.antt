@@ -1,7 +1,7 @@
 -- What workers settled at their desks.
 use Rattle.std.specs.Prelude.{◌≡◌, ℕ, List}
 use Rattle.ar_bundle.specs.Lawful.{times_in}
-use Rattle.ar_queue.specs.Rule.{once_below}
+use Rattle.ar_queue.specs.Numbers.{once_below}
 
 -- each number of the bundle stands there exactly once, and no other
 abbrev pub AreEachOnce : (events : ℕ) → (numbers : List ℕ) → Type 0

@@ -1,8 +1,8 @@
 use Rattle.std.proofs.Common.{arith, ◌≡◌, ◌==◌, ◌+◌, if◌then◌else◌, List, length, get_or, sym, ◌∙◌, ap, subst, rules}
 use Rattle.std.proofs.lemmas.Grind.{common_steps}
 use Rattle.ar_board.proofs.Opened.{sizes_there, opened_next}
-use Rattle.ar_bundle.specs.Bundle.{sizes_of}
-use Rattle.ar_board.specs.Cell.{lock_of}
+use Rattle.ar_bundle.specs.Sound.{sizes_of}
+use Rattle.ar_board.specs.Locks.{lock_of}
 use Rattle.ar_board.specs.Private.KeptRuns.{AreOpened, IsOpened}
 use Rattle.ar_board.specs.declared.cell.kept_run.KeptRun.{KeptRun}
 use Rattle.ar_board.proofs.cell.open_runs.Goals as goal

@@ -1,6 +1,7 @@
 use Rattle.std.proofs.Common.{◌≡◌, ◌<◌, ◌≤◌, ◌*◌, ◌+◌, ℕ, Bool, List, Option, None, Vec, Global, length, take, refl, sym, subst, arith, rules, slice_index_or, Fits, w64}
 use Rattle.std.proofs.lemmas.Grind.{common_steps}
-use Rattle.ar_bundle.specs.Bundle.{Bundle, IsBundle}
+use Rattle.ar_bundle.specs.Sound.{IsBundle}
+use Rattle.ar_bundle.specs.Bundle.{Bundle}
 use Rattle.ar_board.specs.Private.Closing.{AreMarked, AreOwn, IsAt, IsBehind}
 use Rattle.ar_board.specs.declared.cell.receipt.Receipt.{Receipt}
 use Rattle.ar_board.proofs.Marks.{last_first, last_next, marked_first, marked_met, marked_unmet, number_there, run_there, same_read}

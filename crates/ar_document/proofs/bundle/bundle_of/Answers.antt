@@ -1,6 +1,6 @@
 use Rattle.std.proofs.lemmas.Result.{err_from_is_err_and}
 use Rattle.serde_json.specs.View.{view}
-use Rattle.ar_document.specs.Document.{is_memory}
+use Rattle.ar_document.specs.Document.{is_bundle_memory}
 use Rattle.ar_document.specs.Private.Opened.{opened_view}
 use Rattle.ar_document.proofs.Answering.{made_refused, parts_are_bundle, refuses}
 use Rattle.ar_value.proofs.Steps.{leads}
@@ -13,7 +13,7 @@ returns-in_err-opened-2 c =
     let document = view c.args.document in
     rw (error.1, error.2)
     (refuses document c.in_err-opened-2.field-0.0
-    (leads (is_memory c.in_err-opened-2.field-0.0) (made_refused (opened_view c.in_ok-opened.opened) document c.in_ok-opened.ensures.exact c.in_err-opened-2.field-0.0) refused))
+    (leads (is_bundle_memory c.in_err-opened-2.field-0.0) (made_refused (opened_view c.in_ok-opened.opened) document c.in_ok-opened.ensures.exact c.in_err-opened-2.field-0.0) refused))
 
 pub of_parts-requires : goal.of_parts-requires
 of_parts-requires c =

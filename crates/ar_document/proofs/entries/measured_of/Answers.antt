@@ -5,7 +5,7 @@ use Rattle.serde_json.specs.View.{view}
 use Rattle.ar_value.specs.View.{shape_view}
 use Rattle.ar_value.specs.declared.shape.Shape.{Shape as Declared}
 use Rattle.ar_judge.specs.Verdict.{sample_view}
-use Rattle.ar_bundle.specs.Bundle.{SampleSuits}
+use Rattle.ar_bundle.specs.Sound.{SampleSuits}
 use Rattle.ar_document.specs.Entries.{sample_of}
 use Rattle.ar_document.specs.Opening.{metric_view}
 use Rattle.ar_document.specs.Private.Opened.{metric_names, opened_view}

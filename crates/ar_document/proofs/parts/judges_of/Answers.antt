@@ -2,7 +2,7 @@ use Rattle.std.proofs.Common.{◌<◌, length, refl, arith}
 use Rattle.std.proofs.lemmas.Grind.{common_steps}
 use Rattle.std.proofs.lemmas.Option.{slice_get_read}
 use Rattle.std.proofs.lemmas.Result.{err_from_is_err_and}
-use Rattle.ar_document.specs.Document.{is_memory}
+use Rattle.ar_document.specs.Document.{is_bundle_memory}
 use Rattle.ar_document.proofs.Growing.{next_judge}
 use Rattle.ar_document.proofs.Refusing.{next_refused}
 use Rattle.ar_value.proofs.Steps.{leads}
@@ -18,7 +18,7 @@ returns-in_err-judge-clause-refused c =
     let error = err_from_is_err_and c.from_residual-in_err-judge.result c.from_residual-in_err-judge.ensures.1 in
     let inside : c.loop-number.number < length c.args.bound.now = omega (arith, c.requires.many, c.loop-number-test.true) in
     rw (error.1, error.2)
-    (leads (is_memory c.in_err-judge.field-0.0)
+    (leads (is_bundle_memory c.in_err-judge.field-0.0)
     (next_refused c.args.run c.args.metrics.now c.args.bound.now c.loop-number.judges.items c.loop-number.number c.index-metrics-number.result c.index-bound-number.result c.in_err-judge.field-0.0 c.loop-number-test.true inside c.index-metrics-number.is c.index-bound-number.is c.loop-number.invariant)
     c.in_err-judge.ensures.refused)
 

@@ -1,6 +1,6 @@
 use Rattle.std.proofs.Common.{rules, ◌≡◌, ◌∙◌}
 use Rattle.std.proofs.lemmas.Result.{err_from_is_err_and}
-use Rattle.ar_document.specs.Document.{is_memory}
+use Rattle.ar_document.specs.Document.{is_bundle_memory}
 use Rattle.ar_document.specs.Private.Opened.{opened_view}
 use Rattle.ar_value.proofs.Steps.{leads}
 use Rattle.ar_document.proofs.Shortened.{bind_refused, is_shortened, part_whole, shortened_many, shortened_refused}
@@ -10,7 +10,7 @@ pub returns-in_err-bound-clause-refused : goal.returns-in_err-bound-clause-refus
 returns-in_err-bound-clause-refused c =
     let error = err_from_is_err_and c.from_residual.result c.from_residual.ensures.1 in
     rw (error.1, error.2)
-    (leads (is_memory c.in_err-bound.field-0.0) (bind_refused (opened_view c.args.opened.now) c.args.number c.args.run.now c.in_err-bound.field-0.0) c.in_err-bound.ensures)
+    (leads (is_bundle_memory c.in_err-bound.field-0.0) (bind_refused (opened_view c.args.opened.now) c.args.number c.args.run.now c.in_err-bound.field-0.0) c.in_err-bound.ensures)
 
 pub judges_and_limits-requires-clause-many : goal.judges_and_limits-requires-clause-many
 judges_and_limits-requires-clause-many c =
@@ -23,7 +23,7 @@ returns-in_err-judged-clause-refused c =
     let error = err_from_is_err_and c.from_residual-in_err-judged.result c.from_residual-in_err-judged.ensures.1 in
     let is = is_shortened c.args.opened.now.template c.args.run.now.own c.in_ok-bound.bound c.args.number c.in_ok-bound.ensures in
     let refuses = shortened_refused c.args.opened.now c.args.number c.args.run.now c.in_ok-bound.bound c.in_err-judged.field-0.0 is in
-    let told = leads (is_memory c.in_err-judged.field-0.0) refuses in
+    let told = leads (is_bundle_memory c.in_err-judged.field-0.0) refuses in
     rw (error.1, error.2) (search (rules, told))
 
 pub judges_and_limits-requires-clause-earlier : goal.judges_and_limits-requires-clause-earlier

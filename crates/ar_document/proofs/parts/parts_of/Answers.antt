@@ -1,7 +1,7 @@
 use Rattle.std.proofs.Common.{arith}
 use Rattle.std.proofs.lemmas.Grind.{common_steps}
 use Rattle.std.proofs.lemmas.Result.{err_from_is_err_and}
-use Rattle.ar_document.specs.Document.{is_memory}
+use Rattle.ar_document.specs.Document.{is_bundle_memory}
 use Rattle.ar_document.specs.Private.Opened.{opened_view}
 use Rattle.ar_document.proofs.Earlier.{of_their_texts}
 use Rattle.ar_document.proofs.Growing.{next_part}
@@ -18,7 +18,7 @@ returns-in_err-part-clause-refused c =
     let inside = rw c.deref-run-items.ensures.value at c.loop-number-test.true in
     let is = rw c.deref-run-items.ensures.value at c.run-item.is in
     rw (error.1, error.2)
-    (leads (is_memory c.in_err-part.field-0.0) (runs_refused c.args.opened.now c.loop-number.parts.items c.loop-number.number c.run-item.result c.in_err-part.field-0.0 inside is c.loop-number.invariant) c.in_err-part.ensures.refused)
+    (leads (is_bundle_memory c.in_err-part.field-0.0) (runs_refused c.args.opened.now c.loop-number.parts.items c.loop-number.number c.run-item.result c.in_err-part.field-0.0 inside is c.loop-number.invariant) c.in_err-part.ensures.refused)
 
 pub loop-number-preserved : goal.loop-number-preserved
 loop-number-preserved c =

@@ -1,6 +1,6 @@
 use Rattle.std.proofs.Common.{◌≡◌, drop, map, nat_le}
 use Rattle.ar_tree.specs.Expression.{expressions}
-use Rattle.ar_syntax.specs.Refusal.{items_depth}
+use Rattle.ar_syntax.specs.Condition.{items_depth}
 use Rattle.ar_tree.specs.Views.{expression_of}
 use Rattle.ar_syntax.proofs.depth.+fits.Given as goal
 

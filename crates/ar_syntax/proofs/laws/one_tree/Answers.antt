@@ -1,4 +1,4 @@
-use Rattle.ar_syntax.specs.Refusal.{strict}
+use Rattle.ar_syntax.specs.Condition.{strict}
 use Rattle.ar_syntax.proofs.OneTree.{one_tree_by}
 use Rattle.ar_syntax.proofs.laws.one_tree.Goals as goal
 

@@ -5,7 +5,7 @@ use Rattle.ar_syntax.proofs.Answers.{unless_maps}
 use Rattle.ar_syntax.proofs.Boundaries.{boundary_behind_gap, boundary_behind_token}
 use Rattle.ar_syntax.proofs.Pieces.{IsFront, IsFront-front_of, IsFrontGap, IsFrontGap-front_of}
 use Rattle.ar_syntax.proofs.Scans.{with_tokens-gap, with_tokens-end, with_tokens-fault, with_tokens-token}
-use Rattle.ar_syntax.specs.Tokens.{is_memory}
+use Rattle.ar_syntax.specs.Spelling.{is_syntax_memory}
 use Rattle.ar_syntax.proofs.scanner.scan.Goals as goal
 use Rattle.ar_syntax.proofs.scanner.scan.Goals.{In-Found, In-Gap}
 
@@ -19,7 +19,7 @@ pub returns-in_err-piece : goal.returns-in_err-piece
 returns-in_err-piece c =
     let error = err_from_is_err_and c.from_residual.result c.from_residual.ensures.1 in
     rw (error.1, error.2)
-    (unless_maps (is_memory c.in_err-piece.field-0.0) _ _ (λ found. with_tokens-fault c.args.text.now c.loop-at.at c.loop-at.field c.loop-at.tokens.items c.in_err-piece.field-0.0 _ c.loop-at-test.true found c.loop-at.invariant.so_far)
+    (unless_maps (is_syntax_memory c.in_err-piece.field-0.0) _ _ (λ found. with_tokens-fault c.args.text.now c.loop-at.at c.loop-at.field c.loop-at.tokens.items c.in_err-piece.field-0.0 _ c.loop-at-test.true found c.loop-at.invariant.so_far)
     (rw c.range_from.ensures.value at c.in_err-piece.ensures))
 
 pub range_from-requires : goal.range_from-requires

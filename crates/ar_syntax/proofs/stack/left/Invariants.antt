@@ -1,8 +1,8 @@
 use Rattle.std.proofs.Common.{◌≡◌, take}
-use Rattle.ar_syntax.specs.Machine.{left}
+use Rattle.ar_syntax.specs.Machine.{openers_left}
 use Rattle.ar_syntax.specs.Private.Frames.{frames_of}
 use Rattle.ar_syntax.proofs.stack.left.Given as goal
 
 -- what the frames so far say
 abbrev pub invariant-loop-frame : goal.invariant-loop-frame
-invariant-loop-frame l = l.left ≡ left (frames_of (take l.frame-index l.stack))
+invariant-loop-frame l = l.left ≡ openers_left (frames_of (take l.frame-index l.stack))

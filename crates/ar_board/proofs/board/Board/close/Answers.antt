@@ -1,7 +1,8 @@
 use Rattle.std.proofs.Common.{◌≡◌, ◌∙◌, List, Vec, Global, None, Some, ap, sym, subst}
 use Rattle.ar_bundle.specs.declared.history.Entry.{Entry}
 use Rattle.ar_board.specs.declared.cell.receipt.Receipt.{Receipt}
-use Rattle.ar_board.specs.Board.{IsClosed, IsLost, receipts_of}
+use Rattle.ar_board.specs.Lost.{IsLost}
+use Rattle.ar_board.specs.Board.{IsClosed, receipts_of}
 use Rattle.ar_board.specs.Locks.{at_lock}
 use Rattle.ar_board.specs.Seats.{Held}
 use Rattle.ar_board.specs.Private.Closing.{FirstLost, lists_of}

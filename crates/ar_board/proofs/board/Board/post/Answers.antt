@@ -1,6 +1,6 @@
 use Rattle.std.proofs.Common.{arith}
 use Rattle.std.proofs.lemmas.Grind.{common_steps}
-use Rattle.ar_board.specs.Cell.{lock_of}
+use Rattle.ar_board.specs.Locks.{lock_of}
 use Rattle.ar_board.proofs.UnderLocks.{under_four}
 use Rattle.ar_board.proofs.Seats.{has_room}
 use Rattle.ar_board.proofs.board.Board.post.Goals as goal

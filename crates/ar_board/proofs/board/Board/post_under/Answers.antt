@@ -1,6 +1,6 @@
 use Rattle.std.proofs.Common.{◌≡◌, refl, sym, ◌∙◌, arith, rules}
 use Rattle.std.proofs.lemmas.Result.{on_ok_weaker}
-use Rattle.ar_board.specs.Cell.{lock_of}
+use Rattle.ar_board.specs.Locks.{lock_of}
 use Rattle.ar_board.proofs.UnderLocks.{last_lock, one_more}
 use Rattle.ar_board.proofs.board.Board.post_under.Goals as goal
 

@@ -1,6 +1,6 @@
 use Rattle.std.proofs.Common.{arith, set, rules, refl, subst, sym}
 use Rattle.std.proofs.lemmas.Grind.{common_steps}
-use Rattle.ar_board.specs.Cell.{Cell, IsPosted, Stands}
+use Rattle.ar_board.specs.Cell.{Cell, IsPosted, IsInHistory}
 use Rattle.ar_board.specs.Private.KeptRuns.{cell_of}
 use Rattle.ar_board.proofs.Cells.{IsReady, can_take, inside_push, is_posted, not_there, ready, stands}
 use Rattle.ar_board.proofs.cell.RunCell.add.Goals as goal
@@ -8,7 +8,7 @@ use Rattle.ar_board.proofs.cell.RunCell.add.Goals as goal
 pub returns-then-index-clause-double : goal.returns-then-index-clause-double
 returns-then-index-clause-double g c =
     let there = stands g.M.BundleName.bundle g.M.BundleName.workers g.L.LockName.lock c.self.inside.bundle.now c.self.inside.runs.items c.self.inside.stored.items c.self.inside.book.total c.args.number c.index.result.now c.self.invariant (search rules) c.index.ensures (search rules) in
-    ((λ _. subst (Stands c.args.number) c.self.view_is there), (λ _. refl))
+    ((λ _. subst (IsInHistory c.args.number) c.self.view_is there), (λ _. refl))
 
 pub push-posted-requires : goal.push-posted-requires
 push-posted-requires g c =
@@ -38,7 +38,7 @@ pub returns-clause-double : goal.returns-clause-double
 returns-clause-double g c =
     let is : IsReady c.self.inside.bundle.now g.M.BundleName.workers g.L.LockName.lock c.self.inside.runs.items c.args.number c.run_of-run.result c.index_mut.result.now = ready g.M.BundleName.bundle g.M.BundleName.workers g.L.LockName.lock c.self.inside.bundle.now c.self.inside.runs.items c.self.inside.stored.items c.self.inside.book.total c.args.number c.run_of-run.result c.index_mut.result.now c.index.result.now c.self.invariant
     c.requires.number.under (search rules) c.run_of-run.ensures.own c.run_of-run.ensures.there c.index_mut.ensures.value c.index.ensures (search rules) in
-    ((λ is_error. absurd cc), (λ there. absurd (not_there c.self.inside.bundle.now g.M.BundleName.workers g.L.LockName.lock c.self.inside.runs.items c.self.inside.book.total c.args.number c.run_of-run.result c.index_mut.result.now c.self.invariant.cell is (subst (Stands c.args.number) (sym c.self.view_is) there))))
+    ((λ is_error. absurd cc), (λ there. absurd (not_there c.self.inside.bundle.now g.M.BundleName.workers g.L.LockName.lock c.self.inside.runs.items c.self.inside.book.total c.args.number c.run_of-run.result c.index_mut.result.now c.self.invariant.cell is (subst (IsInHistory c.args.number) (sym c.self.view_is) there))))
 
 pub index_mut-requires : goal.index_mut-requires
 index_mut-requires g c = grind (arith, common_steps)

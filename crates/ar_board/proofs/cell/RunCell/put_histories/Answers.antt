@@ -3,7 +3,8 @@ use Rattle.std.proofs.lemmas.Grind.{common_steps}
 use Rattle.std.proofs.lemmas.List.{length_push}
 use Rattle.std.specs.Vec.Iter.{into_iter_items}
 use Rattle.ar_bundle.specs.declared.history.Entry.{Entry}
-use Rattle.ar_board.specs.Cell.{histories_of, lock_of}
+use Rattle.ar_board.specs.Locks.{lock_of}
+use Rattle.ar_board.specs.Cell.{histories_of}
 use Rattle.ar_board.specs.Private.KeptRuns.{ArePutBelow, cell_of}
 use Rattle.ar_board.proofs.Put.{all_runs, next_history, put_other, put_own}
 use Rattle.ar_board.proofs.cell.RunCell.put_histories.Goals as goal

@@ -1,5 +1,5 @@
 use Rattle.std.proofs.Common.{rules, ◌≡◌, ◌∙◌, false, ap, refl, set}
-use Rattle.ar_board.specs.Core.{Core, stepped}
+use Rattle.ar_board.specs.Core.{Core, core_stepped}
 use Rattle.ar_board.specs.Private.Inside.{core_of, state_of}
 use Rattle.ar_board.specs.declared.core_steps.CoreStep.TheVariants.{Post}
 use Rattle.ar_board.proofs.CorePost.{appends, emptied_with, holding, next_in, posts, room_read, stepped_at_once}
@@ -55,4 +55,4 @@ returns-clause-after c =
     let made = posts c.self.inside.bundle.now c.self.inside.places (state_of c.self.inside) c.self.inside.runs.items (set c.self.inside.runs.items c.run_of-run.result c.append.new.run) c.args.worker c.in-Some.number c.self.invariant.bundle c.self.invariant.sound refl holds.full appended in
     let off : c.self.inside.ordered ≡ false = ap (λ (core : Core). core.ordered) c.self.view_is ∙ c.requires in
     stepped_at_once (core_of c.self.inside) c.args.worker (emptied_with (state_of c.self.inside) c.args.worker (set c.self.inside.runs.items c.run_of-run.result c.append.new.run)) off made.after
-    ∙ ap (λ (core : Core). stepped core (Post c.args.worker)) c.self.view_is
+    ∙ ap (λ (core : Core). core_stepped core (Post c.args.worker)) c.self.view_is

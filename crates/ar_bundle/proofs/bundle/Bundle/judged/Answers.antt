@@ -1,6 +1,7 @@
 use Rattle.std.proofs.Common.{rules, ◌<◌, length, subst, sym}
 use Rattle.ar_judge.specs.Verdict.{sample_view}
-use Rattle.ar_bundle.specs.Bundle.{SuitsMetric, bundle_of}
+use Rattle.ar_bundle.specs.Sound.{SuitsMetric}
+use Rattle.ar_bundle.specs.Bundle.{bundle_of}
 use Rattle.ar_bundle.proofs.Bundles.{judge_inside, reads_nothing}
 use Rattle.ar_bundle.proofs.bundle.Bundle.judged.Goals as goal
 

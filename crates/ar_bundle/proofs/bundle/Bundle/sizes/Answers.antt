@@ -1,5 +1,5 @@
 use Rattle.std.proofs.Common.{rules, ◌≡◌, ◌∙◌, ap, subst, sym, arith}
-use Rattle.ar_bundle.specs.Bundle.{IsBundle}
+use Rattle.ar_bundle.specs.Sound.{IsBundle}
 use Rattle.ar_bundle.proofs.Sizes.{next_size}
 use Rattle.ar_bundle.proofs.bundle.Bundle.sizes.Goals as goal
 
