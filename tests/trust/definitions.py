@@ -13,6 +13,7 @@ USE = re.compile(r"(?:pub )?(?:ghost )?use (Rattle\.[\w.]+?)(?:\.\{([^}]*)\}| as
 DECLARATION = re.compile(r"(?:(?:abbrev|unfoldable|pub) )*(?:(?P<kind>record|data) )?(?P<name>[^\s:({]+)(?:\s[^=]*?)?\s?:(?:\s|$)")
 TYPE = re.compile(r"pub (?:unsafe )?(?:struct|enum|trait) (\w+)")
 WORD = re.compile(r"[^\s(){}\[\];,]+")
+CODE_LINE = re.compile(r"\s*(?:--.*)?$")
 CODE = re.compile(r"--.*$|\"(?:[^\"\\]|\\.)*\"", re.M)
 
 
@@ -22,10 +23,15 @@ class Definition:
     def __init__(self, module, name, kind, first):
         self.module, self.name, self.kind = module, name, kind
         self.first = self.last = first
-        self.constructors, self.pieces, self.count = set(), [], 0
+        self.constructors, self.heads, self.pieces = set(), [], []
 
     def __repr__(self):
         return f"{self.module.name}.{self.name}"
+
+    @property
+    def count(self):
+        """How many lines it has, comments aside."""
+        return sum(not CODE_LINE.match(line) for piece in self.pieces for line in piece.splitlines())
 
 
 class Module:
@@ -40,14 +46,17 @@ class Module:
         self.read(path.read_text(encoding="utf-8").splitlines())
 
     def read(self, lines):
-        now, comment, is_mutual = None, None, False
+        now, comment, blocks = None, None, []
         for number, line in enumerate(lines, 1):
-            if line.strip() and line[0] != " ":
-                is_mutual = "mutual" in line.split()
-                if is_mutual:
-                    continue
-            elif is_mutual:
-                line = line[2:]
+            indent = len(line) - len(line.lstrip(" "))
+            while line.strip() and blocks and indent <= blocks[-1][0]:
+                blocks.pop()
+            opens = re.match(r"(?:abbrev |unfoldable )?(?:mutual$|module .* where$)", line.strip())
+            if opens and indent == 2 * len(blocks):
+                blocks.append((indent, line.strip()))
+                comment = None
+                continue
+            line = line[2 * len(blocks) :]
             use = USE.match(line)
             if use:
                 self.use(*use.groups())
@@ -60,9 +69,9 @@ class Module:
                 found = self.declared(line)
                 if found:
                     now = Definition(self, found["name"], found["kind"], comment or number)
+                    now.heads = [head for _, head in blocks if head.startswith("module ")]
                     self.definitions.append(now)
                     self.local[now.name] = now
-                    now.count = number - now.first
                 comment = None
                 if now and not line.startswith("pub mod"):
                     self.add(now, line, number)
@@ -76,7 +85,6 @@ class Module:
 
     def add(self, now, line, number):
         now.last = number
-        now.count += 1
         if line.startswith("unfolding "):
             return
         if line[0] == " " and now.pieces:
@@ -197,10 +205,10 @@ class Sources:
 
     def reached_in_specs(self, it):
         operators = {name.strip("◌"): name for name in [*it.module.named, *it.module.local] if "◌" in name}
-        for number, piece in enumerate(it.pieces):
+        for number, piece in enumerate([*it.heads, *it.pieces], -len(it.heads)):
             text = CODE.sub(" ", piece)
             bound = bound_in(text, it.kind == "record")
-            if number:
+            if number > 0:
                 bound |= {word for word in WORD.findall(re.split(r"\s=\s", text, maxsplit=1)[0]) if self.is_variable(it.module, word)}
                 bound -= {it.name}
             for word in WORD.findall(text):
@@ -220,10 +228,10 @@ class Sources:
 
     def reached_in_rust(self, source, text):
         for word in re.findall(r"[A-Z]\w*", re.sub(r"//.*", "", text)):
-            crate, name = source.rust.get(word, (source.crate, word))
-            found = source.types.get(word) or self.types.get((crate, name))
+            found = source.types.get(word) or self.types.get(source.rust.get(word))
             if found:
                 yield found
+        text = re.sub(r"ghost invariant = .*?;", "", text, flags=re.S)
         for ghost in re.findall(r"\{ .*? \}|\{\s.*?\}|= .*?;", text, re.S):
             for word in WORD.findall(CODE.sub(" ", ghost)):
                 found = self.named_by(source, word.rstrip("."))
@@ -244,14 +252,15 @@ class Sources:
         return found
 
     def of_contract(self, file, function):
+        """What the contract of a function names itself."""
         source = self.files[CRATES / file]
         text = source.contract(function)
         words = [self.named_by(source, it.rstrip(".")) for it in WORD.findall(text)]
-        return self.closure([*filter(None, words), *self.reached_in_rust(source, text)])
+        return [*filter(None, words), *self.reached_in_rust(source, text)]
 
-    def modules_from(self, place):
-        """The files of definitions that a file's imports lead to."""
-        found, left = {}, list(place.imports)
+    def modules_from(self, imports):
+        """The files of definitions that imports lead to."""
+        found, left = {}, list(imports)
         while left:
             path = left.pop()
             module = self.modules.get(path)
