@@ -8,7 +8,7 @@ use Rattle.std.proofs.lemmas.List.Folds.{sum_by-replicate}
 use Rattle.std.proofs.lemmas.List.Sums.{sum_by-cons}
 use Rattle.ar_bundle.specs.Sound.{IsBundle}
 use Rattle.ar_bundle.specs.Bundle.{Bundle}
-use Rattle.ar_board.specs.Core.{Core, HasEachOnce, IsAtRest, ScheduleState, after_steps, after_step, can_put, has_empty_hand, held, is_parked, lacking, occurrences, opening, ordered_post_of, post_of, core_stepped, times_held, times_parked, times_to_put}
+use Rattle.ar_board.specs.Core.{Core, HasEachOnce, IsAtRest, StepState, after_steps, after_step, can_put, has_empty_hand, held, is_parked, lacking, occurrences, opening, ordered_post_of, post_of, core_stepped, times_held, times_parked, times_to_put}
 use Rattle.ar_bundle.specs.Lawful.{AllRise, AreHistories, AreLawful, times_in}
 use Rattle.ar_board.specs.Private.Kept.{AreInOrder, HasFirst, IsSound}
 use Rattle.ar_board.specs.Private.Posts.{stepped_by}
@@ -23,24 +23,24 @@ use Rattle.ar_board.proofs.OrderedWaits.{AllWait, least_free, step_waits}
 
 -- ---- steps
 
-post_sound_by : (bundle : Bundle) (ordered : Bool) (state : ScheduleState) (worker : ℕ) → IsBundle bundle → IsSound bundle state → IsSound bundle (if ordered then ordered_post_of bundle state worker (held state worker) else post_of bundle state worker (held state worker))
+post_sound_by : (bundle : Bundle) (ordered : Bool) (state : StepState) (worker : ℕ) → IsBundle bundle → IsSound bundle state → IsSound bundle (if ordered then ordered_post_of bundle state worker (held state worker) else post_of bundle state worker (held state worker))
 post_sound_by bundle true state worker is sound = ordered_post_sound bundle state worker (held state worker) is refl sound
 post_sound_by bundle false state worker is sound = post_sound bundle state worker (held state worker) is refl sound
 
-pub step_sound : (bundle : Bundle) (places : ℕ) (ordered : Bool) (state : ScheduleState) (step : CoreStep) → IsBundle bundle → IsSound bundle state → IsSound bundle (after_step bundle places ordered state step)
+pub step_sound : (bundle : Bundle) (places : ℕ) (ordered : Bool) (state : StepState) (step : CoreStep) → IsBundle bundle → IsSound bundle state → IsSound bundle (after_step bundle places ordered state step)
 step_sound bundle places ordered state Put is sound = put_sound bundle places state (can_put bundle places state) refl sound
 step_sound bundle places ordered state (Take worker) is sound = take_sound bundle state worker (has_empty_hand state worker) refl sound
 step_sound bundle places ordered state (Post worker) is sound = post_sound_by bundle ordered state worker is sound
 
-after_sound : (bundle : Bundle) (places : ℕ) (ordered : Bool) (state : ScheduleState) (steps : List CoreStep) → IsBundle bundle → IsSound bundle state → IsSound bundle (after_steps bundle places ordered state steps)
+after_sound : (bundle : Bundle) (places : ℕ) (ordered : Bool) (state : StepState) (steps : List CoreStep) → IsBundle bundle → IsSound bundle state → IsSound bundle (after_steps bundle places ordered state steps)
 after_sound bundle places ordered state [] is sound = sound
 after_sound bundle places ordered state (step ∷ steps) is sound = after_sound bundle places ordered (after_step bundle places ordered state step) steps is (step_sound bundle places ordered state step is sound)
 
-after_in_order : (bundle : Bundle) (places : ℕ) (state : ScheduleState) (steps : List CoreStep) → IsBundle bundle → IsSound bundle state → AreInOrder bundle state.histories → AreInOrder bundle (after_steps bundle places true state steps).histories
+after_in_order : (bundle : Bundle) (places : ℕ) (state : StepState) (steps : List CoreStep) → IsBundle bundle → IsSound bundle state → AreInOrder bundle state.histories → AreInOrder bundle (after_steps bundle places true state steps).histories
 after_in_order bundle places state [] is sound in_order = in_order
 after_in_order bundle places state (step ∷ steps) is sound in_order = after_in_order bundle places (after_step bundle places true state step) steps is (step_sound bundle places true state step is sound) (step_in_order bundle places state step is sound in_order)
 
-after_waits : (bundle : Bundle) (places : ℕ) (state : ScheduleState) (steps : List CoreStep) → IsBundle bundle → IsSound bundle state → AreInOrder bundle state.histories → AllWait bundle state → AllWait bundle (after_steps bundle places true state steps)
+after_waits : (bundle : Bundle) (places : ℕ) (state : StepState) (steps : List CoreStep) → IsBundle bundle → IsSound bundle state → AreInOrder bundle state.histories → AllWait bundle state → AllWait bundle (after_steps bundle places true state steps)
 after_waits bundle places state [] is sound in_order waits = waits
 after_waits bundle places state (step ∷ steps) is sound in_order waits =
     after_waits bundle places (after_step bundle places true state step) steps is (step_sound bundle places true state step is sound) (step_in_order bundle places state step is sound in_order) (step_waits bundle places state step is sound in_order waits)
@@ -86,7 +86,7 @@ opened_in_order bundle histories no_histories = subst (AreInOrder bundle) (sym n
 
 -- ---- one step more
 
-after_push : (bundle : Bundle) (places : ℕ) (ordered : Bool) (state : ScheduleState) (steps : List CoreStep) (last : CoreStep) → after_steps bundle places ordered state (steps ++ last ∷ []) ≡ after_step bundle places ordered (after_steps bundle places ordered state steps) last
+after_push : (bundle : Bundle) (places : ℕ) (ordered : Bool) (state : StepState) (steps : List CoreStep) (last : CoreStep) → after_steps bundle places ordered state (steps ++ last ∷ []) ≡ after_step bundle places ordered (after_steps bundle places ordered state steps) last
 after_push bundle places ordered state [] last = refl
 after_push bundle places ordered state (step ∷ steps) last = after_push bundle places ordered (after_step bundle places ordered state step) steps last
 
@@ -94,7 +94,7 @@ pub core_next : (first : Core) (steps : List CoreStep) (made : ℕ) (core later 
 core_next first steps made core later d inside before is =
     is
     ∙ (ap (λ (core : Core). core_stepped core (get_or steps made d)) before
-    ∙ (ap (λ (state : ScheduleState). record { bundle = first.bundle; places = first.places; ordered = first.ordered; state = state }) (sym (after_push first.bundle first.places first.ordered first.state (take made steps) (get_or steps made d)))
+    ∙ (ap (λ (state : StepState). record { bundle = first.bundle; places = first.places; ordered = first.ordered; state = state }) (sym (after_push first.bundle first.places first.ordered first.state (take made steps) (get_or steps made d)))
     ∙ ap (stepped_by first) (sym (take_more steps made d inside))))
 
 -- ---- the laws
@@ -132,13 +132,13 @@ none_parked number [] all = refl
 none_parked zero (mark ∷ marks) all = all.0
 none_parked (suc number) (mark ∷ marks) all = none_parked number marks all.1
 
-rest_by_test : (number : ℕ) (state : ScheduleState) (test : Bool) → nat_lt number state.next ≡ test → number < state.next → times_to_put number state ≡ 0
+rest_by_test : (number : ℕ) (state : StepState) (test : Bool) → nat_lt number state.next ≡ test → number < state.next → times_to_put number state ≡ 0
 rest_by_test number state true is inside = rw is refl
 rest_by_test number state false is inside = absurd (grind (arith, nat_tests, is, inside))
 
 pub at_rest : (bundle : Bundle) (workers places : ℕ) (ordered : Bool) (steps : List CoreStep) → IsBundle bundle → IsAtRest bundle (after_steps bundle places ordered (opening bundle workers) steps) → AreLawful bundle (after_steps bundle places ordered (opening bundle workers) steps).histories
 at_rest bundle workers places ordered steps is rest =
-    let state : ScheduleState = after_steps bundle places ordered (opening bundle workers) steps in
+    let state : StepState = after_steps bundle places ordered (opening bundle workers) steps in
     let found = sound bundle workers places ordered steps is in
     record {
       of_runs = found.histories;

@@ -10,7 +10,7 @@ use Rattle.ar_limits.specs.declared.event.Event.{Event}
 use Rattle.ar_bundle.specs.Sound.{IsBundle, IsRun}
 use Rattle.ar_bundle.specs.Bundle.{Bundle, events_of, finding_at, happened, run_at}
 use Rattle.ar_board.specs.Posting.{HasOneMore, entry_with, posted}
-use Rattle.ar_board.specs.Core.{Core, ScheduleState, after_step, emptied, held, post_of, core_stepped}
+use Rattle.ar_board.specs.Core.{Core, StepState, after_step, emptied, held, post_of, core_stepped}
 use Rattle.ar_bundle.specs.Lawful.{IsHistory, numbers_of, times, times_in}
 use Rattle.ar_board.specs.Private.Inside.{AreJudged, AreKept, IsCore, IsKept, core_of, histories_of, state_of}
 use Rattle.ar_board.specs.Private.Kept.{IsSound}
@@ -108,7 +108,7 @@ pub history_is : (runs : List RunHistory) (run : ℕ) (core : RunHistory) → sl
 history_is runs run core there =
     get_or-map (λ (core : RunHistory). core.entries.items) runs run core [] (slice_get_within runs run core there) ∙ ap (λ (core : RunHistory). core.entries.items) (get_or_from_slice_get runs run core core there)
 
-pub next_of : (bundle : Bundle) (state : ScheduleState) (runs : List RunHistory) (run number : ℕ) → IsBundle bundle → IsSound bundle state → AreKept bundle 0 bundle.runs runs → state.histories ≡ histories_of runs → times number state.histories ≡ 0 → run_at bundle number ≡ Some run → run < length bundle.runs → IsNext bundle runs run
+pub next_of : (bundle : Bundle) (state : StepState) (runs : List RunHistory) (run number : ℕ) → IsBundle bundle → IsSound bundle state → AreKept bundle 0 bundle.runs runs → state.histories ≡ histories_of runs → times number state.histories ≡ 0 → run_at bundle number ≡ Some run → run < length bundle.runs → IsNext bundle runs run
 next_of bundle state runs run number is sound kept histories nowhere own below =
     let part = entry_at bundle.runs run below in
     let here : 0 + run ≡ run = omega arith in
@@ -195,27 +195,27 @@ appends bundle runs run number core later kept next own read appended =
 
 -- ---- a post at once
 
-abbrev pub emptied_with : ScheduleState → (worker : ℕ) → List RunHistory → ScheduleState
+abbrev pub emptied_with : StepState → (worker : ℕ) → List RunHistory → StepState
 emptied_with state worker runs = record { next = state.next; queue = state.queue; hands = set state.hands worker None; parked = state.parked; histories = histories_of runs }
 
 -- the state with the number in its run's history
-pub record Posts (bundle : Bundle) (places : ℕ) (state : ScheduleState) (worker : ℕ) (later : List RunHistory) : Type 0 where
+pub record Posts (bundle : Bundle) (places : ℕ) (state : StepState) (worker : ℕ) (later : List RunHistory) : Type 0 where
   pub after : after_step bundle places false state (Post worker) ≡ emptied_with state worker later
   pub sound : IsSound bundle (emptied_with state worker later)
 
-posted_after : (bundle : Bundle) (places : ℕ) (state : ScheduleState) (worker number : ℕ) (later : List (List Entry)) → held state worker ≡ Some number → posted bundle state.histories number ≡ Some later
+posted_after : (bundle : Bundle) (places : ℕ) (state : StepState) (worker number : ℕ) (later : List (List Entry)) → held state worker ≡ Some number → posted bundle state.histories number ≡ Some later
     → after_step bundle places false state (Post worker) ≡ record { next = state.next; queue = state.queue; hands = set state.hands worker None; parked = state.parked; histories = later }
 posted_after bundle places state worker number later holds posts = ap (post_of bundle state worker) holds ∙ ap (emptied state worker) posts
 
-pub posts : (bundle : Bundle) (places : ℕ) (state : ScheduleState) (runs later : List RunHistory) (worker number : ℕ) → IsBundle bundle → IsSound bundle state → state.histories ≡ histories_of runs → held state worker ≡ Some number → Appends bundle runs later number → Posts bundle places state worker later
+pub posts : (bundle : Bundle) (places : ℕ) (state : StepState) (runs later : List RunHistory) (worker number : ℕ) → IsBundle bundle → IsSound bundle state → state.histories ≡ histories_of runs → held state worker ≡ Some number → Appends bundle runs later number → Posts bundle places state worker later
 posts bundle places state runs later worker number is sound histories holds appended =
     let after = posted_after bundle places state worker number (histories_of later) holds (ap (λ (histories : List (List Entry)). posted bundle histories number) histories ∙ appended.posts) in
     record { after = after; sound = subst (IsSound bundle) after (step_sound bundle places false state (Post worker) is sound) }
 
 -- the core after it
-pub stepped_at_once : (core : Core) (worker : ℕ) (later : ScheduleState) → core.ordered ≡ false → after_step core.bundle core.places false core.state (Post worker) ≡ later → record { bundle = core.bundle; places = core.places; ordered = core.ordered; state = later } ≡ core_stepped core (Post worker)
+pub stepped_at_once : (core : Core) (worker : ℕ) (later : StepState) → core.ordered ≡ false → after_step core.bundle core.places false core.state (Post worker) ≡ later → record { bundle = core.bundle; places = core.places; ordered = core.ordered; state = later } ≡ core_stepped core (Post worker)
 stepped_at_once core worker later off after =
-    ap (λ (state : ScheduleState). record { bundle = core.bundle; places = core.places; ordered = core.ordered; state = state }) (sym after)
+    ap (λ (state : StepState). record { bundle = core.bundle; places = core.places; ordered = core.ordered; state = state }) (sym after)
     ∙ ap (λ (ordered : Bool). record { bundle = core.bundle; places = core.places; ordered = core.ordered; state = after_step core.bundle core.places ordered core.state (Post worker) }) (sym off)
 
 -- ---- the same of the core as it lies in memory

@@ -10,7 +10,7 @@ use Rattle.ar_limits.specs.declared.event.Event.{Event}
 use Rattle.ar_bundle.specs.Sound.{IsBundle, IsEventPart}
 use Rattle.ar_bundle.specs.Bundle.{Bundle, events_of, finding_at, happened, run_at}
 use Rattle.ar_board.specs.Posting.{added, entry_behind, posted, with_number}
-use Rattle.ar_board.specs.Core.{ScheduleState, can_put, emptied, has_empty_hand, held, is_parked, occurrences, post_of, put, taken, times_held, times_parked, times_to_put}
+use Rattle.ar_board.specs.Core.{StepState, can_put, emptied, has_empty_hand, held, is_parked, occurrences, post_of, put, taken, times_held, times_parked, times_to_put}
 use Rattle.ar_bundle.specs.Lawful.{AreHistories, IsHistory, numbers_of, times, times_in}
 use Rattle.ar_board.specs.Private.Kept.{IsSound}
 use Rattle.ar_bundle.specs.declared.bundle.EventPart.{EventPart}
@@ -29,14 +29,14 @@ moves_by_test number next true false lower same = let still : nat_lt number (suc
 moves_by_test number next false true lower same = let now : nat_lt number (suc next) ≡ true = grind (arith, nat_tests) in rw (now, lower, same) refl
 moves_by_test number next false false lower same = let not_yet : nat_lt number (suc next) ≡ false = grind (arith, nat_tests) in rw (not_yet, lower, same) refl
 
-put_once : (number : ℕ) (state : ScheduleState) → occurrences number state ≡ 1 → occurrences number (put state) ≡ 1
+put_once : (number : ℕ) (state : StepState) → occurrences number state ≡ 1 → occurrences number (put state) ≡ 1
 put_once number state once =
     let moves = moves_by_test number state.next (nat_lt number state.next) (state.next == number) refl refl in
     let pushed = times_push number state.next state.queue in
     omega arith
 
 -- the next number goes to the queue, however this is said
-pub puts_sound : (bundle : Bundle) (state : ScheduleState) (next : ℕ) (queue : List ℕ) → IsSound bundle state → state.next < length bundle.entries → next ≡ state.next + 1 → queue ≡ state.queue ++ state.next ∷ []
+pub puts_sound : (bundle : Bundle) (state : StepState) (next : ℕ) (queue : List ℕ) → IsSound bundle state → state.next < length bundle.entries → next ≡ state.next + 1 → queue ≡ state.queue ++ state.next ∷ []
     → IsSound bundle (record { next = next; queue = queue; hands = state.hands; parked = state.parked; histories = state.histories })
 puts_sound bundle state next queue sound inside up is =
     let later : next ≡ suc state.next = omega arith in
@@ -49,7 +49,7 @@ puts_sound bundle state next queue sound inside up is =
       histories = sound.histories;
     }
 
-pub put_sound : (bundle : Bundle) (places : ℕ) (state : ScheduleState) (can : Bool) → can_put bundle places state ≡ can → IsSound bundle state → IsSound bundle (if can then put state else state)
+pub put_sound : (bundle : Bundle) (places : ℕ) (state : StepState) (can : Bool) → can_put bundle places state ≡ can → IsSound bundle state → IsSound bundle (if can then put state else state)
 put_sound bundle places state false is sound = sound
 put_sound bundle places state true is sound =
     let inside : nat_lt state.next (length bundle.entries) ≡ true = (and_parts (nat_lt state.next (length bundle.entries)) (nat_lt (length state.queue) places) is).0 in
@@ -91,7 +91,7 @@ first_counts number own numbers = by_test (own == number) refl where
 
 -- ---- Take
 
-took_once : (number : ℕ) (state : ScheduleState) (worker own : ℕ) (queue : List ℕ) → state.queue ≡ own ∷ queue → worker < length state.hands → get_or state.hands worker None ≡ None → occurrences number state ≡ 1 → occurrences number (taken state worker (own ∷ queue)) ≡ 1
+took_once : (number : ℕ) (state : StepState) (worker own : ℕ) (queue : List ℕ) → state.queue ≡ own ∷ queue → worker < length state.hands → get_or state.hands worker None ≡ None → occurrences number state ≡ 1 → occurrences number (taken state worker (own ∷ queue)) ≡ 1
 took_once number state worker own queue is inside empty once =
     let counted = ap (times_in number) is ∙ first_counts number own queue in
     let filled = fills number worker state.hands own inside empty in
@@ -101,12 +101,12 @@ none_is : {A : Type 0} (found : Option A) → is_none found ≡ true → found �
 none_is None is = refl
 none_is (Some x) is = absurd cc
 
-taken_sound : (bundle : Bundle) (state : ScheduleState) (worker : ℕ) (queue : List ℕ) → state.queue ≡ queue → worker < length state.hands → get_or state.hands worker None ≡ None → IsSound bundle state → IsSound bundle (taken state worker queue)
+taken_sound : (bundle : Bundle) (state : StepState) (worker : ℕ) (queue : List ℕ) → state.queue ≡ queue → worker < length state.hands → get_or state.hands worker None ≡ None → IsSound bundle state → IsSound bundle (taken state worker queue)
 taken_sound bundle state worker [] is inside empty sound = sound
 taken_sound bundle state worker (own ∷ queue) is inside empty sound =
     record { next = sound.next; once = λ number. took_once number state worker own queue is inside empty (sound.once number); parked = sound.parked; histories = sound.histories }
 
-pub take_sound : (bundle : Bundle) (state : ScheduleState) (worker : ℕ) (can : Bool) → has_empty_hand state worker ≡ can → IsSound bundle state → IsSound bundle (if can then taken state worker state.queue else state)
+pub take_sound : (bundle : Bundle) (state : StepState) (worker : ℕ) (can : Bool) → has_empty_hand state worker ≡ can → IsSound bundle state → IsSound bundle (if can then taken state worker state.queue else state)
 take_sound bundle state worker false is sound = sound
 take_sound bundle state worker true is sound =
     let both = and_parts (nat_lt worker (length state.hands)) (is_none (held state worker)) is in
@@ -121,21 +121,21 @@ holder_inside (suc worker) own (hand ∷ hands) full = let rest = holder_inside 
 
 -- ---- a number in a hand
 
-put_by_test : (number : ℕ) (state : ScheduleState) (test : Bool) → nat_lt number state.next ≡ test → times_to_put number state ≡ 0 → number < state.next
+put_by_test : (number : ℕ) (state : StepState) (test : Bool) → nat_lt number state.next ≡ test → times_to_put number state ≡ 0 → number < state.next
 put_by_test number state true is put = grind (arith, nat_tests, is)
 put_by_test number state false is put = absurd (let one : times_to_put number state ≡ 1 = rw is refl in omega arith)
 
-free_by_test : (number : ℕ) (state : ScheduleState) (test : Bool) → is_parked state number ≡ test → times_parked number state ≡ 0 → is_parked state number ≡ false
+free_by_test : (number : ℕ) (state : StepState) (test : Bool) → is_parked state number ≡ test → times_parked number state ≡ 0 → is_parked state number ≡ false
 free_by_test number state true is none = absurd (let one : times_parked number state ≡ 1 = rw is refl in omega arith)
 free_by_test number state false is none = is
 
 -- it is one of the bundle's, isn't parked, and stands in no history
-pub record IsHeld (bundle : Bundle) (state : ScheduleState) (number : ℕ) : Type 0 where
+pub record IsHeld (bundle : Bundle) (state : StepState) (number : ℕ) : Type 0 where
   pub inside : number < length bundle.entries
   pub free : is_parked state number ≡ false
   pub nowhere : times number state.histories ≡ 0
 
-pub held_number : (bundle : Bundle) (state : ScheduleState) (worker number : ℕ) → IsSound bundle state → get_or state.hands worker None ≡ Some number → IsHeld bundle state number
+pub held_number : (bundle : Bundle) (state : StepState) (worker number : ℕ) → IsSound bundle state → get_or state.hands worker None ≡ Some number → IsHeld bundle state number
 held_number bundle state worker number sound full =
     let once = sound.once number in
     let most = get_or-le-sum_by (times_held number) state.hands worker None (holder_inside worker number state.hands full) in
@@ -208,7 +208,7 @@ adds_of_run bundle histories own (Some run) is are own_run = adds_entry bundle h
 pub adds : (bundle : Bundle) (histories : List (List Entry)) (own : ℕ) → IsBundle bundle → AreHistories bundle 0 bundle.runs histories → IfSome (posted bundle histories own) (Adds bundle histories own)
 adds bundle histories own is are = adds_of_run bundle histories own (run_at bundle own) is are refl
 
-emptied_sound : (bundle : Bundle) (state : ScheduleState) (worker own : ℕ) (later : Option (List (List Entry))) → worker < length state.hands → held state worker ≡ Some own → IfSome later (Adds bundle state.histories own) → IsSound bundle state → IsSound bundle (emptied state worker later)
+emptied_sound : (bundle : Bundle) (state : StepState) (worker own : ℕ) (later : Option (List (List Entry))) → worker < length state.hands → held state worker ≡ Some own → IfSome later (Adds bundle state.histories own) → IsSound bundle state → IsSound bundle (emptied state worker later)
 emptied_sound bundle state worker own None inside full added sound = sound
 emptied_sound bundle state worker own (Some later) inside full added sound =
     record {
@@ -222,6 +222,6 @@ emptied_sound bundle state worker own (Some later) inside full added sound =
       histories = added.are;
     }
 
-pub post_sound : (bundle : Bundle) (state : ScheduleState) (worker : ℕ) (hand : Option ℕ) → IsBundle bundle → held state worker ≡ hand → IsSound bundle state → IsSound bundle (post_of bundle state worker hand)
+pub post_sound : (bundle : Bundle) (state : StepState) (worker : ℕ) (hand : Option ℕ) → IsBundle bundle → held state worker ≡ hand → IsSound bundle state → IsSound bundle (post_of bundle state worker hand)
 post_sound bundle state worker None is holds sound = sound
 post_sound bundle state worker (Some own) is holds sound = emptied_sound bundle state worker own (posted bundle state.histories own) (holder_inside worker own state.hands holds) holds (adds bundle state.histories own is sound.histories) sound

@@ -8,7 +8,7 @@ use Rattle.std.proofs.lemmas.Option.{slice_get_past, slice_get_read}
 use Rattle.ar_bundle.specs.Bundle.{Bundle, run_at}
 use Rattle.ar_bundle.specs.Lawful.{times}
 use Rattle.ar_board.specs.Posting.{posted}
-use Rattle.ar_board.specs.Core.{Core, ScheduleState, held, is_parked, lacking, parked_moved, occurrences, own_numbers, parked_by, parked_applied, times_parked}
+use Rattle.ar_board.specs.Core.{Core, StepState, held, is_parked, lacking, parked_moved, occurrences, own_numbers, parked_by, settled_numbers, times_parked}
 use Rattle.ar_board.specs.Private.Inside.{IsCore, core_of, histories_of, state_of}
 use Rattle.ar_board.specs.Private.Own.{items_of_each}
 use Rattle.ar_board.specs.Private.Posts.{IsTurn, next_own, settled_core}
@@ -96,16 +96,16 @@ pub none_moves : (core : Inside) (seen : Core) (run : ℕ) → IsCore core → c
 none_moves core seen run is view on none =
     let all_there : next_own (core_of core) run ≡ None = ap (λ (seen : Core). next_own seen run) view ∙ sym none in
     subst (λ (seen : Core). settled_core seen run ≡ seen) view
-    (ap (λ (state : ScheduleState). record { bundle = core.bundle.now; places = core.places; ordered = core.ordered; state = state }) (none_lacks core.bundle.now (state_of core) run (is.in_order (is_on core seen view on)) all_there))
+    (ap (λ (state : StepState). record { bundle = core.bundle.now; places = core.places; ordered = core.ordered; state = state }) (none_lacks core.bundle.now (state_of core) run (is.in_order (is_on core seen view on)) all_there))
 
 pub free_stays : (core : Inside) (seen : Core) (run number : ℕ) → IsCore core → core_of core ≡ seen → seen.ordered ≡ true → Least core run number → is_parked (state_of core) number ≡ false → settled_core seen run ≡ seen
 free_stays core seen run number is view on least free =
     subst (λ (seen : Core). settled_core seen run ≡ seen) view
-    (ap (λ (state : ScheduleState). record { bundle = core.bundle.now; places = core.places; ordered = core.ordered; state = state }) (not_parked core.bundle.now (state_of core) run number (is.in_order (is_on core seen view on)) least.there free))
+    (ap (λ (state : StepState). record { bundle = core.bundle.now; places = core.places; ordered = core.ordered; state = state }) (not_parked core.bundle.now (state_of core) run number (is.in_order (is_on core seen view on)) least.there free))
 
 -- ---- a number moves
 
-nowhere_by : (number : ℕ) (state : ScheduleState) → is_parked state number ≡ true → occurrences number state ≡ 1 → times number state.histories ≡ 0
+nowhere_by : (number : ℕ) (state : StepState) → is_parked state number ≡ true → occurrences number state ≡ 1 → times number state.histories ≡ 0
 nowhere_by number state marked once = let one : times_parked number state ≡ 1 = rw marked refl in omega arith
 
 pub parked_nowhere : (core : Inside) (number : ℕ) → IsCore core → is_parked (state_of core) number ≡ true → times number (histories_of core.runs.items) ≡ 0
@@ -116,24 +116,24 @@ pub turned_in : (core : Inside) (seen : Core) (run number : ℕ) (later : List R
 turned_in core seen run number later is view on below least marked appends =
     turned core.bundle.now (state_of core) run number is.bundle is.sound (is.in_order (is_on core seen view on)) (run_below core seen run view below) least.there marked (histories_of later) appends.posts
 
-pub is_turn : (core : Inside) (seen : Core) (run number : ℕ) (later : ScheduleState) → core_of core ≡ seen → Turned core.bundle.now (state_of core) run number later → IsTurn run seen (record { bundle = core.bundle.now; places = core.places; ordered = core.ordered; state = later })
+pub is_turn : (core : Inside) (seen : Core) (run number : ℕ) (later : StepState) → core_of core ≡ seen → Turned core.bundle.now (state_of core) run number later → IsTurn run seen (record { bundle = core.bundle.now; places = core.places; ordered = core.ordered; state = later })
 is_turn core seen run number later view turn =
     subst (λ (seen : Core). IsTurn run seen (record { bundle = core.bundle.now; places = core.places; ordered = core.ordered; state = later })) view (record {
       bundle = refl;
       ordered = refl;
-      same = ap (λ (state : ScheduleState). record { bundle = core.bundle.now; places = core.places; ordered = core.ordered; state = state }) turn.same;
+      same = ap (λ (state : StepState). record { bundle = core.bundle.now; places = core.places; ordered = core.ordered; state = state }) turn.same;
       fewer = turn.fewer;
     })
 
 -- ---- the hands
 
-hands_by_test : (bundle : Bundle) (state : ScheduleState) (number : ℕ) (others : List ℕ) (test : Bool) (posts : Option (List (List Entry))) → ((later : ScheduleState) → (parked_applied bundle later others).hands ≡ later.hands) → (if test then parked_applied bundle (parked_moved state number posts) others else state).hands ≡ state.hands
+hands_by_test : (bundle : Bundle) (state : StepState) (number : ℕ) (others : List ℕ) (test : Bool) (posts : Option (List (List Entry))) → ((later : StepState) → (settled_numbers bundle later others).hands ≡ later.hands) → (if test then settled_numbers bundle (parked_moved state number posts) others else state).hands ≡ state.hands
 hands_by_test bundle state number others false posts rest = refl
 hands_by_test bundle state number others true None rest = rest state
 hands_by_test bundle state number others true (Some later) rest = rest (parked_moved state number (Some later))
 
 -- no hand changes when numbers move
-pub settled_hands : (bundle : Bundle) (numbers : List ℕ) (state : ScheduleState) → (parked_applied bundle state numbers).hands ≡ state.hands
+pub settled_hands : (bundle : Bundle) (numbers : List ℕ) (state : StepState) → (settled_numbers bundle state numbers).hands ≡ state.hands
 settled_hands bundle [] state = refl
 settled_hands bundle (number ∷ others) state = hands_by_test bundle state number others (is_parked state number) (posted bundle state.histories number) (λ later. settled_hands bundle others later)
 
@@ -149,9 +149,9 @@ hand_changes hands worker number full same =
 pub post_changes : (core : Inside) (seen later : Core) (worker number run : ℕ) → core_of core ≡ seen → held (state_of core) worker ≡ Some number
     → later ≡ settled_core (record { bundle = core.bundle.now; places = core.places; ordered = core.ordered; state = parked_by (state_of core) worker number }) run → later.state ≡ seen.state → ⊥
 post_changes core seen later worker number run view full is same =
-    let parked : ScheduleState = parked_by (state_of core) worker number in
+    let parked : StepState = parked_by (state_of core) worker number in
     hand_changes core.hands.items worker number full
     (sym (settled_hands core.bundle.now (lacking core.bundle.now parked run) parked)
     ∙ (sym (ap (λ (core : Core). core.state.hands) is)
-    ∙ (ap (λ (state : ScheduleState). state.hands) same
+    ∙ (ap (λ (state : StepState). state.hands) same
     ∙ sym (ap (λ (core : Core). core.state.hands) view))))

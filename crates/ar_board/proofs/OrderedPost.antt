@@ -5,7 +5,7 @@ use Rattle.std.proofs.lemmas.List.{get_or-set_same, length_push}
 use Rattle.ar_bundle.specs.Sound.{IsBundle}
 use Rattle.ar_bundle.specs.Bundle.{Bundle}
 use Rattle.ar_board.specs.Posting.{added, posted}
-use Rattle.ar_board.specs.Core.{ScheduleState, is_parked, lacking, parked_moved, own_numbers, parked_applied}
+use Rattle.ar_board.specs.Core.{StepState, is_parked, lacking, parked_moved, own_numbers, settled_numbers}
 use Rattle.ar_board.specs.Private.Kept.{AreInOrder, IsSound}
 use Rattle.ar_bundle.specs.declared.history.Entry.{Entry}
 use Rattle.ar_bundle.proofs.HistoryLemmas.{as_many}
@@ -17,26 +17,26 @@ use Rattle.ar_board.proofs.OwnNumbers.{front_none, front_there, lacking_is, long
 -- ---- nothing moves
 
 -- no number of the run is lacking
-pub none_lacks : (bundle : Bundle) (state : ScheduleState) (run : ℕ) → AreInOrder bundle state.histories → slice_get (own_numbers bundle run) (length (get_or state.histories run [])) ≡ None → parked_applied bundle state (lacking bundle state run) ≡ state
-none_lacks bundle state run in_order none = ap (parked_applied bundle state) (lacking_is bundle state run (in_order run) ∙ front_none (length (get_or state.histories run [])) (own_numbers bundle run) none)
+pub none_lacks : (bundle : Bundle) (state : StepState) (run : ℕ) → AreInOrder bundle state.histories → slice_get (own_numbers bundle run) (length (get_or state.histories run [])) ≡ None → settled_numbers bundle state (lacking bundle state run) ≡ state
+none_lacks bundle state run in_order none = ap (settled_numbers bundle state) (lacking_is bundle state run (in_order run) ∙ front_none (length (get_or state.histories run [])) (own_numbers bundle run) none)
 
 -- the least one isn't parked
-pub not_parked : (bundle : Bundle) (state : ScheduleState) (run number : ℕ) → AreInOrder bundle state.histories → slice_get (own_numbers bundle run) (length (get_or state.histories run [])) ≡ Some number → is_parked state number ≡ false → parked_applied bundle state (lacking bundle state run) ≡ state
+pub not_parked : (bundle : Bundle) (state : StepState) (run number : ℕ) → AreInOrder bundle state.histories → slice_get (own_numbers bundle run) (length (get_or state.histories run [])) ≡ Some number → is_parked state number ≡ false → settled_numbers bundle state (lacking bundle state run) ≡ state
 not_parked bundle state run number in_order there free =
-    ap (parked_applied bundle state) (lacking_is bundle state run (in_order run) ∙ front_there (length (get_or state.histories run [])) number (own_numbers bundle run) there) ∙ rw free refl
+    ap (settled_numbers bundle state) (lacking_is bundle state run (in_order run) ∙ front_there (length (get_or state.histories run [])) number (own_numbers bundle run) there) ∙ rw free refl
 
 -- ---- a number moves
 
-pub record Turned (bundle : Bundle) (state : ScheduleState) (run number : ℕ) (later : ScheduleState) : Type 0 where
+pub record Turned (bundle : Bundle) (state : StepState) (run number : ℕ) (later : StepState) : Type 0 where
   pub sound : IsSound bundle later
   pub in_order : AreInOrder bundle later.histories
-  pub same : parked_applied bundle later (lacking bundle later run) ≡ parked_applied bundle state (lacking bundle state run)
+  pub same : settled_numbers bundle later (lacking bundle later run) ≡ settled_numbers bundle state (lacking bundle state run)
   pub fewer : suc (length (lacking bundle later run)) ≡ length (lacking bundle state run)
 
-moves_first : (bundle : Bundle) (state : ScheduleState) (number : ℕ) (others : List ℕ) (later : List (List Entry)) → is_parked state number ≡ true → posted bundle state.histories number ≡ Some later → parked_applied bundle state (number ∷ others) ≡ parked_applied bundle (parked_moved state number (Some later)) others
+moves_first : (bundle : Bundle) (state : StepState) (number : ℕ) (others : List ℕ) (later : List (List Entry)) → is_parked state number ≡ true → posted bundle state.histories number ≡ Some later → settled_numbers bundle state (number ∷ others) ≡ settled_numbers bundle (parked_moved state number (Some later)) others
 moves_first bundle state number others later there posts = rw (there, posts) refl
 
-pub turned : (bundle : Bundle) (state : ScheduleState) (run number : ℕ) → IsBundle bundle → IsSound bundle state → AreInOrder bundle state.histories → run < length bundle.runs → slice_get (own_numbers bundle run) (length (get_or state.histories run [])) ≡ Some number → is_parked state number ≡ true
+pub turned : (bundle : Bundle) (state : StepState) (run number : ℕ) → IsBundle bundle → IsSound bundle state → AreInOrder bundle state.histories → run < length bundle.runs → slice_get (own_numbers bundle run) (length (get_or state.histories run [])) ≡ Some number → is_parked state number ≡ true
     → (later : List (List Entry)) → posted bundle state.histories number ≡ Some later → Turned bundle state run number (parked_moved state number (Some later))
 turned bundle state run number is sound in_order below there marked later posts =
     let history : List Entry = get_or state.histories run [] in
@@ -55,8 +55,8 @@ turned bundle state run number is sound in_order below there marked later posts 
       sound = moved_sound bundle state number (Some later) marked (subst (λ (posted : Option (List (List Entry))). IfSome posted (Adds bundle state.histories number)) posts (adds bundle state.histories number is sound.histories)) sound;
       in_order = next;
       same =
-          ap (parked_applied bundle (parked_moved state number (Some later))) behind
+          ap (settled_numbers bundle (parked_moved state number (Some later))) behind
           ∙ (sym (moves_first bundle state number (drop (suc (length history)) own) later marked posts)
-          ∙ ap (parked_applied bundle state) (sym before));
+          ∙ ap (settled_numbers bundle state) (sym before));
       fewer = ap (λ (numbers : List ℕ). suc (length numbers)) behind ∙ ap (λ (numbers : List ℕ). length numbers) (sym before);
     }

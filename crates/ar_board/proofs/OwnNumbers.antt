@@ -7,7 +7,7 @@ use Rattle.std.proofs.lemmas.List.{get_or-set_other, get_or-set_same, length_pus
 use Rattle.std.proofs.lemmas.Option.{get_or_from_slice_get, slice_get_within}
 use Rattle.ar_bundle.specs.Bundle.{Bundle, run_at}
 use Rattle.ar_bundle.specs.Lawful.{Rise, numbers_of, times_in}
-use Rattle.ar_board.specs.Core.{ScheduleState, lacking, own_from, own_numbers}
+use Rattle.ar_board.specs.Core.{StepState, lacking, own_from, own_numbers}
 use Rattle.ar_board.specs.Private.Kept.{AreInOrder, HasFirst}
 use Rattle.ar_bundle.specs.declared.bundle.EventPart.{EventPart}
 use Rattle.ar_bundle.specs.declared.history.Entry.{Entry}
@@ -104,7 +104,7 @@ rest_is_lacked (suc k) (first ∷ own) rise =
     ∙ (filter_same (λ number. times_in number (first ∷ before) == 0) (λ number. times_in number before == 0) own (lower_stays first before own rise.0)
     ∙ rest_is_lacked k own rise.1)
 
-pub lacking_is : (bundle : Bundle) (state : ScheduleState) (run : ℕ) → HasFirst bundle run (get_or state.histories run []) → lacking bundle state run ≡ drop (length (get_or state.histories run [])) (own_numbers bundle run)
+pub lacking_is : (bundle : Bundle) (state : StepState) (run : ℕ) → HasFirst bundle run (get_or state.histories run []) → lacking bundle state run ≡ drop (length (get_or state.histories run [])) (own_numbers bundle run)
 lacking_is bundle state run has =
     ap (λ (numbers : List ℕ). filter (λ number. times_in number numbers == 0) (own_numbers bundle run)) has
     ∙ rest_is_lacked (length (get_or state.histories run [])) (own_numbers bundle run) (own_rise run 0 bundle.entries)

@@ -1,4 +1,4 @@
--- The core of a board: what it does to plain lists, one step after_steps another. A number is put into the queue, a worker
+-- The core of a board: what it does to plain lists, one step after another. A number is put into the queue, a worker
 -- takes it, and posts it to its run's history. In an ordered core a posted number is parked, and goes to its run's history
 -- once all lower numbers of the run are there.
 use Rattle.std.specs.Prelude.{◌≡◌, ◌<◌, ◌+◌, ◌++◌, ◌==◌, ◌&&◌, ℕ, suc, nat_lt, Bool, true, false, if◌then◌else◌, List, [], ◌∷◌, filter, length, map, replicate, set, get_or, Option, Some, None, is_none, IfSome, slice_get}
@@ -13,7 +13,7 @@ use Rattle.ar_bundle.specs.declared.bundle.EventPart.{EventPart}
 use Rattle.ar_bundle.specs.declared.history.Entry.{Entry}
 
 -- the next number to put, the queue, a hand for each worker, whether each number is parked, and a history for each run
-pub record ScheduleState : Type 0 where
+pub record StepState : Type 0 where
   pub next : ℕ
   pub queue : List ℕ
   pub hands : List (Option ℕ)
@@ -21,51 +21,51 @@ pub record ScheduleState : Type 0 where
   pub histories : List (List Entry)
 
 -- nothing was done yet
-abbrev pub opening : Bundle → (workers : ℕ) → ScheduleState
+abbrev pub opening : Bundle → (workers : ℕ) → StepState
 opening bundle workers = record { next = 0; queue = []; hands = replicate workers None; parked = replicate (length bundle.entries) false; histories = map (λ run. []) bundle.runs }
 
 -- ---- Put: the next number goes to the queue's end, where there is a place for it
 
-abbrev pub can_put : Bundle → (places : ℕ) → ScheduleState → Bool
+abbrev pub can_put : Bundle → (places : ℕ) → StepState → Bool
 can_put bundle places state = nat_lt state.next (length bundle.entries) && nat_lt (length state.queue) places
 
-abbrev pub put : ScheduleState → ScheduleState
+abbrev pub put : StepState → StepState
 put state = record { next = suc state.next; queue = state.queue ++ state.next ∷ []; hands = state.hands; parked = state.parked; histories = state.histories }
 
 -- ---- Take: the queue's first number goes into a worker's empty hand
 
 -- what a worker holds; one that isn't there holds nothing
-abbrev pub held : ScheduleState → (worker : ℕ) → Option ℕ
+abbrev pub held : StepState → (worker : ℕ) → Option ℕ
 held state worker = get_or state.hands worker None
 
-abbrev pub has_empty_hand : ScheduleState → (worker : ℕ) → Bool
+abbrev pub has_empty_hand : StepState → (worker : ℕ) → Bool
 has_empty_hand state worker = nat_lt worker (length state.hands) && is_none (held state worker)
 
-abbrev pub taken : ScheduleState → (worker : ℕ) → (queue : List ℕ) → ScheduleState
+abbrev pub taken : StepState → (worker : ℕ) → (queue : List ℕ) → StepState
 taken state worker [] = state
 taken state worker (number ∷ queue) = record { next = state.next; queue = queue; hands = set state.hands worker (Some number); parked = state.parked; histories = state.histories }
 
 -- ---- Post: the number in a worker's hand goes to the end of its run's history
 
-abbrev pub emptied : ScheduleState → (worker : ℕ) → Option (List (List Entry)) → ScheduleState
+abbrev pub emptied : StepState → (worker : ℕ) → Option (List (List Entry)) → StepState
 emptied state worker None = state
 emptied state worker (Some histories) = record { next = state.next; queue = state.queue; hands = set state.hands worker None; parked = state.parked; histories = histories }
 
-abbrev pub post_of : Bundle → ScheduleState → (worker : ℕ) → Option ℕ → ScheduleState
+abbrev pub post_of : Bundle → StepState → (worker : ℕ) → Option ℕ → StepState
 post_of bundle state worker None = state
 post_of bundle state worker (Some number) = emptied state worker (posted bundle state.histories number)
 
 -- ---- Post of an ordered core: the number is parked, and parked numbers go to their run's history in order
 
-abbrev pub is_parked : ScheduleState → (number : ℕ) → Bool
+abbrev pub is_parked : StepState → (number : ℕ) → Bool
 is_parked state number = get_or state.parked number false
 
 -- the number in a worker's hand is parked
-abbrev pub parked_by : ScheduleState → (worker number : ℕ) → ScheduleState
+abbrev pub parked_by : StepState → (worker number : ℕ) → StepState
 parked_by state worker number = record { next = state.next; queue = state.queue; hands = set state.hands worker None; parked = set state.parked number true; histories = state.histories }
 
 -- a parked number goes to the end of its run's history
-abbrev pub parked_moved : ScheduleState → (number : ℕ) → Option (List (List Entry)) → ScheduleState
+abbrev pub parked_moved : StepState → (number : ℕ) → Option (List (List Entry)) → StepState
 parked_moved state number None = state
 parked_moved state number (Some histories) = record { next = state.next; queue = state.queue; hands = state.hands; parked = set state.parked number false; histories = histories }
 
@@ -80,67 +80,67 @@ own_numbers bundle run = own_from run 0 bundle.entries
 abbrev pub history_lacks : List Entry → (number : ℕ) → Bool
 history_lacks history number = times_in number (numbers_of history) == 0
 
--- those of a run's numbers that its history history_lacks, in rising order
-abbrev pub lacking : Bundle → ScheduleState → (run : ℕ) → List ℕ
+-- those of a run's numbers that its history lacks, in rising order
+abbrev pub lacking : Bundle → StepState → (run : ℕ) → List ℕ
 lacking bundle state run = filter (history_lacks (get_or state.histories run [])) (own_numbers bundle run)
 
--- as long as the least of the numbers that a run's history history_lacks is parked, it goes to the history's end, and the history
--- history_lacks the others
-abbrev pub parked_applied : Bundle → ScheduleState → (lacking : List ℕ) → ScheduleState
-parked_applied bundle state [] = state
-parked_applied bundle state (number ∷ others) = if is_parked state number then parked_applied bundle (parked_moved state number (posted bundle state.histories number)) others else state
+-- as long as the least of the numbers that a run's history lacks is parked, it goes to the history's end, and the history
+-- lacks the others
+abbrev pub settled_numbers : Bundle → StepState → (lacking : List ℕ) → StepState
+settled_numbers bundle state [] = state
+settled_numbers bundle state (number ∷ others) = if is_parked state number then settled_numbers bundle (parked_moved state number (posted bundle state.histories number)) others else state
 
-abbrev pub settled_in : Bundle → ScheduleState → Option ℕ → ScheduleState
+abbrev pub settled_in : Bundle → StepState → Option ℕ → StepState
 settled_in bundle state None = state
-settled_in bundle state (Some run) = parked_applied bundle state (lacking bundle state run)
+settled_in bundle state (Some run) = settled_numbers bundle state (lacking bundle state run)
 
-abbrev pub ordered_post_of : Bundle → ScheduleState → (worker : ℕ) → Option ℕ → ScheduleState
+abbrev pub ordered_post_of : Bundle → StepState → (worker : ℕ) → Option ℕ → StepState
 ordered_post_of bundle state worker None = state
 ordered_post_of bundle state worker (Some number) = settled_in bundle (parked_by state worker number) (run_at bundle number)
 
 -- ---- steps
 
 -- a step that can't be made, by a worker that isn't there among others, leaves the state
-abbrev pub after_step : Bundle → (places : ℕ) → (ordered : Bool) → ScheduleState → CoreStep → ScheduleState
+abbrev pub after_step : Bundle → (places : ℕ) → (ordered : Bool) → StepState → CoreStep → StepState
 after_step bundle places ordered state Put = if can_put bundle places state then put state else state
 after_step bundle places ordered state (Take worker) = if has_empty_hand state worker then taken state worker state.queue else state
 after_step bundle places ordered state (Post worker) = if ordered then ordered_post_of bundle state worker (held state worker) else post_of bundle state worker (held state worker)
 
--- the state after_steps some steps
-abbrev pub after_steps : Bundle → (places : ℕ) → (ordered : Bool) → ScheduleState → List CoreStep → ScheduleState
+-- the state after some steps
+abbrev pub after_steps : Bundle → (places : ℕ) → (ordered : Bool) → StepState → List CoreStep → StepState
 after_steps bundle places ordered state [] = state
 after_steps bundle places ordered state (step ∷ steps) = after_steps bundle places ordered (after_step bundle places ordered state step) steps
 
 -- ---- each number once
 
 -- whether a number is still to be put, as a count
-abbrev pub times_to_put : (number : ℕ) → ScheduleState → ℕ
+abbrev pub times_to_put : (number : ℕ) → StepState → ℕ
 times_to_put number state = if nat_lt number state.next then 0 else 1
 
 abbrev pub times_held : (number : ℕ) → Option ℕ → ℕ
 times_held number None = 0
 times_held number (Some own) = if own == number then 1 else 0
 
-abbrev pub times_parked : (number : ℕ) → ScheduleState → ℕ
+abbrev pub times_parked : (number : ℕ) → StepState → ℕ
 times_parked number state = if is_parked state number then 1 else 0
 
 -- how often a number stands in what is still to put, in the queue, in the hands, among the parked numbers and in the
 -- histories
-abbrev pub occurrences : (number : ℕ) → ScheduleState → ℕ
+abbrev pub occurrences : (number : ℕ) → StepState → ℕ
 occurrences number state =
     times_to_put number state + (times_in number state.queue + (sum_by (times_held number) state.hands + (times_parked number state + times number state.histories)))
 
-abbrev pub HasEachOnce : Bundle → ScheduleState → Type 0
+abbrev pub HasEachOnce : Bundle → StepState → Type 0
 HasEachOnce bundle state = (number : ℕ) → number < length bundle.entries → occurrences number state ≡ 1
 
 -- no number is missing or there twice, and each run's history has its own numbers alone, each with its finding and the effect
 -- that it has there
-pub record HasAll (bundle : Bundle) (state : ScheduleState) : Type 0 where
+pub record HasAll (bundle : Bundle) (state : StepState) : Type 0 where
   pub once : HasEachOnce bundle state
   pub histories : AreHistories bundle 0 bundle.runs state.histories
 
 -- nothing is left to put, to take or to post, and nothing is parked
-pub record IsAtRest (bundle : Bundle) (state : ScheduleState) : Type 0 where
+pub record IsAtRest (bundle : Bundle) (state : StepState) : Type 0 where
   pub put : state.next ≡ length bundle.entries
   pub queue : state.queue ≡ []
   pub hands : AllByRecursion (λ hand. hand ≡ None) state.hands
@@ -153,17 +153,17 @@ pub record Core : Type 0 where
   pub bundle : Bundle
   pub places : ℕ
   pub ordered : Bool
-  pub state : ScheduleState
+  pub state : StepState
 
--- the core after_steps a step
+-- the core after a step
 abbrev pub core_stepped : Core → CoreStep → Core
 core_stepped core step = record { bundle = core.bundle; places = core.places; ordered = core.ordered; state = after_step core.bundle core.places core.ordered core.state step }
 
--- the core after_steps some steps of the opening state
+-- the core after some steps of the opening state
 abbrev pub core_after : Bundle → (workers places : ℕ) → (ordered : Bool) → List CoreStep → Core
 core_after bundle workers places ordered steps = record { bundle = bundle; places = places; ordered = ordered; state = after_steps bundle places ordered (opening bundle workers) steps }
 
--- where a run stands after_steps its history
+-- where a run stands after its history
 abbrev pub IsStateOf : Core → (run : ℕ) → Standing → Type 0
 IsStateOf core run standing =
     IfSome (slice_get core.bundle.runs run) (λ part. Replays part.limits (events_of core.bundle (numbers_of (get_or core.state.histories run []))) standing)

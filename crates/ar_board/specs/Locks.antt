@@ -1,4 +1,4 @@
--- A number for each of the four locks of a board, and what their ledgers are made of.
+-- The four locks of a board: which one a run is under, a number for each, and what their ledgers are made of.
 use Rattle.std.specs.Prelude.{◌≡◌, ℕ, zero, suc, ◌%◌}
 use Rattle.std.specs.declared.sync.ledger.Blank.{Blank}
 use Rattle.ar_board.specs.declared.locks.Blanks.{Blanks}
@@ -20,6 +20,10 @@ at_lock numbers (suc (suc zero)) = numbers.third
 at_lock numbers (suc (suc (suc zero))) = numbers.fourth
 at_lock numbers lock = 0
 
+-- the lock that a run is under, of the four that a board has
+abbrev pub lock_of : (run : ℕ) → ℕ
+lock_of run = run % 4
+
 -- ---- ledgers
 
 -- a blank of the ledger with this name, which is cut into this many parts
@@ -36,7 +40,3 @@ pub record AreOf (names : PerLock) (parts : ℕ) (blanks : Blanks) : Type 0 wher
 
 abbrev pub names_of : Blanks → PerLock
 names_of blanks = per_lock blanks.first.name blanks.second.name blanks.third.name blanks.fourth.name
-
--- the lock that a run is under, of the four that a board has
-abbrev pub lock_of : (run : ℕ) → ℕ
-lock_of run = run % 4

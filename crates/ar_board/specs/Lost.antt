@@ -1,4 +1,4 @@
--- When a number is lost: no receipt is met for it.
+-- What a board counts as it is closed, and when a number is lost: it stands in no history, or a receipt for it isn't met.
 use Rattle.std.specs.Prelude.{◌≡◌, ◌<◌, ◌+◌, ◌==◌, ◌⊎◌, ℕ, suc, if◌then◌else◌, List, [], ◌∷◌, length, map, Some, slice_get, take}
 use Rattle.std.specs.List.{count_by, sum_by}
 use Rattle.ar_bundle.specs.Bundle.{Bundle}

@@ -1,4 +1,4 @@
--- What holds of every bundle, and which of its numbers are judged whatever memory is left.
+-- What holds of every bundle, which of its numbers are judged whatever memory is left, and how many entries each run has.
 use Rattle.std.specs.Prelude.{◌≡◌, ◌≢◌, ◌<◌, ◌≤◌, ◌==◌, ℕ, suc, true, List, [], ◌∷◌, length, slice_get, Option, Some, None, IfSome, count_by}
 use Rattle.std.specs.List.{AllByRecursion}
 use Rattle.ar_value.specs.Fits.{fits}
@@ -18,6 +18,9 @@ use Rattle.ar_bundle.specs.declared.bundle.What.{What}
 use Rattle.ar_bundle.specs.declared.bundle.What.TheVariants.{Measure, Stop}
 use Rattle.ar_bundle.specs.Bundle.{Bundle, judge_at}
 
+-- ---- which parts are a bundle
+
+-- a condition that is there is for a shape
 abbrev pub IsOfShape : Shape → Option Condition → Type 0
 IsOfShape shape (Some condition) = shape_view condition.verified.shape ≡ shape
 IsOfShape shape None = Unit {0}
@@ -50,6 +53,7 @@ pub record SuitsMetric (metrics : List MetricPart) (metric : ℕ) (sample : Samp
   pub there : slice_get metrics metric ≡ Some part
   pub suits : SampleSuits (shape_view part.shape) sample
 
+-- an event of a bundle with these metrics: a sample that suits its metric, or a stop
 abbrev pub CanHappen : List MetricPart → What → Type 0
 CanHappen metrics (Measure metric sample) = SuitsMetric metrics metric (sample_view sample)
 CanHappen metrics Stop = Unit {0}
@@ -65,7 +69,7 @@ pub record IsBundle (bundle : Bundle) : Type 0 where
   pub runs : AllByRecursion (IsRun bundle.metrics) bundle.runs
   pub entries : AllByRecursion (IsEventPart bundle.metrics (length bundle.runs)) bundle.entries
 
--- what happens is finding_at without memory: it is a stop, or judging its sample takes none
+-- what happens is found without memory: it is a stop, or judging its sample takes none
 abbrev pub NeedsNoMemory : Bundle → (run : ℕ) → What → Type 0
 NeedsNoMemory bundle run (Measure metric sample) = IfSome (judge_at bundle run metric) (λ judge. TakesNoMemory judge (sample_view sample))
 NeedsNoMemory bundle run Stop = Unit {0}
@@ -74,13 +78,16 @@ NeedsNoMemory bundle run Stop = Unit {0}
 abbrev pub FoundWithoutMemory : Bundle → (number : ℕ) → Type 0
 FoundWithoutMemory bundle number = IfSome (slice_get bundle.entries number) (λ entry. NeedsNoMemory bundle entry.run entry.what)
 
+-- ---- how many entries the runs have
+
+-- the entries of a run
 abbrev pub count_of : List EventPart → (run : ℕ) → ℕ
 count_of entries run = count_by (λ entry. entry.run == run) entries
 
 abbrev pub entries_of : Bundle → (run : ℕ) → ℕ
 entries_of bundle run = count_of bundle.entries run
 
--- that of each run, counting from a run
+-- how many entries each run has, counting runs from one
 abbrev pub event_counts : List EventPart → (from : ℕ) → List RunPart → List ℕ
 event_counts entries from [] = []
 event_counts entries from (run ∷ runs) = count_of entries from ∷ event_counts entries (suc from) runs

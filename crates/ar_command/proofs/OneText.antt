@@ -24,7 +24,7 @@ use Rattle.serde_json.specs.Data.{Data}
 use Rattle.ar_eval.specs.Evaluation.{Prepared}
 use Rattle.ar_eval.specs.Evaluation as evaluation
 use Rattle.ar_eval.specs.declared.eval.EvalError.{EvalError}
-use Rattle.ar_report.specs.Check.{bounds_text, condition_name, condition_text, judge_text, judges_text, listed_text, runs_text, verified_part}
+use Rattle.ar_report.specs.Check.{bounds_text, condition_name, condition_text, judge_text, judges_text, listed_text, runs_text, verified_if_there}
 use Rattle.ar_command.specs.Alike.{AreSameConditions, AreSameJudges, AreSameRuns, IsSameBundle, IsSameCondition, IsSameRun}
 use Rattle.ar_command.specs.Serving.{Says, line_of}
 use Rattle.ar_command.specs.declared.serving.Closing.{Closing}
@@ -109,7 +109,7 @@ one_bundle input one other is also = of_json (json_in input) one other is.follow
 -- ---- what is shown of it
 
 module _ (text : Verified → List ℕ) (alike : (one other : Condition) → IsSameCondition one other → text one.verified ≡ text other.verified) where
-  same_condition_text : (name : List ℕ) (one other : Option Condition) → AreSameConditions one other → condition_text text name (verified_part one) ≡ condition_text text name (verified_part other)
+  same_condition_text : (name : List ℕ) (one other : Option Condition) → AreSameConditions one other → condition_text text name (verified_if_there one) ≡ condition_text text name (verified_if_there other)
   same_condition_text name (Some one) (Some other) same = ap (λ shown. name ++ shown) (alike one other same)
   same_condition_text name (Some one) None same = absurd same
   same_condition_text name None (Some other) same = absurd same

@@ -3,7 +3,7 @@ use Rattle.std.specs.Prelude.{◌≡◌, ◌≢◌, ℕ, Bool, true, List, Optio
 use Rattle.std.specs.Io.KnownBytes.{Appends}
 use Rattle.ar_command_line.specs.declared.command_line.Command.{Command}
 use Rattle.ar_workers.specs.declared.error.WorkError.{WorkError}
-use Rattle.ar_command.specs.Serving.{IsCarriedOut, IsCut, InputIsRefused, RefusesInput, Says, WritesFront}
+use Rattle.ar_command.specs.Serving.{IsCarriedOut, IsCut, RefusesTaken, RefusesInput, Says, WritesFront}
 use Rattle.ar_command.specs.declared.serving.Closing.{Closing}
 use Rattle.ar_command.specs.declared.serving.Refusal.{Refusal}
 use Rattle.ar_command.specs.declared.serving.ServeError.{ServeError}
@@ -18,7 +18,7 @@ pub record Served {R W : Type 0} (command : Command) (taken remaining : R → Op
   -- the same of all bytes of a reader whose bytes are known
   pub written_of_known : IfOk result (λ closing. IfSome (remaining reader) (λ input. (text : List ℕ) × Says command input text closing × Appends (contents writer) (contents later_writer) text))
   -- a refusal is the first fault of the bytes that were taken,
-  pub refused : (refusal : Refusal) → result ≡ Err (Refused refusal) → InputIsRefused command (taken reader) (taken later_reader) refusal
+  pub refused : (refusal : Refusal) → result ≡ Err (Refused refusal) → RefusesTaken command (taken reader) (taken later_reader) refusal
   -- and of all bytes where they are known
   pub refused_of_known : (refusal : Refusal) → result ≡ Err (Refused refusal) → IfSome (remaining reader) (λ input. RefusesInput command input refusal)
   -- `Read` is answered exactly where a read failed

@@ -117,7 +117,7 @@ RefusesInput command input (refusals.Bundle error) = document.ReadsInput input (
 RefusesInput command input (refusals.Eval fault) = ⊥
 
 -- the bytes that were taken are refused
-pub record InputIsRefused (command : Command) (taken_before taken_after : Option (List ℕ)) (refusal : Refusal) : Type 0 where
+pub record RefusesTaken (command : Command) (taken_before taken_after : Option (List ℕ)) (refusal : Refusal) : Type 0 where
   pub input : List ℕ
   pub took : Appends taken_before taken_after input
   pub refuses : RefusesInput command input refusal

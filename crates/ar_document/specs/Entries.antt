@@ -56,7 +56,7 @@ abbrev pub sample_by : Result Value ShapeFault → Sample
 sample_by (Ok value) = measured value
 sample_by (Err fault) = misfit fault
 
--- the sample of what was measured_or_failed, under the shape of its metric
+-- the sample of what was given, under the shape of its metric
 abbrev pub sample_of : Shape → Option Data → Sample
 sample_of shape (Some json) = sample_by (read shape json)
 sample_of shape None = provider

@@ -1,4 +1,4 @@
--- What building a condition answers.
+-- What building a condition answers, and the causes of its parts as it answers them.
 use Rattle.std.specs.Prelude.{ℕ, List, Result, Ok, Err}
 use Rattle.ar_value.specs.Shape.{Shape}
 use Rattle.ar_syntax.specs.declared.error.SyntaxError.{SyntaxError}
@@ -18,6 +18,8 @@ use Rattle.ar_judge.specs.Condition.{IsRefused}
 abbrev pub BuildsTo : Shape → List ℕ → Result Condition BuildCause → Type 0
 BuildsTo shape text (Ok condition) = IsBuilt shape text condition
 BuildsTo shape text (Err cause) = IsRefused shape text cause
+
+-- ---- causes, as they are answered
 
 abbrev pub of_syntax : SyntaxError → BuildCause
 of_syntax syntax.OutOfMemory = OutOfMemory

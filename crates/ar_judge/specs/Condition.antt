@@ -1,4 +1,4 @@
--- Conditions of metrics: what a text is built to under the shape of the measured value, and what it says of values.
+-- What a condition's text says of values, as the parser reads it, and why a text is no condition that can be run.
 use Rattle.std.specs.Prelude.{◌≡◌, ◌<◌, ◌≤◌, ℕ, Bool, List, Option, Some, None, Result, Ok, Err}
 use Rattle.ar_value.specs.Answer.{◌>>=◌}
 use Rattle.ar_value.specs.Shape.{Shape}
@@ -36,7 +36,7 @@ said_by value (Err cause) = None
 abbrev pub said : Shape → List ℕ → Value → Option (Result Bool Fault)
 said shape text value = said_by value (text_typed shape text)
 
--- ---- what a text is built to
+-- ---- why a text is no condition that can be run
 
 -- the code of a text's typed tree would have too many operations
 pub record IsTooLong (shape : Shape) (text : List ℕ) : Type 0 where

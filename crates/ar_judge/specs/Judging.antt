@@ -7,12 +7,11 @@ use Rattle.ar_value.specs.declared.fault.Fault.{Fault}
 use Rattle.ar_json.specs.declared.value_reading.ShapeFault.TheVariants as shape_fault
 use Rattle.ar_machine.specs.Filter.{BeginsNoFilter}
 use Rattle.ar_judge.specs.Built.{Condition}
-use Rattle.ar_judge.specs.Condition.{said}
 use Rattle.ar_judge.specs.declared.judge.Which.{Which}
 use Rattle.ar_judge.specs.declared.judge.Which.TheVariants.{Success, Failure}
 use Rattle.ar_judge.specs.Verdict.{Judge, Sample, measured, misfit, provider, said_of}
 
--- one of the two
+-- one of a judge's two conditions
 abbrev pub own_condition : Which → Judge → Option Condition
 own_condition Success judge = judge.success
 own_condition Failure judge = judge.failure

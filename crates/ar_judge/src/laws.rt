@@ -1,5 +1,5 @@
-//! The first half of the headline, and which conditions are judged whatever memory is left. A law is the
-//! contract of a function that does nothing.
+//! The first half of the headline, that the parser says what the grammar says, and which conditions are
+//! judged whatever memory is left. A law is the contract of a function that does nothing.
 
 ghost use Rattle.std.specs.Prelude.{◌≡◌, ◌↔◌, ℕ, Bool, List, Option, Result, Some};
 ghost use Rattle.ar_value.specs.Shape.{Shape};

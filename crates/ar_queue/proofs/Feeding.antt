@@ -1,4 +1,4 @@
--- The feeder's pass, while items are put, passes split off and after_join, and what is named at all desks.
+-- The feeder's pass, while items are put, passes split off and joined, and what is named at all desks.
 use Rattle.std.proofs.Common.{◌≡◌, ◌<◌, ◌≤◌, ℕ, suc, ◌+◌, List, [], ◌∷◌, ◌++◌, refl, sym, ◌∙◌, ap, subst, arith}
 use Rattle.ar_bundle.specs.Lawful.{times_in}
 use Rattle.ar_queue.specs.Rule.{CanPut, IsDone, after_put, after_join, split_off}
@@ -7,7 +7,7 @@ use Rattle.ar_queue.specs.declared.queue.Item.TheVariants.{Number, End}
 use Rattle.ar_queue.specs.declared.queue.View.{View}
 use Rattle.ar_queue.proofs.Steps.{times_both}
 
--- ---- all passes are after_join
+-- ---- all passes are joined
 
 pub is_done : (view : View) (workers : ℕ) → 1 ≤ workers → IsFeeder view 0 workers → IsDone view
 is_done view workers some is =
@@ -32,7 +32,7 @@ next_mark events marks out before after is put =
     let next : suc marks ≡ marks + 1 = omega arith in
     put ∙ (ap (λ (view : View). after_put view End) is ∙ ap (λ (marks : ℕ). feeding events marks out) next)
 
--- ---- passes are split off and after_join
+-- ---- passes are split off and joined
 
 pub next_split : (before after : View) (out : ℕ) → before ≡ feeding 0 0 out → after ≡ split_off before → after ≡ feeding 0 0 (suc out)
 next_split before after out is split = split ∙ ap split_off is

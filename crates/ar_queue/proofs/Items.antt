@@ -6,7 +6,7 @@ use Rattle.std.proofs.lemmas.Bool.Decides.{nat_tests}
 use Rattle.std.proofs.lemmas.List.Sums.{sum_by-cons, sum_by_push}
 use Rattle.ar_bundle.specs.Lawful.{Rise}
 use Rattle.ar_queue.specs.Numbers.{once_below}
-use Rattle.ar_queue.specs.Rule.{MarksLast, item_mark, marks_queued, numbers_of_items, times_of, times_queued}
+use Rattle.ar_queue.specs.Rule.{MarksLast, marks_of_item, marks_queued, numbers_of_items, times_of, times_queued}
 use Rattle.ar_queue.specs.declared.queue.Item.{Item}
 use Rattle.ar_queue.specs.declared.queue.Item.TheVariants.{Number, End}
 use Rattle.ar_bundle.proofs.HistoryLemmas.{all_push}
@@ -97,11 +97,11 @@ none_queued number (End ∷ items) none = first_mark number items ∙ none_queue
 
 -- ---- end marks
 
-pub marks_push : (items : List Item) (item : Item) → marks_queued (items ++ item ∷ []) ≡ marks_queued items + item_mark item
-marks_push items item = sum_by_push item_mark items item
+pub marks_push : (items : List Item) (item : Item) → marks_queued (items ++ item ∷ []) ≡ marks_queued items + marks_of_item item
+marks_push items item = sum_by_push marks_of_item items item
 
-pub marks_first : (item : Item) (items : List Item) → marks_queued (item ∷ items) ≡ item_mark item + marks_queued items
-marks_first item items = sum_by-cons item_mark item items
+pub marks_first : (item : Item) (items : List Item) → marks_queued (item ∷ items) ≡ marks_of_item item + marks_queued items
+marks_first item items = sum_by-cons marks_of_item item items
 
 -- a number after numbers alone, and an end mark after anything
 pub last_number : (items : List Item) (number : ℕ) → marks_queued items ≡ 0 → MarksLast (items ++ Number number ∷ [])

@@ -236,7 +236,7 @@ pub takes : (events at : ℕ) (v : View) → CanTake v → Pops (IsQueue events)
 takes events at v can (Number number) items views is there = take_number events at number v can items views is there
 takes events at v can End items views is there = take_mark events at v can items views is there
 
--- ---- passes are split off and after_join
+-- ---- passes are split off and joined
 
 pub splits : (events at : ℕ) (v : View) → v.feeds ≡ 1 → Forks (IsQueue events) at v (split_off v) worker
 splits events at v feeds items views is there =
@@ -324,7 +324,7 @@ joins events at v other u feeds is_on no_feeder is_live_too items views is there
     let live = is.live in
     let most = is.marks in
     let few = is.put in
-    -- the feeder's pass stands beside the one that is after_join, so one is out
+    -- the feeder's pass stands beside the one that is joined, so one is out
     let kept = still_there changed at other w away spent (put_there views at v w there) in
     let own_live = within (λ view. view.live) last at w kept in
     let all_out = all_out_by views at v there is.feeder feeds is.alone in

@@ -19,12 +19,12 @@ times_of number End = 0
 abbrev pub times_queued : (number : ℕ) → List Item → ℕ
 times_queued number items = sum_by (times_of number) items
 
-abbrev pub item_mark : Item → ℕ
-item_mark (Number own) = 0
-item_mark End = 1
+abbrev pub marks_of_item : Item → ℕ
+marks_of_item (Number own) = 0
+marks_of_item End = 1
 
 abbrev pub marks_queued : List Item → ℕ
-marks_queued items = sum_by item_mark items
+marks_queued items = sum_by marks_of_item items
 
 abbrev pub numbers_of_items : List Item → List ℕ
 numbers_of_items [] = []
@@ -52,7 +52,7 @@ pub record IsQueue (events : ℕ) (items : List Item) (views : List View) : Type
   -- one pass feeds the queue, and no other has put or split anything
   pub feeder : total (λ view. view.feeds) views ≡ 1
   pub alone : total fed_by_others views ≡ 0
-  -- as many passes aren't spent as were split off and not after_join, and the feeder; one that is spent has no number
+  -- as many passes aren't spent as were split off and not joined, and the feeder; one that is spent has no number
   pub live : total (λ view. view.live) views ≡ total (λ view. view.out) views + 1
   pub spent : (number : ℕ) → total (times_in_spent number) views ≡ 0
   -- each number that was put stands just once in the queue or with a pass
@@ -111,7 +111,7 @@ spent = record { feeds = 0; live = 0; put = 0; marks = 0; out = 0; ended = 0; ta
 
 -- ---- what the feeder learns
 
--- all passes are after_join, and one of them has met an end mark
+-- all passes are joined, and one of them has met an end mark
 pub record IsDone (view : View) : Type 0 where
   pub feeds : view.feeds ≡ 1
   pub live : view.live ≡ 1

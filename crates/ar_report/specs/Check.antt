@@ -8,7 +8,7 @@ use Rattle.ar_safety.specs.Verdict.{Verified}
 use Rattle.ar_bundle.specs.Bundle.{Bundle}
 use Rattle.ar_bundle.specs.declared.bundle.MetricPart.{MetricPart}
 use Rattle.ar_bundle.specs.declared.bundle.RunPart.{RunPart}
-use Rattle.ar_report.specs.Report.{counter_text}
+use Rattle.ar_report.specs.Report.{figure_text}
 
 -- what comes before the text of each condition: its run, its metric, and which of the two it is
 unfoldable pub condition_name : (run metric which : List ℕ) → List ℕ
@@ -19,14 +19,14 @@ abbrev pub condition_text : (Verified → List ℕ) → (name : List ℕ) → Op
 condition_text text name (Some verified) = name ++ text verified
 condition_text text name None = []
 
-abbrev pub verified_part : Option Condition → Option Verified
-verified_part condition = option_map (λ condition. condition.verified) condition
+abbrev pub verified_if_there : Option Condition → Option Verified
+verified_if_there condition = option_map (λ condition. condition.verified) condition
 
 -- the texts of a metric's conditions, success before failure
 abbrev pub judge_text : (Verified → List ℕ) → (run metric : List ℕ) → Judge → List ℕ
 judge_text text run metric judge =
-    condition_text text (condition_name run metric (codes "success")) (verified_part judge.success)
-    ++ condition_text text (condition_name run metric (codes "failure")) (verified_part judge.failure)
+    condition_text text (condition_name run metric (codes "success")) (verified_if_there judge.success)
+    ++ condition_text text (condition_name run metric (codes "failure")) (verified_if_there judge.failure)
 
 -- the texts of a run's conditions, metric by metric
 abbrev pub judges_text : (Verified → List ℕ) → (run : List ℕ) → List MetricPart → List Judge → List ℕ
@@ -40,7 +40,7 @@ runs_text text metrics (run ∷ runs) = judges_text text run.name metrics run.ju
 -- ---- bounds
 
 unfoldable pub bounds_text : Verified → List ℕ
-bounds_text verified = counter_text (codes "operations") (length verified.code.ops) ++ (counter_text (codes "depth") verified.depth ++ (counter_text (codes "budget") verified.budget ++ codes "\n"))
+bounds_text verified = figure_text (codes "operations") (length verified.code.ops) ++ (figure_text (codes "depth") verified.depth ++ (figure_text (codes "budget") verified.budget ++ codes "\n"))
 
 abbrev pub check_text : Bundle → List ℕ
 check_text bundle = runs_text bounds_text bundle.metrics bundle.runs

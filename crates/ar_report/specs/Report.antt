@@ -17,14 +17,14 @@ use Rattle.ar_report.specs.Names.{effect_text, phase_name, verdict_text}
 
 -- ---- a metric's line
 
-unfoldable pub counter_text : (name : List ℕ) → ℕ → List ℕ
-counter_text name number = codes " " ++ (name ++ (codes "=" ++ decimal number))
+unfoldable pub figure_text : (name : List ℕ) → ℕ → List ℕ
+figure_text name number = codes " " ++ (name ++ (codes "=" ++ decimal number))
 
 abbrev pub errors_text : Counts → List ℕ
-errors_text counts = counter_text (codes "error") counts.error ++ counter_text (codes "consecutiveError") counts.succession
+errors_text counts = figure_text (codes "error") counts.error ++ figure_text (codes "consecutiveError") counts.succession
 
 abbrev pub counts_text : Counts → List ℕ
-counts_text counts = counter_text (codes "successful") counts.successful ++ (counter_text (codes "failed") counts.failed ++ (counter_text (codes "inconclusive") counts.inconclusive ++ errors_text counts))
+counts_text counts = figure_text (codes "successful") counts.successful ++ (figure_text (codes "failed") counts.failed ++ (figure_text (codes "inconclusive") counts.inconclusive ++ errors_text counts))
 
 -- a dry metric is marked at the end
 abbrev pub dry_text : Limits → List ℕ

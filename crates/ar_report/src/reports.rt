@@ -8,7 +8,7 @@ ghost use Rattle.ar_limits.specs.Run.{effects};
 ghost use Rattle.ar_report.specs.Private.Entries.{AreFound, entry_lines};
 ghost use Rattle.ar_bundle.specs.Lawful.{AreHistoriesSoFar, numbers_of};
 ghost use Rattle.ar_report.specs.Names.{effect_text};
-ghost use Rattle.ar_report.specs.Report.{counter_text, counts_text, dry_text, errors_text, event_line, finding_text, name_at, metric_line, metric_lines, report, run_line, run_phases, run_text};
+ghost use Rattle.ar_report.specs.Report.{figure_text, counts_text, dry_text, errors_text, event_line, finding_text, name_at, metric_line, metric_lines, report, run_line, run_phases, run_text};
 
 use crate::names::{phase_name, put_effect, put_verdict};
 use ar_bundle::{Bundle, Entry, Finding, Histories, MetricPart, RunPart, What};
@@ -23,9 +23,9 @@ fn put_number(out: &mut String, number: u64) -> Result<(), AllocError>
     out.push_str(buffer.format(number))
 }
 
-#[tactic(auto, unfolding(crate::specs::Report::counter_text))]
+#[tactic(auto, unfolding(crate::specs::Report::figure_text))]
 pub(crate) fn put_counted(out: &mut String, name: &str, number: u64) -> Result<(), AllocError>
-    ensures { OnOk result (string_bytes out.new ≡ string_bytes out.old ++ counter_text name.now number) }
+    ensures { OnOk result (string_bytes out.new ≡ string_bytes out.old ++ figure_text name.now number) }
 {
     out.push_str(" ")?;
     out.push_str(name)?;

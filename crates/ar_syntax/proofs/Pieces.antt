@@ -202,7 +202,7 @@ IsFront-sign at bytes found e = elim (chosen (is_coalescing bytes) (Err (BadChar
   | inr sign ↦ IsFront-sign_token at bytes (sign_at bytes) found refl sign.1
 ]
 
--- ---- what is piece_found
+-- ---- what is found
 
 IsFront-token_of : (at : ℕ) (field : Bool) (bytes : List ℕ) (found : Token) → token_of at field bytes ≡ Ok found → IsFront at bytes found
 unfolding token_of
@@ -262,7 +262,7 @@ no_token_comment : (at : ℕ) (end : Option ℕ) (token : Token) → comment_of 
 no_token_comment at None token e = cc
 no_token_comment at (Some len) token e = cc
 
--- the token that is piece_found at the front stands there
+-- the token that is found at the front stands there
 pub IsFront-front_of : (at : ℕ) (field : Bool) (bytes : List ℕ) (token : Token) → front_of at field bytes ≡ Ok (Found token) → IsFront at bytes token
 unfolding front_of
 IsFront-front_of at field bytes token e =

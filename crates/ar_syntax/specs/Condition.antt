@@ -1,4 +1,4 @@
--- Which texts are conditions, and the tree that each says.
+-- Which texts are conditions, and the tree that each says; limits of the grammar, all of them and each alone set aside.
 use Rattle.std.specs.Prelude.{◌≡◌, ℕ, ◌+◌, true, false, max, nat_le, List, Ok}
 use Rattle.ar_tree.specs.Expression.{Expression, Expressions}
 use Rattle.ar_tree.specs.Expression as trees
@@ -13,6 +13,8 @@ strict = record { any_depth = false; any_items = false; any_count = false }
 -- all of the tokens are a condition but for the depth of its tree, which the tree says
 abbrev pub Derives : List Token → Expression → Type 0
 Derives tokens tree = DerivesBy strict tokens tree
+
+-- ---- depth
 
 abbrev mutual
   pub depth : Expression → ℕ
@@ -36,6 +38,8 @@ abbrev mutual
 
 abbrev pub most_depth : ℕ
 most_depth = 64
+
+-- ---- texts
 
 -- the text's tokens are a condition, which the tree says
 pub record SaysTree (text : List ℕ) (tree : Expression) : Type 0 where

@@ -1,4 +1,4 @@
--- How texts spell tokens, whatever cuts them.
+-- How texts spell tokens and what is between them, and what cutting a text into tokens answers.
 use Rattle.std.specs.Prelude.{◌≡◌, ℕ, ◌-◌, ◌<◌, ◌≤◌, pos, false, IsTrue, List, [], ◌∷◌, ◌++◌, length, take, drop, codes, slice_index, Some, None, Ok, Bool, true, Result, Err, IfOk, All, Vec}
 use Rattle.std.specs.Char.{is_ascii_digit}
 use Rattle.std.specs.List.{list_all}
@@ -16,7 +16,7 @@ use Rattle.ar_value.specs.Limits.{most_text_bytes}
 use Rattle.ar_syntax.specs.declared.error.SyntaxError.{SyntaxError}
 use Rattle.ar_syntax.specs.declared.error.SyntaxError.TheVariants.{TooLong, OutOfMemory}
 use Rattle.ar_syntax.specs.declared.token.Token.{Token}
-use Rattle.ar_syntax.specs.Tokens.{begins_block_comment, begins_line_comment, comment_end, is_blank, line_comment, token, tokens_of}
+use Rattle.ar_syntax.specs.Tokens.{begins_block_comment, begins_line_comment, comment_end, is_blank, line_comment, tokens_of}
 
 -- one digit or more, and nothing else
 abbrev pub AreDigits : List ℕ → Type 0

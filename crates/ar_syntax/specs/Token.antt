@@ -1,4 +1,4 @@
--- How tokens are spelled.
+-- The letters, signs, bases and escapes of tokens.
 use Rattle.std.specs.Prelude.{ℕ, ◌+◌, Bool, true, false, ◌||◌, ◌==◌, if◌then◌else◌, List, [], ◌∷◌, codes, find, Option, Some, None, Result, Ok, Err}
 use Rattle.std.specs.Char.{is_ascii_alphabetic, is_ascii_alphanumeric, is_digit}
 use Rattle.std.specs.Str.{bytes_eq}

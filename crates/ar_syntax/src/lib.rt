@@ -18,10 +18,11 @@
 //!
 //! Trees are `ar_tree`'s, and names and the values of text literals `ar_value`'s `Text`.
 //!
-//! In `specs`, `Token` and `Tokens` define the tokens of a text, `Grammar` the trees that tokens
-//! derive, with `Roles` for what each token can be, and `Refusal` the place and name of the fault of
-//! those that derive none. `Machine` reads the grammar token by token, `Fault` finds the name, and
-//! `Parse` is both as a function of the text. `Examples` and `RefusalExamples` have texts with their
+//! In `specs`, `Token` and `Tokens` define the tokens of a text, and `Spelling` how it spells them;
+//! `Grammar` the trees that tokens derive, with `Roles` for what each token can be, `Condition` which
+//! texts are conditions, and `Refusal` the place and name of the fault of those that are none.
+//! `Machine` reads the grammar token by token, `Fault` finds the name, and `Parse` is both as a function
+//! of the text; `Parsed` is what parsing answers. `Examples` and `RefusalExamples` have texts with their
 //! trees and refusals. What is in `Private` no public contract speaks of.
 #![tactic(auto)]
 

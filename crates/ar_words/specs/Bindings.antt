@@ -50,8 +50,8 @@ condition_bound_for document run metric error = condition_in (bound_metrics docu
 -- ---- refusals of binding
 
 -- the first reference in the texts of a metric that has no value
-abbrev pub unbound_in_metric : Data → (run metric : ℕ) → Option (List ℕ)
-unbound_in_metric document run metric = option_and_then (λ binding. unbound_reference binding.0 binding.1 metric) (binding_of document run)
+abbrev pub unbound_of_run : Data → (run metric : ℕ) → Option (List ℕ)
+unbound_of_run document run metric = option_and_then (λ binding. unbound_reference binding.0 binding.1 metric) (binding_of document run)
 
 -- the limit of a metric that is refused
 abbrev pub limit_in : Data → (run metric : ℕ) → Option RefusedLimit

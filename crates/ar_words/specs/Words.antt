@@ -14,7 +14,7 @@ use Rattle.ar_eval.specs.declared.eval.EvalError.{EvalError}
 use Rattle.ar_eval.specs.declared.eval.EvalError.TheVariants.{Grammar, Kinds}
 use Rattle.ar_judge.specs.declared.error.BuildCause.TheVariants as build
 use Rattle.ar_judge.specs.declared.error.BuildError.{BuildError}
-use Rattle.ar_words.specs.Bindings.{condition_bound_for, limit_in, unbound_in_metric}
+use Rattle.ar_words.specs.Bindings.{condition_bound_for, limit_in, unbound_of_run}
 use Rattle.ar_words.specs.Conditions.{after_name, build_words, condition_words}
 use Rattle.ar_words.specs.Fields.{misfit}
 use Rattle.ar_words.specs.Found.{found_after, limit_said, reference_said}
@@ -78,8 +78,8 @@ template_words document cause text = text
 
 -- where the arguments of a run are bound
 abbrev pub bind_words : Data → (run : ℕ) → ManifestError → (text : List ℕ) → List ℕ
-bind_words document run (causes.UnknownArg metric) text = with_arguments document (beside_metric document metric (found_after (codes "UnknownArg: ") (option_map (reference_said (codes " in braces; expected args.NAME with a name of `spec.args`")) (unbound_in_metric document run metric)) text))
-bind_words document run (causes.NoValue metric) text = beside_metric document metric (found_after (codes "NoValue: ") (option_map (reference_said (codes " in braces has no value; expected one from the run or the template")) (unbound_in_metric document run metric)) text)
+bind_words document run (causes.UnknownArg metric) text = with_arguments document (beside_metric document metric (found_after (codes "UnknownArg: ") (option_map (reference_said (codes " in braces; expected args.NAME with a name of `spec.args`")) (unbound_of_run document run metric)) text))
+bind_words document run (causes.NoValue metric) text = beside_metric document metric (found_after (codes "NoValue: ") (option_map (reference_said (codes " in braces has no value; expected one from the run or the template")) (unbound_of_run document run metric)) text)
 bind_words document run (causes.BadLimit metric) text = beside_metric document metric (found_after (codes "BadLimit: ") (option_map limit_said (limit_in document run metric)) text)
 bind_words document run cause text = template_words document cause text
 

@@ -4,7 +4,7 @@
 ghost use Rattle.std.specs.Prelude.{◌≡◌, IfOk, IsErr, Err, option_map};
 ghost use Rattle.serde_json.specs.View.{view};
 ghost use Rattle.ar_manifest.specs.declared.error.ManifestError.TheVariants.{OutOfMemory};
-ghost use Rattle.ar_words.specs.Bindings.{binding_of, bound_metrics, condition_in, limit_in, made, own_of, refused_condition, given_template, unbound_in_metric};
+ghost use Rattle.ar_words.specs.Bindings.{binding_of, bound_metrics, condition_in, limit_in, made, own_of, refused_condition, given_template, unbound_of_run};
 
 use crate::lists::{item_at, runs};
 use ar_document::BundleError;
@@ -124,7 +124,7 @@ pub(crate) fn unbound_in(
     run: usize,
     metric: usize,
 ) -> Result<Option<Text>, AllocError>
-    ensures { IfOk result (λ reference. reference ≡ unbound_in_metric (view document.now) run metric) }
+    ensures { IfOk result (λ reference. reference ≡ unbound_of_run (view document.now) run metric) }
 {
     let Some((template, own)) = binding_of(alloc, document, run)? else {
         return Ok(None);

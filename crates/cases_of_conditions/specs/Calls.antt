@@ -15,5 +15,5 @@ abbrev pub judge_calls : List (List ℕ)
 judge_calls = codes "condition" ∷ codes "run_condition" ∷ codes "judge" ∷ codes "judge_code" ∷ []
 
 -- the calls that this library answers
-abbrev pub is_condition_call : (call : List ℕ) → Bool
-is_condition_call call = is_one_of template_calls call || (is_one_of condition_calls call || (is_one_of code_calls call || is_one_of judge_calls call))
+abbrev pub is_library_call : (call : List ℕ) → Bool
+is_library_call call = is_one_of template_calls call || (is_one_of condition_calls call || (is_one_of code_calls call || is_one_of judge_calls call))

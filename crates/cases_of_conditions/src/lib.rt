@@ -14,7 +14,7 @@
 #![tactic(auto)]
 
 ghost use Rattle.std.specs.Prelude.{◌≡◌, is_some};
-ghost use Rattle.cases_of_conditions.specs.Calls.{is_condition_call};
+ghost use Rattle.cases_of_conditions.specs.Calls.{is_library_call};
 
 mod changes;
 mod codes;
@@ -33,7 +33,7 @@ use std::alloc::Global;
 
 /// What a call answers on a case. `None` where it is one of another subject, or none at all.
 pub fn answer(alloc: Global, call: &str, case: &Json) -> Option<Result<String, CaseFault>>
-    ensures { is_some result ≡ is_condition_call call.now }
+    ensures { is_some result ≡ is_library_call call.now }
 {
     let mut out = Output::new(alloc);
     let written = put(alloc, call, case, &mut out)?;
@@ -41,7 +41,7 @@ pub fn answer(alloc: Global, call: &str, case: &Json) -> Option<Result<String, C
 }
 
 fn put(alloc: Global, call: &str, case: &Json, out: &mut Output) -> Option<Written>
-    ensures { is_some result ≡ is_condition_call call.now }
+    ensures { is_some result ≡ is_library_call call.now }
 {
     if let Some(written) = templates::put(alloc, call, case, out) {
         return Some(written);

@@ -1,7 +1,7 @@
 -- The calls that this program answers by itself, by their names, which docs/CONFORMANCE.md lists by subjects.
 use Rattle.std.specs.Prelude.{ℕ, Bool, ◌||◌, List, [], ◌∷◌, codes}
 use Rattle.cases_of_values.specs.Calls.{is_call as is_value_call, is_one_of}
-use Rattle.cases_of_conditions.specs.Calls.{is_condition_call as is_judge_call}
+use Rattle.cases_of_conditions.specs.Calls.{is_library_call as is_judge_call}
 
 abbrev pub phase_calls : List (List ℕ)
 phase_calls = codes "phase" ∷ codes "positive_counts" ∷ codes "phases" ∷ []

@@ -5,7 +5,7 @@ use Rattle.std.specs.VecDeque.{deque_capacity}
 use Rattle.ar_limits.specs.Replay.{Replays}
 use Rattle.ar_bundle.specs.Sound.{IsBundle, entries_of}
 use Rattle.ar_bundle.specs.Bundle.{Bundle, events_of, finding_at}
-use Rattle.ar_board.specs.Core.{Core, ScheduleState}
+use Rattle.ar_board.specs.Core.{Core, StepState}
 use Rattle.ar_bundle.specs.Lawful.{numbers_of}
 use Rattle.ar_board.specs.Private.Kept.{AreInOrder, IsSound}
 use Rattle.ar_board.specs.Private.Own.{AreOwn, items_of_each}
@@ -18,7 +18,7 @@ use Rattle.ar_board.specs.declared.core_state.CoreState.TheInside.{Inside}
 abbrev pub histories_of : List RunHistory → List (List Entry)
 histories_of runs = map (λ run. run.entries.items) runs
 
-abbrev pub state_of : Inside → ScheduleState
+abbrev pub state_of : Inside → StepState
 state_of core = record { next = core.next; queue = core.queue.items; hands = core.hands.items; parked = core.parked.items; histories = histories_of core.runs.items }
 
 abbrev pub core_of : Inside → Core

@@ -1,12 +1,12 @@
 -- What every step of the core keeps.
 use Rattle.std.specs.Prelude.{◌≡◌, ◌≤◌, ℕ, List, [], length, take, get_or}
 use Rattle.ar_bundle.specs.Bundle.{Bundle}
-use Rattle.ar_board.specs.Core.{ScheduleState, occurrences, own_numbers}
+use Rattle.ar_board.specs.Core.{StepState, occurrences, own_numbers}
 use Rattle.ar_bundle.specs.Lawful.{AreHistories, numbers_of}
 use Rattle.ar_bundle.specs.declared.history.Entry.{Entry}
 
 -- what holds in each state that steps lead to
-pub record IsSound (bundle : Bundle) (state : ScheduleState) : Type 0 where
+pub record IsSound (bundle : Bundle) (state : StepState) : Type 0 where
   pub next : state.next ≤ length bundle.entries
   pub once : (number : ℕ) → occurrences number state ≡ 1
   pub parked : length state.parked ≡ length bundle.entries

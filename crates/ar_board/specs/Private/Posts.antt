@@ -5,7 +5,7 @@ use Rattle.ar_limits.specs.Replay.{ForEachReplay, Replays, most_events}
 use Rattle.ar_limits.specs.declared.event.Event.{Event}
 use Rattle.ar_bundle.specs.Bundle.{Bundle, finding_at, happened}
 use Rattle.ar_board.specs.Posting.{entry_with}
-use Rattle.ar_board.specs.Core.{Core, after_steps, lacking, own_numbers, parked_applied}
+use Rattle.ar_board.specs.Core.{Core, after_steps, lacking, own_numbers, settled_numbers}
 use Rattle.ar_board.specs.declared.core_steps.CoreStep.{CoreStep}
 use Rattle.ar_bundle.specs.declared.finding.Finding.{Finding}
 use Rattle.ar_board.specs.declared.cell.run_history.RunHistory.{RunHistory}
@@ -26,13 +26,13 @@ pub record IsAppended (bundle : Bundle) (number : ℕ) (old new : RunHistory) : 
   pub replays : ForEachReplay old.state (λ limits events. Replays limits (events ++ event ∷ []) new.state)
   pub capacity : vec_capacity new.entries ≡ vec_capacity old.entries
 
--- of a run's numbers in rising order, the one after_steps as many as its history has
+-- of a run's numbers in rising order, the one after as many as its history has
 abbrev pub next_own : Core → (run : ℕ) → Option ℕ
 next_own core run = slice_get (own_numbers core.bundle run) (length (get_or core.state.histories run []))
 
 -- the core in which the parked numbers of a run have gone to its history as far as they can
 abbrev pub settled_core : Core → (run : ℕ) → Core
-settled_core core run = record { bundle = core.bundle; places = core.places; ordered = core.ordered; state = parked_applied core.bundle core.state (lacking core.bundle core.state run) }
+settled_core core run = record { bundle = core.bundle; places = core.places; ordered = core.ordered; state = settled_numbers core.bundle core.state (lacking core.bundle core.state run) }
 
 -- one of them has gone
 pub record IsTurn (run : ℕ) (old new : Core) : Type 0 where
@@ -41,6 +41,6 @@ pub record IsTurn (run : ℕ) (old new : Core) : Type 0 where
   pub same : settled_core new run ≡ settled_core old run
   pub fewer : suc (length (lacking new.bundle new.state run)) ≡ length (lacking old.bundle old.state run)
 
--- the core after_steps some steps
+-- the core after some steps
 abbrev pub stepped_by : Core → List CoreStep → Core
 stepped_by core steps = record { bundle = core.bundle; places = core.places; ordered = core.ordered; state = after_steps core.bundle core.places core.ordered core.state steps }

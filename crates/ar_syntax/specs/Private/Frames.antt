@@ -1,4 +1,4 @@
--- What the stack in memory says of what is begun and not phrase_ended.
+-- What the stack in memory says of what is begun and not ended.
 use Rattle.std.specs.Prelude.{ℕ, Bool, true, false, nat_le, map, List, [], ◌∷◌, ◌++◌}
 use Rattle.ar_tree.specs.Expression.{Expression, UnaryAt, BinaryAt, ChoiceAt}
 use Rattle.ar_syntax.specs.Machine.{Frame, ParserState, climbed, unwound, RightOf, Prefixed, Yes, No, Grouped, Listed, Indexed, Argued, Body, Braced}
