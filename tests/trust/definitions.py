@@ -2,7 +2,7 @@
 
 A definition is a declaration of a file in `specs/` with the comment above it. It reaches those that its text names, as the
 file's imports resolve them; names that a clause binds are none. A type of the program is one too: it reaches the types that
-it is made of, and what its model names. Libraries' own definitions are only named.
+it is made of, and what its model names; its private invariant is none of that. Libraries' own definitions are only named.
 """
 import pathlib
 import re
@@ -22,7 +22,7 @@ class Definition:
 
     def __init__(self, module, name, kind, first):
         self.module, self.name, self.kind = module, name, kind
-        self.first = self.last = first
+        self.first = first
         self.constructors, self.heads, self.pieces = set(), [], []
 
     def __repr__(self):
@@ -74,7 +74,7 @@ class Module:
                     self.local[now.name] = now
                 comment = None
                 if now and not line.startswith("pub mod"):
-                    self.add(now, line, number)
+                    self.add(now, line)
 
     @staticmethod
     def declared(line):
@@ -83,8 +83,7 @@ class Module:
         is_marked = line.startswith(("abbrev ", "unfoldable ", "pub ", "record ", "data "))
         return DECLARATION.match(line) if is_marked or re.match(r"\S+ :\s", line) else None
 
-    def add(self, now, line, number):
-        now.last = number
+    def add(self, now, line):
         if line.startswith("unfolding "):
             return
         if line[0] == " " and now.pieces:
@@ -168,7 +167,7 @@ class Sources:
                 self.types.setdefault((source.crate, name), it)
 
     def at(self, path, name, seen=()):
-        """What a name of a module stands for: a definition, a type of the program, or a library's name."""
+        """What a name of a module means: a definition, a type of the program, or a library's name."""
         module = self.modules.get(path)
         if module:
             if name in module.local:
@@ -184,7 +183,7 @@ class Sources:
         return None if parts[1].startswith("ar_") else f"{path}.{name}"
 
     def named_by(self, place, word):
-        """What a word of a definition's text stands for, by its file's imports."""
+        """What a word of a definition's text means, by its file's imports."""
         head, _, rest = word.partition(".")
         if head in place.spaces and rest:
             return self.at(place.spaces[head], rest.split(".")[0])
