@@ -22,7 +22,7 @@ class Definition:
 
     def __init__(self, module, name, kind, first):
         self.module, self.name, self.kind = module, name, kind
-        self.first = first
+        self.first, self.is_public = first, False
         self.constructors, self.heads, self.pieces = set(), [], []
 
     def __repr__(self):
@@ -69,6 +69,7 @@ class Module:
                 found = self.declared(line)
                 if found:
                     now = Definition(self, found["name"], found["kind"], comment or number)
+                    now.is_public = "pub " in line[: found.start("name")]
                     now.heads = [head for _, head in blocks if head.startswith("module ")]
                     self.definitions.append(now)
                     self.local[now.name] = now

@@ -11,7 +11,7 @@ use Rattle.ar_limits.specs.Run.{effect_of}
 use Rattle.ar_limits.specs.declared.event.Effect.{Effect}
 use Rattle.ar_limits.specs.declared.event.Event.{Event}
 use Rattle.ar_limits.specs.declared.limits.Limits.{Limits}
-use Rattle.ar_bundle.specs.Sound.{IsRun, count_of, event_counts, entries_of, sizes_of}
+use Rattle.ar_bundle.specs.Sound.{IsRun, count_of, sizes_from, entries_of, sizes_of}
 use Rattle.ar_bundle.specs.Bundle.{Bundle, events_of, finding_at, happened, run_at}
 use Rattle.ar_board.specs.Locks.{lock_of}
 use Rattle.ar_board.specs.Cell.{ArePosts, Cell, IsCell, IsKept, IsPosted, IsUnder, KeptRun, IsInHistory, authors_at, authors_of, histories_of, history_at}
@@ -34,7 +34,7 @@ use Rattle.ar_bundle.proofs.Room.{has_room}
 set_same : {A : Type 0} (xs : List A) (at : ℕ) (x y : A) → at < length xs → slice_get (set xs at x) at ≡ Some y → x ≡ y
 set_same xs at x y inside there = let same = sym (at_set_same xs at x inside) ∙ there in cc
 
--- what is at a place of a changed list is the new one, or what was there
+-- what is at an index of a changed list is the new one, or what was there
 pub cases_at : {A : Type 0} (P : ℕ → A → Type 0) (xs : List A) (at other : ℕ) (x y : A) → at < length xs → P at x → ((z : A) → other ≢ at → slice_get xs other ≡ Some z → P other z) → slice_get (set xs at x) other ≡ Some y → P other y
 cases_at P xs at other x y inside new old there = by_test (other == at) refl where
   by_test : (test : Bool) → (other == at) ≡ test → P other y
@@ -46,7 +46,7 @@ cases_at P xs at other x y inside new old there = by_test (other == at) refl whe
 
 -- ---- how many entries a run has
 
-count_at : (entries : List EventPart) (from run : ℕ) (parts : List RunPart) (d : ℕ) → run < length parts → get_or (event_counts entries from parts) run d ≡ count_of entries (from + run)
+count_at : (entries : List EventPart) (from run : ℕ) (parts : List RunPart) (d : ℕ) → run < length parts → get_or (sizes_from entries from parts) run d ≡ count_of entries (from + run)
 count_at entries from run [] d inside = absurd (omega arith)
 count_at entries from zero (part ∷ parts) d inside = ap (count_of entries) (omega arith)
 count_at entries from (suc run) (part ∷ parts) d inside = count_at entries (suc from) run parts d (omega arith) ∙ ap (count_of entries) (omega arith)
@@ -102,7 +102,7 @@ read_history named workers lock bundle runs stored total run kept inside below r
     let same = ap (λ (bundle : Bundle). length bundle.runs) inside.is_named in
     history_is runs total run kept (slice_get_read runs (length runs) run kept refl (omega arith) read)
 
--- ---- a number that doesn't stand there yet
+-- ---- a number that isn't there yet
 
 pub record IsReady (bundle : Bundle) (workers lock : ℕ) (runs : List Declared) (number run : ℕ) (kept : Declared) : Type 0 where
   pub part : RunPart
@@ -356,7 +356,7 @@ inside_push named workers lock bundle runs stored total after worker number run 
       room = λ other kept kept_there. cases_at (λ at kept. HasRoom bundle lock at kept) runs run other new kept ready.inside (room_push bundle lock run old new worker number finding event answer ready.room pushed) (λ kept away was. inside.room other kept was) kept_there;
     }
 
--- ---- what `RunCell::add` answers
+-- ---- what `RunCell::add` returns
 
 core_push : (bundle : Bundle) (number run : ℕ) (histories : List (List Entry)) (part : RunPart) (finding : Finding) (event : Event) → run_at bundle number ≡ Some run → finding_at bundle number ≡ Some finding → happened bundle number ≡ Some event → slice_get bundle.runs run ≡ Some part
     → posted bundle histories number ≡ Some (added histories run (record { number = number; finding = finding; effect = effect_of part.limits (events_of bundle (numbers_of (get_or histories run []))) event }))

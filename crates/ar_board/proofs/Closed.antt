@@ -1,4 +1,4 @@
--- What a board's histories come to when it is closed.
+-- What a board's histories are when it is closed.
 use Rattle.std.proofs.Common.{◌≡◌, ◌<◌, ℕ, zero, suc, Bool, true, false, List, [], Vec, Global, length, replicate, Option, None, Some, refl, sym, subst, arith, ⊎_elim, ◌⊎◌, inl, inr}
 use Rattle.std.specs.Prelude.{slice_get}
 use Rattle.std.proofs.lemmas.Option.{get_or_from_slice_get}
@@ -24,7 +24,7 @@ replicated_at (suc many) (suc at) x inside = replicated_at many at x (omega arit
 
 -- ---- which numbers the histories hold
 
--- a number is marked as stored just where it stands in a history
+-- a number is marked as stored just where it is in a history
 stored_where : (bundle : Bundle) (histories : List (List Entry)) (stored : List Bool) (number : ℕ) (is : Bool) → AreStored (λ number. times number histories) (replicate (length bundle.entries) false) stored → number < length bundle.entries → slice_get stored number ≡ Some is → StoredAs (times number histories) false is
 stored_where bundle histories stored number is are inside there = are.each number false is (replicated_at (length bundle.entries) number false inside) there
 
@@ -35,7 +35,7 @@ holds bundle histories receipts unmet stored number marked are inside there =
       met = λ seat at own receipt own_there at_there for_it. of_all (λ (own : List Receipt). AreMet histories own number) receipts seat own (marked.each number false there.is_met) own_there at receipt at_there for_it;
     }
 
--- a number that isn't held stands in no history, or a receipt for it isn't met
+-- a number that isn't held is in no history, or a receipt for it isn't met
 why : (bundle : Bundle) (histories : List (List Entry)) (receipts : List (List Receipt)) (unmet stored : List Bool) (number : ℕ) → AreAllMarked bundle histories receipts unmet → AreStored (λ number. times number histories) (replicate (length bundle.entries) false) stored → number < length bundle.entries → IsUnheld unmet stored number → (times number histories ≡ 0) ⊎ IsUnmetAmong histories receipts number
 why bundle histories receipts unmet stored number marked are inside unheld = ⊎_elim (λ there. inr (marked.each number true there)) (λ there. inl (stored_where bundle histories stored number false are inside there)) unheld
 

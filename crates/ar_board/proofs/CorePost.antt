@@ -218,7 +218,7 @@ stepped_at_once core worker later off after =
     ap (λ (state : StepState). record { bundle = core.bundle; places = core.places; ordered = core.ordered; state = state }) (sym after)
     ∙ ap (λ (ordered : Bool). record { bundle = core.bundle; places = core.places; ordered = core.ordered; state = after_step core.bundle core.places ordered core.state (Post worker) }) (sym off)
 
--- ---- the same of the core as it lies in memory
+-- ---- the same of the core as it is in memory
 
 pub record Holding (core : Inside) (worker number : ℕ) : Type 0 where
   pub full : held (state_of core) worker ≡ Some number

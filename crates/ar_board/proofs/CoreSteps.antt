@@ -7,7 +7,7 @@ use Rattle.std.proofs.lemmas.Bool.{and_parts}
 use Rattle.std.proofs.lemmas.List.Sums.{get_or-le-sum_by, sum_by-set}
 use Rattle.ar_limits.specs.Run.{effect_of}
 use Rattle.ar_limits.specs.declared.event.Event.{Event}
-use Rattle.ar_bundle.specs.Sound.{IsBundle, IsEventPart}
+use Rattle.ar_bundle.specs.Sound.{IsBundle, FitsBundle}
 use Rattle.ar_bundle.specs.Bundle.{Bundle, events_of, finding_at, happened, run_at}
 use Rattle.ar_board.specs.Posting.{added, entry_behind, posted, with_number}
 use Rattle.ar_board.specs.Core.{StepState, can_put, emptied, has_empty_hand, held, is_parked, occurrences, post_of, put, taken, times_held, times_parked, times_to_put}
@@ -22,7 +22,7 @@ use Rattle.ar_bundle.proofs.HistoryLemmas.{as_many, history_at, history_push, hi
 
 -- ---- Put
 
--- the next number, no more to be put, stands in the queue
+-- the next number, no more to be put, is in the queue
 moves_by_test : (number next : ℕ) (below here : Bool) → nat_lt number next ≡ below → (next == number) ≡ here → (if nat_lt number (suc next) then 0 else 1) + times_in number (next ∷ []) ≡ (if nat_lt number next then 0 else 1)
 moves_by_test number next true true lower same = absurd (grind (arith, nat_tests))
 moves_by_test number next true false lower same = let still : nat_lt number (suc next) ≡ true = grind (arith, nat_tests) in rw (still, lower, same) refl
@@ -35,7 +35,7 @@ put_once number state once =
     let pushed = times_push number state.next state.queue in
     omega arith
 
--- the next number goes to the queue, however this is said
+-- the next number moves to the queue, however this is said
 pub puts_sound : (bundle : Bundle) (state : StepState) (next : ℕ) (queue : List ℕ) → IsSound bundle state → state.next < length bundle.entries → next ≡ state.next + 1 → queue ≡ state.queue ++ state.next ∷ []
     → IsSound bundle (record { next = next; queue = queue; hands = state.hands; parked = state.parked; histories = state.histories })
 puts_sound bundle state next queue sound inside up is =
@@ -129,7 +129,7 @@ free_by_test : (number : ℕ) (state : StepState) (test : Bool) → is_parked st
 free_by_test number state true is none = absurd (let one : times_parked number state ≡ 1 = rw is refl in omega arith)
 free_by_test number state false is none = is
 
--- it is one of the bundle's, isn't parked, and stands in no history
+-- it is one of the bundle's, isn't parked, and is in no history
 pub record IsHeld (bundle : Bundle) (state : StepState) (number : ℕ) : Type 0 where
   pub inside : number < length bundle.entries
   pub free : is_parked state number ≡ false
@@ -152,7 +152,7 @@ held_number bundle state worker number sound full =
 pub run_inside : (bundle : Bundle) (number run : ℕ) (entry : Option EventPart) → slice_get bundle.entries number ≡ entry → IsBundle bundle → run_at bundle number ≡ Some run → run < length bundle.runs
 run_inside bundle number run None there is own = let none : run_at bundle number ≡ None = rw there refl in absurd cc
 run_inside bundle number run (Some entry) there is own =
-    let entered = of_each (IsEventPart bundle.metrics (length bundle.runs)) bundle.entries number entry is.entries there in
+    let entered = of_each (FitsBundle bundle.metrics (length bundle.runs)) bundle.entries number entry is.entries there in
     let of_entry : run_at bundle number ≡ Some entry.run = rw there refl in
     let same : entry.run ≡ run = cc in
     subst (λ (at : ℕ). at < length bundle.runs) same entered.run
@@ -178,7 +178,7 @@ comes bundle run history number entry (Some finding) (Some event) (Some part) fi
     let same : Some entry ≡ Some made = sym is ∙ some_made in
     record { part = part; finding = finding; event = event; there = there; finds = finds; happens = happens; is = cc }
 
--- histories in which a number stands once more, at the end of its run's
+-- histories in which a number is once more, at the end of its run's
 pub record Adds (bundle : Bundle) (histories : List (List Entry)) (own : ℕ) (later : List (List Entry)) : Type 0 where
   pub are : AreHistories bundle 0 bundle.runs later
   pub times : (number : ℕ) → times number later ≡ times number histories + times_held number (Some own)

@@ -65,7 +65,7 @@ run_there bundle own at receipt is are inside read =
     let same : found.0 ≡ receipt.run = (let both = sym found.1 ∙ own_run in cc) in
     subst (λ (run : ℕ). run < length bundle.runs) same found.2
 
--- ---- the last place of each run
+-- ---- the last position of each run
 
 pub last_first : (own : List Receipt) (last : List (Option ℕ)) → last ≡ replicate most_runs None → AreLast (take 0 own) last
 last_first own last are =

@@ -22,7 +22,7 @@ own_push run from last [] entry at = let here : from ≡ last = omega arith in a
 own_push run from last (first ∷ entries) entry at =
     push_by_test from (own_from run (suc from) entries) (if entry.run == run then last ∷ [] else []) (own_from run (suc from) (entries ++ entry ∷ [])) (first.run == run) (own_push run (suc from) last entries entry (omega arith))
 
--- the run's own number comes to its list
+-- the run's own number is added to its list
 to_own : (run last : ℕ) (entries : List EventPart) (entry : EventPart) → last ≡ length entries → entry.run ≡ run → own_from run 0 (entries ++ entry ∷ []) ≡ own_from run 0 entries ++ last ∷ []
 to_own run last entries entry at same =
     let like : (entry.run == run) ≡ true = grind (arith, nat_tests) in
@@ -90,7 +90,7 @@ list_inside bundle entries run lists below are =
     let as_many : length (items_of_each lists) ≡ length lists = length-map lists (λ (list : Vec ℕ Global). list.items) in
     omega arith
 
--- a number comes to its run's list
+-- a number is added to its run's list
 pub lists_more : (bundle : Bundle) (upto run : ℕ) (lists : List (Vec ℕ Global)) (list later : Vec ℕ Global) → upto < length bundle.entries → run_at bundle upto ≡ Some run → run < length bundle.runs → list ≡ get_or lists run list → later.items ≡ list.items ++ upto ∷ []
     → AreOwn bundle (take upto bundle.entries) (items_of_each lists) → AreOwn bundle (take (upto + 1) bundle.entries) (items_of_each (set lists run later))
 lists_more bundle upto run lists list later inside own below read pushed are =

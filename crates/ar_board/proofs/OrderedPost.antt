@@ -1,4 +1,4 @@
--- A turn of an ordered core: the least number that a run's history lacks moves, or nothing does.
+-- One round of an ordered core: the least number that a run's history lacks moves, or nothing does.
 use Rattle.std.proofs.Common.{◌≡◌, ◌<◌, ℕ, suc, true, false, List, [], ◌∷◌, ◌++◌, length, drop, get_or, Option, Some, None, refl, sym, ◌∙◌, ap, subst, arith}
 use Rattle.std.specs.Prelude.{IfSome, slice_get}
 use Rattle.std.proofs.lemmas.List.{get_or-set_same, length_push}

@@ -46,7 +46,7 @@ first_rise bundle run history has = subst Rise (sym has) (rise_take (length hist
 
 -- ---- each of them is the run's
 
--- where a number of a run stands among entries that are numbered from one on
+-- where a number of a run is among entries that are numbered from one on
 record Stands (run from number : ℕ) (entries : List EventPart) : Type 0 where
   place : ℕ
   is : number ≡ from + place

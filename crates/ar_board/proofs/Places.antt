@@ -1,4 +1,4 @@
--- Whether a number stands in the histories of runs.
+-- Whether a number is in the histories of runs.
 use Rattle.std.proofs.Common.{◌≡◌, ◌≢◌, ◌<◌, ℕ, zero, suc, ◌+◌, ◌==◌, Bool, true, false, List, [], ◌∷◌, ◌++◌, length, get_or, Some, refl, sym, ◌∙◌, ap, arith}
 use Rattle.std.specs.Prelude.{nat_lt}
 use Rattle.std.specs.List.{AllByRecursion}
@@ -20,7 +20,7 @@ absent number numbers is = grind (arith, nat_tests)
 pub present : (number : ℕ) (numbers : List ℕ) → is_number_among number numbers ≡ true → 0 < times_in number numbers
 present number numbers is = grind (arith, nat_tests)
 
--- a number that comes to the end is among them
+-- a number that is added at the end is among them
 pub among_last : (number : ℕ) (numbers : List ℕ) → is_number_among number (numbers ++ number ∷ []) ≡ true
 among_last number numbers =
     let same : (number == number) ≡ true = grind (arith, nat_tests) in
@@ -74,6 +74,6 @@ times_at bundle from (suc place) number (run ∷ runs) (history ∷ histories) a
     let later = times_at bundle (suc from) place number runs histories are.1 (is ∙ ap Some next) (omega arith) in
     omega arith
 
--- a number stands in its run's history alone
+-- a number is in its run's history alone
 pub times_own : (bundle : Bundle) (run number : ℕ) (histories : List (List Entry)) → AreHistories bundle 0 bundle.runs histories → run_at bundle number ≡ Some run → run < length bundle.runs → times number histories ≡ times_in number (numbers_of (get_or histories run []))
 times_own bundle run number histories are is inside = times_at bundle 0 run number bundle.runs histories are (is ∙ ap Some (omega arith)) inside

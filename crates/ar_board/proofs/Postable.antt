@@ -1,8 +1,8 @@
--- Each number of a run can go to its history: it has a finding, and is something to its run.
+-- Each number of a run can move to its history: it has a finding, and is something to its run.
 use Rattle.std.proofs.Common.{◌≡◌, ◌<◌, ℕ, List, [], length, get_or, Option, Some, None, refl, sym}
 use Rattle.std.specs.Prelude.{slice_get}
 use Rattle.std.proofs.lemmas.Option.{get_or_from_slice_get}
-use Rattle.ar_bundle.specs.Sound.{CanHappen, IsBundle, IsEventPart}
+use Rattle.ar_bundle.specs.Sound.{CanHappen, IsBundle, FitsBundle}
 use Rattle.ar_bundle.specs.Bundle.{Bundle, event_of, events_of, finding_at, found_of, happened, run_at}
 use Rattle.ar_bundle.specs.Lawful.{numbers_of}
 use Rattle.ar_board.specs.Posting.{added, entry_with, posted}
@@ -33,7 +33,7 @@ found_some bundle run what is below can = found_by bundle run what (found_of bun
 pub posted_some : (bundle : Bundle) (histories : List (List Entry)) (number run : ℕ) → IsBundle bundle → run_at bundle number ≡ Some run → (entry : Entry) × (posted bundle histories number ≡ Some (added histories run entry)) × (entry.number ≡ number)
 posted_some bundle histories number run is own =
     let at = entry_at bundle.entries number (number_inside bundle number run own) in
-    let entered = of_each (IsEventPart bundle.metrics (length bundle.runs)) bundle.entries number at.0 is.entries at.1 in
+    let entered = of_each (FitsBundle bundle.metrics (length bundle.runs)) bundle.entries number at.0 is.entries at.1 in
     let said = found_some bundle at.0.run at.0.what is entered.run entered.what in
     let event : Event = event_of at.0.what said.0 in
     let finds : finding_at bundle number ≡ Some said.0 = rw (at.1, said.1) refl in

@@ -8,7 +8,7 @@ use Rattle.ar_bundle.specs.declared.history.Entry.{Entry}
 use Rattle.ar_board.specs.declared.cell.receipt.Receipt.{Receipt}
 use Rattle.ar_bundle.proofs.HistoryLemmas.{times_by}
 
--- a number at a place is there
+-- a number at `place` is there
 counted_at : (number place : ℕ) (numbers : List ℕ) → slice_get numbers place ≡ Some number → 0 < times_in number numbers
 counted_at number place [] there = absurd cc
 counted_at number zero (first ∷ numbers) there =
@@ -21,7 +21,7 @@ counted_at number (suc place) (first ∷ numbers) there = by_test (first == numb
   by_test true is more = let one = times_by number first numbers true is in omega arith
   by_test false is more = let none = times_by number first numbers false is in omega arith
 
--- whether what stands at a place is the number
+-- whether what is at a position is the number
 at_place : (number : ℕ) (found : Option ℕ) → (found ≡ Some number) ⊎ (found ≢ Some number)
 at_place number None = inr (λ same. absurd cc)
 at_place number (Some other) = by_test (other == number) refl where

@@ -11,7 +11,7 @@ use Rattle.ar_board.specs.Board.{AreSeated, Seat, receipts_of, seat_of}
 use Rattle.ar_board.specs.Cell.{entries_under}
 use Rattle.ar_board.specs.Private.Closing.{AreGiven, AreOwn}
 use Rattle.ar_board.specs.Locks.{at_lock, lock_of}
-use Rattle.ar_board.specs.Seats.{Held, IsSeat, held, nothing, receipts_under, sums, together}
+use Rattle.ar_board.specs.Seats.{Held, IsSeat, held_with, nothing, receipts_under, sums, together}
 use Rattle.ar_board.specs.Private.Seats.{IsOneMore, one_under}
 use Rattle.ar_board.proofs.UnderLocks.{at_nothing, at_sums, by_four, one_in_all, under_four}
 use Rattle.ar_board.specs.declared.cell.receipt.Receipt.{Receipt}
@@ -72,7 +72,7 @@ given_next bundle seats receipts before one seat own given its_own are single ma
           sum ∙ (ap (λ (own : List Receipt). received_under lock (receipts_of seats ++ own ∷ [])) (sym its_own) ∙ ap (received_under lock) (sym lists));
     }
 
-pub none_given : (bundle : Bundle) (shares : Held) → shares ≡ held 0 nothing → AreGiven bundle [] [] shares
+pub none_given : (bundle : Bundle) (shares : Held) → shares ≡ held_with 0 nothing → AreGiven bundle [] [] shares
 none_given bundle shares none = subst (AreGiven bundle [] []) (sym none) (record { lists = refl; own = tt; as_many = refl; counted = at_nothing })
 
 -- ---- posting

@@ -101,7 +101,7 @@ received_at run [] place receipt there = absurd cc
 received_at run (first ∷ receipts) zero receipt there = let same : first ≡ receipt = cc in rw same refl
 received_at run (first ∷ receipts) (suc place) receipt there = received_at run receipts place receipt there
 
--- a worker's entries from a place on are its receipts from one on just where all are
+-- a worker's entries from a position on are its receipts from one on just where all are
 pub record AgreeFrom (run worker : ℕ) (entries : List Entry) (authors : List ℕ) (receipts : List Receipt) (from place : ℕ) : Type 0 where
   pub all : own_from worker entries authors from ≡ received run (drop place receipts) → posted_from 0 worker entries authors ≡ received run receipts
   pub rest : posted_from 0 worker entries authors ≡ received run receipts → own_from worker entries authors from ≡ received run (drop place receipts)
@@ -109,7 +109,7 @@ pub record AgreeFrom (run worker : ℕ) (entries : List Entry) (authors : List �
 pub agree_at_first : (run worker : ℕ) (entries : List Entry) (authors : List ℕ) (receipts : List Receipt) → AgreeFrom run worker entries authors receipts 0 0
 agree_at_first run worker entries authors receipts = record { all = λ same. same; rest = λ same. same }
 
--- a receipt for another run is passed over
+-- a receipt for another run is skipped
 pub agree_skip : (run worker : ℕ) (entries : List Entry) (authors : List ℕ) (receipts : List Receipt) (from place : ℕ) (receipt : Receipt) → place < length receipts → receipt ≡ slice_index_or receipts place receipt → receipt.run ≢ run → AgreeFrom run worker entries authors receipts from place → AgreeFrom run worker entries authors receipts from (place + 1)
 agree_skip run worker entries authors receipts from place receipt inside read away agree =
     let there : slice_get receipts place ≡ Some receipt = slice_get_read receipts (length receipts) place receipt refl inside read in

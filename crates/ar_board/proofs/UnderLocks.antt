@@ -7,7 +7,7 @@ use Rattle.std.proofs.lemmas.List.Sums.{sum_by-cons}
 use Rattle.ar_bundle.specs.Bundle.{Bundle}
 use Rattle.ar_board.specs.Cell.{entries_under}
 use Rattle.ar_board.specs.Locks.{PerLock, at_lock, lock_of, per_lock}
-use Rattle.ar_board.specs.Seats.{Held, held, nothing, sums}
+use Rattle.ar_board.specs.Seats.{Held, held_with, nothing, sums}
 use Rattle.ar_board.specs.Private.Seats.{IsOneMore, one_under}
 
 -- a run is under one of four locks
@@ -49,9 +49,9 @@ more_under own more numbers below one (suc (suc (suc zero))) = more_at own 3 num
 more_under own more numbers below one (suc (suc (suc (suc lock)))) = let away : (own == suc (suc (suc (suc lock)))) ≡ false = grind (arith, nat_tests) in rw away refl
 
 -- shares of which that of one lock has got one more
-pub one_more : (bundle : Bundle) (own lock parts more : ℕ) (before : Held) → own ≡ lock → lock < 4 → parts ≡ before.parts → more ≡ at_lock before.amounts lock + 1 → more ≤ entries_under bundle lock → IsOneMore bundle own before (held parts (with_lock before.amounts lock more))
+pub one_more : (bundle : Bundle) (own lock parts more : ℕ) (before : Held) → own ≡ lock → lock < 4 → parts ≡ before.parts → more ≡ at_lock before.amounts lock + 1 → more ≤ entries_under bundle lock → IsOneMore bundle own before (held_with parts (with_lock before.amounts lock more))
 one_more bundle own lock parts more before is below same one few =
-    subst (λ (own : ℕ). IsOneMore bundle own before (held parts (with_lock before.amounts lock more))) (sym is)
+    subst (λ (own : ℕ). IsOneMore bundle own before (held_with parts (with_lock before.amounts lock more))) (sym is)
     (record {
       parts = same;
       more = more_under lock more before.amounts below one;

@@ -12,6 +12,7 @@ use Rattle.ar_board.specs.declared.cell.snapshot.LookFault.{LookFault}
 use Rattle.ar_board.specs.declared.cell.snapshot.LookFault.TheVariants.{OutOfMemory, Stale}
 use Rattle.ar_board.specs.declared.cell.snapshot.Snapshot.{Snapshot}
 use Rattle.ar_board.specs.Lost.{AreAsMany}
+use Rattle.ar_bundle.specs.Event.{EventNumber}
 
 -- a seat: which of the workers it is for, and the receipts of its posts, in the order in which they were given
 pub record Seat : Type 0 where
@@ -21,14 +22,14 @@ pub record Seat : Type 0 where
 abbrev pub seat_of : (worker : ℕ) → List Receipt → Seat
 seat_of worker receipts = record { worker = worker; receipts = receipts }
 
--- a seat for each of so many workers, none of which has posted anything
+-- a seat for each of n workers, none of which has posted anything
 pub record AreSeated (workers : ℕ) (seats : List Seat) : Type 0 where
   pub as_many : length seats ≡ workers
   pub each : (worker : ℕ) → worker < workers → slice_get seats worker ≡ Some (seat_of worker [])
 
 -- ---- a post
 
--- one receipt more, which says where the number stands in its run's history
+-- one receipt more, which says where the number is in its run's history
 pub record IsReceived (bundle : Bundle) (number : ℕ) (before after : Seat) (answer : Posted) : Type 0 where
   pub run : ℕ
   pub own : run_at bundle number ≡ Some run
@@ -37,15 +38,15 @@ pub record IsReceived (bundle : Bundle) (number : ℕ) (before after : Seat) (an
 
 -- ---- a look
 
--- what a look shows is a run of a cell as its lock may keep it, in which the entries of the seat's worker are those of the
--- seat's receipts for the run
+-- what a look shows is a run of a cell as its lock may keep it, in which the entries of the seat's worker are those of
+-- the seat's receipts for the run
 pub record IsSeen (bundle : Bundle) (workers run : ℕ) (seat : Seat) (shown : Snapshot) : Type 0 where
   pub cell : Cell
   pub is : IsCell bundle workers (lock_of run) cell
   pub snapshot : IsSnapshot bundle workers run cell shown
   pub fresh : IsFresh cell run seat.worker seat.receipts
 
--- there is such a cell in which they aren't, and in which there are so many of them
+-- there is such a cell in which they aren't, and in which there are `posts` of them
 pub record IsStale (bundle : Bundle) (workers run : ℕ) (seat : Seat) (posts : ℕ) : Type 0 where
   pub cell : Cell
   pub is : IsCell bundle workers (lock_of run) cell
@@ -66,5 +67,5 @@ receipts_of seats = map (λ seat. seat.receipts) seats
 -- the histories are lawful, and hold each number, given the receipts of each seat
 pub record IsClosed (bundle : Bundle) (receipts : List (List Receipt)) (histories : List (List Entry)) : Type 0 where
   pub lawful : AreLawful bundle histories
-  pub held : (number : ℕ) → number < length bundle.entries → Hold histories receipts number
+  pub held : (number : EventNumber) → number < length bundle.entries → Hold histories receipts number
   pub as_many : AreAsMany receipts histories

@@ -18,9 +18,10 @@ use Rattle.ar_board.specs.declared.cell.snapshot.LookFault.{LookFault}
 use Rattle.ar_board.specs.declared.cell.snapshot.LookFault.TheVariants.{OutOfMemory, Stale}
 use Rattle.ar_board.specs.declared.cell.snapshot.Snapshot.{Snapshot}
 use Rattle.ar_board.specs.Locks.{lock_of}
+use Rattle.ar_bundle.specs.Event.{EventNumber}
 
--- what a cell keeps of a run: its history, the worker that posted each entry, how many each worker posted, and where the
--- run stands
+-- what a cell keeps of a run: its history, the worker that posted each entry, how many each worker posted, and the
+-- state of the run
 pub record KeptRun : Type 0 where
   pub history : List Entry
   pub authors : List ℕ
@@ -59,7 +60,8 @@ pub record IsKept (bundle : Bundle) (workers lock run : ℕ) (limits : List Limi
 -- so it is of each run of the bundle, and the book counts the entries of all histories
 pub record IsCell (bundle : Bundle) (workers lock : ℕ) (cell : Cell) : Type 0 where
   pub as_many : length cell.runs ≡ length bundle.runs
-  pub each : (run : ℕ) (part : RunPart) (kept : KeptRun) → slice_get bundle.runs run ≡ Some part → slice_get cell.runs run ≡ Some kept
+  pub each : (run : ℕ) (part : RunPart) (kept : KeptRun) → slice_get bundle.runs run ≡ Some part
+      → slice_get cell.runs run ≡ Some kept
       → IsKept bundle workers lock run part.limits kept
   pub counted : cell.total ≡ sum_by (λ kept. length kept.history) cell.runs
 
@@ -92,8 +94,8 @@ pub record IsEmpty (cell : Cell) : Type 0 where
 abbrev pub IsUnder : Bundle → (lock number : ℕ) → Type 0
 IsUnder bundle lock number = (run : ℕ) → run_at bundle number ≡ Some run → lock_of run ≡ lock
 
--- the number stands in a history
-abbrev pub IsInHistory : (number : ℕ) → Cell → Type 0
+-- the number is in a history
+abbrev pub IsInHistory : (number : EventNumber) → Cell → Type 0
 IsInHistory number cell = 0 < times number (histories_of cell)
 
 -- a number of the bundle, of a run under the lock, with its finding
@@ -103,17 +105,20 @@ pub record IsPostable (bundle : Bundle) (lock number : ℕ) (finding : Finding) 
   pub finds : finding_at bundle number ≡ Some finding
 
 -- one entry more, at the end of the history of its number's run: what the core does where a worker posts the number
-pub record IsPosted (bundle : Bundle) (worker number : ℕ) (finding : Finding) (before after : Cell) (answer : Posted) : Type 0 where
+pub record IsPosted (bundle : Bundle) (worker number : ℕ) (finding : Finding) (before after : Cell)
+    (answer : Posted) : Type 0 where
   pub core : posted bundle (histories_of before) number ≡ Some (histories_of after)
   pub run : ℕ
   pub own : run_at bundle number ≡ Some run
-  pub entry : history_at after run ≡ history_at before run ++ record { number = number; finding = finding; effect = answer.effect } ∷ []
+  pub entry : history_at after run
+      ≡ history_at before run ++ record { number = number; finding = finding; effect = answer.effect } ∷ []
   pub place : answer.place ≡ length (history_at before run)
   pub author : authors_of after ≡ set (authors_of before) run (authors_at before run ++ worker ∷ [])
   pub total : after.total ≡ suc before.total
 
 -- a post to a cell, by which the amount of the worker's share is one more
-pub record IsAdded {L : Type 0} (bundle : Bundle) (worker number : ℕ) (finding : Finding) (before after : Cell) (had has : Share L) (answer : Posted) : Type 0 where
+pub record IsAdded {L : Type 0} (bundle : Bundle) (worker number : ℕ) (finding : Finding) (before after : Cell)
+    (had has : Share L) (answer : Posted) : Type 0 where
   pub posted : IsPosted bundle worker number finding before after answer
   pub share : has.amount ≡ had.amount + 1
 
@@ -127,12 +132,13 @@ pub record IsSnapshot (bundle : Bundle) (workers run : ℕ) (cell : Cell) (shown
   pub metrics : shown.metrics.items ≡ metric_phases part.limits (events_of bundle (numbers_of (history_at cell run)))
   pub posts : ArePosts workers (authors_at cell run) shown.posts.items
 
--- the numbers and places of a worker's entries in a run's history are those of its receipts for the run
+-- the numbers and positions of a worker's entries in a run's history are those of its receipts for the run
 abbrev pub IsFresh : Cell → (run worker : ℕ) → List Receipt → Type 0
 IsFresh cell run worker receipts = posted_by worker (history_at cell run) (authors_at cell run) ≡ received run receipts
 
 -- a run is shown to a worker whose entries in it are just those of its receipts
-pub record IsShownTo (bundle : Bundle) (workers run worker : ℕ) (cell : Cell) (receipts : List Receipt) (shown : Snapshot) : Type 0 where
+pub record IsShownTo (bundle : Bundle) (workers run worker : ℕ) (cell : Cell) (receipts : List Receipt)
+    (shown : Snapshot) : Type 0 where
   pub snapshot : IsSnapshot bundle workers run cell shown
   pub fresh : IsFresh cell run worker receipts
 
@@ -140,14 +146,14 @@ pub record IsShownTo (bundle : Bundle) (workers run worker : ℕ) (cell : Cell) 
 abbrev pub stale : Cell → (run worker : ℕ) → LookFault
 stale cell run worker = Stale (posts_of worker (authors_at cell run))
 
--- out of memory, or that there are so many entries by the worker
+-- out of memory, or the number of entries by the worker
 abbrev pub CanBe : (worker : ℕ) → (authors : List ℕ) → LookFault → Type 0
 CanBe worker authors OutOfMemory = Unit {0}
 CanBe worker authors (Stale posts) = posts ≡ posts_of worker authors
 
 -- ---- closing
 
--- of some histories, those of the runs under a lock come to their places among others, which stay
+-- of some histories, those of the runs under a lock move to their positions among others, which stay
 pub record ArePut (lock : ℕ) (own before after : List (List Entry)) : Type 0 where
   pub as_many : length after ≡ length before
   pub put : (run : ℕ) → run < length before → lock_of run ≡ lock → slice_get after run ≡ Some (get_or own run [])

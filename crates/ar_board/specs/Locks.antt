@@ -38,5 +38,5 @@ pub record AreOf (names : PerLock) (parts : ℕ) (blanks : Blanks) : Type 0 wher
   pub third : IsOf names.third parts blanks.third
   pub fourth : IsOf names.fourth parts blanks.fourth
 
-abbrev pub names_of : Blanks → PerLock
-names_of blanks = per_lock blanks.first.name blanks.second.name blanks.third.name blanks.fourth.name
+abbrev pub lock_names : Blanks → PerLock
+lock_names blanks = per_lock blanks.first.name blanks.second.name blanks.third.name blanks.fourth.name

@@ -1,4 +1,5 @@
--- What a board counts as it is closed, and when a number is lost: it stands in no history, or a receipt for it isn't met.
+-- What a board counts as it is closed, and when a number is lost: it is in no history, or a receipt for it isn't
+-- met.
 use Rattle.std.specs.Prelude.{◌≡◌, ◌<◌, ◌+◌, ◌==◌, ◌⊎◌, ℕ, suc, if◌then◌else◌, List, [], ◌∷◌, length, map, Some, slice_get, take}
 use Rattle.std.specs.List.{count_by, sum_by}
 use Rattle.ar_bundle.specs.Bundle.{Bundle}
@@ -8,11 +9,13 @@ use Rattle.ar_board.specs.Locks.{lock_of}
 use Rattle.ar_board.specs.Receipts.{Hold, IsMet}
 use Rattle.ar_board.specs.declared.lost.Lost.{Lost}
 use Rattle.ar_board.specs.declared.cell.receipt.Receipt.{Receipt}
+use Rattle.ar_bundle.specs.Event.{EventNumber}
 
 -- how many entries the histories of the runs under a lock have together; the first history is that of the run given
 abbrev pub stored_from : (lock from : ℕ) → List (List Entry) → ℕ
 stored_from lock from [] = 0
-stored_from lock from (history ∷ histories) = (if lock_of from == lock then length history else 0) + stored_from lock (suc from) histories
+stored_from lock from (history ∷ histories) =
+    (if lock_of from == lock then length history else 0) + stored_from lock (suc from) histories
 
 abbrev pub stored_under : (lock : ℕ) → List (List Entry) → ℕ
 stored_under lock histories = stored_from lock 0 histories
@@ -40,8 +43,8 @@ pub record IsUnmetAmong (histories : List (List Entry)) (receipts : List (List R
   pub there : slice_get receipts seat ≡ Some own
   pub unmet : IsUnmet histories own number
 
--- a number isn't held, the least of those that aren't: it stands in no history, or a receipt for it isn't met. What shows it is
--- handed out
+-- a number isn't held, the least of those that aren't: it is in no history, or a receipt for it isn't met. What
+-- shows it is handed out
 pub record IsLost (bundle : Bundle) (receipts : List (List Receipt)) (lost : Lost) : Type 0 where
   pub so_far : AreHistoriesSoFar bundle lost.histories
   pub same_receipts : map (λ own. own.items) lost.receipts.items ≡ receipts
@@ -49,4 +52,4 @@ pub record IsLost (bundle : Bundle) (receipts : List (List Receipt)) (lost : Los
   pub there : lost.number < length bundle.entries
   pub not_held : Hold lost.histories receipts lost.number → ⊥
   pub why : (times lost.number lost.histories ≡ 0) ⊎ IsUnmetAmong lost.histories receipts lost.number
-  pub least : (number : ℕ) → number < lost.number → Hold lost.histories receipts number
+  pub least : (number : EventNumber) → number < lost.number → Hold lost.histories receipts number

@@ -1,6 +1,5 @@
--- How values of public types lie in memory (their views and what always holds of them), and what private contracts speak
--- of. These follow the code.
--- cells
+-- How memory stores values of public types (their views and what always holds of them), and what private contracts
+-- speak of. These follow the code.
 pub mod KeptRuns
 -- the core
 pub mod Own

@@ -13,18 +13,20 @@ pub record Held : Type 0 where
   pub parts : ℕ
   pub amounts : PerLock
 
-abbrev pub held : (parts : ℕ) → (amounts : PerLock) → Held
-held parts amounts = record { parts = parts; amounts = amounts }
+abbrev pub held_with : (parts : ℕ) → (amounts : PerLock) → Held
+held_with parts amounts = record { parts = parts; amounts = amounts }
 
 abbrev pub nothing : PerLock
 nothing = per_lock 0 0 0 0
 
 abbrev pub sums : PerLock → PerLock → PerLock
-sums these more = per_lock (these.first + more.first) (these.second + more.second) (these.third + more.third) (these.fourth + more.fourth)
+sums these more =
+    per_lock (these.first + more.first) (these.second + more.second) (these.third + more.third)
+    (these.fourth + more.fourth)
 
 -- shares that are put together
 abbrev pub together : Held → Held → Held
-together these more = held (these.parts + more.parts) (sums these.amounts more.amounts)
+together these more = held_with (these.parts + more.parts) (sums these.amounts more.amounts)
 
 -- ---- receipts
 
@@ -32,9 +34,11 @@ together these more = held (these.parts + more.parts) (sums these.amounts more.a
 abbrev pub receipts_under : (lock : ℕ) → List Receipt → ℕ
 receipts_under lock receipts = count_by (λ receipt. lock_of receipt.run == lock) receipts
 
--- what always holds of a seat: it is a worker's; its share of each lock's ledger is one part, whose amount is the number of its
--- receipts for runs under the lock; each receipt is for the run of its number; and there is room for one of each number
-pub record IsSeat (bundle : Bundle) (workers worker : ℕ) (receipts : List Receipt) (capacity : ℕ) (shares : Held) : Type 0 where
+-- what always holds of a seat: it is a worker's; its share of each lock's ledger is one part, whose amount is the
+-- number of its receipts for runs under the lock; each receipt is for the run of its number; and there is room for one
+-- of each number
+pub record IsSeat (bundle : Bundle) (workers worker : ℕ) (receipts : List Receipt) (capacity : ℕ)
+    (shares : Held) : Type 0 where
   pub is_worker : worker < workers
   pub own : AllByRecursion (λ receipt. run_at bundle receipt.number ≡ Some receipt.run) receipts
   pub room : length bundle.entries ≤ capacity

@@ -38,7 +38,7 @@ pub struct Board<'b, M: BundleName, L: LockNames> {
 }
 
 impl<'b, M: BundleName, L: LockNames> Board<'b, M, L> {
-    /// A board for a bundle and so many workers, with a seat for each of them. All that posts want is
+    /// A board for a bundle and n workers, with a seat for each of them. All that posts require is
     /// reserved here.
     ///
     /// # Errors
@@ -83,12 +83,12 @@ impl<'b, M: BundleName, L: LockNames> Board<'b, M, L> {
         Ok((board, seats))
     }
 
-    /// A worker's finding of a number goes to the end of its run's history, and its seat has one receipt
-    /// more. Out of memory is never answered.
+    /// A worker's finding of a number moves to the end of its run's history, and its seat has one receipt
+    /// more. Out of memory is never returned.
     ///
     /// # Errors
     ///
-    /// `Double` where the number stands there already: nothing changes.
+    /// `Double` where the number is there already: nothing changes.
     pub fn post<R: Wait>(
         &self,
         rt: &R,
@@ -138,7 +138,7 @@ impl<'b, M: BundleName, L: LockNames> Board<'b, M, L> {
         }
     }
 
-    /// A run as it stands at one moment, where the worker's entries in it are just those of the seat's
+    /// A run as it is at one moment, where the worker's entries in it are just those of the seat's
     /// receipts for the run.
     ///
     /// # Errors
@@ -164,13 +164,13 @@ impl<'b, M: BundleName, L: LockNames> Board<'b, M, L> {
         }
     }
 
-    /// The histories of the runs, by all seats of the board. Out of memory is never answered. It takes
+    /// The histories of the runs, by all seats of the board. Out of memory is never returned. It takes
     /// time in proportion to the bundle's entries and the receipts.
     ///
     /// # Errors
     ///
-    /// `Lost` where the histories don't hold each number: where one stands nowhere, not where its receipt
-    /// says, or at no later place than an earlier receipt of the same seat for the run.
+    /// `Lost` where the histories don't hold each number: where one is nowhere, not where its receipt
+    /// says, or at no later position than an earlier receipt of the same seat for the run.
     pub fn close(self, seats: Vec<Seat<M, L>>) -> Result<Histories, Lost>
         requires all { length seats.items ≡ M.workers }
         requires parts { L.parts ≡ M.workers }

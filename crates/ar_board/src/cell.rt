@@ -24,15 +24,15 @@ pub mod run_history;
 pub mod snapshot;
 
 /// What a board keeps under one of its locks: of each run of the bundle the history, the worker that
-/// posted each entry, how many entries each worker posted, and where the run stands; to runs under
-/// other locks nothing was posted. Beside them the book of the lock's ledger. Contracts see it as the
+/// posted each entry, how many entries each worker posted, and the state of the run; to runs under
+/// other locks nothing was posted. With them it keeps the book of the lock's ledger. Contracts see it as the
 /// `Cell` of `specs/Cell`, and `IsCell` is true of it.
 #[derive(Drop)]
 pub struct RunCell<'b, M: BundleName, L: LockName> {
     bundle: &'b Bundle,
     /// Each run of the bundle.
     runs: Vec<KeptRun>,
-    /// By number, whether it stands in its run's history.
+    /// By number, whether it is in its run's history.
     stored: Vec<bool>,
     book: Book<L>,
     name: PhantomData<M>,
@@ -86,7 +86,7 @@ fn open_runs(
 
 impl<'b, M: BundleName, L: LockName> RunCell<'b, M, L> {
     /// The cell of a lock to which nothing was posted, with the book of the lock's ledger. All that
-    /// posts want is reserved here.
+    /// posts require is reserved here.
     ///
     /// # Errors
     ///
@@ -172,7 +172,7 @@ impl<'b, M: BundleName, L: LockName> RunCell<'b, M, L> {
         Ok(kept.snapshot(alloc)?)
     }
 
-    /// Puts the histories of the runs under the lock into their places of a list, which has one for each
+    /// Puts the histories of the runs under the lock at their positions of a list, which has one for each
     /// run of the bundle.
     #[tactic(auto, using(crate::proofs::Put::put_first, crate::proofs::Put::put_own, crate::proofs::Put::put_other, crate::proofs::Put::put_all))]
     pub fn put_histories(self, lock: usize, histories: &mut Vec<History>)
@@ -198,12 +198,12 @@ impl<'b, M: BundleName, L: LockName> RunCell<'b, M, L> {
         }
     }
 
-    /// A number with its finding comes to the end of its run's history, posted by a worker. The worker's
-    /// share, of which it has a part, and the book are one more. Out of memory is never answered.
+    /// A number with its finding moves to the end of its run's history, posted by a worker. The worker's
+    /// share, of which it has a part, and the book are one more. Out of memory is never returned.
     ///
     /// # Errors
     ///
-    /// `Double` where the number stands there already: nothing changes.
+    /// `Double` where the number is there already: nothing changes.
     pub fn add(
         &mut self,
         mine: &mut Share<L>,

@@ -11,7 +11,7 @@ use ar_bundle::{Bundle, BundleName, Entry, History};
 use ar_value::limits::MOST_RUNS;
 use std::alloc::{AllocError, Global};
 
-/// What closing a board wants, reserved when the board is made.
+/// What closing a board requires, reserved when the board is made.
 #[derive(Drop)]
 pub(crate) struct Room {
     /// Of each run; empty until the board is closed.
@@ -20,12 +20,12 @@ pub(crate) struct Room {
     pub(crate) receipts: Vec<Vec<Receipt>>,
     /// By number, whether a receipt for it isn't met; all false until the board is closed.
     pub(crate) unmet: Vec<bool>,
-    /// By number, whether it stands in a history; all false until the board is closed.
+    /// By number, whether it is in a history; all false until the board is closed.
     pub(crate) stored: Vec<bool>,
 }
 
 impl Room {
-    /// For the runs and numbers of a bundle and so many workers.
+    /// For the runs and numbers of a bundle and `workers` workers.
     pub(crate) fn new(alloc: Global, bundle: &Bundle, workers: usize) -> Result<Room, AllocError>
         requires { 1 ≤ workers }
         ensures { IfOk result (IsReady bundle.now workers) }
@@ -58,7 +58,7 @@ impl Room {
     }
 }
 
-/// For each of so many runs a history to which nothing has happened.
+/// For each of `runs` runs a history to which nothing has happened.
 fn no_histories(alloc: Global, runs: usize) -> Result<Vec<History>, AllocError>
     ensures { IfOk result (λ histories. length histories.items ≡ runs) }
 {
@@ -110,7 +110,7 @@ fn note_unmet<M: BundleName>(histories: &[History], own: &[Receipt], unmet: &mut
     }
 }
 
-/// Whether a receipt's number stands at its place, after the last place so far.
+/// Whether a receipt's number is at its position, after the last position so far.
 fn is_met(histories: &[History], receipt: &Receipt, last: Option<usize>) -> bool
     requires there { receipt.now.run < length histories.now }
     ensures { IsTrue result ↔ (IsAt histories.now receipt.now × IsBehind last receipt.now.place) }
@@ -122,7 +122,7 @@ fn is_met(histories: &[History], receipt: &Receipt, last: Option<usize>) -> bool
     is_behind && is_at(histories, receipt)
 }
 
-/// Whether a receipt's number stands at its place.
+/// Whether a receipt's number is at its position.
 fn is_at(histories: &[History], receipt: &Receipt) -> bool
     requires there { receipt.now.run < length histories.now }
     ensures { IsTrue result ↔ IsAt histories.now receipt.now }
@@ -133,7 +133,7 @@ fn is_at(histories: &[History], receipt: &Receipt) -> bool
     }
 }
 
-/// The later of two places.
+/// The later of two positions.
 fn later(last: Option<usize>, place: usize) -> usize
     ensures { IsLaterOf last place result }
 {
@@ -161,7 +161,7 @@ fn note_all_unmet<M: BundleName>(
     }
 }
 
-/// The first number that is unmet, or that stands nowhere.
+/// The first number that is unmet, or that is nowhere.
 #[tactic(auto, using(crate::proofs::Stored::first_unmet, crate::proofs::Stored::first_nowhere, crate::proofs::Stored::there_next))]
 fn first_unheld(unmet: &[bool], stored: &[bool]) -> Option<u64>
     requires { length stored.now ≡ length unmet.now }

@@ -57,7 +57,7 @@ impl<'b> Model for CoreState<'b> {
     ghost invariant = { IsCore };
 }
 
-/// What each number comes to.
+/// The finding of each number.
 #[tactic(auto, using(crate::proofs::CoreOpening::found_next))]
 fn findings_of(alloc: Global, bundle: &Bundle) -> Result<Vec<Finding>, AllocError>
     ensures { IfOk result (λ findings. AreJudged bundle.now findings.items) }
@@ -86,7 +86,7 @@ fn opened(alloc: Global, bundle: &Bundle) -> Result<Vec<RunHistory>, AllocError>
     Ok(runs)
 }
 
-/// The hands of so many workers, all empty.
+/// The hands of `workers` workers, all empty.
 fn empty_hands(alloc: Global, workers: usize) -> Result<Vec<Option<u64>>, AllocError>
     ensures { IfOk result (λ hands. hands.items ≡ replicate workers None) }
 {
@@ -94,7 +94,7 @@ fn empty_hands(alloc: Global, workers: usize) -> Result<Vec<Option<u64>>, AllocE
 }
 
 impl<'b> CoreState<'b> {
-    /// The core to which nothing has happened, of so many workers and with so many places in its
+    /// The core to which nothing has happened, of `workers` workers and with `places` slots in its
     /// queue. Every number is judged here, and all room made: no step takes memory.
     ///
     /// # Errors
@@ -107,7 +107,7 @@ impl<'b> CoreState<'b> {
         places: usize,
     ) -> Result<CoreState<'b>, AllocError>
         ensures exact { IfOk result (λ core. core ≡ core_after bundle.now workers places false []) }
-        // What is true of each bundle, told to callers.
+        // What is true of each bundle, for callers.
         ensures bundle { IfOk result (λ _. IsBundle bundle.now) }
     {
         CoreState::open(alloc, bundle, workers, places, false)
@@ -126,7 +126,7 @@ impl<'b> CoreState<'b> {
         places: usize,
     ) -> Result<CoreState<'b>, AllocError>
         ensures exact { IfOk result (λ core. core ≡ core_after bundle.now workers places true []) }
-        // What is true of each bundle, told to callers.
+        // What is true of each bundle, for callers.
         ensures bundle { IfOk result (λ _. IsBundle bundle.now) }
     {
         CoreState::open(alloc, bundle, workers, places, true)
@@ -193,7 +193,7 @@ impl<'b> CoreState<'b> {
         &self.runs[run].entries
     }
 
-    /// Where a run stands after its history: its phases and counts are those of the events that its
+    /// The state of a run after its history: its phases and counts are those of the events that its
     /// history's numbers are.
     pub fn run_state(&self, run: usize) -> &RunState
         requires { run < length self.now.bundle.runs }
@@ -202,7 +202,7 @@ impl<'b> CoreState<'b> {
         &self.runs[run].state
     }
 
-    /// The next number goes to the queue's end, where there is a place for it.
+    /// The next number moves to the queue's end, if there is a free slot.
     fn put(&mut self) -> Moved
         ensures after { self.new ≡ core_stepped self.old Put }
         ensures idle { (result ≡ Idle) ↔ (self.new.state ≡ self.old.state) }
@@ -215,7 +215,7 @@ impl<'b> CoreState<'b> {
         Moved::Done
     }
 
-    /// The queue's first number goes into the worker's empty hand.
+    /// The queue's first number moves into the worker's empty hand.
     fn take(&mut self, worker: usize) -> Moved
         ensures after { self.new ≡ core_stepped self.old (Take worker) }
         ensures idle { (result ≡ Idle) ↔ (self.new.state ≡ self.old.state) }
@@ -240,7 +240,7 @@ impl<'b> CoreState<'b> {
         }
     }
 
-    /// The number in the worker's hand goes to the end of its run's history.
+    /// The number in the worker's hand moves to the end of its run's history.
     fn post_at_once(&mut self, worker: usize) -> Moved
         requires { self.old.ordered ≡ false }
         ensures after { self.new ≡ core_stepped self.old (Post worker) }
@@ -268,7 +268,7 @@ impl<'b> CoreState<'b> {
     }
 }
 
-/// A number goes to the end of its run's history, with its finding and the effect that it has there.
+/// A number moves to the end of its run's history, with its finding and the effect that it has there.
 fn append(bundle: &Bundle, findings: &[Finding], run: &mut RunHistory, number: u64)
     requires findings { AreJudged bundle.now findings.now }
     requires inside { number < length bundle.now.entries }
@@ -316,7 +316,7 @@ pub fn core_run<'b>(
     steps: &[CoreStep],
 ) -> Result<CoreState<'b>, AllocError>
     ensures exact { IfOk result (λ core. core ≡ core_after bundle.now workers places false steps.now) }
-    // Each number stands just once in what is still to put, the queue, the hands and the histories, and
+    // Each number is just once in what is still to put, the queue, the hands and the histories, and
     // each run's history has its own numbers, each with its finding and its effect there.
     ensures all { IfOk result (λ core. HasAll bundle.now core.state) }
 {
@@ -339,7 +339,7 @@ pub fn core_run_ordered<'b>(
     steps: &[CoreStep],
 ) -> Result<CoreState<'b>, AllocError>
     ensures exact { IfOk result (λ core. core ≡ core_after bundle.now workers places true steps.now) }
-    // Each number stands just once, the parked ones among them, and each run's history has its own
+    // Each number is there just once, the parked ones among them, and each run's history has its own
     // numbers, each with its finding and its effect there.
     ensures all { IfOk result (λ core. HasAll bundle.now core.state) }
     // In each history the numbers rise.

@@ -3,12 +3,12 @@
 /// A step of the core.
 #[derive(Clone, Copy)]
 pub enum CoreStep {
-    /// The next number goes to the queue's end.
+    /// The next number moves to the queue's end.
     Put,
-    /// The queue's first number goes into the empty hand of the worker with this number.
+    /// The queue's first number moves into the empty hand of the worker with this number.
     Take(usize),
-    /// The number in the worker's hand goes to the end of its run's history. In an ordered core it is
-    /// parked first, and goes there once all lower numbers of the run have.
+    /// The number in the worker's hand moves to the end of its run's history. In an ordered core it is
+    /// parked first, and moves there once all lower numbers of the run have.
     Post(usize),
 }
 

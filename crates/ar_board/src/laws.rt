@@ -22,7 +22,7 @@ pub fn receipts_are_met_or_not()
         → IsMissing histories receipt ⊎ (IsElsewhere histories receipt ⊎ IsOutOfOrder earlier receipt) → ⊥ }
 {}
 
-/// Each number of the bundle stands just once in what is still to put, the queue, the hands, the
+/// Each number of the bundle is just once in what is still to put, the queue, the hands, the
 /// parked numbers and the histories.
 #[tactic(auto, using(crate::proofs::CoreLaws::each_once))]
 pub fn each_number_once()

@@ -6,15 +6,15 @@
 //! says in [`Lost`] which is the least that is lost (`specs/Lost`).
 //!
 //! A [`RunCell`] is what is kept under one lock: of each run the history with the worker that posted each
-//! entry, and where the run stands. [`RunCell::add`] puts a number to the end of its run's history, as
-//! `specs/Posting` says, and answers the entry's place and effect; [`RunCell::show`] shows a run to a worker
+//! entry, and the state of the run. [`RunCell::add`] puts a number to the end of its run's history, as
+//! `specs/Posting` says, and returns the entry's position and effect; [`RunCell::show`] shows a run to a worker
 //! whose entries in it are just those of its [`Receipt`]s for the run; [`RunCell::put_histories`] gives the
 //! histories up. `specs/Cell` says what is true of a cell whenever its lock is free, `specs/Receipts` when
 //! histories meet a receipt. A [`LockName`] names the lock and its ledger in contracts.
 //!
 //! The core is a board without threads: one [`CoreStep`] after another on plain lists (`specs/Core`). A number
 //! is put into the queue, a worker takes it, and posts it to its run's history. In an ordered core a posted
-//! number is parked, and goes to its run's history once all lower numbers of the run are there. [`CoreState`]
+//! number is parked, and moves to its run's history once all lower numbers of the run are there. [`CoreState`]
 //! is a core in memory: [`CoreState::new`] and [`CoreState::new_ordered`] judge every number and make all
 //! room, [`core_step`] makes one step and takes no memory, and [`core_run`] and [`core_run_ordered`] make a
 //! list of them.
@@ -24,7 +24,7 @@
 //! - [`locks`]: the four locks, and what names their ledgers; `shares`: shares of these
 //! - `closing`, [`lost`]: which numbers are lost
 //! - [`cell`]: what is kept under a lock, and in its folder the histories and runs that it has, what posts and
-//!   looks answer, receipts, and the names of locks
+//!   looks return, receipts, and the names of locks
 //! - [`core_state`]: the core in memory; [`core_steps`]: its steps
 //! - [`laws`]: what holds of receipts, and after every list of steps
 #![tactic(auto)]

@@ -1,7 +1,7 @@
 //! The four locks of a board, and what names their ledgers.
 
 ghost use Rattle.std.specs.Prelude.{ℕ};
-ghost use Rattle.ar_board.specs.Locks.{AreOf, PerLock, at_lock, names_of, per_lock};
+ghost use Rattle.ar_board.specs.Locks.{AreOf, PerLock, at_lock, lock_names, per_lock};
 
 use crate::LockName;
 use std::marker::{Brand, PhantomData};
@@ -18,9 +18,9 @@ pub struct Blanks {
 }
 
 impl Blanks {
-    /// Of ledgers with so many parts each.
+    /// Of ledgers with `parts` parts each.
     pub fn new(parts: u64) -> Blanks
-        ensures { AreOf (names_of result) parts result }
+        ensures { AreOf (lock_names result) parts result }
     {
         Blanks {
             first: Blank::new(parts),
@@ -32,14 +32,14 @@ impl Blanks {
 }
 
 /// Names the ledgers of a board's four locks, and into how many parts each of them is cut. No value of
-/// such a type is wanted.
+/// such a type is needed.
 pub trait LockNames {
     ghost names: { PerLock };
 
     ghost parts: { ℕ };
 }
 
-// A caller that takes `Brand` says which ledgers it means; these stand where none does.
+// A caller that takes `Brand` says which ledgers it means; these apply where none does.
 impl LockNames for Brand {
     ghost names = { per_lock 0 0 0 0 };
 

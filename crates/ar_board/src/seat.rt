@@ -4,7 +4,7 @@ ghost use Rattle.std.specs.Prelude.{◌≡◌, ◌<◌, ◌≤◌, [], IfOk, len
 ghost use Rattle.std.specs.Vec.{vec_capacity};
 ghost use Rattle.ar_board.specs.Board.{AreSeated, seat_of};
 ghost use Rattle.ar_board.specs.Private.Closing.{AreGiven, lists_of};
-ghost use Rattle.ar_board.specs.Seats.{held, nothing};
+ghost use Rattle.ar_board.specs.Seats.{held_with, nothing};
 
 use crate::Receipt;
 use crate::locks::LockNames;
@@ -13,7 +13,7 @@ use ar_bundle::{Bundle, BundleName};
 use std::alloc::{AllocError, Global};
 use std::marker::{Model, PhantomData};
 
-/// A seat for each of so many workers, with one part of each lock's ledger each.
+/// A seat for each of n workers, with one part of each lock's ledger each.
 #[tactic(auto, using(crate::proofs::Seats::none_seated, crate::proofs::Seats::seated_next))]
 pub(crate) fn seats_of<M: BundleName, L: LockNames>(
     alloc: Global,
@@ -23,7 +23,7 @@ pub(crate) fn seats_of<M: BundleName, L: LockNames>(
 ) -> Result<Vec<Seat<M, L>>, AllocError>
     requires bundle { bundle.now ≡ M.bundle }
     requires workers { workers ≡ M.workers }
-    requires all { all ≡ held workers nothing }
+    requires all { all ≡ held_with workers nothing }
     ensures { IfOk result (λ seats. AreSeated workers seats.items) }
 {
     let mut seats = Vec::with_capacity(alloc, workers)?;
@@ -88,7 +88,7 @@ impl<M: BundleName, L: LockNames> Seat<M, L> {
     ) -> Result<Seat<M, L>, AllocError>
         requires bundle { bundle.now ≡ M.bundle }
         requires worker { worker < M.workers }
-        requires shares { shares ≡ held 1 nothing }
+        requires shares { shares ≡ held_with 1 nothing }
         ensures { IfOk result (λ seat. seat ≡ seat_of worker []) }
     {
         Ok(Seat {

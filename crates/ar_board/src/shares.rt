@@ -1,7 +1,7 @@
 //! Shares of the ledgers of a board's four locks.
 
 ghost use Rattle.std.specs.Prelude.{◌≡◌, ◌-◌, ◌≤◌};
-ghost use Rattle.ar_board.specs.Seats.{held, nothing, together};
+ghost use Rattle.ar_board.specs.Seats.{held_with, nothing, together};
 
 use crate::locks::{First, Fourth, LockNames, Second, Third};
 use std::marker::Model;
@@ -20,11 +20,12 @@ pub(crate) struct Shares<L: LockNames> {
 impl<L: LockNames> Model for Shares<L> {
     ghost use Rattle.std.specs.Prelude.{◌≡◌};
     ghost use Rattle.ar_board.specs.Locks.{per_lock};
-    ghost use Rattle.ar_board.specs.Seats.{Held, held};
+    ghost use Rattle.ar_board.specs.Seats.{Held, held_with};
 
     ghost Value = { Held };
 
-    ghost view = { λ s. held s.first.parts (per_lock s.first.amount s.second.amount s.third.amount s.fourth.amount) };
+    ghost view = { λ s. held_with s.first.parts
+        (per_lock s.first.amount s.second.amount s.third.amount s.fourth.amount) };
 
     ghost invariant = { λ s. (s.second.parts ≡ s.first.parts) × (s.third.parts ≡ s.first.parts)
         × (s.fourth.parts ≡ s.first.parts) };
@@ -35,8 +36,8 @@ impl<L: LockNames> Shares<L> {
     pub(crate) fn split_off(&mut self) -> Shares<L>
         requires some { 1 ≤ self.old.parts }
         requires nothing { self.old.amounts ≡ nothing }
-        ensures one { result ≡ held 1 nothing }
-        ensures left { self.new ≡ held (self.old.parts - 1) nothing }
+        ensures one { result ≡ held_with 1 nothing }
+        ensures left { self.new ≡ held_with (self.old.parts - 1) nothing }
     {
         Shares {
             first: self.first.split_off(1, 0),
@@ -48,7 +49,7 @@ impl<L: LockNames> Shares<L> {
 
     /// Shares that have no part of the ledgers.
     pub(crate) fn empty(&mut self) -> Shares<L>
-        ensures none { result ≡ held 0 nothing }
+        ensures none { result ≡ held_with 0 nothing }
         ensures same { self.new ≡ self.old }
     {
         Shares {

@@ -15,7 +15,7 @@ use std::alloc::Global;
 use std::sync::ledger::Share;
 use std::sync::{Mutex, Wait};
 
-/// A worker's finding of a number goes to the end of its run's history, and its share is one more: no
+/// A worker's finding of a number moves to the end of its run's history, and its share is one more: no
 /// more than the bundle has entries under the lock.
 pub(crate) fn post<M: BundleName, L: LockName, R: Wait>(
     rt: &R,
@@ -41,7 +41,7 @@ pub(crate) fn post<M: BundleName, L: LockName, R: Wait>(
     answer
 }
 
-/// A run as it stands at one moment.
+/// A run as it is at one moment.
 pub(crate) fn look<M: BundleName, L: LockName, R: Wait>(
     rt: &R,
     lock: &Mutex<RunCell<'_, M, L>>,
@@ -60,8 +60,8 @@ pub(crate) fn look<M: BundleName, L: LockName, R: Wait>(
     cell.show(alloc, run, worker, receipts)
 }
 
-/// A lock's cell is compared with the share that has all parts of its ledger, and its histories come to
-/// their places among others.
+/// A lock's cell is compared with the share that has all parts of its ledger, and its histories move to
+/// their positions among others.
 pub(crate) fn close_cell<M: BundleName, L: LockNames, const LOCK: usize>(
     lock: Mutex<RunCell<'_, M, Lock<L, LOCK>>>,
     share: &mut Share<Lock<L, LOCK>>,

@@ -123,7 +123,7 @@ step_by_run bundle run upto number (Some of) there apart = step_by_own bundle ru
 stays : (bundle : Bundle) (run upto number : ℕ) → (run_at bundle upto ≡ Some run → upto ≢ number) → times_in number (below bundle run (suc upto)) ≡ times_in number (below bundle run upto)
 stays bundle run upto number apart = step_by_run bundle run upto number (run_at bundle upto) refl apart
 
--- a number of another run never stands there
+-- a number of another run is never there
 pub of_another : (bundle : Bundle) (run upto number own : ℕ) → run_at bundle number ≡ Some own → own ≢ run → times_in number (below bundle run upto) ≡ 0
 of_another bundle run zero number own is away = refl
 of_another bundle run (suc upto) number own is away = stays bundle run upto number (unlike bundle run own upto number is away) ∙ of_another bundle run upto number own is away
@@ -137,7 +137,7 @@ once_by_test bundle run upto number false test is small earlier =
     let apart : upto ≢ number = grind (arith, nat_tests) in
     stays bundle run upto number (λ here. apart) ∙ earlier (omega arith)
 
--- a number of the run stands there once
+-- a number of the run is there once
 pub of_run : (bundle : Bundle) (run upto number : ℕ) → run_at bundle number ≡ Some run → number < upto → times_in number (below bundle run upto) ≡ 1
 of_run bundle run zero number is small = absurd (omega arith)
 of_run bundle run (suc upto) number is small = once_by_test bundle run upto number (upto == number) refl is small (of_run bundle run upto number is)

@@ -1,4 +1,4 @@
--- What stands at a number of a bundle.
+-- What is at a number of a bundle.
 use Rattle.std.proofs.Common.{◌≡◌, ◌<◌, ℕ, zero, suc, List, [], ◌∷◌, length, Option, Some, None, refl, sym, subst, arith, true}
 use Rattle.std.specs.Prelude.{IfSome, slice_get, slice_index_or}
 use Rattle.std.specs.List.{AllByRecursion}
@@ -7,11 +7,11 @@ use Rattle.ar_value.specs.Fits.{fits}
 use Rattle.ar_value.specs.Shape.{Shape}
 use Rattle.ar_value.specs.Value.{Value}
 use Rattle.ar_value.specs.View.{shape_view}
-use Rattle.ar_judge.specs.Built.{Condition}
+use Rattle.ar_judge.specs.Headline.{Condition}
 use Rattle.ar_judge.specs.Judging.{FitsEach, Suits, TakesNoMemory}
 use Rattle.ar_judge.specs.Verdict.{Judge, Sample, measured, misfit, provider, sample_view}
 use Rattle.ar_judge.specs.declared.sample.Sample.{Sample as Declared}
-use Rattle.ar_bundle.specs.Sound.{CanHappen, IsBundle, IsEventPart, IsOfShape, IsRun, JudgesEach, JudgesShape, SampleSuits, SuitsMetric}
+use Rattle.ar_bundle.specs.Sound.{CanHappen, IsBundle, FitsBundle, IsOfShape, IsRun, JudgesEach, JudgesShape, SampleSuits, SuitsMetric}
 use Rattle.ar_bundle.specs.Bundle.{Bundle, judge_at, run_at}
 use Rattle.ar_bundle.specs.declared.bundle.EventPart.{EventPart}
 use Rattle.ar_bundle.specs.declared.bundle.MetricPart.{MetricPart}
@@ -69,8 +69,8 @@ judge_inside bundle run part metric sample is below read suits =
     }
 
 -- an entry that was read is one of the bundle's
-pub entry_is : (bundle : Bundle) (number : ℕ) (entry : EventPart) → IsBundle bundle → number < length bundle.entries → entry ≡ slice_index_or bundle.entries number entry → IsEventPart bundle.metrics (length bundle.runs) entry
-entry_is bundle number entry is below read = of_each (IsEventPart bundle.metrics (length bundle.runs)) bundle.entries number entry is.entries (entry_there bundle number entry below read)
+pub entry_is : (bundle : Bundle) (number : ℕ) (entry : EventPart) → IsBundle bundle → number < length bundle.entries → entry ≡ slice_index_or bundle.entries number entry → FitsBundle bundle.metrics (length bundle.runs) entry
+entry_is bundle number entry is below read = of_each (FitsBundle bundle.metrics (length bundle.runs)) bundle.entries number entry is.entries (entry_there bundle number entry below read)
 
 pub run_there : (bundle : Bundle) (number : ℕ) (entry : EventPart) → IsBundle bundle → number < length bundle.entries → entry ≡ slice_index_or bundle.entries number entry → entry.run < length bundle.runs
 run_there bundle number entry is below read = (entry_is bundle number entry is below read).run
@@ -91,4 +91,4 @@ entry_at (first ∷ rest) (suc place) inside = entry_at rest place (omega arith)
 pub run_of_number : (bundle : Bundle) (number : ℕ) → IsBundle bundle → number < length bundle.entries → (own : ℕ) × (run_at bundle number ≡ Some own) × (own < length bundle.runs)
 run_of_number bundle number is inside =
     let entry = entry_at bundle.entries number inside in
-    (entry.0.run, rw entry.1 refl, (of_each (IsEventPart bundle.metrics (length bundle.runs)) bundle.entries number entry.0 is.entries entry.1).run)
+    (entry.0.run, rw entry.1 refl, (of_each (FitsBundle bundle.metrics (length bundle.runs)) bundle.entries number entry.0 is.entries entry.1).run)

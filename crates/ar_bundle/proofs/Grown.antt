@@ -26,7 +26,7 @@ use Rattle.ar_bundle.proofs.Below.{few, other_is, own_is}
 entry_of : ℕ → Finding → Effect → Entry
 entry_of number finding effect = record { number = number; finding = finding; effect = effect }
 
--- the run's own number comes to its history
+-- the run's own number is added to its history
 pub grown_by : (bundle : Bundle) (upto run : ℕ) (limits : List Limits) (state after : Standing) (history : List Entry) (finding : Finding) (event : Event) (effect : Effect) → run_at bundle upto ≡ Some run → finding_at bundle upto ≡ Some finding → happened bundle upto ≡ Some event
     → IsGrown bundle upto run limits state history → Replays limits (events_of bundle (below bundle run upto) ++ event ∷ []) after → effect ≡ effect_of limits (events_of bundle (below bundle run upto)) event
     → IsGrown bundle (suc upto) run limits after (history ++ record { number = upto; finding = finding; effect = effect } ∷ [])
@@ -67,7 +67,7 @@ all_left_out bundle upto from own [] (state ∷ states) histories is lower grown
 all_left_out bundle upto from own (run ∷ runs) [] histories is lower grown = absurd grown
 all_left_out bundle upto from own (run ∷ runs) (state ∷ states) [] is lower grown = absurd grown
 
--- where a run stands, and its history
+-- the state of a run, and its history
 pub record Keeps (bundle : Bundle) (upto run : ℕ) (limits : List Limits) (states : List Standing) (histories : List (List Entry)) (place : ℕ) : Type 0 where
   pub state : Standing
   pub state_there : slice_get states place ≡ Some state

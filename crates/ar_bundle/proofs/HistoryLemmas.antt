@@ -1,4 +1,4 @@
--- Histories that grow by one entry, and how often a number stands in them.
+-- Histories that grow by one entry, and how often a number is in them.
 use Rattle.std.proofs.Common.{◌≡◌, ◌<◌, ◌≤◌, ◌≢◌, ℕ, zero, suc, ◌+◌, ◌==◌, Bool, true, false, if◌then◌else◌, List, [], ◌∷◌, ◌++◌, length, map, get_or, set, Option, Some, None, refl, sym, ◌∙◌, ap, subst, arith}
 use Rattle.std.specs.Prelude.{slice_get}
 use Rattle.std.specs.List.{AllByRecursion, cons_option}
@@ -15,7 +15,7 @@ use Rattle.ar_bundle.specs.declared.bundle.RunPart.{RunPart}
 use Rattle.ar_bundle.specs.declared.finding.Finding.{Finding}
 use Rattle.ar_bundle.specs.declared.history.Entry.{Entry}
 
--- ---- what is at a place of a changed list
+-- ---- what is at an index of a changed list
 
 pub at_set_same : {A : Type 0} (xs : List A) (at : ℕ) (x : A) → at < length xs → slice_get (set xs at x) at ≡ Some x
 at_set_same [] at x inside = absurd (omega arith)
@@ -49,7 +49,7 @@ few_happen bundle (number ∷ numbers) = one_happens (happened bundle number) (e
 pub numbers_push : (history : List Entry) (entry : Entry) → numbers_of (history ++ entry ∷ []) ≡ numbers_of history ++ entry.number ∷ []
 numbers_push history entry = map_push (λ (entry : Entry). entry.number) history entry
 
--- a number's entry comes to its run's history
+-- a number's entry is added to its run's history
 pub history_push : (bundle : Bundle) (run : ℕ) (limits : List Limits) (history : List Entry) (number : ℕ) (finding : Finding) (event : Event) → run_at bundle number ≡ Some run → finding_at bundle number ≡ Some finding → happened bundle number ≡ Some event
     → IsHistory bundle run limits history → IsHistory bundle run limits (history ++ record { number = number; finding = finding; effect = effect_of limits (events_of bundle (numbers_of history)) event } ∷ [])
 history_push bundle run limits history number finding event own finds happens is =
@@ -101,7 +101,7 @@ module _ (bundle : Bundle) where
   none_yet from [] = tt
   none_yet from (run ∷ runs) = (record { found = tt; effects = refl }, none_yet (suc from) runs)
 
--- ---- how often a number stands in them
+-- ---- how often a number is in them
 
 pub times_by : (number first : ℕ) (numbers : List ℕ) (test : Bool) → (first == number) ≡ test → times_in number (first ∷ numbers) ≡ (if test then suc (times_in number numbers) else times_in number numbers)
 times_by number first numbers test is = rw is refl

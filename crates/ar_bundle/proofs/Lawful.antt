@@ -26,7 +26,7 @@ all_rise bundle upto from [] (state ∷ states) histories grown = absurd grown
 all_rise bundle upto from (run ∷ runs) [] histories grown = absurd grown
 all_rise bundle upto from (run ∷ runs) (state ∷ states) [] grown = absurd grown
 
--- a number of an earlier run stands in none of these histories
+-- a number of an earlier run is in none of these histories
 none_of : (bundle : Bundle) (upto from number own : ℕ) (runs : List RunPart) (states : List Standing) (histories : List (List Entry)) → AreGrown bundle upto from runs states histories → run_at bundle number ≡ Some own → own < from → times number histories ≡ 0
 none_of bundle upto from number own [] [] [] grown is lower = refl
 none_of bundle upto from number own (run ∷ runs) (state ∷ states) (history ∷ histories) grown is lower =
@@ -38,7 +38,7 @@ none_of bundle upto from number own [] (state ∷ states) histories grown is low
 none_of bundle upto from number own (run ∷ runs) [] histories grown is lower = absurd grown
 none_of bundle upto from number own (run ∷ runs) (state ∷ states) [] grown is lower = absurd grown
 
--- a number below stands in its own run's history, once
+-- a number below is in its own run's history, once
 once_of : (bundle : Bundle) (upto from number place : ℕ) (runs : List RunPart) (states : List Standing) (histories : List (List Entry)) → AreGrown bundle upto from runs states histories → run_at bundle number ≡ Some (from + place) → place < length runs → number < upto → times number histories ≡ 1
 once_of bundle upto from number place [] [] [] grown is there small = absurd (omega arith)
 once_of bundle upto from number zero (run ∷ runs) (state ∷ states) (history ∷ histories) grown is there small =

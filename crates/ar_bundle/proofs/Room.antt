@@ -52,7 +52,7 @@ less_below : (f g : ℕ → ℕ) (number upto : ℕ) → ((other : ℕ) → f ot
 less_below f g number zero most less inside = absurd (omega arith)
 less_below f g number (suc upto) most less inside = less_by_test f g number upto (number == upto) refl most less inside (less_below f g number upto most less)
 
--- ---- how often numbers stand in a list
+-- ---- how often numbers are in a list
 
 abbrev once_at : (first number : ℕ) → ℕ
 once_at first number = if first == number then 1 else 0
@@ -94,7 +94,7 @@ first_by_test number first numbers false is =
     let own = once_by_test first number false is in
     omega arith
 
--- numbers below one are as many as they stand there, all together
+-- numbers below one are as many as their occurrences, all together
 as_long : (upto : ℕ) (numbers : List ℕ) → AllByRecursion (λ number. number < upto) numbers → sum_below (λ number. times_in number numbers) upto ≡ length numbers
 as_long upto [] all = none_below upto
 as_long upto (first ∷ numbers) all =
@@ -163,7 +163,7 @@ own_by_test bundle run number entry history false is own stands later =
     let rest : times_in number (numbers_of (entry ∷ history)) ≡ times_in number (numbers_of history) = rw is refl in
     later (omega arith)
 
--- a number that stands there is one of the run
+-- a number that is there is one of the run
 own_where_it_stands : (bundle : Bundle) (run number : ℕ) (history : List Entry) → AllByRecursion (IsFound bundle run) history → 0 < times_in number (numbers_of history) → run_at bundle number ≡ Some run
 own_where_it_stands bundle run number [] all stands = absurd (omega arith)
 own_where_it_stands bundle run number (entry ∷ history) all stands =

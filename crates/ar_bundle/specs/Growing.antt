@@ -18,7 +18,8 @@ below bundle run zero = []
 below bundle run (suc number) = below bundle run number ++ where_own run number (run_at bundle number)
 
 -- a run's history has its numbers below one, and its state is what they lead to
-pub record IsGrown (bundle : Bundle) (upto run : ℕ) (limits : List Limits) (state : Standing) (history : List Entry) : Type 0 where
+pub record IsGrown (bundle : Bundle) (upto run : ℕ) (limits : List Limits) (state : Standing)
+    (history : List Entry) : Type 0 where
   pub numbers : numbers_of history ≡ below bundle run upto
   pub lawful : IsHistory bundle run limits history
   pub replays : Replays limits (events_of bundle (below bundle run upto)) state
@@ -26,5 +27,6 @@ pub record IsGrown (bundle : Bundle) (upto run : ℕ) (limits : List Limits) (st
 -- so have the histories of all runs, counting from a run
 abbrev pub AreGrown : Bundle → (upto from : ℕ) → List RunPart → List Standing → List (List Entry) → Type 0
 AreGrown bundle upto from [] [] [] = Unit {0}
-AreGrown bundle upto from (run ∷ runs) (state ∷ states) (history ∷ histories) = IsGrown bundle upto from run.limits state history × AreGrown bundle upto (suc from) runs states histories
+AreGrown bundle upto from (run ∷ runs) (state ∷ states) (history ∷ histories) =
+    IsGrown bundle upto from run.limits state history × AreGrown bundle upto (suc from) runs states histories
 AreGrown bundle upto from runs states histories = ⊥

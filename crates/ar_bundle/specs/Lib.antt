@@ -1,3 +1,4 @@
+pub mod Event
 pub mod Growing
 pub mod Bundle
 pub mod Sound

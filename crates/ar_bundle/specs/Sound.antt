@@ -1,5 +1,6 @@
--- What holds of every bundle, which of its numbers are judged whatever memory is left, and how many entries each run has.
-use Rattle.std.specs.Prelude.{◌≡◌, ◌≢◌, ◌<◌, ◌≤◌, ◌==◌, ℕ, suc, true, List, [], ◌∷◌, length, slice_get, Option, Some, None, IfSome, count_by}
+-- What holds of every bundle, which of its numbers are judged whatever memory is left, and how many entries each run
+-- has.
+use Rattle.std.specs.Prelude.{◌≡◌, ◌≢◌, ◌<◌, ◌≤◌, ◌==◌, ℕ, suc, true, List, [], ◌∷◌, length, slice_get, Option, Some, IfSome, count_by}
 use Rattle.std.specs.List.{AllByRecursion}
 use Rattle.ar_value.specs.Fits.{fits}
 use Rattle.ar_value.specs.Shape.{Shape}
@@ -7,7 +8,7 @@ use Rattle.ar_value.specs.View.{shape_view}
 use Rattle.ar_value.specs.Limits.{most_metrics, most_runs}
 use Rattle.ar_json.specs.declared.value_reading.ShapeFault.TheVariants as shape_fault
 use Rattle.ar_limits.specs.Replay.{most_events}
-use Rattle.ar_judge.specs.Built.{Condition}
+use Rattle.ar_judge.specs.Headline.{Condition}
 use Rattle.ar_judge.specs.Judging.{TakesNoMemory}
 use Rattle.ar_judge.specs.Verdict.{Judge, Sample, measured, misfit, provider, sample_view}
 use Rattle.ar_limits.specs.Metric.{HasPositiveCounts}
@@ -17,13 +18,13 @@ use Rattle.ar_bundle.specs.declared.bundle.RunPart.{RunPart}
 use Rattle.ar_bundle.specs.declared.bundle.What.{What}
 use Rattle.ar_bundle.specs.declared.bundle.What.TheVariants.{Measure, Stop}
 use Rattle.ar_bundle.specs.Bundle.{Bundle, judge_at}
+use Rattle.ar_bundle.specs.Event.{EventNumber}
 
 -- ---- which parts are a bundle
 
 -- a condition that is there is for a shape
 abbrev pub IsOfShape : Shape → Option Condition → Type 0
-IsOfShape shape (Some condition) = shape_view condition.verified.shape ≡ shape
-IsOfShape shape None = Unit {0}
+IsOfShape shape condition = IfSome condition (λ condition. shape_view condition.verified.shape ≡ shape)
 
 -- the conditions of a judge are for a shape
 abbrev pub JudgesShape : Shape → Judge → Type 0
@@ -58,7 +59,7 @@ abbrev pub CanHappen : List MetricPart → What → Type 0
 CanHappen metrics (Measure metric sample) = SuitsMetric metrics metric (sample_view sample)
 CanHappen metrics Stop = Unit {0}
 
-pub record IsEventPart (metrics : List MetricPart) (runs : ℕ) (entry : EventPart) : Type 0 where
+pub record FitsBundle (metrics : List MetricPart) (runs : ℕ) (entry : EventPart) : Type 0 where
   pub run : entry.run < runs
   pub what : CanHappen metrics entry.what
 
@@ -67,16 +68,18 @@ pub record IsBundle (bundle : Bundle) : Type 0 where
   pub few_runs : length bundle.runs ≤ most_runs
   pub few_events : length bundle.entries ≤ most_events
   pub runs : AllByRecursion (IsRun bundle.metrics) bundle.runs
-  pub entries : AllByRecursion (IsEventPart bundle.metrics (length bundle.runs)) bundle.entries
+  pub entries : AllByRecursion (FitsBundle bundle.metrics (length bundle.runs)) bundle.entries
 
 -- what happens is found without memory: it is a stop, or judging its sample takes none
 abbrev pub NeedsNoMemory : Bundle → (run : ℕ) → What → Type 0
-NeedsNoMemory bundle run (Measure metric sample) = IfSome (judge_at bundle run metric) (λ judge. TakesNoMemory judge (sample_view sample))
+NeedsNoMemory bundle run (Measure metric sample) =
+    IfSome (judge_at bundle run metric) (λ judge. TakesNoMemory judge (sample_view sample))
 NeedsNoMemory bundle run Stop = Unit {0}
 
 -- and so is a number
-abbrev pub FoundWithoutMemory : Bundle → (number : ℕ) → Type 0
-FoundWithoutMemory bundle number = IfSome (slice_get bundle.entries number) (λ entry. NeedsNoMemory bundle entry.run entry.what)
+abbrev pub FoundWithoutMemory : Bundle → (number : EventNumber) → Type 0
+FoundWithoutMemory bundle number =
+    IfSome (slice_get bundle.entries number) (λ entry. NeedsNoMemory bundle entry.run entry.what)
 
 -- ---- how many entries the runs have
 
@@ -88,9 +91,9 @@ abbrev pub entries_of : Bundle → (run : ℕ) → ℕ
 entries_of bundle run = count_of bundle.entries run
 
 -- how many entries each run has, counting runs from one
-abbrev pub event_counts : List EventPart → (from : ℕ) → List RunPart → List ℕ
-event_counts entries from [] = []
-event_counts entries from (run ∷ runs) = count_of entries from ∷ event_counts entries (suc from) runs
+abbrev pub sizes_from : List EventPart → (from : ℕ) → List RunPart → List ℕ
+sizes_from entries from [] = []
+sizes_from entries from (run ∷ runs) = count_of entries from ∷ sizes_from entries (suc from) runs
 
 abbrev pub sizes_of : Bundle → List ℕ
-sizes_of bundle = event_counts bundle.entries 0 bundle.runs
+sizes_of bundle = sizes_from bundle.entries 0 bundle.runs

@@ -211,7 +211,7 @@ impl Bundle {
         self.entries.len() as u64
     }
 
-    /// What an entry comes to: the verdict of its sample by its run's judge for its metric, or a
+    /// The result of an entry: the verdict of its sample by its run's judge for its metric, or a
     /// stop.
     ///
     /// # Errors
@@ -221,7 +221,7 @@ impl Bundle {
     pub fn finding(&self, alloc: Global, number: u64) -> Result<Finding, AllocError>
         requires { number < length self.now.entries }
         ensures exact { IfOk result (λ finding. finding_at self.now number ≡ Some finding) }
-        // Where no condition with a `filter` is run, out of memory is never answered.
+        // Where no condition with a `filter` is run, out of memory is never returned.
         ensures without_memory { FoundWithoutMemory self.now number → IsOk result }
     {
         let entry = &self.entries[number as usize];

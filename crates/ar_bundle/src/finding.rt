@@ -1,4 +1,4 @@
-//! What a number of a bundle comes to.
+//! The result of a number of a bundle.
 
 ghost use Rattle.std.specs.Prelude.{◌≡◌};
 ghost use Rattle.ar_bundle.specs.Bundle.{verdict_mark};
@@ -6,7 +6,7 @@ ghost use Rattle.ar_bundle.specs.Bundle.{verdict_mark};
 use ar_judge::Verdict;
 use ar_limits::Mark;
 
-/// What an entry of a bundle comes to.
+/// The result of an entry of a bundle.
 #[derive(Clone, Copy)]
 pub enum Finding {
     /// The verdict of a measurement.

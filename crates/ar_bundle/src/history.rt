@@ -7,7 +7,7 @@ use ar_limits::Effect;
 use std::alloc::{AllocError, Global};
 use std::marker::Model;
 
-/// A number of a bundle, as it stands in its run's history.
+/// A number of a bundle, as it is in its run's history.
 #[derive(Clone, Copy)]
 pub struct Entry {
     pub number: u64,

@@ -1,4 +1,4 @@
-//! Bundles of analysis runs, what their measurements come to, histories of runs, and the plain run.
+//! Bundles of analysis runs, the results of their measurements, histories of runs, and the plain run.
 //!
 //! A [`Bundle`] has a template's metrics, its runs, each with a judge and limits for each metric,
 //! and what happened to the runs, numbered from 0. [`Bundle::finding`] is the verdict of a number's
@@ -10,7 +10,7 @@
 //! lawful, and numbers rise in each. [`Runs`] are the runs of a bundle to which numbers are applied in their
 //! order (`specs/Growing`), here and where workers have judged them.
 //!
-//! - [`bundle`]: bundles and their parts; [`finding`]: what a number comes to
+//! - [`bundle`]: bundles and their parts; [`finding`]: the result of a number
 //! - [`history`]: histories of runs; [`laws`]: what holds of those that are lawful
 //! - `plain`: the plain run; `runs`: applying numbers in their order
 //! - [`names`]: types that name a bundle in contracts

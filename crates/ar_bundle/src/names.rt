@@ -1,4 +1,4 @@
-//! Types that name a bundle in contracts. No value of such a type is wanted: a function over them speaks of
+//! Types that name a bundle in contracts. No value of such a type is needed: a function over them speaks of
 //! whichever bundle its caller has.
 
 ghost use Rattle.ar_bundle.specs.Bundle.{bundle_of};
@@ -15,7 +15,7 @@ pub trait BundleName {
     ghost workers: { ℕ };
 }
 
-// A caller that takes `Brand` says which bundle it means; these stand where none does.
+// A caller that takes `Brand` says which bundle it means; these apply where none does.
 impl BundleName for Brand {
     ghost bundle = { bundle_of [] [] [] };
 

@@ -9,7 +9,7 @@ use crate::{Bundle, Entry, Finding, History};
 use ar_limits::RunState;
 use std::alloc::{AllocError, Global};
 
-/// The runs of a bundle, as their numbers are applied: where each stands, and its history.
+/// The runs of a bundle, as their numbers are applied: the state of each, and its history.
 #[derive(Drop)]
 pub struct Runs {
     pub states: Vec<RunState>,

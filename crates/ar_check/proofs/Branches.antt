@@ -6,14 +6,14 @@ use Rattle.ar_value.specs.declared.operator.UnaryOperator.TheVariants as unary
 use Rattle.ar_value.specs.Answer.{◌>>=◌}
 use Rattle.ar_value.specs.Arithmetic.{decimal_of_whole}
 use Rattle.ar_value.specs.Fits.{fits}
-use Rattle.ar_value.specs.Kind.{Kind, nil, shaped, common, fits_kind, is_decimal, merge, plain, turned_beside, whole_as_decimal}
+use Rattle.ar_value.specs.Kind.{Kind, nil, shaped, common, fits_kind, is_decimal, merge, plain, turned_beside, whole_as_decimal, truth_kind}
 use Rattle.ar_value.specs.Shape.{Shape}
 use Rattle.ar_value.specs.Shape as shapes
 use Rattle.ar_value.specs.Value.{Value}
 use Rattle.ar_value.specs.Value as values
 use Rattle.ar_value.specs.declared.fault.Fault.{Fault}
 use Rattle.ar_value.proofs.Merges.{merge_has_both}
-use Rattle.ar_check.specs.Check.{choice_in, choice_of, default_kind, default_of, in_common, plain_kind, truth_kind}
+use Rattle.ar_check.specs.Check.{choice_in, choice_of, common_default, default_of, in_common, plain_kind}
 use Rattle.ar_value.specs.Operators.{Failure, Meaning}
 use Rattle.ar_tree.specs.Meaning.{mean}
 use Rattle.ar_value.specs.Operators as operators
@@ -57,10 +57,10 @@ means_more kind wider more (Ok v) h = more v h
 means_more kind wider more (Err (operators.faulted fault)) h = tt
 means_more kind wider more (Err operators.ill_kinded) h = absurd h
 
--- ---- wholes turned beside decimals
+-- ---- wholes converted next to decimals
 
 -- what arithmetic gives is an optional decimal, or a fault
-optional_or_fault : (r : Result ℤ Fault) → MeansKind (shaped (shapes.optional shapes.decimal)) (operators.decimal_of r)
+optional_or_fault : (r : Result ℤ Fault) → MeansKind (shaped (shapes.optional shapes.decimal)) (operators.decimal_meaning r)
 optional_or_fault (Ok z) = refl
 optional_or_fault (Err fault) = tt
 
@@ -81,7 +81,7 @@ abbrev pub UnlessNil : Kind → Value → Type 0
 UnlessNil kind v = operators.is_nil v ≡ false → fits_kind v kind ≡ true
 
 -- what arithmetic gives is a decimal, or a fault
-decimal_unless_nil : (r : Result ℤ Fault) → Means (UnlessNil (shaped shapes.decimal)) (operators.decimal_of r)
+decimal_unless_nil : (r : Result ℤ Fault) → Means (UnlessNil (shaped shapes.decimal)) (operators.decimal_meaning r)
 decimal_unless_nil (Ok z) = λ some. refl
 decimal_unless_nil (Err fault) = tt
 
@@ -92,7 +92,7 @@ whole_turns (values.whole w) h = decimal_unless_nil (decimal_of_whole w)
 whole_turns v h = let fit = h refl in absurd (cc)
 
 -- likewise an optional decimal
-optional_unless_nil : (r : Result ℤ Fault) → Means (UnlessNil (shaped (shapes.optional shapes.decimal))) (operators.decimal_of r)
+optional_unless_nil : (r : Result ℤ Fault) → Means (UnlessNil (shaped (shapes.optional shapes.decimal))) (operators.decimal_meaning r)
 optional_unless_nil (Ok z) = λ some. refl
 optional_unless_nil (Err fault) = tt
 
@@ -107,13 +107,13 @@ nil_kind : (shape : Shape) (v : Value) → UnlessNil nil v → UnlessNil (shaped
 nil_kind shape values.nil h some = absurd (cc)
 nil_kind shape v h some = let fit = h refl in absurd (cc)
 
--- a value, or what stands in for nil
+-- a value, or what replaces nil
 by_nil : (kind : Kind) (v w : Value) (is_nil : Bool) → operators.is_nil v ≡ is_nil → (operators.is_nil v ≡ false → fits_kind v kind ≡ true) → fits_kind w kind ≡ true → fits_kind (if is_nil then w else v) kind ≡ true
 by_nil kind v w true is h k = k
 by_nil kind v w false is h k = h is
 
 module _ (result : Value) (here : Option Value) where
-  -- a tree beside a decimal, or beside something else
+  -- a tree next to a decimal, or next to something else
   turned_shape : (turns : Bool) (shape : Shape) (tree : Typed) → MeansKind (shaped shape) (mean result here tree)
       → MeansKind (if turns then shaped (whole_as_decimal shape) else shaped shape) (mean result here (if turns && is_whole (plain shape) then typed.unary unary.ToDecimal tree else tree))
   turned_shape false shape tree h = h
@@ -121,7 +121,7 @@ module _ (result : Value) (here : Option Value) where
   turned_shape true (shapes.optional shapes.whole) tree h = means_then _ _ (mean result here tree) operators.to_decimal h optional_turns
   turned_shape true shape tree h = h
 
-  -- a tree beside another means what its kind turns into
+  -- a tree next to another means what its kind is converted to
   turned_kind : (other kind : Kind) (tree : Typed) → MeansKind kind (mean result here tree) → MeansKind (turned_beside other kind) (mean result here (turned other kind tree))
   turned_kind nil kind tree h = h
   turned_kind (shaped other) nil tree h = h
@@ -132,7 +132,7 @@ module _ (result : Value) (here : Option Value) where
   unless_nil nil tree h = means_some (λ v. fits_kind v nil ≡ true) (UnlessNil nil) (mean result here tree) (λ v fit some. fit) h
   unless_nil (shaped shape) tree h = means_some (λ v. fits v shape ≡ true) (UnlessNil (shaped (plain shape))) (mean result here tree) (λ v fit some. not_nil_fits v shape fit some) h
 
-  -- likewise beside a decimal, or beside something else
+  -- likewise next to a decimal, or next to something else
   turned_plain : (turns : Bool) (shape : Shape) (tree : Typed) → Means (UnlessNil (shaped shape)) (mean result here tree)
       → Means (UnlessNil (if turns then shaped (whole_as_decimal shape) else shaped shape)) (mean result here (if turns && is_whole (plain shape) then typed.unary unary.ToDecimal tree else tree))
   turned_plain false shape tree h = h
@@ -141,7 +141,7 @@ module _ (result : Value) (here : Option Value) where
       means_then (UnlessNil (shaped (shapes.optional shapes.whole))) (UnlessNil (shaped (shapes.optional shapes.decimal))) (mean result here tree) operators.to_decimal h optional_whole_turns
   turned_plain true shape tree h = h
 
-  -- likewise beside the kind of what stands in for nil
+  -- likewise next to the kind of what replaces nil
   turned_unless_nil : (other kind : Kind) (tree : Typed) → Means (UnlessNil kind) (mean result here tree) → Means (UnlessNil (turned_beside other kind)) (mean result here (turned other kind tree))
   turned_unless_nil nil kind tree h = h
   turned_unless_nil (shaped other) nil tree h = h
@@ -190,7 +190,7 @@ module _ (result : Value) (here : Option Value) where
 
   -- a default, where the first is always nil or has a shape
   default_kinds : (at : ℕ) (plain of_other : Kind) (first other : Typed) → Means (UnlessNil plain) (mean result here first) → MeansKind of_other (mean result here other)
-      → IfOk (in_common at (typed.binary binary.Default (turned of_other plain first) (turned plain of_other other)) (default_kind plain of_other)) (Sound result here)
+      → IfOk (in_common at (typed.binary binary.Default (turned of_other plain first) (turned plain of_other other)) (common_default plain of_other)) (Sound result here)
   default_kinds at nil nil first other h k = otherwise_means nil nil nil first other h k (λ v fit. fit) (λ v fit. fit)
   default_kinds at nil (shaped shape) first other h k =
       otherwise_means (shaped shape) (shaped shape) (shaped shape) first other (means_some (UnlessNil nil) (UnlessNil (shaped shape)) (mean result here first) (nil_kind shape) h) k (λ v fit. fit) (λ v fit. fit)

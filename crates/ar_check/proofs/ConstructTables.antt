@@ -1,14 +1,14 @@
--- Each construct of conditions, as the table of kinds tells of it.
+-- Each construct of conditions, as the table of kinds says of it.
 use Rattle.std.proofs.Common.{◌≡◌, ◌<◌, ℕ, suc, Bool, true, false, List, Option, Some, None, Ok, Err, refl, ◌∙◌, ap, sym, subst, inl, inr, arith}
 use Rattle.std.specs.Prelude.{◌⊎◌, if◌then◌else◌, nat_lt}
 use Rattle.std.proofs.lemmas.Bool.Decides.{nat_tests}
 use Rattle.ar_value.specs.declared.operator.BinaryOperator.TheVariants as binary
 use Rattle.ar_value.specs.declared.operator.UnaryOperator.TheVariants as unary
 use Rattle.ar_value.specs.Answer.{◌>>=◌}
-use Rattle.ar_value.specs.Kind.{Kind, nil, shaped, common, plain}
+use Rattle.ar_value.specs.Kind.{Kind, nil, shaped, common, plain, truth_kind}
 use Rattle.ar_value.specs.Shape.{Shape, FieldShapes}
 use Rattle.ar_value.specs.Shape as shapes
-use Rattle.ar_tree.specs.Expression.{Expression, Expressions, count}
+use Rattle.ar_tree.specs.Expression.{Expression, Expressions, expression_count}
 use Rattle.ar_tree.specs.Expression as trees
 use Rattle.ar_tree.specs.declared.tree.Comparison.TheVariants as comparisons
 use Rattle.ar_tree.specs.declared.tree.Binary.{Binary}
@@ -17,7 +17,7 @@ use Rattle.ar_tree.specs.declared.tree.Literal.TheVariants as literals
 use Rattle.ar_value.specs.declared.operator.Predicate.{Predicate}
 use Rattle.ar_value.specs.declared.operator.Predicate.TheVariants as predicates
 use Rattle.ar_tree.specs.declared.tree.Unary.{Unary}
-use Rattle.ar_check.specs.Check.{Answer, binary_of, body_of, choice_in, choice_of, default_kind, default_of, entered, equality_of, field_of, field_shape, given, in_common, index_of, is_nil_literal, is_whole_number, item_shape, len_of, negated, over_items, plain_kind, predicate_kind, predicate_of, truth_kind, unary_of, where_wanted}
+use Rattle.ar_check.specs.Check.{Answer, binary_of, body_of, choice_in, choice_of, common_default, default_of, predicate_entered, equality_of, field_of, field_shape, given, in_common, index_of, is_nil_literal, is_whole_number, item_shape, len_of, negated, over_items, plain_kind, predicate_kind, predicate_of, unary_of, where_wanted}
 use Rattle.ar_value.specs.Shape.{shape_named}
 use Rattle.ar_value.specs.Limits.{most_loops}
 use Rattle.ar_check.specs.Operand.{Operand, operand, is_truth, made_plain, plain_of, scalar}
@@ -29,6 +29,7 @@ use Rattle.ar_check.specs.declared.error.TypeError.TheVariants.{PredicatesTooDee
 use Rattle.ar_check.proofs.Tables.{IsTyped, bind_typed, field_is, from_bind, given_kind, into_bind, items_are, list_within, record_within, same_kind, then_typed, truth_is, truth_within, wanted_kind, wanted_typed, whole_is, whole_within}
 use Rattle.ar_check.proofs.OperatorTables.{Applies, equal_applies, negated_typed, operator_applies}
 use Rattle.ar_check.proofs.SignTables.{sign_row}
+use Rattle.ar_check.specs.Private.Inside.{side_by}
 
 -- ---- branches and defaults
 
@@ -43,12 +44,12 @@ in_common_found at tree (Some kind) found h = ap Some (given_kind tree kind foun
 in_common_found at tree None found h = absurd (cc)
 
 -- the row of a default
-default_row : (first other kind : Kind) → default_kind (plain_kind first) other ≡ Some kind → DefaultKind first other kind
+default_row : (first other kind : Kind) → common_default (plain_kind first) other ≡ Some kind → DefaultKind first other kind
 default_row nil other kind h = let same : other ≡ kind = cc in subst (λ kind. DefaultKind nil other kind) same typing.of_nil
 default_row (shaped shape) other kind h = typing.of_shape h
 
 -- a default with a row has its kind
-pub default_by_row : {first other kind : Kind} → DefaultKind first other kind → default_kind (plain_kind first) other ≡ Some kind
+pub default_by_row : {first other kind : Kind} → DefaultKind first other kind → common_default (plain_kind first) other ≡ Some kind
 default_by_row typing.of_nil = refl
 default_by_row (typing.of_shape h) = h
 
@@ -78,14 +79,14 @@ by_depth at shape inside true h = (refl, let same : shape ≡ inside = cc in sam
 by_depth at shape inside false h = absurd (cc)
 
 -- a predicate that is entered isn't too deep
-entered_found : (at around : ℕ) (shape inside : Shape) → entered at around shape ≡ Ok inside → (around < most_loops) × (shape ≡ inside)
+entered_found : (at around : ℕ) (shape inside : Shape) → predicate_entered at around shape ≡ Ok inside → (around < most_loops) × (shape ≡ inside)
 entered_found at around shape inside h =
     let less = by_depth at shape inside (nat_lt around most_loops) h in
     let test : nat_lt around most_loops ≡ true = less.0 in
     (grind (arith, nat_tests), less.1)
 
 -- a predicate that isn't too deep is entered
-is_entered : (at around : ℕ) (shape : Shape) → around < most_loops → entered at around shape ≡ Ok shape
+is_entered : (at around : ℕ) (shape : Shape) → around < most_loops → predicate_entered at around shape ≡ Ok shape
 is_entered at around shape h = let test : nat_lt around most_loops ≡ true = grind (arith, nat_tests) in rw test refl
 
 -- whether a body is a boolean
@@ -97,8 +98,8 @@ pub over_found : (at around : ℕ) (list : Kind) (body : Shape → Answer) (hold
     → (shape : Shape) × (found : Operand) × (item_shape at (plain_of list) ≡ Ok shape) × (around < most_loops) × (body shape ≡ Ok found) × (is_truth found ≡ holds.0)
 unfolding over_items
 over_found at around list body holds h =
-    let shape = from_bind (item_shape at (plain_of list)) (λ shape. entered at around shape >>= λ inside. body inside >>= body_of) holds h in
-    let inside = from_bind (entered at around shape.0) (λ inside. body inside >>= body_of) holds shape.2 in
+    let shape = from_bind (item_shape at (plain_of list)) (λ shape. predicate_entered at around shape >>= λ inside. body inside >>= body_of) holds h in
+    let inside = from_bind (predicate_entered at around shape.0) (λ inside. body inside >>= body_of) holds shape.2 in
     let less = entered_found at around shape.0 inside.0 inside.1 in
     let found = from_bind (body inside.0) body_of holds inside.2 in
     (shape.0, found.0, shape.1, less.0, ap body less.1 ∙ found.1, body_found found.0 holds found.2)
@@ -108,8 +109,8 @@ over_typed : (at around : ℕ) (list : Kind) (body : Shape → Answer) (shape : 
     → over_items at around list body ≡ Ok (is_truth found, made_plain found)
 unfolding over_items
 over_typed at around list body shape found h less k =
-    into_bind (item_shape at (plain_of list)) (λ shape. entered at around shape >>= λ inside. body inside >>= body_of) shape (is_truth found, made_plain found) h
-    (into_bind (entered at around shape) (λ inside. body inside >>= body_of) shape (is_truth found, made_plain found) (is_entered at around shape less)
+    into_bind (item_shape at (plain_of list)) (λ shape. predicate_entered at around shape >>= λ inside. body inside >>= body_of) shape (is_truth found, made_plain found) h
+    (into_bind (predicate_entered at around shape) (λ inside. body inside >>= body_of) shape (is_truth found, made_plain found) (is_entered at around shape less)
     (into_bind (body shape) body_of found (is_truth found, made_plain found) k refl))
 
 -- ---- the literal `nil`
@@ -169,7 +170,7 @@ module _ (result : Shape) (item : Option Shape) (around : ℕ) where
 
   -- equality, also with the literal `nil`
   equality_has : (at : ℕ) (operator : Binary) (left right : Expression) (first second found : Operand) (nil_left nil_right : Bool) → is_nil_literal left ≡ nil_left → is_nil_literal right ≡ nil_right
-      → IsEquality operator → HasKind result item around left first.kind → HasKind result item around right second.kind → equality_of at nil_left nil_right first second ≡ Ok found
+      → IsEquality operator → HasKind result item around left first.kind → HasKind result item around right second.kind → equality_of at (side_by nil_left nil_right) first second ≡ Ok found
       → HasKind result item around (trees.BinaryAt at operator left right) found.kind
   equality_has at operator left right first second found true nil_right on_left on_right equality h k is =
       let literal = nil_literal left on_left in
@@ -184,24 +185,24 @@ module _ (result : Shape) (item : Option Shape) (around : ℕ) where
 
   -- likewise where it is negated
   equal_or_not_has : (at : ℕ) (operator : Binary) → IsEquality operator → (left right : Expression) (first second found : Operand) → HasKind result item around left first.kind → HasKind result item around right second.kind
-      → binary_of at operator (is_nil_literal left) (is_nil_literal right) first second ≡ Ok found → HasKind result item around (trees.BinaryAt at operator left right) found.kind
+      → binary_of at operator (side_by (is_nil_literal left) (is_nil_literal right)) first second ≡ Ok found → HasKind result item around (trees.BinaryAt at operator left right) found.kind
   equal_or_not_has at operator typing.is_equal left right first second found h k is =
       equality_has at (binaries.Comparison comparisons.Equal) left right first second found (is_nil_literal left) (is_nil_literal right) refl refl typing.is_equal h k is
   equal_or_not_has at operator typing.is_unequal left right first second found h k is =
-      let same = from_bind (equality_of at (is_nil_literal left) (is_nil_literal right) first second) negated found is in
+      let same = from_bind (equality_of at (side_by (is_nil_literal left) (is_nil_literal right)) first second) negated found is in
       by_kind (trees.BinaryAt at (binaries.Comparison comparisons.NotEqual) left right) same.0.kind found.kind (given_kind (typed.unary unary.Not same.0.tree) same.0.kind found same.2)
       (equality_has at (binaries.Comparison comparisons.NotEqual) left right first second same.0 (is_nil_literal left) (is_nil_literal right) refl refl typing.is_unequal h k same.1)
 
   -- either of them
   either_has : (at : ℕ) (operator : Binary) (left right : Expression) (first second found : Operand) → HasKind result item around left first.kind → HasKind result item around right second.kind
-      → binary_of at operator (is_nil_literal left) (is_nil_literal right) first second ≡ Ok found → IsEquality operator ⊎ Applies operator first.kind second.kind found.kind
+      → binary_of at operator (side_by (is_nil_literal left) (is_nil_literal right)) first second ≡ Ok found → IsEquality operator ⊎ Applies operator first.kind second.kind found.kind
       → HasKind result item around (trees.BinaryAt at operator left right) found.kind
   either_has at operator left right first second found h k is (inl equality) = equal_or_not_has at operator equality left right first second found h k is
   either_has at operator left right first second found h k is (inr row) = applied_has at operator left right first.kind second.kind found.kind h k row
 
   -- an operator on two operands
   pub operator_has : (at : ℕ) (operator : Binary) (left right : Expression) (first second found : Operand) → HasKind result item around left first.kind → HasKind result item around right second.kind
-      → binary_of at operator (is_nil_literal left) (is_nil_literal right) first second ≡ Ok found → HasKind result item around (trees.BinaryAt at operator left right) found.kind
+      → binary_of at operator (side_by (is_nil_literal left) (is_nil_literal right)) first second ≡ Ok found → HasKind result item around (trees.BinaryAt at operator left right) found.kind
   operator_has at operator left right first second found h k is =
       either_has at operator left right first second found h k is (operator_applies at operator (is_nil_literal left) (is_nil_literal right) first second found is)
 
@@ -217,7 +218,7 @@ module _ (result : Shape) (item : Option Shape) (around : ℕ) where
   pub default_has : (at : ℕ) (tree otherwise : Expression) (first other found : Operand) → HasKind result item around tree first.kind → HasKind result item around otherwise other.kind
       → default_of at first other ≡ Ok found → HasKind result item around (trees.DefaultAt at tree otherwise) found.kind
   default_has at tree otherwise first other found h k is =
-      typing.of_default h k (default_row first.kind other.kind found.kind (in_common_found at _ (default_kind (plain_kind first.kind) other.kind) found is))
+      typing.of_default h k (default_row first.kind other.kind found.kind (in_common_found at _ (common_default (plain_kind first.kind) other.kind) found is))
 
   -- what holds of each item is a boolean
   pub predicate_has : (at : ℕ) (predicate : Predicate) (items body : Expression) (list inside found : Operand) (holds : Bool × Typed) (shape : Shape) → HasKind result item around items list.kind
@@ -266,7 +267,7 @@ len_typed at list of shape max h k =
     (items_are at (plain of) shape max k) (typed.unary unary.Len (made_plain (operand tree (shaped of))), refl))
 
 -- equality with the literal `nil`
-nil_equality : (at : ℕ) (nil_left nil_right : Bool) (left right : Operand) → nil_left ≡ true ⊎ nil_right ≡ true → IsTyped (equality_of at nil_left nil_right left right) truth_kind
+nil_equality : (at : ℕ) (nil_left nil_right : Bool) (left right : Operand) → nil_left ≡ true ⊎ nil_right ≡ true → IsTyped (equality_of at (side_by nil_left nil_right) left right) truth_kind
 nil_equality at true nil_right left right some = (typed.unary unary.IsNil right.tree, refl)
 nil_equality at false true left right some = (typed.unary unary.IsNil left.tree, refl)
 nil_equality at false false left right (inl is) = absurd (cc)
@@ -274,9 +275,9 @@ nil_equality at false false left right (inr is) = absurd (cc)
 
 -- likewise where it is negated
 pub nil_typed : (at : ℕ) (nil_left nil_right : Bool) {operator : Binary} → IsEquality operator → (left right : Operand) → nil_left ≡ true ⊎ nil_right ≡ true
-    → IsTyped (binary_of at operator nil_left nil_right left right) truth_kind
+    → IsTyped (binary_of at operator (side_by nil_left nil_right) left right) truth_kind
 nil_typed at nil_left nil_right typing.is_equal left right some = nil_equality at nil_left nil_right left right some
-nil_typed at nil_left nil_right typing.is_unequal left right some = negated_typed (equality_of at nil_left nil_right left right) truth_kind (nil_equality at nil_left nil_right left right some)
+nil_typed at nil_left nil_right typing.is_unequal left right some = negated_typed (equality_of at (side_by nil_left nil_right) left right) truth_kind (nil_equality at nil_left nil_right left right some)
 
 -- branches with a kind in common
 found_choice : (at : ℕ) (found : Option Kind) (is_truth : Bool) (tree : Typed) (kind : Kind) → found ≡ Some kind → is_truth ≡ true → IsTyped (choice_in at found is_truth tree) kind
@@ -297,7 +298,7 @@ found_default at tree found kind h = rw h (tree, refl)
 -- a default
 pub default_typed : (at : ℕ) (first other : Answer) (left right both : Kind) → IsTyped first left → IsTyped other right → DefaultKind left right both → IsTyped (first >>= λ first. other >>= default_of at first) both
 default_typed at first other left right both h k row =
-    both_typed first other (default_of at) left right both h k (λ tree otherwise. found_default at _ (default_kind (plain_kind left) right) both (default_by_row row))
+    both_typed first other (default_of at) left right both h k (λ tree otherwise. found_default at _ (common_default (plain_kind left) right) both (default_by_row row))
 
 -- a predicate
 pub predicate_typed : (at around : ℕ) (predicate : Predicate) (list : Answer) (body : Shape → Answer) (of shape holds kind : Shape) (max : ℕ) → IsTyped list (shaped of) → plain of ≡ shapes.list shape max → around < most_loops

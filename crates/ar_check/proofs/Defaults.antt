@@ -10,7 +10,7 @@ use Rattle.ar_tree.specs.Meaning.{mean}
 use Rattle.ar_tree.specs.Typed.{Typed}
 use Rattle.ar_tree.specs.Typed as typed
 
--- a value that isn't nil stands
+-- a value that isn't nil stays
 kept : (value other : Value) → value ≢ values.nil → (if is_nil value then other else value) ≡ value
 kept values.nil other there = absurd (there refl)
 kept (values.bool truth) other there = refl

@@ -1,4 +1,4 @@
--- Answers that no growth can keep.
+-- Answers that no growth can prevent.
 use Rattle.std.proofs.Common.{◌≡◌, Bool, true, false, Result, Ok, Err}
 use Rattle.ar_value.specs.Answer.{Gives, Unless}
 use Rattle.ar_check.specs.Memory.{is_memory}

@@ -17,7 +17,7 @@ pub len_next : {A : Type 0} (n m : ℕ) (left others : List A) (first : A) → n
 len_next n m left others first h e less = let all : n ≡ length (first ∷ others) = h ∙ ap length e in omega arith
 
 module _ (result : Shape) (item : Option Shape) (around : ℕ) where
-  -- items that are typed stand before those that are left
+  -- items that are typed come before those that are left
   pub behind : List Item → Expressions → Result (List Item) TypeError
   behind done left = items_typed result item around left >>= λ items. Ok (done ++ items)
 
@@ -47,7 +47,7 @@ module _ (result : Shape) (item : Option Shape) (around : ℕ) where
       → behind done (more first others) ≡ behind (done ++ found ∷ []) others
   next done first others found given = by_operand done first others found (typed_of result item around first) refl given
 
-  -- an item that is typed goes after those that are
+  -- an item that is typed comes after those that are
   pub next_left : (all : Result (List Item) TypeError) (done : List ItemCode) (left others : List Tree) (first : Tree) (found : ItemCode)
       → all ≡ behind (map item_view done) (expressions (map expression_of left)) → left ≡ first ∷ others
       → item_typed result item around (expression_of first) ≡ Ok (item_view found)
@@ -62,7 +62,7 @@ module _ (result : Shape) (item : Option Shape) (around : ℕ) where
   by_fault done first others error (Ok operand) e given = absurd cc
   by_fault done first others error (Err other) e given = rw e (let same : other ≡ error = cc in rw same refl)
 
-  -- the first fault stands
+  -- the first fault stays
   pub fails : (all : Result (List Item) TypeError) (done : List ItemCode) (left others : List Tree) (first : Tree) (error : TypeError)
       → all ≡ behind (map item_view done) (expressions (map expression_of left)) → left ≡ first ∷ others
       → item_typed result item around (expression_of first) ≡ Err error → all ≡ Err error

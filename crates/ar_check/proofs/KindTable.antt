@@ -2,13 +2,13 @@
 use Rattle.std.proofs.Common.{◌≡◌, ℕ, suc, true, List, [], ◌∷◌, length, Option, Some, None, Result, Ok, refl, ◌∙◌, ap, sym, subst, inl, inr}
 use Rattle.ar_value.specs.declared.operator.UnaryOperator.TheVariants as unary
 use Rattle.ar_value.specs.Answer.{◌>>=◌}
-use Rattle.ar_value.specs.Kind.{Kind, nil, shaped, plain}
+use Rattle.ar_value.specs.Kind.{Kind, nil, shaped, plain, scalar_shape, truth_kind}
 use Rattle.ar_value.specs.Shape.{Shape}
 use Rattle.ar_value.specs.Shape as shapes
-use Rattle.ar_tree.specs.Expression.{Expression, Expressions, place_of, count}
+use Rattle.ar_tree.specs.Expression.{Expression, Expressions, place_of, expression_count}
 use Rattle.ar_tree.specs.Expression as trees
 use Rattle.ar_tree.specs.declared.tree.Literal.TheVariants as literals
-use Rattle.ar_check.specs.Check.{Item, binary_of, choice_of, common_of, common_scalar, default_of, field_of, given, index_of, is_nil_literal, innermost, item_of, items_typed, len_of, list_of, no_scalar, over_items, predicate_of, scalar_shape, truth_kind, typed_of, unary_of}
+use Rattle.ar_check.specs.Check.{Item, binary_of, choice_of, common_of, common_scalar, default_of, field_of, given, index_of, is_nil_literal, innermost, item_of, items_typed, len_of, list_literal_of, no_scalar, over_items, predicate_of, typed_of, unary_of}
 use Rattle.ar_check.specs.Basics.{literal_kind}
 use Rattle.ar_check.specs.Operand.{Operand, operand, scalar}
 use Rattle.ar_tree.specs.Typed.{Typed}
@@ -22,6 +22,7 @@ use Rattle.ar_check.proofs.OperatorTables.{operator_typed}
 use Rattle.ar_check.proofs.SignTables.{sign_typed}
 use Rattle.ar_check.proofs.ListTables.{common_parts, common_row_of, common_whole, commons_row, list_found, list_typed, no_scalar_more, same_scalar, scalar_row_of, scalars_row}
 use Rattle.ar_check.proofs.ConstructTables.{both_typed, by_kind, choice_has, choice_typed, default_has, default_typed, field_has, field_typed, index_has, index_typed, len_has, len_typed, nil_typed, operator_has, over_found, predicate_has, predicate_typed, sign_has}
+use Rattle.ar_check.specs.Private.Inside.{side_by}
 
 -- ---- items that are typed
 
@@ -44,12 +45,12 @@ length_by items found many h k = let same : items ≡ found = cc in rw (sym same
 
 module _ (result : Shape) where
   -- as many items are typed as there are
-  as_many : (item : Option Shape) (around : ℕ) (items : Expressions) (found : List Item) → items_typed result item around items ≡ Ok found → length found ≡ count items
+  as_many : (item : Option Shape) (around : ℕ) (items : Expressions) (found : List Item) → items_typed result item around items ≡ Ok found → length found ≡ expression_count items
   as_many item around trees.none found h = length_by [] found 0 h refl
   as_many item around (trees.more first others) found h =
       let operand = from_bind (typed_of result item around first) (λ operand. items_typed result item around others >>= λ items. Ok (item_of (place_of first) operand ∷ items)) found h in
       let items = from_bind (items_typed result item around others) (λ items. Ok (item_of (place_of first) operand.0 ∷ items)) found operand.2 in
-      length_by (item_of (place_of first) operand.0 ∷ items.0) found (suc (count others)) items.2 (ap suc (as_many item around others items.0 items.1))
+      length_by (item_of (place_of first) operand.0 ∷ items.0) found (suc (expression_count others)) items.2 (ap suc (as_many item around others items.0 items.1))
 
   -- what items have in common, by another name
   in_common_by : (item : Option Shape) (around : ℕ) (items : Expressions) (of shape : Shape) → of ≡ shape → HaveInCommon result item around items of → HaveInCommon result item around items shape
@@ -78,10 +79,10 @@ module _ (result : Shape) where
   item_has None around at found h = absurd (cc)
 
   -- a list literal
-  list_has : (item : Option Shape) (around at : ℕ) (items : Expressions) (one : Scalar) (many : ℕ) (kind : Kind) → HaveInCommon result item around items (scalar_shape one) → many ≡ count items
+  list_has : (item : Option Shape) (around at : ℕ) (items : Expressions) (one : Scalar) (many : ℕ) (kind : Kind) → HaveInCommon result item around items (scalar_shape one) → many ≡ expression_count items
       → shaped (shapes.list (scalar_shape one) many) ≡ kind → HasKind result item around (trees.ListAt at items) kind
   list_has item around at items one many kind h same is =
-      by_kind result item around (trees.ListAt at items) (shaped (shapes.list (scalar_shape one) (count items))) kind (ap (λ many. shaped (shapes.list (scalar_shape one) many)) (sym same) ∙ is) (typing.of_list h)
+      by_kind result item around (trees.ListAt at items) (shaped (shapes.list (scalar_shape one) (expression_count items))) kind (ap (λ many. shaped (shapes.list (scalar_shape one) many)) (sym same) ∙ is) (typing.of_list h)
 
   mutual
     -- a tree that is typed has the kind that is found
@@ -101,8 +102,8 @@ module _ (result : Shape) where
         let a = from_bind (typed_of result item around operand) (unary_of at operator) found h in
         sign_has result item around at operator operand a.0 found (tree_has item around operand a.0 a.1) a.2
     tree_has item around (trees.BinaryAt at operator left right) found h =
-        let a = from_bind (typed_of result item around left) (λ first. typed_of result item around right >>= binary_of at operator (is_nil_literal left) (is_nil_literal right) first) found h in
-        let b = from_bind (typed_of result item around right) (binary_of at operator (is_nil_literal left) (is_nil_literal right) a.0) found a.2 in
+        let a = from_bind (typed_of result item around left) (λ first. typed_of result item around right >>= binary_of at operator (side_by (is_nil_literal left) (is_nil_literal right)) first) found h in
+        let b = from_bind (typed_of result item around right) (binary_of at operator (side_by (is_nil_literal left) (is_nil_literal right)) a.0) found a.2 in
         operator_has result item around at operator left right a.0 b.0 found (tree_has item around left a.0 a.1) (tree_has item around right b.0 b.1) b.2
     tree_has item around (trees.ChoiceAt at condition met unmet) found h =
         let a = from_bind (typed_of result item around condition) (λ first. typed_of result item around met >>= λ second. typed_of result item around unmet >>= choice_of at first second) found h in
@@ -110,7 +111,7 @@ module _ (result : Shape) where
         let c = from_bind (typed_of result item around unmet) (choice_of at a.0 b.0) found b.2 in
         choice_has result item around at condition met unmet a.0 b.0 c.0 found (tree_has item around condition a.0 a.1) (tree_has item around met b.0 b.1) (tree_has item around unmet c.0 c.1) c.2
     tree_has item around (trees.ListAt at items) found h =
-        let a = from_bind (items_typed result item around items) (λ items. list_of at items (no_scalar items)) found h in
+        let a = from_bind (items_typed result item around items) (λ items. list_literal_of at items (no_scalar items)) found h in
         let b = list_found at a.0 (no_scalar a.0) found a.2 in
         list_has item around at items b.0 (length a.0) found.kind (items_have item around items a.0 a.1 b.0 b.1) (as_many item around items a.0 a.1) b.2
     tree_has item around (trees.LenAt at list) found h =
@@ -139,7 +140,7 @@ module _ (result : Shape) where
     items_have item around (trees.more first (trees.more second others)) found h one is =
         let a = from_bind (typed_of result item around first) (λ operand. items_typed result item around (trees.more second others) >>= λ items. Ok (item_of (place_of first) operand ∷ items)) found h in
         let b = from_bind (items_typed result item around (trees.more second others)) (λ items. Ok (item_of (place_of first) a.0 ∷ items)) found a.2 in
-        let c = common_parts (item_of (place_of first) a.0) b.0 (count others) one (as_many item around (trees.more second others) b.0 b.1) (common_by (item_of (place_of first) a.0 ∷ b.0) found one b.2 is) in
+        let c = common_parts (item_of (place_of first) a.0) b.0 (expression_count others) one (as_many item around (trees.more second others) b.0 b.1) (common_by (item_of (place_of first) a.0 ∷ b.0) found one b.2 is) in
         more_has item around first (trees.more second others) a.0 c.0 c.1 one (tree_has item around first a.0 a.1) c.2 (items_have item around (trees.more second others) b.0 b.1 c.1 c.3) c.4
 
   -- ---- what has a row is typed
@@ -181,11 +182,11 @@ module _ (result : Shape) where
       )
 
   -- a list literal
-  items_list : (item : Option Shape) (around at : ℕ) (items : Expressions) (shape : Shape) → AreTyped item around items shape → IsTyped (typed_of result item around (trees.ListAt at items)) (shaped (shapes.list shape (count items)))
+  items_list : (item : Option Shape) (around at : ℕ) (items : Expressions) (shape : Shape) → AreTyped item around items shape → IsTyped (typed_of result item around (trees.ListAt at items)) (shaped (shapes.list shape (expression_count items)))
   items_list item around at items shape h =
-      let kind : shaped (shapes.list (scalar_shape h.1) (length h.0)) ≡ shaped (shapes.list shape (count items)) = rw h.5 (ap (λ many. shaped (shapes.list (scalar_shape h.1) many)) (as_many item around items h.0 h.2)) in
-      bind_typed (items_typed result item around items) (λ items. list_of at items (no_scalar items)) h.0 (shaped (shapes.list shape (count items))) h.2
-      (same_kind (list_of at h.0 (no_scalar h.0)) (shaped (shapes.list (scalar_shape h.1) (length h.0))) (shaped (shapes.list shape (count items))) kind (list_typed at h.0 h.1 h.3 h.4))
+      let kind : shaped (shapes.list (scalar_shape h.1) (length h.0)) ≡ shaped (shapes.list shape (expression_count items)) = rw h.5 (ap (λ many. shaped (shapes.list (scalar_shape h.1) many)) (as_many item around items h.0 h.2)) in
+      bind_typed (items_typed result item around items) (λ items. list_literal_of at items (no_scalar items)) h.0 (shaped (shapes.list shape (expression_count items))) h.2
+      (same_kind (list_literal_of at h.0 (no_scalar h.0)) (shaped (shapes.list (scalar_shape h.1) (length h.0))) (shaped (shapes.list shape (expression_count items))) kind (list_typed at h.0 h.1 h.3 h.4))
 
   mutual
     -- a tree that has a kind is typed
@@ -198,13 +199,13 @@ module _ (result : Shape) where
     tree_typed (typing.of_sign {at = at} {operator = operator} {of = of} {shape = shape} h row) =
         then_typed _ (unary_of at operator) (shaped of) (shaped shape) (tree_typed h) (λ tree. sign_typed at row of tree refl)
     tree_typed (typing.of_operator {at = at} {operator = operator} {left = left} {right = right} {of = of} {beside = beside} {shape = shape} h k row) =
-        both_typed _ _ (binary_of at operator (is_nil_literal left) (is_nil_literal right)) (shaped of) (shaped beside) (shaped shape) (tree_typed h) (tree_typed k)
+        both_typed _ _ (binary_of at operator (side_by (is_nil_literal left) (is_nil_literal right))) (shaped of) (shaped beside) (shaped shape) (tree_typed h) (tree_typed k)
         (λ first second. operator_typed at (is_nil_literal left) (is_nil_literal right) row of beside first second refl refl)
     tree_typed (typing.nil_on_the_left {item = item} {around = around} {at = at} {place = place} {operator = operator} {right = right} {kind = kind} equality h) =
-        then_typed (typed_of result item around right) (binary_of at operator true (is_nil_literal right) (operand (typed.literal literals.Nil) nil)) kind truth_kind (tree_typed h)
+        then_typed (typed_of result item around right) (binary_of at operator (side_by true (is_nil_literal right)) (operand (typed.literal literals.Nil) nil)) kind truth_kind (tree_typed h)
         (λ tree. nil_typed at true (is_nil_literal right) equality (operand (typed.literal literals.Nil) nil) (operand tree kind) (inl refl))
     tree_typed (typing.nil_on_the_right {item = item} {around = around} {at = at} {place = place} {operator = operator} {left = left} {kind = kind} equality h) =
-        then_typed (typed_of result item around left) (λ first. binary_of at operator (is_nil_literal left) true first (operand (typed.literal literals.Nil) nil)) kind truth_kind (tree_typed h)
+        then_typed (typed_of result item around left) (λ first. binary_of at operator (side_by (is_nil_literal left) true) first (operand (typed.literal literals.Nil) nil)) kind truth_kind (tree_typed h)
         (λ tree. nil_typed at (is_nil_literal left) true equality (operand tree kind) (operand (typed.literal literals.Nil) nil) (inr refl))
     tree_typed (typing.of_choice {at = at} h is k l found) = choice_typed at _ _ _ _ _ _ _ (tree_typed h) is (tree_typed k) (tree_typed l) found
     tree_typed (typing.of_list {item = item} {around = around} {at = at} {items = items} {shape = shape} h) = items_list item around at items shape (are_typed h)

@@ -1,9 +1,9 @@
--- List literals, as the table of kinds tells of them.
+-- List literals, as the table of kinds says of them.
 use Rattle.std.proofs.Common.{◌≡◌, ℕ, suc, List, [], ◌∷◌, length, Option, Some, None, Ok, refl, sym}
-use Rattle.ar_value.specs.Kind.{shaped}
+use Rattle.ar_value.specs.Kind.{shaped, scalar_shape}
 use Rattle.ar_value.specs.Shape.{Shape}
 use Rattle.ar_value.specs.Shape as shapes
-use Rattle.ar_check.specs.Check.{Item, common_of, common_scalar, joined, list_in_common, list_of, no_scalar, scalar_shape}
+use Rattle.ar_check.specs.Check.{Item, common_of, common_scalar, common_with, list_in_common, list_literal_of, no_scalar}
 use Rattle.ar_check.specs.Operand.{Operand}
 use Rattle.ar_check.specs.Typing.{InCommon, IsNumber, IsScalar, SumOf}
 use Rattle.ar_check.specs.Typing as typing
@@ -33,8 +33,8 @@ common_assoc (Some scalars.Text) (Some scalars.Decimal) (Some scalars.Bool) = re
 common_assoc (Some scalars.Text) (Some scalars.Text) (Some scalars.Bool) = refl
 common_assoc a b c = refl
 
--- a scalar stands before what others have in common
-joined_more : (a b : Option Scalar) (items : List Item) → joined (common_scalar a b) items ≡ common_scalar a (joined b items)
+-- a scalar comes before what others have in common
+joined_more : (a b : Option Scalar) (items : List Item) → common_with (common_scalar a b) items ≡ common_scalar a (common_with b items)
 joined_more a b [] = refl
 joined_more a b (item ∷ items) = rw (common_assoc a b item.scalar) (joined_more a (common_scalar b item.scalar) items)
 
@@ -132,7 +132,7 @@ in_common_found at items (Some scalar) found h = (scalar, refl, given_kind _ (sh
 in_common_found at items None found h = absurd (cc)
 
 -- what a list literal's items have in common
-pub list_found : (at : ℕ) (items : List Item) (place : Option ℕ) (found : Operand) → list_of at items place ≡ Ok found
+pub list_found : (at : ℕ) (items : List Item) (place : Option ℕ) (found : Operand) → list_literal_of at items place ≡ Ok found
     → (scalar : Scalar) × (common_of items ≡ Some scalar) × (shaped (shapes.list (scalar_shape scalar) (length items)) ≡ found.kind)
 list_found at items (Some place) found h = absurd (cc)
 list_found at items None found h = in_common_found at items (common_of items) found h
@@ -143,5 +143,5 @@ in_common_typed at items common scalar h = rw h (_, refl)
 
 -- a list literal, where its items have something in common
 pub list_typed : (at : ℕ) (items : List Item) (scalar : Scalar) → no_scalar items ≡ None → common_of items ≡ Some scalar
-    → IsTyped (list_of at items (no_scalar items)) (shaped (shapes.list (scalar_shape scalar) (length items)))
+    → IsTyped (list_literal_of at items (no_scalar items)) (shaped (shapes.list (scalar_shape scalar) (length items)))
 list_typed at items scalar h k = rw h (in_common_typed at items (common_of items) scalar k)

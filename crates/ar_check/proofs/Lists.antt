@@ -4,12 +4,12 @@ use Rattle.std.specs.Prelude.{◌&&◌}
 use Rattle.std.proofs.lemmas.Bool.Decides.{nat_tests}
 use Rattle.ar_value.specs.Answer.{◌>>=◌}
 use Rattle.ar_value.specs.Fits.{all_items, fits}
-use Rattle.ar_value.specs.Kind.{shaped}
+use Rattle.ar_value.specs.Kind.{shaped, scalar_shape}
 use Rattle.ar_value.specs.Shape.{Shape}
 use Rattle.ar_value.specs.Shape as shapes
 use Rattle.ar_value.specs.Value.{Value, Items, count}
 use Rattle.ar_value.specs.Value as values
-use Rattle.ar_check.specs.Check.{Item, common_of, common_scalar, joined, list_in_common, list_of, scalar_shape, turned_item}
+use Rattle.ar_check.specs.Check.{Item, common_of, common_scalar, common_with, list_in_common, list_literal_of, turned_item}
 use Rattle.ar_value.specs.Operators.{Failure, Meaning}
 use Rattle.ar_tree.specs.Meaning.{items_mean, mean}
 use Rattle.ar_value.specs.Operators as operators
@@ -21,7 +21,7 @@ use Rattle.ar_check.proofs.Means.{Means, MeansKind, Sound, both, both_hold, mean
 use Rattle.ar_check.proofs.Operands.{MeansScalar, on_bool, on_decimal, on_whole}
 use Rattle.ar_check.proofs.Sums.{turned_means}
 
--- whether an item stands in a list of scalars
+-- whether an item suits a list of scalars
 abbrev pub suits : Scalar → Option Scalar → Bool
 suits scalars.Bool (Some scalars.Bool) = true
 suits scalars.Whole (Some scalars.Whole) = true
@@ -30,21 +30,21 @@ suits scalars.Decimal (Some scalars.Decimal) = true
 suits scalars.Text (Some scalars.Text) = true
 suits scalar item = false
 
--- a scalar stands in a list of its own
+-- a scalar suits a list of its own
 suits_itself : (scalar : Scalar) → suits scalar (Some scalar) ≡ true
 suits_itself scalars.Bool = refl
 suits_itself scalars.Whole = refl
 suits_itself scalars.Decimal = refl
 suits_itself scalars.Text = refl
 
--- what is no scalar stands in none
+-- what is no scalar suits none
 suits_none : (scalar : Scalar) → suits scalar None ≡ true → ⊥
 suits_none scalars.Bool h = absurd (cc)
 suits_none scalars.Whole h = absurd (cc)
 suits_none scalars.Decimal h = absurd (cc)
 suits_none scalars.Text h = absurd (cc)
 
--- wholes stand where decimals do
+-- wholes suit where decimals do
 whole_suits : (scalar : Scalar) → suits scalar (Some scalars.Decimal) ≡ true → suits scalar (Some scalars.Whole) ≡ true
 whole_suits scalars.Bool h = h
 whole_suits scalars.Whole h = refl
@@ -61,13 +61,13 @@ suits_both scalar (Some scalars.Decimal) (Some scalars.Whole) h = (h, whole_suit
 suits_both scalar (Some scalars.Decimal) (Some scalars.Decimal) h = (h, h)
 suits_both scalar left right h = absurd (suits_none scalar h)
 
--- whether all items stand in a list of scalars
+-- whether all items suit a list of scalars
 abbrev pub all_suit : Scalar → List Item → Bool
 all_suit scalar [] = true
 all_suit scalar (item ∷ items) = suits scalar item.scalar && all_suit scalar items
 
 -- what was found and the items after it suit what they have in common
-joined_suit : (scalar : Scalar) (found : Option Scalar) (items : List Item) → joined found items ≡ Some scalar → (suits scalar found ≡ true) × (all_suit scalar items ≡ true)
+joined_suit : (scalar : Scalar) (found : Option Scalar) (items : List Item) → common_with found items ≡ Some scalar → (suits scalar found ≡ true) × (all_suit scalar items ≡ true)
 joined_suit scalar found [] is = (rw is (suits_itself scalar), refl)
 joined_suit scalar found (item ∷ items) is =
     let rest = joined_suit scalar (common_scalar found item.scalar) items is in
@@ -80,7 +80,7 @@ common_suits scalar [] is = absurd (cc)
 common_suits scalar (item ∷ items) is =
     let each = joined_suit scalar item.scalar items is in both (suits scalar item.scalar) (all_suit scalar items) each.0 each.1
 
--- a scalar stands as an item
+-- a scalar stays as an item
 scalar_stays : (scalar : Scalar) (v : Value) → fits v (scalar_shape scalar) ≡ true → MeansKind (shaped (scalar_shape scalar)) (operators.scalar_item v)
 scalar_stays scalars.Bool v fit = on_bool (λ v. MeansKind (shaped shapes.bool) (operators.scalar_item v)) (λ b. refl) v fit
 scalar_stays scalars.Whole v fit = on_whole (λ v. MeansKind (shaped shapes.whole) (operators.scalar_item v)) (λ w. refl) v fit
@@ -94,7 +94,7 @@ module _ (result : Value) (here : Option Value) where
   ItemsMean [] = Unit {0}
   ItemsMean (item ∷ items) = MeansScalar item.scalar (mean result here item.tree) × ItemsMean items
 
-  -- an item that suits a list of scalars means that scalar, once it is turned
+  -- an item that suits a list of scalars means that scalar, once it is converted
   turned_item_means : (scalar : Scalar) (of : Option Scalar) (tree : Typed) → suits scalar of ≡ true → MeansScalar of (mean result here tree)
       → MeansKind (shaped (scalar_shape scalar)) (mean result here (turned_item scalar of tree))
   turned_item_means scalars.Bool (Some scalars.Bool) tree is h = h
@@ -104,7 +104,7 @@ module _ (result : Value) (here : Option Value) where
   turned_item_means scalars.Text (Some scalars.Text) tree is h = h
   turned_item_means scalar of tree is h = absurd (cc)
 
-  -- so many values, each of which fits
+  -- n values, each of which fits
   abbrev pub Fill : Shape → ℕ → Items → Type 0
   Fill shape many found = (count found ≡ many) × (all_items (λ v. fits v shape) found ≡ true)
 
@@ -144,6 +144,6 @@ module _ (result : Value) (here : Option Value) where
   in_common_sound at items None is h = tt
 
   -- a list literal means its kind
-  pub list_sound : (at : ℕ) (items : List Item) (place : Option ℕ) → ItemsMean items → IfOk (list_of at items place) (Sound result here)
+  pub list_sound : (at : ℕ) (items : List Item) (place : Option ℕ) → ItemsMean items → IfOk (list_literal_of at items place) (Sound result here)
   list_sound at items (Some place) h = tt
   list_sound at items None h = in_common_sound at items (common_of items) refl h

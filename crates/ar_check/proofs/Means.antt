@@ -3,10 +3,10 @@ use Rattle.std.proofs.Common.{◌≡◌, ℕ, Bool, true, false, Option, Some, N
 use Rattle.std.specs.Prelude.{◌&&◌, if◌then◌else◌}
 use Rattle.ar_value.specs.Answer.{◌>>=◌}
 use Rattle.ar_value.specs.Fits.{fits}
-use Rattle.ar_value.specs.Kind.{Kind, fits_kind}
+use Rattle.ar_value.specs.Kind.{Kind, fits_kind, truth_kind}
 use Rattle.ar_value.specs.Shape.{Shape}
 use Rattle.ar_value.specs.Value.{Value}
-use Rattle.ar_check.specs.Check.{truth_kind, where_wanted}
+use Rattle.ar_check.specs.Check.{where_wanted}
 use Rattle.ar_value.specs.Operators.{Failure, Meaning, faulted, ill_kinded}
 use Rattle.ar_tree.specs.Meaning.{mean}
 use Rattle.ar_check.specs.Operand.{Operand}
@@ -48,7 +48,7 @@ pub answers : {A B : Type 0} (P : A → Type 0) (Q : B → Type 0) (r : Result A
 answers P Q (Ok x) f p step = step x p
 answers P Q (Err e) f p step = tt
 
--- of what was answered, a property for each value
+-- of what was returned, a property for each value
 pub answers_each : {A : Type 0} (V : Value → Type 0) (P : Value → A → Type 0) (r : Result A TypeError) → ((v : Value) → V v → IfOk r (P v)) → IfOk r (λ x. (v : Value) → V v → P v x)
 answers_each V P (Ok x) each = each
 answers_each V P (Err e) each = tt
@@ -68,13 +68,13 @@ pub either_means : (kind : Kind) (test : Bool) (met unmet : Meaning) → MeansKi
 either_means kind true met unmet p q = p
 either_means kind false met unmet p q = q
 
--- what is given where operands are what is wanted
+-- what is given where operands are what is required
 pub wanted : (result : Value) (here : Option Value) (at : ℕ) (is_wanted : Bool) (tree : Typed) (kind : Kind)
     → (is_wanted ≡ true → MeansKind kind (mean result here tree)) → IfOk (where_wanted at is_wanted tree kind) (Sound result here)
 wanted result here at true tree kind h = h refl
 wanted result here at false tree kind h = tt
 
--- a boolean, where operands are what is wanted
+-- a boolean, where operands are what is required
 pub truth_wanted : (result : Value) (here : Option Value) (at : ℕ) (is_wanted : Bool) (tree : Typed) → (is_wanted ≡ true → MeansKind truth_kind (mean result here tree)) → IfOk (where_wanted at is_wanted tree truth_kind) (IsTruth result here)
 truth_wanted result here at true tree h = (refl, h refl)
 truth_wanted result here at false tree h = tt

@@ -1,24 +1,24 @@
--- Operands made plain, scalars and numbers among them, and parts of records and lists.
+-- Operands unwrapped, scalars and numbers among them, and parts of records and lists.
 use Rattle.std.proofs.Common.{◌≡◌, ℕ, ℤ, Bool, true, false, nat_le, List, Option, Some, None, IfOk, refl, sym}
 use Rattle.std.specs.Prelude.{◌&&◌, if◌then◌else◌, option_and_then}
 use Rattle.std.specs.Str.{bytes_eq}
 use Rattle.std.proofs.lemmas.Slice.Eq.{bytes_eq-Decides}
 use Rattle.ar_value.specs.Fits.{all_items, fields_fit, fits}
-use Rattle.ar_value.specs.Kind.{Kind, common, nil, shaped, plain}
+use Rattle.ar_value.specs.Kind.{Kind, common, nil, shaped, plain, scalar_shape, truth_kind}
 use Rattle.ar_value.specs.Shape.{Shape, FieldShapes}
 use Rattle.ar_value.specs.Shape as shapes
 use Rattle.ar_value.specs.Value.{Value, Items, Fields, count, value_named}
 use Rattle.ar_value.specs.Value as values
 use Rattle.ar_tree.specs.declared.tree.Literal.{Literal}
 use Rattle.ar_tree.specs.declared.tree.Literal.TheVariants as literals
-use Rattle.ar_check.specs.Check.{given, is_whole_number, innermost, number_kind, plain_kind, scalar_shape, truth_kind}
+use Rattle.ar_check.specs.Check.{given, is_whole_number, innermost, number_kind, plain_kind}
 use Rattle.ar_check.specs.Basics.{literal_kind}
 use Rattle.ar_value.specs.Shape.{shape_named}
 use Rattle.ar_value.specs.Operators.{Failure, Meaning}
 use Rattle.ar_tree.specs.Meaning.{mean}
 use Rattle.ar_value.specs.Operators as operators
 use Rattle.ar_value.proofs.Merges.{common_with_itself}
-use Rattle.ar_check.specs.Operand.{Operand, made_plain, numbers, numbers_in, plain_of, plain_tree, scalar, scalar_of, is_bool, is_text, is_text_scalar, is_truth}
+use Rattle.ar_check.specs.Operand.{Operand, made_plain, numbers, numbers_in, plain_of, plain_tree, scalar, scalar_of, is_bool, is_text_operand, is_text_scalar, is_truth}
 use Rattle.ar_tree.specs.Typed.{Typed}
 use Rattle.ar_tree.specs.Typed as typed
 use Rattle.ar_value.specs.declared.operator.Numbers.{Numbers}
@@ -31,7 +31,7 @@ use Rattle.ar_check.proofs.Means.{MeansKind, Sound, IsThere, means_then, both_ho
 pub common_of_same : (left right : Kind) → left ≡ right → Some left ≡ common left right
 common_of_same left right same = rw same (sym (common_with_itself right))
 
--- nil may stand on either side
+-- nil may be on either side
 pub common_of_nil : (kind : Kind) → common nil kind ≡ common kind nil
 common_of_nil nil = refl
 common_of_nil (shaped shape) = refl
@@ -141,13 +141,13 @@ module _ (result : Value) (here : Option Value) where
   not_nil_fits shape values.nil h = tt
   not_nil_fits shape v h = h
 
-  -- a tree made plain means the plain kind
+  -- an unwrapped tree means the plain kind
   tree_is_plain : (kind : Kind) (tree : Typed) → MeansKind kind (mean result here tree) → MeansKind (plain_kind kind) (mean result here (plain_tree kind tree))
   tree_is_plain nil tree h = h
   tree_is_plain (shaped (shapes.optional shape)) tree h = means_then _ _ (mean result here tree) operators.not_nil h (not_nil_fits shape)
   tree_is_plain (shaped shape) tree h = h
 
-  -- an operand made plain means its plain kind
+  -- an unwrapped operand means its plain kind
   pub is_plain : (operand : Operand) → Sound result here operand → MeansKind (plain_kind operand.kind) (mean result here (made_plain operand))
   is_plain operand h = tree_is_plain operand.kind operand.tree h
 
@@ -156,23 +156,23 @@ module _ (result : Value) (here : Option Value) where
   kind_is_scalar nil m h = tt
   kind_is_scalar (shaped shape) m h = scalar_of_shape (plain shape) m h
 
-  -- an operand made plain is the scalar that its kind says
+  -- an unwrapped operand is the scalar that its kind says
   pub is_scalar : (operand : Operand) → Sound result here operand → MeansScalar (scalar operand) (mean result here (made_plain operand))
   is_scalar operand h = kind_is_scalar operand.kind (mean result here (made_plain operand)) (is_plain operand h)
 
-  -- an operand made plain has the numbers that its kind says
+  -- an unwrapped operand has the numbers that its kind says
   pub are_numbers : (operand : Operand) → Sound result here operand → MeansNumbers (numbers operand) (mean result here (made_plain operand))
   are_numbers operand h = numbers_of_scalar (scalar operand) (mean result here (made_plain operand)) (is_scalar operand h)
 
-  -- an operand of the kind of booleans, made plain, is one
+  -- an operand of the kind of booleans, unwrapped, is one
   pub is_true : (operand : Operand) → Sound result here operand → is_truth operand ≡ true → MeansKind truth_kind (mean result here (made_plain operand))
   is_true operand h is = truth_of_scalar (scalar operand) (mean result here (made_plain operand)) (is_scalar operand h) is
 
-  -- an operand of the kind of texts, made plain, is one
-  pub is_letters : (operand : Operand) → Sound result here operand → is_text operand ≡ true → MeansKind (shaped shapes.text) (mean result here (made_plain operand))
+  -- an operand of the kind of texts, unwrapped, is one
+  pub is_letters : (operand : Operand) → Sound result here operand → is_text_operand operand ≡ true → MeansKind (shaped shapes.text) (mean result here (made_plain operand))
   is_letters operand h is = text_of_scalar (scalar operand) (mean result here (made_plain operand)) (is_scalar operand h) is
 
-  -- an operand of the kind of wholes, made plain, is one
+  -- an operand of the kind of wholes, unwrapped, is one
   pub is_index : (operand : Operand) → Sound result here operand → is_whole_number (scalar operand) ≡ true → MeansKind (shaped shapes.whole) (mean result here (made_plain operand))
   is_index operand h is = whole_of_scalar (scalar operand) (mean result here (made_plain operand)) (is_scalar operand h) is
 

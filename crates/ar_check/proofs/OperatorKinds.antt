@@ -4,7 +4,7 @@ use Rattle.std.specs.Prelude.{◌&&◌, not, if◌then◌else◌}
 use Rattle.ar_value.specs.declared.operator.BinaryOperator.TheVariants as binary
 use Rattle.ar_value.specs.declared.operator.UnaryOperator.TheVariants as unary
 use Rattle.ar_value.specs.Answer.{◌>>=◌}
-use Rattle.ar_value.specs.Kind.{Kind, shaped, fits_kind}
+use Rattle.ar_value.specs.Kind.{Kind, shaped, fits_kind, truth_kind}
 use Rattle.ar_value.specs.Shape as shapes
 use Rattle.ar_value.specs.Value.{Value}
 use Rattle.ar_value.specs.Value as values
@@ -14,11 +14,11 @@ use Rattle.ar_tree.specs.declared.tree.Binary.{Binary}
 use Rattle.ar_tree.specs.declared.tree.Binary.TheVariants as binaries
 use Rattle.ar_tree.specs.declared.tree.Unary.{Unary}
 use Rattle.ar_tree.specs.declared.tree.Unary.TheVariants as unaries
-use Rattle.ar_check.specs.Check.{Answer, binary_of, comparison_of, equal_of, equality_of, in_of, negated, same_family, text_test_of, truth_kind, unary_of}
+use Rattle.ar_check.specs.Check.{Answer, binary_of, comparison_of, equal_of, equality_of, in_of, negated, same_family, text_test_of, unary_of}
 use Rattle.ar_value.specs.Operators.{Failure, Meaning}
 use Rattle.ar_tree.specs.Meaning.{mean}
 use Rattle.ar_value.specs.Operators as operators
-use Rattle.ar_check.specs.Operand.{Operand, family_in, is_text, is_truth, made_plain, numbers, scalar}
+use Rattle.ar_check.specs.Operand.{Operand, scalar_family, is_text_operand, is_truth, made_plain, numbers, scalar}
 use Rattle.ar_tree.specs.Typed.{Typed}
 use Rattle.ar_tree.specs.Typed as typed
 use Rattle.ar_value.specs.declared.operator.Arithmetic.TheVariants.{Add, Subtract, Multiply, Divide, Remainder}
@@ -30,6 +30,7 @@ use Rattle.ar_check.proofs.Means.{MeansKind, Sound, IsTruth, both, both_hold, ei
 use Rattle.ar_check.proofs.Operands.{are_numbers, is_letters, is_true, on_bool, on_text}
 use Rattle.ar_check.proofs.Parts.{in_sound, kind_in_family, kinded_means, one_family}
 use Rattle.ar_check.proofs.Sums.{negative_sound, order_sound, positive_sound, sum_sound}
+use Rattle.ar_check.specs.Private.Inside.{side_by}
 
 -- what a boolean leads to
 pub truth_then : (kind : Kind) (m : Meaning) (f : Bool → Meaning) → MeansKind truth_kind m → ((b : Bool) → MeansKind kind (f b)) → MeansKind kind (m >>= λ v. operators.truth v >>= f)
@@ -82,15 +83,15 @@ module _ (result : Value) (here : Option Value) where
   equal_sound : (at : ℕ) (m n : Option Scalar) (left right : Operand) → scalar left ≡ m → scalar right ≡ n → Sound result here left → Sound result here right
       → IfOk (equal_of at m n left.tree right.tree) (IsTruth result here)
   equal_sound at (Some m) (Some n) left right of_m of_n h k =
-      truth_wanted result here at (same_family (family_in m) (family_in n)) (typed.binary (binary.Equal (family_in m)) left.tree right.tree)
-      (λ is. equal_means left.kind right.kind (family_in m) left.tree right.tree (kind_in_family left.kind m of_m)
+      truth_wanted result here at (same_family (scalar_family m) (scalar_family n)) (typed.binary (binary.Equal (scalar_family m)) left.tree right.tree)
+      (λ is. equal_means left.kind right.kind (scalar_family m) left.tree right.tree (kind_in_family left.kind m of_m)
       (λ w also. subst (λ family. operators.is_in_family family w ≡ true) (one_family m n is) (kind_in_family right.kind n of_n w also)) h k)
   equal_sound at (Some m) None left right of_m of_n h k = tt
   equal_sound at None n left right of_m of_n h k = tt
 
   -- equality, also with the literal `nil`
   equality_sound : (at : ℕ) (nil_left nil_right : Bool) (left right : Operand) → Sound result here left → Sound result here right
-      → IfOk (equality_of at nil_left nil_right left right) (IsTruth result here)
+      → IfOk (equality_of at (side_by nil_left nil_right) left right) (IsTruth result here)
   equality_sound at true nil_right left right h k = (refl, is_nil_means right.kind right.tree k)
   equality_sound at false true left right h k = (refl, is_nil_means left.kind left.tree h)
   equality_sound at false false left right h k = equal_sound at (scalar left) (scalar right) left right refl refl h k
@@ -107,11 +108,11 @@ module _ (result : Value) (here : Option Value) where
 
   -- comparisons mean their kinds
   comparison_sound : (at : ℕ) (comparison : Comparison) (nil_left nil_right : Bool) (left right : Operand) → Sound result here left → Sound result here right
-      → IfOk (comparison_of at comparison nil_left nil_right left right) (Sound result here)
+      → IfOk (comparison_of at comparison (side_by nil_left nil_right) left right) (Sound result here)
   comparison_sound at comparisons.Equal nil_left nil_right left right h k =
-      truth_sound (equality_of at nil_left nil_right left right) (equality_sound at nil_left nil_right left right h k)
+      truth_sound (equality_of at (side_by nil_left nil_right) left right) (equality_sound at nil_left nil_right left right h k)
   comparison_sound at comparisons.NotEqual nil_left nil_right left right h k =
-      negated_sound (equality_of at nil_left nil_right left right) (equality_sound at nil_left nil_right left right h k)
+      negated_sound (equality_of at (side_by nil_left nil_right) left right) (equality_sound at nil_left nil_right left right h k)
   comparison_sound at comparisons.Less nil_left nil_right left right h k = order_sound result here at Less left right h k
   comparison_sound at comparisons.LessOrEqual nil_left nil_right left right h k = order_sound result here at LessOrEqual left right h k
   comparison_sound at comparisons.Greater nil_left nil_right left right h k = order_sound result here at Greater left right h k
@@ -126,7 +127,7 @@ module _ (result : Value) (here : Option Value) where
   unary_sound at unaries.Not operand h =
       wanted result here at (is_truth operand) (typed.unary unary.Not (made_plain operand)) truth_kind (λ is. opposite_means (made_plain operand) (is_true result here operand h is))
 
-  -- two operands that are booleans, made plain
+  -- two operands that are booleans, unwrapped
   truths : (left right : Operand) → Sound result here left → Sound result here right → (is_truth left && is_truth right) ≡ true
       → MeansKind truth_kind (mean result here (made_plain left)) × MeansKind truth_kind (mean result here (made_plain right))
   truths left right h k is =
@@ -135,13 +136,13 @@ module _ (result : Value) (here : Option Value) where
   -- a test of texts means its kind
   text_test_sound : (at : ℕ) (test : TextTest) (left right : Operand) → Sound result here left → Sound result here right → IfOk (text_test_of at test left right) (Sound result here)
   text_test_sound at test left right h k =
-      wanted result here at (is_text left && is_text right) (typed.binary (binary.TextTest test) (made_plain left) (made_plain right)) truth_kind
-      (λ is. let parts = both_hold (is_text left) (is_text right) is in
+      wanted result here at (is_text_operand left && is_text_operand right) (typed.binary (binary.TextTest test) (made_plain left) (made_plain right)) truth_kind
+      (λ is. let parts = both_hold (is_text_operand left) (is_text_operand right) is in
       text_test_means test (made_plain left) (made_plain right) (is_letters result here left h parts.0) (is_letters result here right k parts.1))
 
   -- operators of two operands mean their kinds
   pub binary_sound : (at : ℕ) (operator : Binary) (nil_left nil_right : Bool) (left right : Operand) → Sound result here left → Sound result here right
-      → IfOk (binary_of at operator nil_left nil_right left right) (Sound result here)
+      → IfOk (binary_of at operator (side_by nil_left nil_right) left right) (Sound result here)
   binary_sound at binaries.Or nil_left nil_right left right h k =
       wanted result here at (is_truth left && is_truth right) (typed.either (made_plain left) (made_plain right)) truth_kind
       (λ is. let each = truths left right h k is in one_means (made_plain left) (made_plain right) each.0 each.1)

@@ -1,18 +1,18 @@
--- Operators, as the table of kinds tells of them.
+-- Operators, as the table of kinds says of them.
 use Rattle.std.proofs.Common.{◌≡◌, ℕ, Bool, true, false, Option, Some, None, Ok, refl, ◌∙◌, ap, sym, subst, inl, inr, is_some}
 use Rattle.std.specs.Prelude.{◌&&◌, ◌⊎◌}
 use Rattle.ar_value.specs.declared.operator.BinaryOperator.{BinaryOperator}
 use Rattle.ar_value.specs.declared.operator.BinaryOperator.TheVariants as binary
 use Rattle.ar_value.specs.declared.operator.UnaryOperator.TheVariants as unary
 use Rattle.ar_value.specs.Answer.{◌>>=◌}
-use Rattle.ar_value.specs.Kind.{Kind, shaped, plain}
+use Rattle.ar_value.specs.Kind.{Kind, shaped, plain, scalar_shape, truth_kind}
 use Rattle.ar_value.specs.Shape.{Shape}
 use Rattle.ar_value.specs.Shape as shapes
 use Rattle.ar_tree.specs.declared.tree.Comparison.TheVariants as comparisons
 use Rattle.ar_tree.specs.declared.tree.Binary.{Binary}
 use Rattle.ar_tree.specs.declared.tree.Binary.TheVariants as binaries
-use Rattle.ar_check.specs.Check.{Answer, arithmetic_kind, arithmetic_on, binary_of, equal_of, equality_of, in_of, item_shape, member_of, negated, ordering_of, ordered_of, same_family, scalar_shape, calculation_of, arithmetic_in, compared_of, where_there, text_test_of, truth_kind, where_wanted, widened}
-use Rattle.ar_check.specs.Operand.{Operand, operand, family_in, is_text, is_truth, made_plain, numbers, plain_of, scalar, scalar_of}
+use Rattle.ar_check.specs.Check.{Answer, arithmetic_kind, arithmetic_on, binary_of, equal_of, equality_of, in_of, item_shape, member_of, negated, ordering_of, ordered_of, same_family, calculation_of, arithmetic_in, compared_of, where_there, text_test_of, where_wanted, widened}
+use Rattle.ar_check.specs.Operand.{Operand, operand, scalar_family, is_text_operand, is_truth, made_plain, numbers, plain_of, scalar, scalar_of}
 use Rattle.ar_tree.specs.Typed.{Typed}
 use Rattle.ar_tree.specs.Typed as typed
 use Rattle.ar_check.specs.Typing.{InCommon, IsEquality, IsNumber, IsScalar, Operates, OperatesOnOne, SameFamily, SumOf}
@@ -29,6 +29,7 @@ use Rattle.ar_value.specs.declared.operator.TextTest.{TextTest}
 use Rattle.ar_check.proofs.Means.{both_hold}
 use Rattle.ar_check.proofs.Means as means
 use Rattle.ar_check.proofs.Tables.{IsTyped, are_numbers, bind_typed, from_bind, given_kind, is_scalar, items_are, kind_of_numbers, list_within, number_scalar, number_shape, numbers_within, same_kind, scalar_within, shape_of_scalar, text_is, text_within, then_typed, truth_is, truth_within, wanted_kind, wanted_typed}
+use Rattle.ar_check.specs.Private.Inside.{side_by}
 
 -- ---- the rows of scalars
 
@@ -56,7 +57,7 @@ summed_row (typing.of_decimal_left is) = let found = numbers_row is in (Decimals
 summed_row typing.of_decimal_right = (Wholes, Decimals, refl, refl, refl)
 
 -- scalars of one family
-family_row : (m n : Scalar) → same_family (family_in m) (family_in n) ≡ true → SameFamily (scalar_shape m) (scalar_shape n)
+family_row : (m n : Scalar) → same_family (scalar_family m) (scalar_family n) ≡ true → SameFamily (scalar_shape m) (scalar_shape n)
 family_row scalars.Bool scalars.Bool h = typing.truths
 family_row scalars.Whole scalars.Whole h = typing.numbers typing.is_whole typing.is_whole
 family_row scalars.Whole scalars.Decimal h = typing.numbers typing.is_whole typing.is_decimal
@@ -66,7 +67,7 @@ family_row scalars.Text scalars.Text h = typing.texts
 family_row m n h = absurd (cc)
 
 -- numbers are of one family
-numbers_family : (m n : Numbers) → same_family (family_in (number_scalar m)) (family_in (number_scalar n)) ≡ true
+numbers_family : (m n : Numbers) → same_family (scalar_family (number_scalar m)) (scalar_family (number_scalar n)) ≡ true
 numbers_family Wholes Wholes = refl
 numbers_family Wholes Decimals = refl
 numbers_family Decimals Wholes = refl
@@ -74,7 +75,7 @@ numbers_family Decimals Decimals = refl
 
 -- what is of one family are two scalars
 families_row : {left right : Shape} → SameFamily left right
-    → (m n : Scalar) × (left ≡ scalar_shape m) × (right ≡ scalar_shape n) × (same_family (family_in m) (family_in n) ≡ true)
+    → (m n : Scalar) × (left ≡ scalar_shape m) × (right ≡ scalar_shape n) × (same_family (scalar_family m) (scalar_family n) ≡ true)
 families_row typing.truths = (scalars.Bool, scalars.Bool, refl, refl, refl)
 families_row (typing.numbers left right) =
     let m = numbers_row left in let n = numbers_row right in (number_scalar m.0, number_scalar n.0, m.1, n.1, numbers_family m.0 n.0)
@@ -202,9 +203,9 @@ order_applies at order left right found h =
 
 -- what equality gives
 equal_found : (at : ℕ) (m n : Option Scalar) (left right : Typed) (found : Operand) → equal_of at m n left right ≡ Ok found
-    → (a b : Scalar) × (m ≡ Some a) × (n ≡ Some b) × (same_family (family_in a) (family_in b) ≡ true) × (truth_kind ≡ found.kind)
+    → (a b : Scalar) × (m ≡ Some a) × (n ≡ Some b) × (same_family (scalar_family a) (scalar_family b) ≡ true) × (truth_kind ≡ found.kind)
 equal_found at (Some a) (Some b) left right found h =
-    let given = wanted_kind at (same_family (family_in a) (family_in b)) _ truth_kind found h in (a, b, refl, refl, given.0, given.1)
+    let given = wanted_kind at (same_family (scalar_family a) (scalar_family b)) _ truth_kind found h in (a, b, refl, refl, given.0, given.1)
 equal_found at (Some a) None left right found h = absurd (cc)
 equal_found at None n left right found h = absurd (cc)
 
@@ -231,9 +232,9 @@ equal_applies at operator equality left right found h =
 
 -- what membership gives
 member_found : (at : ℕ) (m n : Option Scalar) (left right : Typed) (found : Operand) → member_of at m n left right ≡ Ok found
-    → (a b : Scalar) × (m ≡ Some a) × (n ≡ Some b) × (same_family (family_in a) (family_in b) ≡ true) × (truth_kind ≡ found.kind)
+    → (a b : Scalar) × (m ≡ Some a) × (n ≡ Some b) × (same_family (scalar_family a) (scalar_family b) ≡ true) × (truth_kind ≡ found.kind)
 member_found at (Some a) (Some b) left right found h =
-    let given = wanted_kind at (same_family (family_in a) (family_in b)) _ truth_kind found h in (a, b, refl, refl, given.0, given.1)
+    let given = wanted_kind at (same_family (scalar_family a) (scalar_family b)) _ truth_kind found h in (a, b, refl, refl, given.0, given.1)
 member_found at (Some a) None left right found h = absurd (cc)
 member_found at None n left right found h = absurd (cc)
 
@@ -288,15 +289,15 @@ truths_apply at operator left right found tree row h =
 -- a test of texts has a row
 texts_apply : (at : ℕ) (test : TextTest) (left right found : Operand) → text_test_of at test left right ≡ Ok found → Applies (binaries.TextTest test) left.kind right.kind found.kind
 texts_apply at test left right found h =
-    let given = wanted_kind at (is_text left && is_text right) (typed.binary (binary.TextTest test) (made_plain left) (made_plain right)) truth_kind found h in
-    let sides = both_hold (is_text left) (is_text right) given.0 in
+    let given = wanted_kind at (is_text_operand left && is_text_operand right) (typed.binary (binary.TextTest test) (made_plain left) (made_plain right)) truth_kind found h in
+    let sides = both_hold (is_text_operand left) (is_text_operand right) given.0 in
     let first = text_within left.kind sides.0 in
     let second = text_within right.kind sides.1 in
     (first.0, second.0, shapes.bool, first.1, second.1, given.1, row_by (binaries.TextTest test) shapes.text shapes.text (plain first.0) (plain second.0) shapes.bool first.2 second.2 (typing.text_test test))
 
 -- an operator that is no equality has a row for what it is given
 pub operator_applies : (at : ℕ) (operator : Binary) (nil_left nil_right : Bool) (left right found : Operand)
-    → binary_of at operator nil_left nil_right left right ≡ Ok found → IsEquality operator ⊎ Applies operator left.kind right.kind found.kind
+    → binary_of at operator (side_by nil_left nil_right) left right ≡ Ok found → IsEquality operator ⊎ Applies operator left.kind right.kind found.kind
 operator_applies at binaries.Or nil_left nil_right left right found h = inr (truths_apply at binaries.Or left right found _ typing.either h)
 operator_applies at binaries.And nil_left nil_right left right found h = inr (truths_apply at binaries.And left right found _ typing.both h)
 operator_applies at (binaries.Comparison comparisons.Equal) nil_left nil_right left right found h = inl typing.is_equal
@@ -352,12 +353,12 @@ order_typed at order first second of beside left right h k =
     (are_numbers (plain of) m.0 (h ∙ m.1)) (are_numbers (plain beside) n.0 (k ∙ n.1))
 
 -- equality of two scalars
-equal_typed : (at : ℕ) (m n : Option Scalar) (a b : Scalar) (left right : Typed) → m ≡ Some a → n ≡ Some b → same_family (family_in a) (family_in b) ≡ true → IsTyped (equal_of at m n left right) truth_kind
-equal_typed at m n a b left right h k is = rw h (rw k (wanted_typed at (same_family (family_in a) (family_in b)) _ truth_kind is))
+equal_typed : (at : ℕ) (m n : Option Scalar) (a b : Scalar) (left right : Typed) → m ≡ Some a → n ≡ Some b → same_family (scalar_family a) (scalar_family b) ≡ true → IsTyped (equal_of at m n left right) truth_kind
+equal_typed at m n a b left right h k is = rw h (rw k (wanted_typed at (same_family (scalar_family a) (scalar_family b)) _ truth_kind is))
 
 -- equality, also with nil
 equality_typed : (at : ℕ) (nil_left nil_right : Bool) {p q : Shape} → SameFamily p q → (of beside : Shape) (left right : Typed) → plain of ≡ p → plain beside ≡ q
-    → IsTyped (equality_of at nil_left nil_right (operand left (shaped of)) (operand right (shaped beside))) truth_kind
+    → IsTyped (equality_of at (side_by nil_left nil_right) (operand left (shaped of)) (operand right (shaped beside))) truth_kind
 equality_typed at true nil_right same of beside left right h k = (typed.unary unary.IsNil right, refl)
 equality_typed at false true same of beside left right h k = (typed.unary unary.IsNil left, refl)
 equality_typed at false false same of beside left right h k =
@@ -365,8 +366,8 @@ equality_typed at false false same of beside left right h k =
     equal_typed at (scalar (operand left (shaped of))) (scalar (operand right (shaped beside))) row.0 row.1 left right (is_scalar (plain of) row.0 (h ∙ row.2)) (is_scalar (plain beside) row.1 (k ∙ row.3)) row.4
 
 -- membership of a scalar
-member_typed : (at : ℕ) (m n : Option Scalar) (a b : Scalar) (left right : Typed) → m ≡ Some a → n ≡ Some b → same_family (family_in a) (family_in b) ≡ true → IsTyped (member_of at m n left right) truth_kind
-member_typed at m n a b left right h k is = rw h (rw k (wanted_typed at (same_family (family_in a) (family_in b)) _ truth_kind is))
+member_typed : (at : ℕ) (m n : Option Scalar) (a b : Scalar) (left right : Typed) → m ≡ Some a → n ≡ Some b → same_family (scalar_family a) (scalar_family b) ≡ true → IsTyped (member_of at m n left right) truth_kind
+member_typed at m n a b left right h k is = rw h (rw k (wanted_typed at (same_family (scalar_family a) (scalar_family b)) _ truth_kind is))
 
 -- likewise in a list
 in_typed : (at : ℕ) {p item : Shape} {max : ℕ} → SameFamily p (plain item) → (of beside : Shape) (left right : Typed) → plain of ≡ p → plain beside ≡ shapes.list item max
@@ -393,13 +394,13 @@ truths_typed at of beside tree left right h k =
 texts_typed : (at : ℕ) (test : TextTest) (of beside : Shape) (left right : Typed) → plain of ≡ shapes.text → plain beside ≡ shapes.text
     → IsTyped (text_test_of at test (operand left (shaped of)) (operand right (shaped beside))) truth_kind
 texts_typed at test of beside left right h k =
-    wanted_typed at (is_text (operand left (shaped of)) && is_text (operand right (shaped beside)))
+    wanted_typed at (is_text_operand (operand left (shaped of)) && is_text_operand (operand right (shaped beside)))
     (typed.binary (binary.TextTest test) (made_plain (operand left (shaped of))) (made_plain (operand right (shaped beside)))) truth_kind
-    (means.both (is_text (operand left (shaped of))) (is_text (operand right (shaped beside))) (text_is (plain of) h) (text_is (plain beside) k))
+    (means.both (is_text_operand (operand left (shaped of))) (is_text_operand (operand right (shaped beside))) (text_is (plain of) h) (text_is (plain beside) k))
 
 -- an operator with a row for two operands is typed
 pub operator_typed : (at : ℕ) (nil_left nil_right : Bool) {operator : Binary} {p q shape : Shape} → Operates operator p q shape → (of beside : Shape) (left right : Typed) → plain of ≡ p → plain beside ≡ q
-    → IsTyped (binary_of at operator nil_left nil_right (operand left (shaped of)) (operand right (shaped beside))) (shaped shape)
+    → IsTyped (binary_of at operator (side_by nil_left nil_right) (operand left (shaped of)) (operand right (shaped beside))) (shaped shape)
 operator_typed at nil_left nil_right (typing.add sum) of beside left right h k = added_typed at Add (λ n. refl) (there_in Add refl) sum of beside left right h k
 operator_typed at nil_left nil_right (typing.subtract sum) of beside left right h k = added_typed at Subtract (λ n. refl) (there_in Subtract refl) sum of beside left right h k
 operator_typed at nil_left nil_right (typing.multiply sum) of beside left right h k = added_typed at Multiply (λ n. refl) (there_in Multiply refl) sum of beside left right h k
@@ -412,7 +413,7 @@ operator_typed at nil_left nil_right (typing.greater first second) of beside lef
 operator_typed at nil_left nil_right (typing.greater_or_equal first second) of beside left right h k = order_typed at GreaterOrEqual first second of beside left right h k
 operator_typed at nil_left nil_right (typing.equal same) of beside left right h k = equality_typed at nil_left nil_right same of beside left right h k
 operator_typed at nil_left nil_right (typing.not_equal same) of beside left right h k =
-    negated_typed (equality_of at nil_left nil_right (operand left (shaped of)) (operand right (shaped beside))) truth_kind (equality_typed at nil_left nil_right same of beside left right h k)
+    negated_typed (equality_of at (side_by nil_left nil_right) (operand left (shaped of)) (operand right (shaped beside))) truth_kind (equality_typed at nil_left nil_right same of beside left right h k)
 operator_typed at nil_left nil_right typing.both of beside left right h k = truths_typed at of beside _ left right h k
 operator_typed at nil_left nil_right typing.either of beside left right h k = truths_typed at of beside _ left right h k
 operator_typed at nil_left nil_right (typing.within same) of beside left right h k = in_typed at same of beside left right h k

@@ -8,18 +8,18 @@ use Rattle.ar_value.specs.declared.operator.BinaryOperator.TheVariants as binary
 use Rattle.ar_value.specs.declared.operator.UnaryOperator.TheVariants as unary
 use Rattle.ar_value.specs.Answer.{◌>>=◌}
 use Rattle.ar_value.specs.Fits.{all_items, fits}
-use Rattle.ar_value.specs.Kind.{Kind, nil, shaped, plain, fits_kind}
+use Rattle.ar_value.specs.Kind.{Kind, nil, shaped, plain, fits_kind, truth_kind}
 use Rattle.ar_value.specs.Shape.{Shape, FieldShapes}
 use Rattle.ar_value.specs.Shape as shapes
 use Rattle.ar_value.specs.Value.{Value, Items, Fields, count, value_named}
 use Rattle.ar_value.specs.Value as values
 use Rattle.ar_value.specs.declared.fault.Fault.TheVariants.{IndexOutOfRange}
-use Rattle.ar_check.specs.Check.{field_of, field_shape, found_field, given, in_of, index_of, is_whole_number, item_shape, len_of, member_of, plain_kind, same_family, truth_kind}
+use Rattle.ar_check.specs.Check.{field_of, field_shape, found_field, given, in_of, index_of, is_whole_number, item_shape, len_of, member_of, plain_kind, same_family}
 use Rattle.ar_value.specs.Shape.{shape_named}
 use Rattle.ar_value.specs.Operators.{Failure, Meaning}
 use Rattle.ar_tree.specs.Meaning.{mean}
 use Rattle.ar_value.specs.Operators as operators
-use Rattle.ar_check.specs.Operand.{Operand, family_in, made_plain, plain_of, scalar, scalar_of}
+use Rattle.ar_check.specs.Operand.{Operand, scalar_family, made_plain, plain_of, scalar, scalar_of}
 use Rattle.ar_tree.specs.Typed.{Typed}
 use Rattle.ar_tree.specs.Typed as typed
 use Rattle.ar_value.specs.declared.operator.Scalar.{Scalar}
@@ -48,14 +48,14 @@ is_list at nil = tt
 is_list at (shaped shape) = items_of_shape at (plain shape)
 
 -- an item by its number fits, where there is one
-nth_fits : (shape : Shape) (items : Items) (n : ℕ) → all_items (λ v. fits v shape) items ≡ true → MeansKind (shaped shape) (operators.there (operators.faulted IndexOutOfRange) (operators.nth items n))
+nth_fits : (shape : Shape) (items : Items) (n : ℕ) → all_items (λ v. fits v shape) items ≡ true → MeansKind (shaped shape) (operators.there (operators.faulted IndexOutOfRange) (operators.nth_item items n))
 nth_fits shape values.no_items n h = tt
 nth_fits shape (values.item v items) zero h = (both_hold (fits v shape) (all_items (λ v. fits v shape) items) h).0
 nth_fits shape (values.item v items) (suc n) h = nth_fits shape items n (both_hold (fits v shape) (all_items (λ v. fits v shape) items) h).1
 
 -- likewise counted from the end
 from_end : (shape : Shape) (items : Items) (n : ℕ) (within : Bool) → all_items (λ v. fits v shape) items ≡ true
-    → MeansKind (shaped shape) (operators.there (operators.faulted IndexOutOfRange) (if within then operators.nth items (count items - suc n) else None))
+    → MeansKind (shaped shape) (operators.there (operators.faulted IndexOutOfRange) (if within then operators.nth_item items (count items - suc n) else None))
 from_end shape items n true h = nth_fits shape items (count items - suc n) h
 from_end shape items n false h = tt
 
@@ -68,7 +68,7 @@ item_fits shape items (negsuc n) h = from_end shape items n (nat_lt n (count ite
 -- ---- families
 
 -- nil, or a scalar of a family
-in_family_by : (shape : Shape) (found : Scalar) (v : Value) → scalar_of shape ≡ Some found → fits v shape ≡ true → operators.is_in_family (family_in found) v ≡ true
+in_family_by : (shape : Shape) (found : Scalar) (v : Value) → scalar_of shape ≡ Some found → fits v shape ≡ true → operators.is_in_family (scalar_family found) v ≡ true
 in_family_by shapes.bool scalars.Bool (values.bool b) is fit = refl
 in_family_by shapes.whole scalars.Whole (values.whole w) is fit = refl
 in_family_by shapes.decimal scalars.Decimal (values.decimal d) is fit = refl
@@ -76,12 +76,12 @@ in_family_by shapes.text scalars.Text (values.text t) is fit = refl
 in_family_by shape found values.nil is fit = refl
 in_family_by shape found v is fit = absurd cc
 
-in_family : (shape : Shape) (found : Scalar) (v : Value) → scalar_of (plain shape) ≡ Some found → fits v shape ≡ true → operators.is_in_family (family_in found) v ≡ true
+in_family : (shape : Shape) (found : Scalar) (v : Value) → scalar_of (plain shape) ≡ Some found → fits v shape ≡ true → operators.is_in_family (scalar_family found) v ≡ true
 in_family (shapes.optional shape) found values.nil is fit = refl
 in_family (shapes.optional shape) found v is fit = in_family_by shape found v is fit
 in_family shape found v is fit = in_family_by shape found v is fit
 
-pub kind_in_family : (kind : Kind) (found : Scalar) → option_and_then scalar_of (plain_of kind) ≡ Some found → (v : Value) → fits_kind v kind ≡ true → operators.is_in_family (family_in found) v ≡ true
+pub kind_in_family : (kind : Kind) (found : Scalar) → option_and_then scalar_of (plain_of kind) ≡ Some found → (v : Value) → fits_kind v kind ≡ true → operators.is_in_family (scalar_family found) v ≡ true
 kind_in_family nil found is v fit = absurd cc
 kind_in_family (shaped shape) found is v fit = in_family shape found v is fit
 
@@ -113,7 +113,7 @@ kinded_means true b h = refl
 kinded_means false b h = absurd cc
 
 -- scalars of one family
-pub one_family : (left right : Scalar) → same_family (family_in left) (family_in right) ≡ true → family_in right ≡ family_in left
+pub one_family : (left right : Scalar) → same_family (scalar_family left) (scalar_family right) ≡ true → scalar_family right ≡ scalar_family left
 one_family scalars.Bool scalars.Bool is = refl
 one_family scalars.Whole scalars.Whole is = refl
 one_family scalars.Whole scalars.Decimal is = refl
@@ -132,7 +132,7 @@ module _ (result : Value) (here : Option Value) where
       (λ i whole. on_list (λ v. MeansKind (shaped shape) (operators.index_in v i)) shape max
       (λ items short all. on_whole (λ i. MeansKind (shaped shape) (operators.index_in (values.list items) i)) (λ w. item_fits shape items w all) i whole) v fit))
 
-  -- a list, made plain
+  -- a list, unwrapped
   pub plain_list : (list : Operand) (shape : Shape) → (of : ListOf list.kind shape) → Sound result here list → MeansKind (shaped (shapes.list shape of.0)) (mean result here (made_plain list))
   plain_list list shape of h =
       let plain : MeansKind (plain_kind list.kind) (mean result here (made_plain list)) = is_plain result here list h in
@@ -148,7 +148,7 @@ module _ (result : Value) (here : Option Value) where
   -- a length is a whole
   pub len_means : (shape : Shape) (max : ℕ) (list : Typed) → MeansKind (shaped (shapes.list shape max)) (mean result here list) → MeansKind (shaped shapes.whole) (mean result here (typed.unary unary.Len list))
   len_means shape max list h =
-      means_then _ _ (mean result here list) operators.length_of h (λ v fit. on_list (λ v. MeansKind (shaped shapes.whole) (operators.length_of v)) shape max (λ items short all. refl) v fit)
+      means_then _ _ (mean result here list) operators.length_meaning h (λ v fit. on_list (λ v. MeansKind (shaped shapes.whole) (operators.length_meaning v)) shape max (λ items short all. refl) v fit)
 
   -- a length means its kind
   pub len_sound : (at : ℕ) (list : Operand) → Sound result here list → IfOk (len_of at list) (Sound result here)
@@ -172,8 +172,8 @@ module _ (result : Value) (here : Option Value) where
   member_sound : (at : ℕ) (m n : Option Scalar) (left : Operand) (list : Typed) (shape : Shape) (max : ℕ) → scalar left ≡ m → scalar_of (plain shape) ≡ n → Sound result here left
       → MeansKind (shaped (shapes.list shape max)) (mean result here list) → IfOk (member_of at m n left.tree list) (IsTruth result here)
   member_sound at (Some m) (Some n) left list shape max of_m of_n h k =
-      truth_wanted result here at (same_family (family_in m) (family_in n)) (typed.binary binary.IsIn left.tree list)
-      (λ is. member_means (family_in m) left.kind shape max left.tree list (kind_in_family left.kind m of_m)
+      truth_wanted result here at (same_family (scalar_family m) (scalar_family n)) (typed.binary binary.IsIn left.tree list)
+      (λ is. member_means (scalar_family m) left.kind shape max left.tree list (kind_in_family left.kind m of_m)
       (λ v fit. subst (λ family. operators.is_in_family family v ≡ true) (one_family m n is) (in_family shape n v of_n fit)) h k)
   member_sound at (Some m) None left list shape max of_m of_n h k = tt
   member_sound at None n left list shape max of_m of_n h k = tt

@@ -1,4 +1,4 @@
--- What is found at a place in the body of a predicate.
+-- What is found at an offset in the body of a predicate.
 use Rattle.std.proofs.Common.{◌≡◌, ℕ, ◌+◌, Option, Some, Result, Ok, Err, IfOk, refl, ◌∙◌, add-one}
 use Rattle.ar_value.specs.Shape.{Shape}
 use Rattle.ar_value.specs.View.{shape_view}

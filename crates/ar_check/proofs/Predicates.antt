@@ -4,14 +4,14 @@ use Rattle.std.specs.Prelude.{◌≤◌, ◌==◌, if◌then◌else◌}
 use Rattle.std.proofs.lemmas.Bool.Decides.{nat_tests}
 use Rattle.ar_value.specs.Answer.{◌>>=◌}
 use Rattle.ar_value.specs.Fits.{all_items, fits}
-use Rattle.ar_value.specs.Kind.{Kind, shaped}
+use Rattle.ar_value.specs.Kind.{Kind, shaped, truth_kind}
 use Rattle.ar_value.specs.Shape.{Shape}
 use Rattle.ar_value.specs.Shape as shapes
 use Rattle.ar_value.specs.Value.{Value, Items, count}
 use Rattle.ar_value.specs.Value as values
 use Rattle.ar_value.specs.declared.operator.Predicate.{Predicate}
 use Rattle.ar_value.specs.declared.operator.Predicate.TheVariants as predicates
-use Rattle.ar_check.specs.Check.{plain_kind, predicate_kind, predicate_of, truth_kind}
+use Rattle.ar_check.specs.Check.{plain_kind, predicate_kind, predicate_of}
 use Rattle.ar_value.specs.Operators.{Failure, Meaning}
 use Rattle.ar_tree.specs.Meaning.{all_hold, any_holds, mean, none_holds, over, those}
 use Rattle.ar_value.specs.Operators as operators

@@ -1,13 +1,13 @@
--- Operators on one operand, as the table of kinds tells of them.
+-- Operators on one operand, as the table of kinds says of them.
 use Rattle.std.proofs.Common.{◌≡◌, ℕ, Option, Some, None, Ok, refl, ◌∙◌, ap, sym}
 use Rattle.std.specs.Prelude.{option_and_then}
 use Rattle.ar_value.specs.declared.operator.UnaryOperator.TheVariants as unary
-use Rattle.ar_value.specs.Kind.{Kind, shaped, plain}
+use Rattle.ar_value.specs.Kind.{Kind, shaped, plain, truth_kind}
 use Rattle.ar_value.specs.Shape.{Shape}
 use Rattle.ar_value.specs.Shape as shapes
 use Rattle.ar_tree.specs.declared.tree.Unary.{Unary}
 use Rattle.ar_tree.specs.declared.tree.Unary.TheVariants as unaries
-use Rattle.ar_check.specs.Check.{Answer, negation_of, number_kind, plus_of, truth_kind, unary_of}
+use Rattle.ar_check.specs.Check.{Answer, negation_of, number_kind, plus_of, unary_of}
 use Rattle.ar_check.specs.Operand.{Operand, operand, is_truth, made_plain, numbers, numbers_in, plain_of, scalar_of}
 use Rattle.ar_tree.specs.Typed.{Typed}
 use Rattle.ar_tree.specs.Typed as typed
@@ -35,7 +35,7 @@ positive_found : (at : ℕ) (numbers : Option Numbers) (tree : Typed) (found : O
 positive_found at (Some n) tree found h = (n, refl, given_kind _ (number_kind n) found h)
 positive_found at None tree found h = absurd (cc)
 
--- a sign stands before a number
+-- a sign comes before a number
 sign_applies : (operator : Unary) (kind found : Kind) (n : Numbers) → option_and_then numbers_in (option_and_then scalar_of (plain_of kind)) ≡ Some n → number_kind n ≡ found
     → OperatesOnOne operator (number_shape n) (number_shape n) → AppliesToOne operator kind found
 sign_applies operator kind found n h same row =

@@ -4,13 +4,13 @@ use Rattle.std.specs.Prelude.{◌∷◌, if◌then◌else◌, nat_lt}
 use Rattle.ar_value.specs.declared.operator.UnaryOperator.TheVariants as unary
 use Rattle.ar_value.specs.Answer.{◌>>=◌}
 use Rattle.ar_value.specs.Fits.{fits}
-use Rattle.ar_value.specs.Kind.{Kind}
+use Rattle.ar_value.specs.Kind.{Kind, truth_kind}
 use Rattle.ar_value.specs.Shape.{Shape}
 use Rattle.ar_value.specs.Value.{Value}
 use Rattle.ar_value.specs.Value as values
 use Rattle.ar_tree.specs.Expression.{Expression, Expressions, place_of}
 use Rattle.ar_tree.specs.Expression as trees
-use Rattle.ar_check.specs.Check.{Answer, body_of, checked, choice_of, condition_of, default_of, entered, field_of, index_of, item_of, item_shape, items_typed, is_nil_literal, len_of, list_of, no_scalar, over_items, predicate_of, given, truth_kind, typed_of, unary_of, binary_of}
+use Rattle.ar_check.specs.Check.{Answer, body_of, checked, choice_of, condition_of, default_of, predicate_entered, field_of, index_of, item_of, item_shape, items_typed, is_nil_literal, len_of, list_literal_of, no_scalar, over_items, predicate_of, given, typed_of, unary_of, binary_of}
 use Rattle.ar_value.specs.Operators.{Meaning, faulted, ill_kinded}
 use Rattle.ar_value.specs.Limits.{most_loops}
 use Rattle.ar_tree.specs.Meaning.{IsTruthOrFault, is_fault, is_truth, mean}
@@ -26,6 +26,7 @@ use Rattle.ar_check.proofs.OperatorKinds.{binary_sound, is_nil_means, unary_soun
 use Rattle.ar_check.proofs.Branches.{choice_sound, default_sound}
 use Rattle.ar_check.proofs.Lists.{ItemsMean, list_sound}
 use Rattle.ar_check.proofs.Predicates.{Body, predicate_sound}
+use Rattle.ar_check.specs.Private.Inside.{side_by}
 
 -- ---- one more predicate keeps the shape of its items
 
@@ -35,7 +36,7 @@ by_depth at shape true = refl
 by_depth at shape false = tt
 
 -- what is entered are the items' shape
-entered_same : (at around : ℕ) (shape : Shape) → IfOk (entered at around shape) (λ inside. inside ≡ shape)
+entered_same : (at around : ℕ) (shape : Shape) → IfOk (predicate_entered at around shape) (λ inside. inside ≡ shape)
 entered_same at around shape = by_depth at shape (nat_lt around most_loops)
 
 -- ---- trees
@@ -45,7 +46,7 @@ module _ (wanted : Shape) (result : Value) (fit : fits result wanted ≡ true) w
   abbrev Each : Shape → Operand → Type 0
   Each shape body = (v : Value) → fits v shape ≡ true → Sound result (Some v) body
 
-  -- a body, made plain, where it means its kind for each item
+  -- a body, unwrapped, where it means its kind for each item
   body_made : (kind : Kind) (shape : Shape) (of : ListOf kind shape) (body : Operand) → Each shape body → Body result kind (operands.is_truth body, made_plain body)
   body_made kind shape of body each = (shape, of, λ is v fit. is_true result (Some v) body (each v fit) is)
 
@@ -53,8 +54,8 @@ module _ (wanted : Shape) (result : Value) (fit : fits result wanted ≡ true) w
   over_sound : (at around : ℕ) (kind : Kind) (typed : Shape → Answer) → ((shape : Shape) → IfOk (typed shape) (Each shape)) → IfOk (over_items at around kind typed) (Body result kind)
   unfolding over_items
   over_sound at around kind typed sound =
-      answers (ListOf kind) (Body result kind) (item_shape at (plain_of kind)) (λ shape. entered at around shape >>= λ inside. typed inside >>= body_of) (is_list at kind)
-      (λ shape of. answers (λ inside. inside ≡ shape) (Body result kind) (entered at around shape) (λ inside. typed inside >>= body_of) (entered_same at around shape)
+      answers (ListOf kind) (Body result kind) (item_shape at (plain_of kind)) (λ shape. predicate_entered at around shape >>= λ inside. typed inside >>= body_of) (is_list at kind)
+      (λ shape of. answers (λ inside. inside ≡ shape) (Body result kind) (predicate_entered at around shape) (λ inside. typed inside >>= body_of) (entered_same at around shape)
       (λ inside same. answers (Each inside) (Body result kind) (typed inside) body_of (sound inside) (λ body each. body_made kind shape of body (rw same at each))))
 
   mutual
@@ -71,16 +72,16 @@ module _ (wanted : Shape) (result : Value) (fit : fits result wanted ≡ true) w
     tree_sound item here there around (trees.UnaryAt at operator operand) =
         answers _ _ (typed_of wanted item around operand) (unary_of at operator) (tree_sound item here there around operand) (unary_sound result here at operator)
     tree_sound item here there around (trees.BinaryAt at operator left right) =
-        answers _ _ (typed_of wanted item around left) (λ first. typed_of wanted item around right >>= binary_of at operator (is_nil_literal left) (is_nil_literal right) first)
+        answers _ _ (typed_of wanted item around left) (λ first. typed_of wanted item around right >>= binary_of at operator (side_by (is_nil_literal left) (is_nil_literal right)) first)
         (tree_sound item here there around left)
-        (λ first h. answers _ _ (typed_of wanted item around right) (binary_of at operator (is_nil_literal left) (is_nil_literal right) first) (tree_sound item here there around right)
+        (λ first h. answers _ _ (typed_of wanted item around right) (binary_of at operator (side_by (is_nil_literal left) (is_nil_literal right)) first) (tree_sound item here there around right)
         (λ second k. binary_sound result here at operator (is_nil_literal left) (is_nil_literal right) first second h k))
     tree_sound item here there around (trees.ChoiceAt at condition met unmet) =
         answers _ _ (typed_of wanted item around condition) (λ a. typed_of wanted item around met >>= λ b. typed_of wanted item around unmet >>= choice_of at a b) (tree_sound item here there around condition)
         (λ a h. answers _ _ (typed_of wanted item around met) (λ b. typed_of wanted item around unmet >>= choice_of at a b) (tree_sound item here there around met)
         (λ b k. answers _ _ (typed_of wanted item around unmet) (choice_of at a b) (tree_sound item here there around unmet) (λ c l. choice_sound result here at a b c h k l)))
     tree_sound item here there around (trees.ListAt at items) =
-        answers _ _ (items_typed wanted item around items) (λ items. list_of at items (no_scalar items)) (items_sound item here there around items)
+        answers _ _ (items_typed wanted item around items) (λ items. list_literal_of at items (no_scalar items)) (items_sound item here there around items)
         (λ items h. list_sound result here at items (no_scalar items) h)
     tree_sound item here there around (trees.LenAt at list) =
         answers _ _ (typed_of wanted item around list) (len_of at) (tree_sound item here there around list) (len_sound result here at)
@@ -116,7 +117,7 @@ truth_or_fault (Ok v) h = absurd (cc)
 truth_or_fault (Err (faulted fault)) h = is_fault fault
 truth_or_fault (Err ill_kinded) h = absurd h
 
--- an operand that is a condition, made plain
+-- an operand that is a condition, unwrapped
 condition_means : (value : Value) (at : ℕ) (operand : Operand) (is_truth : Bool) → operands.is_truth operand ≡ is_truth → Sound value None operand
     → IfOk (if is_truth then Ok (made_plain operand) else Err (NotTruth at)) (λ condition. MeansKind truth_kind (mean value None condition))
 condition_means value at operand true is h = is_true value None operand h is

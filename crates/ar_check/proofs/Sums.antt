@@ -3,12 +3,12 @@ use Rattle.std.proofs.Common.{◌≡◌, ℕ, ℤ, true, Option, Some, None, Res
 use Rattle.ar_value.specs.declared.operator.UnaryOperator.TheVariants as unary
 use Rattle.ar_value.specs.Answer.{◌>>=◌}
 use Rattle.ar_value.specs.Arithmetic.{decimal_of_whole, decimal_product, difference, negation, product, quotient, remainder, sum}
-use Rattle.ar_value.specs.Kind.{Kind, shaped, fits_kind}
+use Rattle.ar_value.specs.Kind.{Kind, shaped, fits_kind, truth_kind}
 use Rattle.ar_value.specs.Shape as shapes
 use Rattle.ar_value.specs.Value.{Value}
 use Rattle.ar_value.specs.Value as values
 use Rattle.ar_value.specs.declared.fault.Fault.{Fault}
-use Rattle.ar_check.specs.Check.{arithmetic_in, arithmetic_kind, arithmetic_on, calculation_of, compared_of, negation_of, number_kind, ordering_of, ordered_of, plus_of, truth_kind, where_there, widened}
+use Rattle.ar_check.specs.Check.{arithmetic_in, arithmetic_kind, arithmetic_on, calculation_of, compared_of, negation_of, number_kind, ordering_of, ordered_of, plus_of, where_there, widened}
 use Rattle.ar_value.specs.Operators.{Failure, Meaning}
 use Rattle.ar_tree.specs.Meaning.{mean}
 use Rattle.ar_value.specs.Operators as operators
@@ -33,12 +33,12 @@ abbrev Decimal : Kind
 Decimal = shaped shapes.decimal
 
 -- what arithmetic gives is a whole, or a fault
-whole_or_fault : (r : Result ℤ Fault) → MeansKind Whole (operators.whole_of r)
+whole_or_fault : (r : Result ℤ Fault) → MeansKind Whole (operators.whole_meaning r)
 whole_or_fault (Ok z) = refl
 whole_or_fault (Err fault) = tt
 
 -- likewise a decimal
-decimal_or_fault : (r : Result ℤ Fault) → MeansKind Decimal (operators.decimal_of r)
+decimal_or_fault : (r : Result ℤ Fault) → MeansKind Decimal (operators.decimal_meaning r)
 decimal_or_fault (Ok z) = refl
 decimal_or_fault (Err fault) = tt
 
@@ -77,7 +77,7 @@ decimals_mean operator v w fit also = two_decimals (λ v w. MeansKind Decimal (o
 
 -- what arithmetic there is of two numbers of one kind gives one of its kind
 calculates : (operator : Arithmetic) (numbers : Numbers) (v w : Value) → fits_kind v (number_kind numbers) ≡ true → fits_kind w (number_kind numbers) ≡ true
-    → IfSome (arithmetic_in numbers operator) (λ found. MeansKind (arithmetic_kind operator numbers) (operators.two found v w))
+    → IfSome (arithmetic_in numbers operator) (λ found. MeansKind (arithmetic_kind operator numbers) (operators.binary_meaning found v w))
 calculates operator Wholes v w fit also = two_wholes (λ v w. MeansKind (arithmetic_kind operator Wholes) (operators.wholes operator v w)) (of_wholes operator) v w fit also
 calculates Add Decimals v w fit also = decimals_mean on_decimals.Add v w fit also
 calculates Subtract Decimals v w fit also = decimals_mean on_decimals.Subtract v w fit also
@@ -95,18 +95,18 @@ orders way Decimals Wholes v w fit also =
     on_decimal (λ v. MeansKind truth_kind (operators.compare (compared_of Decimals Wholes) way v w)) (λ x. on_whole (λ w. MeansKind truth_kind (operators.compare (compared_of Decimals Wholes) way (values.decimal x) w)) (λ y. refl) w also) v fit
 
 module _ (result : Value) (here : Option Value) where
-  -- a whole turned into decimal is one
+  -- a whole converted to decimal is one
   pub turned_means : (tree : Typed) → MeansKind Whole (mean result here tree) → MeansKind Decimal (mean result here (typed.unary unary.ToDecimal tree))
   turned_means tree h = means_then _ _ (mean result here tree) operators.to_decimal h turns
 
-  -- the left number beside the right one, in their common kind
+  -- the left number next to the right one, in their common kind
   left_among : (m n : Numbers) (tree : Typed) → MeansKind (number_kind m) (mean result here tree) → MeansKind (number_kind (widened m n)) (mean result here (among n m tree))
   left_among Wholes Wholes tree h = h
   left_among Wholes Decimals tree h = turned_means tree h
   left_among Decimals Wholes tree h = h
   left_among Decimals Decimals tree h = h
 
-  -- the right number beside the left one, in their common kind
+  -- the right number next to the left one, in their common kind
   right_among : (m n : Numbers) (tree : Typed) → MeansKind (number_kind n) (mean result here tree) → MeansKind (number_kind (widened m n)) (mean result here (among m n tree))
   right_among Wholes Wholes tree h = h
   right_among Wholes Decimals tree h = h
@@ -115,11 +115,11 @@ module _ (result : Value) (here : Option Value) where
 
   -- arithmetic of two trees of one kind, where there is any
   there_sound : (at : ℕ) (found : Option BinaryOperator) (numbers : Numbers) (kind : Kind) (left right : Typed) → MeansKind (number_kind numbers) (mean result here left) → MeansKind (number_kind numbers) (mean result here right)
-      → ((v w : Value) → fits_kind v (number_kind numbers) ≡ true → fits_kind w (number_kind numbers) ≡ true → IfSome found (λ found. MeansKind kind (operators.two found v w)))
+      → ((v w : Value) → fits_kind v (number_kind numbers) ≡ true → fits_kind w (number_kind numbers) ≡ true → IfSome found (λ found. MeansKind kind (operators.binary_meaning found v w)))
       → IfOk (where_there at found left right kind) (Sound result here)
   there_sound at (Some operator) numbers kind left right h k each =
-      means_then _ _ (mean result here left) (λ v. mean result here right >>= λ w. operators.two operator v w) h
-      (λ v fit. means_then _ _ (mean result here right) (λ w. operators.two operator v w) k (λ w also. each v w fit also))
+      means_then _ _ (mean result here left) (λ v. mean result here right >>= λ w. operators.binary_meaning operator v w) h
+      (λ v fit. means_then _ _ (mean result here right) (λ w. operators.binary_meaning operator v w) k (λ w also. each v w fit also))
   there_sound at None numbers kind left right h k each = tt
 
   -- arithmetic where both are numbers

@@ -1,11 +1,11 @@
--- Answers and plain shapes, as the table of kinds tells of them.
+-- Answers and plain shapes, as the table of kinds says of them.
 use Rattle.std.proofs.Common.{◌≡◌, ℕ, Bool, true, false, List, Option, Some, None, Result, Ok, Err, refl, ap, subst}
 use Rattle.std.specs.Prelude.{option_and_then}
 use Rattle.ar_value.specs.Answer.{◌>>=◌}
-use Rattle.ar_value.specs.Kind.{Kind, nil, shaped, plain}
+use Rattle.ar_value.specs.Kind.{Kind, nil, shaped, plain, scalar_shape}
 use Rattle.ar_value.specs.Shape.{Shape, FieldShapes}
 use Rattle.ar_value.specs.Shape as shapes
-use Rattle.ar_check.specs.Check.{Answer, field_shape, found_field, given, is_whole_number, item_shape, number_kind, scalar_shape, where_wanted}
+use Rattle.ar_check.specs.Check.{Answer, field_shape, found_field, given, is_whole_number, item_shape, number_kind, where_wanted}
 use Rattle.ar_value.specs.Shape.{shape_named}
 use Rattle.ar_check.specs.Operand.{Operand, operand, is_bool, is_text_scalar, numbers_in, plain_of, scalar_of}
 use Rattle.ar_tree.specs.Typed.{Typed}
@@ -21,16 +21,16 @@ use Rattle.ar_value.specs.declared.operator.Scalar.TheVariants as scalars
 abbrev pub IsTyped : Answer → Kind → Type 0
 IsTyped answer kind = (tree : Typed) × (answer ≡ Ok (operand tree kind))
 
--- what an answer led to comes of what was answered
+-- what an answer led to follows from what was returned
 pub from_bind : {A B E : Type 0} (a : Result A E) (f : A → Result B E) (y : B) → (a >>= f) ≡ Ok y → (x : A) × (a ≡ Ok x) × (f x ≡ Ok y)
 from_bind (Ok x) f y h = (x, refl, h)
 from_bind (Err e) f y h = absurd (cc)
 
--- what was answered leads on
+-- what was returned leads on
 pub into_bind : {A B E : Type 0} (a : Result A E) (f : A → Result B E) (x : A) (y : B) → a ≡ Ok x → f x ≡ Ok y → (a >>= f) ≡ Ok y
 into_bind a f x y h k = rw h k
 
--- what was answered leads on to a tree of a kind
+-- what was returned leads on to a tree of a kind
 pub bind_typed : {A : Type 0} (a : Result A TypeError) (f : A → Answer) (x : A) (kind : Kind) → a ≡ Ok x → IsTyped (f x) kind → IsTyped (a >>= f) kind
 bind_typed a f x kind h k = rw h k
 
@@ -46,12 +46,12 @@ same_kind a of kind same h = subst (λ kind. IsTyped a kind) same h
 pub given_kind : (tree : Typed) (kind : Kind) (found : Operand) → given tree kind ≡ Ok found → kind ≡ found.kind
 given_kind tree kind found h = cc
 
--- what is given where operands are what is wanted
+-- what is given where operands are what is required
 pub wanted_kind : (at : ℕ) (is_wanted : Bool) (tree : Typed) (kind : Kind) (found : Operand) → where_wanted at is_wanted tree kind ≡ Ok found → (is_wanted ≡ true) × (kind ≡ found.kind)
 wanted_kind at true tree kind found h = (refl, given_kind tree kind found h)
 wanted_kind at false tree kind found h = absurd (cc)
 
--- where operands are what is wanted, it is given
+-- where operands are what is required, it is given
 pub wanted_typed : (at : ℕ) (is_wanted : Bool) (tree : Typed) (kind : Kind) → is_wanted ≡ true → IsTyped (where_wanted at is_wanted tree kind) kind
 wanted_typed at is_wanted tree kind h = rw h (tree, refl)
 

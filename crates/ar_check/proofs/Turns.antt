@@ -1,4 +1,4 @@
--- Trees that are turned beside others.
+-- Trees that are converted next to others.
 use Rattle.std.proofs.Common.{◌≡◌, refl}
 use Rattle.ar_value.specs.Kind.{Kind, nil, shaped}
 use Rattle.ar_tree.specs.Typed.{Typed}

@@ -1,4 +1,4 @@
--- What checking a condition answers.
+-- What checking a condition returns.
 use Rattle.std.specs.Prelude.{◌≡◌, true, None, Result, IfOk, IfErr}
 use Rattle.ar_value.specs.Answer.{Gives, Unless}
 use Rattle.ar_value.specs.Fits.{fits}
@@ -13,7 +13,7 @@ use Rattle.ar_check.specs.Memory.{is_memory}
 use Rattle.ar_check.specs.Typing.{IsCondition}
 use Rattle.ar_check.specs.declared.error.TypeError.{TypeError}
 
--- what checking a tree answers where `result` has a shape
+-- what checking a tree returns where `result` has a shape
 pub record ChecksTo (shape : Shape) (tree : Expression) (result : Result Typed TypeError) : Type 0 where
   -- this typed tree, or this fault
   pub exact : Gives is_memory typed_view result (checked shape tree)
@@ -22,4 +22,5 @@ pub record ChecksTo (shape : Shape) (tree : Expression) (result : Result Typed T
   -- or it is none
   pub refused : IfErr result (λ error. Unless (is_memory error) (¬ (IsCondition shape tree)))
   -- on each value of the shape the condition is true or false or meets a fault
-  pub answers : IfOk result (λ condition. (value : Value) → fits value shape ≡ true → IsTruthOrFault (mean value None (typed_view condition)))
+  pub answers : IfOk result
+      (λ condition. (value : Value) → fits value shape ≡ true → IsTruthOrFault (mean value None (typed_view condition)))

@@ -1,5 +1,4 @@
--- What the table of kinds and the search for faults both begin with: the kinds of literals, and how far predicates go.
-use Rattle.std.specs.Prelude.{ℕ}
+-- What the table of kinds and the search for faults both begin with: the kinds of literals.
 use Rattle.ar_value.specs.Kind.{Kind, nil, shaped}
 use Rattle.ar_value.specs.Shape as shapes
 use Rattle.ar_tree.specs.declared.tree.Literal.{Literal}

@@ -1,9 +1,10 @@
 -- The typed tree of a condition and its kind, or its first type fault. Children come first, from left to right.
-use Rattle.std.specs.Prelude.{ℕ, suc, is_some, Bool, true, false, ◌&&◌, if◌then◌else◌, nat_lt, List, [], ◌∷◌, length, map, Option, Some, None, Result, Ok, Err}
+use Rattle.std.specs.Prelude.{ℕ, suc, is_some, Bool, true, false, ◌&&◌, if◌then◌else◌, nat_lt, List, [], ◌∷◌, length, map, Option, Some, None, Result, Ok, Err, ◌≡◌, pos, refl}
+use Rattle.ar_value.specs.Terms.{Offset, Text}
 use Rattle.ar_value.specs.declared.operator.BinaryOperator.TheVariants as binary
 use Rattle.ar_value.specs.declared.operator.UnaryOperator.TheVariants as unary
 use Rattle.ar_value.specs.Answer.{◌>>=◌}
-use Rattle.ar_value.specs.Kind.{Kind, nil, shaped, common, plain}
+use Rattle.ar_value.specs.Kind.{Kind, nil, shaped, common, plain, scalar_shape, truth_kind}
 use Rattle.ar_value.specs.Shape.{Shape, shape_named}
 use Rattle.ar_value.specs.Shape as shapes
 use Rattle.ar_tree.specs.Expression.{Expression, Expressions, place_of}
@@ -18,7 +19,7 @@ use Rattle.ar_value.specs.declared.operator.Predicate.TheVariants as predicates
 use Rattle.ar_tree.specs.declared.tree.Unary.{Unary}
 use Rattle.ar_tree.specs.declared.tree.Unary.TheVariants as unaries
 use Rattle.ar_check.specs.Basics.{literal_kind}
-use Rattle.ar_check.specs.Operand.{Operand, operand, among, family_in, is_text, is_truth, made_plain, numbers, plain_of, scalar, scalar_of, turned}
+use Rattle.ar_check.specs.Operand.{Operand, operand, among, scalar_family, is_text_operand, is_truth, made_plain, numbers, plain_of, scalar, scalar_of, turned}
 use Rattle.ar_tree.specs.Typed.{Typed, typeds}
 use Rattle.ar_tree.specs.Typed as typed
 use Rattle.ar_check.specs.declared.error.TypeError.{TypeError}
@@ -39,49 +40,47 @@ use Rattle.ar_value.specs.declared.operator.Scalar.{Scalar}
 use Rattle.ar_value.specs.declared.operator.Scalar.TheVariants as scalars
 use Rattle.ar_value.specs.declared.operator.TextTest.{TextTest}
 use Rattle.ar_value.specs.Limits.{most_loops}
+use Rattle.ar_tree.specs.Expression.{BinaryAt, LiteralAt, ResultAt}
 
 abbrev pub Answer : Type 0
 Answer = Result Operand TypeError
-
-abbrev pub truth_kind : Kind
-truth_kind = shaped shapes.bool
 
 abbrev pub given : Typed → Kind → Answer
 given tree kind = Ok (operand tree kind)
 
 -- ---- literals, fields, items
 
--- `#` stands inside predicates alone, which the grammar sees to
-abbrev pub innermost : ℕ → Option Shape → Answer
+-- `#` appears inside predicates alone, which the grammar ensures
+abbrev pub innermost : Offset → Option Shape → Answer
 innermost at (Some shape) = given typed.item (shaped shape)
 innermost at None = Err (WrongOperand at)
 
-abbrev pub found_field : ℕ → Option Shape → Result Shape TypeError
+abbrev pub found_field : Offset → Option Shape → Result Shape TypeError
 found_field at (Some shape) = Ok shape
 found_field at None = Err (NoSuchField at)
 
 -- the shape of a record's field
-abbrev pub field_shape : ℕ → List ℕ → Option Shape → Result Shape TypeError
+abbrev pub field_shape : Offset → Text → Option Shape → Result Shape TypeError
 field_shape at name (Some (shapes.object fields)) = found_field at (shape_named name fields)
 field_shape at name shape = Err (WrongOperand at)
 
 -- the shape of a list's items
-abbrev pub item_shape : ℕ → Option Shape → Result Shape TypeError
+abbrev pub item_shape : Offset → Option Shape → Result Shape TypeError
 item_shape at (Some (shapes.list shape max)) = Ok shape
 item_shape at shape = Err (NotAList at)
 
-abbrev pub field_of : ℕ → List ℕ → Operand → Answer
+abbrev pub field_of : Offset → Text → Operand → Answer
 field_of at name owner = do
   shape ← field_shape at name (plain_of owner.kind)
   given (typed.field (made_plain owner) name) (shaped shape)
 
-abbrev pub len_of : ℕ → Operand → Answer
+abbrev pub len_of : Offset → Operand → Answer
 len_of at list = do
   shape ← item_shape at (plain_of list.kind)
   given (typed.unary unary.Len (made_plain list)) (shaped shapes.whole)
 
--- a tree of a kind, where its operands are what it wants
-abbrev pub where_wanted : ℕ → Bool → Typed → Kind → Answer
+-- a tree of a kind, where its operands are what it requires
+abbrev pub where_wanted : Offset → Bool → Typed → Kind → Answer
 where_wanted at true tree kind = given tree kind
 where_wanted at false tree kind = Err (WrongOperand at)
 
@@ -89,10 +88,11 @@ abbrev pub is_whole_number : Option Scalar → Bool
 is_whole_number (Some scalars.Whole) = true
 is_whole_number scalar = false
 
-abbrev pub index_of : ℕ → Operand → Operand → Answer
+abbrev pub index_of : Offset → Operand → Operand → Answer
 index_of at list index = do
   shape ← item_shape at (plain_of list.kind)
-  where_wanted at (is_whole_number (scalar index)) (typed.binary binary.Index (made_plain list) (made_plain index)) (shaped shape)
+  where_wanted at (is_whole_number (scalar index)) (typed.binary binary.Index (made_plain list) (made_plain index))
+      (shaped shape)
 
 -- ---- numbers
 
@@ -105,11 +105,11 @@ abbrev pub widened : Numbers → Numbers → Numbers
 widened Wholes Wholes = Wholes
 widened left right = Decimals
 
-abbrev pub negation_of : ℕ → Option Numbers → Typed → Answer
+abbrev pub negation_of : Offset → Option Numbers → Typed → Answer
 negation_of at (Some numbers) tree = given (typed.unary (unary.Negate numbers) tree) (number_kind numbers)
 negation_of at None tree = Err (WrongOperand at)
 
-abbrev pub plus_of : ℕ → Option Numbers → Typed → Answer
+abbrev pub plus_of : Offset → Option Numbers → Typed → Answer
 plus_of at (Some numbers) tree = given tree (number_kind numbers)
 plus_of at None tree = Err (WrongOperand at)
 
@@ -128,15 +128,17 @@ arithmetic_in Decimals Divide = Some (binary.Decimals on_decimals.Divide)
 arithmetic_in Decimals Remainder = None
 
 -- a tree of an operator, where there is one for its operands
-abbrev pub where_there : ℕ → Option BinaryOperator → Typed → Typed → Kind → Answer
+abbrev pub where_there : Offset → Option BinaryOperator → Typed → Typed → Kind → Answer
 where_there at (Some operator) left right kind = given (typed.binary operator left right) kind
 where_there at None left right kind = Err (WrongOperand at)
 
-abbrev pub arithmetic_among : ℕ → Arithmetic → Numbers → Typed → Typed → Answer
-arithmetic_among at operator numbers left right = where_there at (arithmetic_in numbers operator) left right (arithmetic_kind operator numbers)
+abbrev pub arithmetic_among : Offset → Arithmetic → Numbers → Typed → Typed → Answer
+arithmetic_among at operator numbers left right =
+    where_there at (arithmetic_in numbers operator) left right (arithmetic_kind operator numbers)
 
-abbrev pub arithmetic_on : ℕ → Arithmetic → Option Numbers → Option Numbers → Typed → Typed → Answer
-arithmetic_on at operator (Some m) (Some n) left right = arithmetic_among at operator (widened m n) (among n m left) (among m n right)
+abbrev pub arithmetic_on : Offset → Arithmetic → Option Numbers → Option Numbers → Typed → Typed → Answer
+arithmetic_on at operator (Some m) (Some n) left right =
+    arithmetic_among at operator (widened m n) (among n m left) (among m n right)
 arithmetic_on at operator m n left right = Err (WrongOperand at)
 
 -- two wholes and two decimals each have comparisons of their own
@@ -145,8 +147,9 @@ compared_of Wholes Wholes = compared.Wholes
 compared_of Decimals Decimals = compared.Decimals
 compared_of left right = compared.Mixed
 
-abbrev pub ordered_of : ℕ → Order → Option Numbers → Option Numbers → Typed → Typed → Answer
-ordered_of at order (Some m) (Some n) left right = given (typed.binary (binary.Compare (compared_of m n) order) left right) truth_kind
+abbrev pub ordered_of : Offset → Order → Option Numbers → Option Numbers → Typed → Typed → Answer
+ordered_of at order (Some m) (Some n) left right =
+    given (typed.binary (binary.Compare (compared_of m n) order) left right) truth_kind
 ordered_of at order m n left right = Err (WrongOperand at)
 
 -- ---- equality and membership
@@ -158,87 +161,112 @@ same_family families.Text families.Text = true
 same_family left right = false
 
 -- two scalars of one family, each of which may be nil
-abbrev pub equal_of : ℕ → Option Scalar → Option Scalar → Typed → Typed → Answer
-equal_of at (Some m) (Some n) left right = where_wanted at (same_family (family_in m) (family_in n)) (typed.binary (binary.Equal (family_in m)) left right) truth_kind
+abbrev pub equal_of : Offset → Option Scalar → Option Scalar → Typed → Typed → Answer
+equal_of at (Some m) (Some n) left right =
+    where_wanted at (same_family (scalar_family m) (scalar_family n))
+    (typed.binary (binary.Equal (scalar_family m)) left right) truth_kind
 equal_of at m n left right = Err (WrongOperand at)
 
 abbrev pub is_nil_literal : Expression → Bool
 is_nil_literal (trees.LiteralAt at literals.Nil) = true
 is_nil_literal tree = false
 
+-- which operand of an operator is the literal `nil`; where both are, the left one
+pub data NilSide : Type 0 where
+  LeftIsNil : NilSide
+  RightIsNil : NilSide
+  NeitherIsNil : NilSide
+
+abbrev pub nil_side : (left right : Expression) → NilSide
+nil_side left right =
+    if is_nil_literal left then LeftIsNil
+    else (if is_nil_literal right then RightIsNil
+    else NeitherIsNil)
+
 -- anything compares with the literal `nil`
-abbrev pub equality_of : ℕ → (nil_left nil_right : Bool) → Operand → Operand → Answer
-equality_of at true nil_right left right = given (typed.unary unary.IsNil right.tree) truth_kind
-equality_of at false true left right = given (typed.unary unary.IsNil left.tree) truth_kind
-equality_of at false false left right = equal_of at (scalar left) (scalar right) left.tree right.tree
+abbrev pub equality_of : Offset → NilSide → Operand → Operand → Answer
+equality_of at LeftIsNil left right = given (typed.unary unary.IsNil right.tree) truth_kind
+equality_of at RightIsNil left right = given (typed.unary unary.IsNil left.tree) truth_kind
+equality_of at NeitherIsNil left right = equal_of at (scalar left) (scalar right) left.tree right.tree
 
 abbrev pub negated : Operand → Answer
 negated condition = given (typed.unary unary.Not condition.tree) condition.kind
 
 -- a scalar in a list of scalars of its family, any of which may be nil
-abbrev pub member_of : ℕ → Option Scalar → Option Scalar → Typed → Typed → Answer
-member_of at (Some m) (Some n) operand list = where_wanted at (same_family (family_in m) (family_in n)) (typed.binary binary.IsIn operand list) truth_kind
+abbrev pub member_of : Offset → Option Scalar → Option Scalar → Typed → Typed → Answer
+member_of at (Some m) (Some n) operand list =
+    where_wanted at (same_family (scalar_family m) (scalar_family n)) (typed.binary binary.IsIn operand list) truth_kind
 member_of at m n operand list = Err (WrongOperand at)
 
 -- ---- operators
 
-abbrev pub unary_of : ℕ → Unary → Operand → Answer
+abbrev pub unary_of : Offset → Unary → Operand → Answer
 unary_of at unaries.Minus operand = negation_of at (numbers operand) (made_plain operand)
 unary_of at unaries.Plus operand = plus_of at (numbers operand) (made_plain operand)
-unary_of at unaries.Not operand = where_wanted at (is_truth operand) (typed.unary unary.Not (made_plain operand)) truth_kind
+unary_of at unaries.Not operand =
+    where_wanted at (is_truth operand) (typed.unary unary.Not (made_plain operand)) truth_kind
 
-abbrev pub calculation_of : ℕ → Arithmetic → Operand → Operand → Answer
-calculation_of at operator left right = arithmetic_on at operator (numbers left) (numbers right) (made_plain left) (made_plain right)
+abbrev pub calculation_of : Offset → Arithmetic → Operand → Operand → Answer
+calculation_of at operator left right =
+    arithmetic_on at operator (numbers left) (numbers right) (made_plain left) (made_plain right)
 
-abbrev pub ordering_of : ℕ → Order → Operand → Operand → Answer
-ordering_of at order left right = ordered_of at order (numbers left) (numbers right) (made_plain left) (made_plain right)
+abbrev pub ordering_of : Offset → Order → Operand → Operand → Answer
+ordering_of at order left right =
+    ordered_of at order (numbers left) (numbers right) (made_plain left) (made_plain right)
 
-abbrev pub comparison_of : ℕ → Comparison → (nil_left nil_right : Bool) → Operand → Operand → Answer
-comparison_of at comparisons.Equal nil_left nil_right left right = equality_of at nil_left nil_right left right
-comparison_of at comparisons.NotEqual nil_left nil_right left right = equality_of at nil_left nil_right left right >>= negated
-comparison_of at comparisons.Less nil_left nil_right left right = ordering_of at Less left right
-comparison_of at comparisons.LessOrEqual nil_left nil_right left right = ordering_of at LessOrEqual left right
-comparison_of at comparisons.Greater nil_left nil_right left right = ordering_of at Greater left right
-comparison_of at comparisons.GreaterOrEqual nil_left nil_right left right = ordering_of at GreaterOrEqual left right
+abbrev pub comparison_of : Offset → Comparison → NilSide → Operand → Operand → Answer
+comparison_of at comparisons.Equal side left right = equality_of at side left right
+comparison_of at comparisons.NotEqual side left right = equality_of at side left right >>= negated
+comparison_of at comparisons.Less side left right = ordering_of at Less left right
+comparison_of at comparisons.LessOrEqual side left right = ordering_of at LessOrEqual left right
+comparison_of at comparisons.Greater side left right = ordering_of at Greater left right
+comparison_of at comparisons.GreaterOrEqual side left right = ordering_of at GreaterOrEqual left right
 
-abbrev pub in_of : ℕ → Operand → Operand → Answer
-in_of at left right = item_shape at (plain_of right.kind) >>= λ shape. member_of at (scalar left) (scalar_of (plain shape)) left.tree (made_plain right)
+abbrev pub in_of : Offset → Operand → Operand → Answer
+in_of at left right =
+    item_shape at (plain_of right.kind)
+    >>= λ shape. member_of at (scalar left) (scalar_of (plain shape)) left.tree (made_plain right)
 
--- a test of two texts, each made plain
-abbrev pub text_test_of : ℕ → TextTest → Operand → Operand → Answer
-text_test_of at test left right = where_wanted at (is_text left && is_text right) (typed.binary (binary.TextTest test) (made_plain left) (made_plain right)) truth_kind
+-- a test of two texts, each unwrapped
+abbrev pub text_test_of : Offset → TextTest → Operand → Operand → Answer
+text_test_of at test left right =
+    where_wanted at (is_text_operand left && is_text_operand right)
+    (typed.binary (binary.TextTest test) (made_plain left) (made_plain right)) truth_kind
 
-abbrev pub either_of : ℕ → Operand → Operand → Answer
-either_of at left right = where_wanted at (is_truth left && is_truth right) (typed.either (made_plain left) (made_plain right)) truth_kind
+abbrev pub either_of : Offset → Operand → Operand → Answer
+either_of at left right =
+    where_wanted at (is_truth left && is_truth right) (typed.either (made_plain left) (made_plain right)) truth_kind
 
-abbrev pub both_of : ℕ → Operand → Operand → Answer
-both_of at left right = where_wanted at (is_truth left && is_truth right) (typed.both (made_plain left) (made_plain right)) truth_kind
+abbrev pub both_of : Offset → Operand → Operand → Answer
+both_of at left right =
+    where_wanted at (is_truth left && is_truth right) (typed.both (made_plain left) (made_plain right)) truth_kind
 
-abbrev pub binary_of : ℕ → Binary → (nil_left nil_right : Bool) → Operand → Operand → Answer
-binary_of at binaries.Or nil_left nil_right left right = either_of at left right
-binary_of at binaries.And nil_left nil_right left right = both_of at left right
-binary_of at (binaries.Comparison comparison) nil_left nil_right left right = comparison_of at comparison nil_left nil_right left right
-binary_of at binaries.In nil_left nil_right left right = in_of at left right
-binary_of at binaries.NotIn nil_left nil_right left right = in_of at left right >>= negated
-binary_of at (binaries.TextTest test) nil_left nil_right left right = text_test_of at test left right
-binary_of at binaries.Add nil_left nil_right left right = calculation_of at Add left right
-binary_of at binaries.Subtract nil_left nil_right left right = calculation_of at Subtract left right
-binary_of at binaries.Multiply nil_left nil_right left right = calculation_of at Multiply left right
-binary_of at binaries.Divide nil_left nil_right left right = calculation_of at Divide left right
-binary_of at binaries.Remainder nil_left nil_right left right = calculation_of at Remainder left right
+abbrev pub binary_of : Offset → Binary → NilSide → Operand → Operand → Answer
+binary_of at binaries.Or side left right = either_of at left right
+binary_of at binaries.And side left right = both_of at left right
+binary_of at (binaries.Comparison comparison) side left right = comparison_of at comparison side left right
+binary_of at binaries.In side left right = in_of at left right
+binary_of at binaries.NotIn side left right = in_of at left right >>= negated
+binary_of at (binaries.TextTest test) side left right = text_test_of at test left right
+binary_of at binaries.Add side left right = calculation_of at Add left right
+binary_of at binaries.Subtract side left right = calculation_of at Subtract left right
+binary_of at binaries.Multiply side left right = calculation_of at Multiply left right
+binary_of at binaries.Divide side left right = calculation_of at Divide left right
+binary_of at binaries.Remainder side left right = calculation_of at Remainder left right
 
 -- ---- branches, defaults, lists
 
-abbrev pub choice_in : ℕ → Option Kind → Bool → Typed → Answer
+abbrev pub choice_in : Offset → Option Kind → Bool → Typed → Answer
 choice_in at None is_truth tree = Err (NoCommonKind at)
 choice_in at (Some kind) is_truth tree = where_wanted at is_truth tree kind
 
--- the branches are turned beside one another
+-- each branch is converted to match the other
 abbrev pub choice_tree : Typed → Operand → Operand → Typed
-choice_tree condition met unmet = typed.choice condition (turned unmet.kind met.kind met.tree) (turned met.kind unmet.kind unmet.tree)
+choice_tree condition met unmet =
+    typed.choice condition (turned unmet.kind met.kind met.tree) (turned met.kind unmet.kind unmet.tree)
 
 -- both branches have their common kind
-abbrev pub choice_of : ℕ → Operand → Operand → Operand → Answer
+abbrev pub choice_of : Offset → Operand → Operand → Operand → Answer
 choice_of at condition met unmet =
     choice_in at (common met.kind unmet.kind) (is_truth condition) (choice_tree (made_plain condition) met unmet)
 
@@ -246,40 +274,42 @@ abbrev pub plain_kind : Kind → Kind
 plain_kind nil = nil
 plain_kind (shaped shape) = shaped (plain shape)
 
--- the common kind of what isn't nil, which may be nothing, and of what stands in for nil
-abbrev pub default_kind : Kind → Kind → Option Kind
-default_kind nil other = Some other
-default_kind (shaped shape) other = common (shaped shape) other
+-- the common kind of what isn't nil, which may be nothing, and of what replaces nil
+abbrev pub common_default : Kind → Kind → Option Kind
+common_default nil other = Some other
+common_default (shaped shape) other = common (shaped shape) other
 
-abbrev pub in_common : ℕ → Typed → Option Kind → Answer
+abbrev pub in_common : Offset → Typed → Option Kind → Answer
 in_common at tree (Some kind) = given tree kind
 in_common at tree None = Err (NoCommonKind at)
 
--- both sides are turned beside one another
+-- each side is converted to match the other
 abbrev pub default_tree : Typed → Kind → Typed → Kind → Typed
-default_tree first plain other of_other = typed.binary binary.Default (turned of_other plain first) (turned plain of_other other)
+default_tree first plain other of_other =
+    typed.binary binary.Default (turned of_other plain first) (turned plain of_other other)
 
-abbrev pub default_of : ℕ → Operand → Operand → Answer
+abbrev pub default_of : Offset → Operand → Operand → Answer
 default_of at first other =
-    in_common at (default_tree first.tree (plain_kind first.kind) other.tree other.kind) (default_kind (plain_kind first.kind) other.kind)
+    in_common at (default_tree first.tree (plain_kind first.kind) other.tree other.kind)
+    (common_default (plain_kind first.kind) other.kind)
 
 -- ---- lists
 
--- an item of a list literal, made plain: its place, what scalar it is, and its tree
+-- an item of a list literal, unwrapped: its offset, what scalar it is, and its tree
 pub record Item : Type 0 where
-  pub at : ℕ
+  pub at : Offset
   pub scalar : Option Scalar
   pub tree : Typed
 
-abbrev pub item_of : ℕ → Operand → Item
+abbrev pub item_of : Offset → Operand → Item
 item_of at operand = record { at = at; scalar = scalar operand; tree = made_plain operand }
 
--- the place of the first item that is no scalar
-abbrev pub no_scalar : List Item → Option ℕ
+-- the offset of the first item that is no scalar
+abbrev pub no_scalar : List Item → Option Offset
 no_scalar [] = None
 no_scalar (item ∷ items) = if is_some item.scalar then no_scalar items else Some item.at
 
--- two scalars of one kind, or numbers, of which wholes are turned into decimals
+-- two scalars of one kind, or numbers, of which wholes are converted to decimals
 abbrev pub common_scalar : Option Scalar → Option Scalar → Option Scalar
 common_scalar (Some scalars.Bool) (Some scalars.Bool) = Some scalars.Bool
 common_scalar (Some scalars.Text) (Some scalars.Text) = Some scalars.Text
@@ -290,49 +320,44 @@ common_scalar (Some scalars.Decimal) (Some scalars.Decimal) = Some scalars.Decim
 common_scalar left right = None
 
 -- what all items have in common with a scalar
-abbrev pub joined : Option Scalar → List Item → Option Scalar
-joined found [] = found
-joined found (item ∷ items) = joined (common_scalar found item.scalar) items
+abbrev pub common_with : Option Scalar → List Item → Option Scalar
+common_with found [] = found
+common_with found (item ∷ items) = common_with (common_scalar found item.scalar) items
 
 abbrev pub common_of : List Item → Option Scalar
 common_of [] = None
-common_of (item ∷ items) = joined item.scalar items
+common_of (item ∷ items) = common_with item.scalar items
 
 -- an item in a list of scalars
 abbrev pub turned_item : Scalar → Option Scalar → Typed → Typed
 turned_item scalars.Decimal (Some scalars.Whole) tree = typed.unary unary.ToDecimal tree
 turned_item wanted scalar tree = tree
 
-abbrev pub scalar_shape : Scalar → Shape
-scalar_shape scalars.Bool = shapes.bool
-scalar_shape scalars.Whole = shapes.whole
-scalar_shape scalars.Decimal = shapes.decimal
-scalar_shape scalars.Text = shapes.text
-
-abbrev pub list_in_common : ℕ → List Item → Option Scalar → Answer
+abbrev pub list_in_common : Offset → List Item → Option Scalar → Answer
 list_in_common at items (Some scalar) =
-    given (typed.listed scalar (typeds (map (λ item. turned_item scalar item.scalar item.tree) items))) (shaped (shapes.list (scalar_shape scalar) (length items)))
+    given (typed.listed scalar (typeds (map (λ item. turned_item scalar item.scalar item.tree) items)))
+    (shaped (shapes.list (scalar_shape scalar) (length items)))
 list_in_common at items None = Err (NoCommonKind at)
 
-abbrev pub list_of : ℕ → List Item → Option ℕ → Answer
-list_of at items (Some place) = Err (NotScalar place)
-list_of at items None = list_in_common at items (common_of items)
+abbrev pub list_literal_of : Offset → List Item → Option Offset → Answer
+list_literal_of at items (Some place) = Err (NotScalar place)
+list_literal_of at items None = list_in_common at items (common_of items)
 
 -- ---- predicates
 
--- one more predicate, inside so many others
-abbrev pub entered : ℕ → ℕ → Shape → Result Shape TypeError
-entered at around shape = if nat_lt around most_loops then Ok shape else Err (PredicatesTooDeep at)
+-- one more predicate, inside `around` others
+abbrev pub predicate_entered : Offset → ℕ → Shape → Result Shape TypeError
+predicate_entered at around shape = if nat_lt around most_loops then Ok shape else Err (PredicatesTooDeep at)
 
 -- what holds of an item: whether that is a boolean, and its tree
 abbrev pub body_of : Operand → Result (Bool × Typed) TypeError
 body_of body = Ok (is_truth body, made_plain body)
 
 -- what holds of the items of a list, by what is typed where an item has their shape
-unfoldable pub over_items : ℕ → ℕ → Kind → (Shape → Answer) → Result (Bool × Typed) TypeError
+unfoldable pub over_items : Offset → ℕ → Kind → (Shape → Answer) → Result (Bool × Typed) TypeError
 over_items at around list typed = do
   shape ← item_shape at (plain_of list)
-  inside ← entered at around shape
+  inside ← predicate_entered at around shape
   body ← typed inside
   body_of body
 
@@ -345,14 +370,15 @@ predicate_kind predicates.One list = truth_kind
 predicate_kind predicates.Count list = shaped shapes.whole
 predicate_kind predicates.Filter list = list
 
-abbrev pub predicate_of : ℕ → Predicate → Operand → Bool → Typed → Answer
+abbrev pub predicate_of : Offset → Predicate → Operand → Bool → Typed → Answer
 predicate_of at predicate list is_truth body =
-    where_wanted at is_truth (typed.predicate predicate (made_plain list) body) (predicate_kind predicate (plain_kind list.kind))
+    where_wanted at is_truth (typed.predicate predicate (made_plain list) body)
+    (predicate_kind predicate (plain_kind list.kind))
 
 -- ---- conditions
 
 abbrev mutual
-  -- A tree where `result` has a shape, and so does the innermost item, inside so many predicates.
+  -- A tree where `result` has a shape, and so does the innermost item, inside n predicates.
   pub typed_of : Shape → Option Shape → ℕ → Expression → Answer
   typed_of result item around (trees.ResultAt at) = given typed.result (shaped result)
   typed_of result item around (trees.ItemAt at) = innermost at item
@@ -370,7 +396,7 @@ abbrev mutual
   typed_of result item around (trees.BinaryAt at operator left right) = do
     first ← typed_of result item around left
     second ← typed_of result item around right
-    binary_of at operator (is_nil_literal left) (is_nil_literal right) first second
+    binary_of at operator (nil_side left right) first second
   typed_of result item around (trees.ChoiceAt at condition met unmet) = do
     condition ← typed_of result item around condition
     met ← typed_of result item around met
@@ -378,7 +404,7 @@ abbrev mutual
     choice_of at condition met unmet
   typed_of result item around (trees.ListAt at items) = do
     items ← items_typed result item around items
-    list_of at items (no_scalar items)
+    list_literal_of at items (no_scalar items)
   typed_of result item around (trees.LenAt at list) = do
     list ← typed_of result item around list
     len_of at list
@@ -403,11 +429,30 @@ abbrev mutual
 
 -- an item of a list literal
 abbrev pub item_typed : Shape → Option Shape → ℕ → Expression → Result Item TypeError
-item_typed result item around tree = typed_of result item around tree >>= λ operand. Ok (item_of (place_of tree) operand)
+item_typed result item around tree =
+    typed_of result item around tree >>= λ operand. Ok (item_of (place_of tree) operand)
 
-abbrev pub condition_of : ℕ → Operand → Result Typed TypeError
+abbrev pub condition_of : Offset → Operand → Result Typed TypeError
 condition_of at operand = if is_truth operand then Ok (made_plain operand) else Err (NotTruth at)
 
--- the typed tree of a condition: a boolean, made plain
+-- the typed tree of a condition: a boolean, unwrapped
 abbrev pub checked : Shape → Expression → Result Typed TypeError
 checked result tree = typed_of result None 0 tree >>= condition_of (place_of tree)
+
+-- ---- worked rows
+
+a_comparison : checked shapes.whole
+    (BinaryAt 7 (binaries.Comparison comparisons.Greater) (ResultAt 0) (LiteralAt 9 (literals.Whole (pos 1))))
+    ≡ Ok (typed.binary (binary.Compare compared.Wholes Greater) typed.result (typed.literal (literals.Whole (pos 1))))
+a_comparison = refl
+
+a_nil_made_plain : checked (shapes.optional shapes.bool) (ResultAt 0) ≡ Ok (typed.unary unary.Need typed.result)
+a_nil_made_plain = refl
+
+no_boolean : checked shapes.whole (ResultAt 0) ≡ Err (NotTruth 0)
+no_boolean = refl
+
+text_and_number : checked shapes.text
+    (BinaryAt 7 (binaries.Comparison comparisons.Greater) (ResultAt 0) (LiteralAt 9 (literals.Whole (pos 1))))
+    ≡ Err (WrongOperand 7)
+text_and_number = refl

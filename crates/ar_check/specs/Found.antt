@@ -1,6 +1,7 @@
--- What the operands at a place of a condition are: to be told where one isn't of a kind that is taken there.
+-- What the operands at an offset of a condition are: to be reported where one isn't of a kind that is taken there.
 use Rattle.std.specs.Prelude.{ℕ, suc, Bool, false, ◌||◌, ◌==◌, if◌then◌else◌, nat_lt, Option, Some, None, option_and_then, option_map, unwrap_or, Ok, Err}
 use Rattle.std.specs.Option.{option_or}
+use Rattle.ar_value.specs.Terms.{Offset}
 use Rattle.ar_value.specs.Kind.{Kind, nil, shaped}
 use Rattle.ar_value.specs.Shape.{Shape}
 use Rattle.ar_value.specs.Shape as shapes
@@ -37,8 +38,8 @@ abbrev pub shape_of_items : Option Shape → Option Shape
 shape_of_items (Some (shapes.list item max)) = Some item
 shape_of_items shape = None
 
-abbrev pub items_of : Kind → Option Shape
-items_of kind = shape_of_items (plain_of kind)
+abbrev pub items_shape : Kind → Option Shape
+items_shape kind = shape_of_items (plain_of kind)
 
 -- ---- the operands of one tree
 
@@ -52,7 +53,7 @@ kind_of result item around tree = kind_in (typed_of result item around tree)
 
 -- the shape of a list's items, where one more predicate may speak of them
 abbrev pub entered_item : ℕ → Kind → Option Shape
-entered_item around list = if nat_lt around most_loops then items_of list else None
+entered_item around list = if nat_lt around most_loops then items_shape list else None
 
 abbrev pub entered_list : ℕ → Option Kind → Option Shape
 entered_list around list = option_and_then (entered_item around) list
@@ -65,7 +66,7 @@ one kind = option_map (λ kind. One (found_kind kind)) kind
 
 -- `in` and `not in` take a list for its items
 abbrev pub member_found : Kind → OperandKind
-member_found kind = unwrap_or (option_map found_shape (items_of kind)) (found_kind kind)
+member_found kind = unwrap_or (option_map found_shape (items_shape kind)) (found_kind kind)
 
 abbrev pub right_found : Binary → Kind → OperandKind
 right_found binaries.In kind = member_found kind
@@ -76,34 +77,39 @@ abbrev pub two : Binary → Option Kind → Option Kind → Option Operands
 two operator (Some left) (Some right) = Some (Two (found_kind left) (right_found operator right))
 two operator left right = None
 
--- ---- the tree at a place
+-- ---- the tree at an offset
 
 abbrev mutual
-  -- whether a tree, or one inside it, is at a place
-  pub has_place : ℕ → Expression → Bool
+  -- whether a tree, or one inside it, is at an offset
+  pub has_place : Offset → Expression → Bool
   has_place place (trees.ResultAt at) = at == place
   has_place place (trees.ItemAt at) = at == place
   has_place place (trees.LiteralAt at literal) = at == place
   has_place place (trees.FieldAt at owner name) = at == place || has_place place owner
   has_place place (trees.IndexAt at list index) = at == place || (has_place place list || has_place place index)
   has_place place (trees.UnaryAt at operator operand) = at == place || has_place place operand
-  has_place place (trees.BinaryAt at operator left right) = at == place || (has_place place left || has_place place right)
-  has_place place (trees.ChoiceAt at condition met unmet) = at == place || (has_place place condition || (has_place place met || has_place place unmet))
+  has_place place (trees.BinaryAt at operator left right) =
+      at == place || (has_place place left || has_place place right)
+  has_place place (trees.ChoiceAt at condition met unmet) =
+      at == place || (has_place place condition || (has_place place met || has_place place unmet))
   has_place place (trees.ListAt at items) = at == place || any_has_place place items
   has_place place (trees.LenAt at list) = at == place || has_place place list
   has_place place (trees.IsNilAt at operand) = at == place || has_place place operand
-  has_place place (trees.DefaultAt at operand otherwise) = at == place || (has_place place operand || has_place place otherwise)
-  has_place place (trees.PredicateAt at predicate list body) = at == place || (has_place place list || has_place place body)
+  has_place place (trees.DefaultAt at operand otherwise) =
+      at == place || (has_place place operand || has_place place otherwise)
+  has_place place (trees.PredicateAt at predicate list body) =
+      at == place || (has_place place list || has_place place body)
 
-  pub any_has_place : ℕ → Expressions → Bool
+  pub any_has_place : Offset → Expressions → Bool
   any_has_place place trees.none = false
   any_has_place place (trees.more first others) = has_place place first || any_has_place place others
 
 abbrev mutual
-  -- At the first tree at a place that takes operands, where `result` has a shape, and so does the innermost item, inside so
-  -- many predicates: what is before a field's name, both operands of an operator between two, else the one that is
-  -- wanted of another kind. Children are searched from left to right; the body of a predicate if the place is there, else its list.
-  pub found_in : ℕ → Shape → Option Shape → ℕ → Expression → Option Operands
+  -- At the first tree at an offset that takes operands, where `result` has a shape, and so does the innermost item,
+  -- inside n predicates: what is before a field's name, both operands of an operator between two, else the one
+  -- that is expected of another kind. Children are searched from left to right; the body of a predicate if the offset
+  -- is there, else its list.
+  pub found_in : Offset → Shape → Option Shape → ℕ → Expression → Option Operands
   found_in place result item around (trees.ResultAt at) = None
   found_in place result item around (trees.ItemAt at) = None
   found_in place result item around (trees.LiteralAt at literal) = None
@@ -121,20 +127,26 @@ abbrev mutual
       else option_or (found_in place result item around left) (found_in place result item around right)
   found_in place result item around (trees.ChoiceAt at condition met unmet) =
       if at == place then one (kind_of result item around condition)
-      else option_or (found_in place result item around condition) (option_or (found_in place result item around met) (found_in place result item around unmet))
+      else option_or (found_in place result item around condition)
+      (option_or (found_in place result item around met) (found_in place result item around unmet))
   found_in place result item around (trees.ListAt at items) = found_among place result item around items
   found_in place result item around (trees.LenAt at list) = found_in place result item around list
   found_in place result item around (trees.IsNilAt at operand) = found_in place result item around operand
-  found_in place result item around (trees.DefaultAt at operand otherwise) = option_or (found_in place result item around operand) (found_in place result item around otherwise)
+  found_in place result item around (trees.DefaultAt at operand otherwise) =
+      option_or (found_in place result item around operand) (found_in place result item around otherwise)
   found_in place result item around (trees.PredicateAt at predicate list body) =
-      if at == place then option_and_then (λ shape. one (kind_of result (Some shape) (suc around) body)) (entered_list around (kind_of result item around list))
-      else (if has_place place body then option_and_then (λ shape. found_in place result (Some shape) (suc around) body) (entered_list around (kind_of result item around list))
+      if at == place then option_and_then (λ shape. one (kind_of result (Some shape) (suc around) body))
+      (entered_list around (kind_of result item around list))
+      else (if has_place place body
+      then option_and_then (λ shape. found_in place result (Some shape) (suc around) body)
+      (entered_list around (kind_of result item around list))
       else found_in place result item around list)
 
-  pub found_among : ℕ → Shape → Option Shape → ℕ → Expressions → Option Operands
+  pub found_among : Offset → Shape → Option Shape → ℕ → Expressions → Option Operands
   found_among place result item around trees.none = None
-  found_among place result item around (trees.more first others) = option_or (found_in place result item around first) (found_among place result item around others)
+  found_among place result item around (trees.more first others) =
+      option_or (found_in place result item around first) (found_among place result item around others)
 
--- what the operands at a place of a condition are, where these have kinds
-abbrev pub operands_at : Shape → Expression → ℕ → Option Operands
+-- what the operands at an offset of a condition are, where these have kinds
+abbrev pub operands_at : Shape → Expression → Offset → Option Operands
 operands_at result tree place = found_in place result None 0 tree

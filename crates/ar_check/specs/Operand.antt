@@ -1,4 +1,4 @@
--- Operands whose kinds are known, and what is made of them where a plain kind or decimals are wanted.
+-- Operands whose kinds are known, and what is made of them where a plain kind or decimals are required.
 use Rattle.std.specs.Prelude.{Bool, true, false, ◌&&◌, if◌then◌else◌, Option, Some, None, option_and_then}
 use Rattle.ar_value.specs.declared.operator.UnaryOperator.TheVariants as unary
 use Rattle.ar_value.specs.Kind.{Kind, nil, shaped, is_decimal, is_optional, plain}
@@ -26,7 +26,7 @@ abbrev pub plain_of : Kind → Option Shape
 plain_of nil = None
 plain_of (shaped shape) = Some (plain shape)
 
--- a tree made plain, where it may be nil
+-- a tree unwrapped, where it may be nil
 abbrev pub plain_tree : Kind → Typed → Typed
 plain_tree nil tree = tree
 plain_tree (shaped shape) tree = if is_optional shape then typed.unary unary.Need tree else tree
@@ -47,11 +47,11 @@ numbers_in scalars.Whole = Some Wholes
 numbers_in scalars.Decimal = Some Decimals
 numbers_in scalar = None
 
-abbrev pub family_in : Scalar → Family
-family_in scalars.Bool = families.Truth
-family_in scalars.Whole = families.Number
-family_in scalars.Decimal = families.Number
-family_in scalars.Text = families.Text
+abbrev pub scalar_family : Scalar → Family
+scalar_family scalars.Bool = families.Truth
+scalar_family scalars.Whole = families.Number
+scalar_family scalars.Decimal = families.Number
+scalar_family scalars.Text = families.Text
 
 -- what an operand is once it is plain
 abbrev pub scalar : Operand → Option Scalar
@@ -74,10 +74,10 @@ is_text_scalar (Some scalars.Whole) = false
 is_text_scalar (Some scalars.Decimal) = false
 is_text_scalar None = false
 
-abbrev pub is_text : Operand → Bool
-is_text operand = is_text_scalar (scalar operand)
+abbrev pub is_text_operand : Operand → Bool
+is_text_operand operand = is_text_scalar (scalar operand)
 
--- plain numbers beside others: a whole is turned into decimal beside a decimal
+-- plain numbers next to others: a whole is converted to decimal next to a decimal
 abbrev pub among : Numbers → Numbers → Typed → Typed
 among Decimals Wholes tree = typed.unary unary.ToDecimal tree
 among other numbers tree = tree
@@ -86,7 +86,8 @@ abbrev pub is_whole : Shape → Bool
 is_whole shapes.whole = true
 is_whole shape = false
 
--- an operand beside a kind that it has something in common with, likewise; nil stays
+-- an operand next to a kind that it has something in common with, converted likewise; nil stays
 abbrev pub turned : Kind → Kind → Typed → Typed
-turned (shaped other) (shaped shape) tree = if is_decimal other && is_whole (plain shape) then typed.unary unary.ToDecimal tree else tree
+turned (shaped other) (shaped shape) tree =
+    if is_decimal other && is_whole (plain shape) then typed.unary unary.ToDecimal tree else tree
 turned other kind tree = tree

@@ -1,4 +1,4 @@
--- The byte of a condition at which the tree begins that wants something else.
+-- The byte of a condition at which the tree begins that requires something else.
 use Rattle.std.specs.Prelude.{ℕ, Option, Some, None}
 use Rattle.ar_check.specs.declared.error.TypeError.{TypeError}
 use Rattle.ar_check.specs.declared.error.TypeError.TheVariants.{WrongOperand, NoSuchField, NotAList, NoCommonKind, NotScalar, NotTruth, PredicatesTooDeep, OutOfMemory}

@@ -1,9 +1,10 @@
--- Which kinds conditions have, row by row of the table of kinds. `plain` stands where a plain kind is wanted: an operand
--- of an optional shape is then taken as one of its plain shape.
-use Rattle.std.specs.Prelude.{◌≡◌, ◌<◌, ℕ, suc, List, Option, Some, None}
+-- Which kinds conditions have, row by row of the table of kinds. `plain` is used where a plain kind is required: an
+-- operand of an optional shape is then taken as one of its plain shape.
+use Rattle.std.specs.Prelude.{◌≡◌, ◌<◌, ℕ, suc, Option, Some, None}
+use Rattle.ar_value.specs.Terms.{Text}
 use Rattle.ar_value.specs.Kind.{Kind, nil, shaped, common, plain}
 use Rattle.ar_value.specs.Shape.{Shape, FieldShapes, bool, whole, decimal, text, list, object, shape_named}
-use Rattle.ar_tree.specs.Expression.{Expression, Expressions, none, more, ResultAt, ItemAt, LiteralAt, FieldAt, IndexAt, UnaryAt, BinaryAt, ChoiceAt, ListAt, LenAt, IsNilAt, DefaultAt, PredicateAt, count}
+use Rattle.ar_tree.specs.Expression.{Expression, Expressions, none, more, ResultAt, ItemAt, LiteralAt, FieldAt, IndexAt, UnaryAt, BinaryAt, ChoiceAt, ListAt, LenAt, IsNilAt, DefaultAt, PredicateAt, expression_count}
 use Rattle.ar_tree.specs.declared.tree.Comparison.TheVariants as comparisons
 use Rattle.ar_tree.specs.declared.tree.Binary.{Binary}
 use Rattle.ar_tree.specs.declared.tree.Binary.TheVariants as binaries
@@ -54,18 +55,25 @@ pub data Operates : Binary → Shape → Shape → Shape → Type 0 where
   multiply : {left right both : Shape} → SumOf left right both → Operates binaries.Multiply left right both
   divide : {left right : Shape} → IsNumber left → IsNumber right → Operates binaries.Divide left right decimal
   remainder : Operates binaries.Remainder whole whole whole
-  less : {left right : Shape} → IsNumber left → IsNumber right → Operates (binaries.Comparison comparisons.Less) left right bool
-  less_or_equal : {left right : Shape} → IsNumber left → IsNumber right → Operates (binaries.Comparison comparisons.LessOrEqual) left right bool
-  greater : {left right : Shape} → IsNumber left → IsNumber right → Operates (binaries.Comparison comparisons.Greater) left right bool
-  greater_or_equal : {left right : Shape} → IsNumber left → IsNumber right → Operates (binaries.Comparison comparisons.GreaterOrEqual) left right bool
-  equal : {left right : Shape} → SameFamily left right → Operates (binaries.Comparison comparisons.Equal) left right bool
-  not_equal : {left right : Shape} → SameFamily left right → Operates (binaries.Comparison comparisons.NotEqual) left right bool
+  less : {left right : Shape} → IsNumber left → IsNumber right
+      → Operates (binaries.Comparison comparisons.Less) left right bool
+  less_or_equal : {left right : Shape} → IsNumber left → IsNumber right
+      → Operates (binaries.Comparison comparisons.LessOrEqual) left right bool
+  greater : {left right : Shape} → IsNumber left → IsNumber right
+      → Operates (binaries.Comparison comparisons.Greater) left right bool
+  greater_or_equal : {left right : Shape} → IsNumber left → IsNumber right
+      → Operates (binaries.Comparison comparisons.GreaterOrEqual) left right bool
+  equal : {left right : Shape} → SameFamily left right
+      → Operates (binaries.Comparison comparisons.Equal) left right bool
+  not_equal : {left right : Shape} → SameFamily left right
+      → Operates (binaries.Comparison comparisons.NotEqual) left right bool
   both : Operates binaries.And bool bool bool
   either : Operates binaries.Or bool bool bool
   -- a list of scalars, any of which may be nil
   within : {left item : Shape} {max : ℕ} → SameFamily left (plain item) → Operates binaries.In left (list item max) bool
-  not_within : {left item : Shape} {max : ℕ} → SameFamily left (plain item) → Operates binaries.NotIn left (list item max) bool
-  -- whether one text has another, at any place, at its start or at its end
+  not_within : {left item : Shape} {max : ℕ} → SameFamily left (plain item)
+      → Operates binaries.NotIn left (list item max) bool
+  -- whether one text has another, anywhere, at its start or at its end
   text_test : (test : TextTest) → Operates (binaries.TextTest test) text text bool
 
 pub data OperatesOnOne : Unary → Shape → Shape → Type 0 where
@@ -89,17 +97,20 @@ pub data PredicateKind : Predicate → Shape → Shape → Type 0 where
 -- the kind of `default(a, b)`: b's where a is always nil, else the common kind of what isn't nil in a, and of b
 pub data DefaultKind : Kind → Kind → Kind → Type 0 where
   of_nil : {other : Kind} → DefaultKind nil other other
-  of_shape : {shape : Shape} {other both : Kind} → common (shaped (plain shape)) other ≡ Some both → DefaultKind (shaped shape) other both
+  of_shape : {shape : Shape} {other both : Kind} → common (shaped (plain shape)) other ≡ Some both
+      → DefaultKind (shaped shape) other both
 
 -- ---- conditions
 
 mutual
-  -- a tree has a kind where `result` has a shape, and so has the innermost item, inside so many predicates
+  -- a tree has a kind where `result` has a shape, and so has the innermost item, inside n predicates
   pub data HasKind (result : Shape) : Option Shape → ℕ → Expression → Kind → Type 0 where
     measured : {item : Option Shape} {around at : ℕ} → HasKind result item around (ResultAt at) (shaped result)
     innermost : {shape : Shape} {around at : ℕ} → HasKind result (Some shape) around (ItemAt at) (shaped shape)
-    literally : {item : Option Shape} {around at : ℕ} (literal : Literal) → HasKind result item around (LiteralAt at literal) (literal_kind literal)
-    of_field : {item : Option Shape} {around at : ℕ} {owner : Expression} {name : List ℕ} {of shape : Shape} {fields : FieldShapes}
+    literally : {item : Option Shape} {around at : ℕ} (literal : Literal)
+        → HasKind result item around (LiteralAt at literal) (literal_kind literal)
+    of_field : {item : Option Shape} {around at : ℕ} {owner : Expression} {name : Text} {of shape : Shape}
+        {fields : FieldShapes}
         → HasKind result item around owner (shaped of) → plain of ≡ object fields → shape_named name fields ≡ Some shape
         → HasKind result item around (FieldAt at owner name) (shaped shape)
     of_index : {item : Option Shape} {around at max : ℕ} {items index : Expression} {of place shape : Shape}
@@ -109,8 +120,10 @@ mutual
     of_sign : {item : Option Shape} {around at : ℕ} {operator : Unary} {operand : Expression} {of shape : Shape}
         → HasKind result item around operand (shaped of) → OperatesOnOne operator (plain of) shape
         → HasKind result item around (UnaryAt at operator operand) (shaped shape)
-    of_operator : {item : Option Shape} {around at : ℕ} {operator : Binary} {left right : Expression} {of beside shape : Shape}
-        → HasKind result item around left (shaped of) → HasKind result item around right (shaped beside) → Operates operator (plain of) (plain beside) shape
+    of_operator : {item : Option Shape} {around at : ℕ} {operator : Binary} {left right : Expression}
+        {of beside shape : Shape}
+        → HasKind result item around left (shaped of) → HasKind result item around right (shaped beside)
+        → Operates operator (plain of) (plain beside) shape
         → HasKind result item around (BinaryAt at operator left right) (shaped shape)
     -- anything compares with the literal `nil`
     nil_on_the_left : {item : Option Shape} {around at place : ℕ} {operator : Binary} {right : Expression} {kind : Kind}
@@ -119,33 +132,39 @@ mutual
     nil_on_the_right : {item : Option Shape} {around at place : ℕ} {operator : Binary} {left : Expression} {kind : Kind}
         → IsEquality operator → HasKind result item around left kind
         → HasKind result item around (BinaryAt at operator left (LiteralAt place literals.Nil)) (shaped bool)
-    of_choice : {item : Option Shape} {around at : ℕ} {condition met unmet : Expression} {of : Shape} {left right both : Kind}
+    of_choice : {item : Option Shape} {around at : ℕ} {condition met unmet : Expression} {of : Shape}
+        {left right both : Kind}
         → HasKind result item around condition (shaped of) → plain of ≡ bool
         → HasKind result item around met left → HasKind result item around unmet right → common left right ≡ Some both
         → HasKind result item around (ChoiceAt at condition met unmet) both
     of_list : {item : Option Shape} {around at : ℕ} {items : Expressions} {shape : Shape}
         → HaveInCommon result item around items shape
-        → HasKind result item around (ListAt at items) (shaped (list shape (count items)))
+        → HasKind result item around (ListAt at items) (shaped (list shape (expression_count items)))
     of_len : {item : Option Shape} {around at max : ℕ} {items : Expression} {of shape : Shape}
         → HasKind result item around items (shaped of) → plain of ≡ list shape max
         → HasKind result item around (LenAt at items) (shaped whole)
     of_nil_test : {item : Option Shape} {around at : ℕ} {operand : Expression} {kind : Kind}
         → HasKind result item around operand kind → HasKind result item around (IsNilAt at operand) (shaped bool)
     of_default : {item : Option Shape} {around at : ℕ} {operand otherwise : Expression} {left right both : Kind}
-        → HasKind result item around operand left → HasKind result item around otherwise right → DefaultKind left right both
+        → HasKind result item around operand left → HasKind result item around otherwise right
+        → DefaultKind left right both
         → HasKind result item around (DefaultAt at operand otherwise) both
     -- the predicate speaks of an item, and is the innermost one there
-    of_predicate : {item : Option Shape} {around at max : ℕ} {predicate : Predicate} {items body : Expression} {of shape holds kind : Shape}
+    of_predicate : {item : Option Shape} {around at max : ℕ} {predicate : Predicate} {items body : Expression}
+        {of shape holds kind : Shape}
         → HasKind result item around items (shaped of) → plain of ≡ list shape max → around < most_loops
-        → HasKind result (Some shape) (suc around) body (shaped holds) → plain holds ≡ bool → PredicateKind predicate (plain of) kind
+        → HasKind result (Some shape) (suc around) body (shaped holds) → plain holds ≡ bool
+        → PredicateKind predicate (plain of) kind
         → HasKind result item around (PredicateAt at predicate items body) (shaped kind)
 
-  -- items that are scalars have one in common, each made plain
+  -- items that are scalars have one in common, each unwrapped
   pub data HaveInCommon (result : Shape) : Option Shape → ℕ → Expressions → Shape → Type 0 where
     one : {item : Option Shape} {around : ℕ} {only : Expression} {of : Shape}
-        → HasKind result item around only (shaped of) → IsScalar (plain of) → HaveInCommon result item around (more only none) (plain of)
+        → HasKind result item around only (shaped of) → IsScalar (plain of)
+        → HaveInCommon result item around (more only none) (plain of)
     one_more : {item : Option Shape} {around : ℕ} {first : Expression} {others : Expressions} {of shape both : Shape}
-        → HasKind result item around first (shaped of) → HaveInCommon result item around others shape → InCommon (plain of) shape both
+        → HasKind result item around first (shaped of) → HaveInCommon result item around others shape
+        → InCommon (plain of) shape both
         → HaveInCommon result item around (more first others) both
 
 -- ---- whole conditions

@@ -8,15 +8,15 @@ use std::alloc::{AllocError, AllocFailed};
 use std::fmt;
 use thiserror::Error;
 
-/// Why a condition has no kinds where `result` has a shape. A number is the place of the tree that
-/// wants something else: a byte offset from 0.
+/// Why a condition has no kinds where `result` has a shape. A number is the offset in bytes, from 0,
+/// of the tree that requires something else.
 #[derive(Clone, Copy, Debug, Error)]
 pub enum TypeError {
     /// An operand isn't of a kind that the operator, call or field here takes.
     WrongOperand(usize),
     /// The record has no field of this name.
     NoSuchField(usize),
-    /// A list is wanted here.
+    /// A list is expected here.
     NotAList(usize),
     /// Both branches, all items, or a value and its default have no kind in common.
     NoCommonKind(usize),
@@ -24,14 +24,14 @@ pub enum TypeError {
     NotScalar(usize),
     /// The whole condition is no boolean.
     NotTruth(usize),
-    /// A predicate stands inside four others.
+    /// A predicate is inside four others.
     PredicatesTooDeep(usize),
     /// A growth of memory was refused.
     OutOfMemory,
 }
 
 impl TypeError {
-    /// The byte at which the tree begins that wants something else.
+    /// The byte at which the tree begins that requires something else.
     pub fn place(self) -> Option<usize>
         ensures { result ≡ refused_at self }
     {

@@ -1,4 +1,4 @@
-//! What the operands at a place of a condition were found to be.
+//! What the operands at an offset of a condition were found to be.
 
 ghost use Rattle.std.specs.Prelude.{◌≡◌, ◌<◌, ◌==◌, if◌then◌else◌, IfOk, IfSome, map, option_map};
 ghost use Rattle.std.specs.Option.{option_or};
@@ -6,8 +6,8 @@ ghost use Rattle.ar_value.specs.View.{shape_view};
 ghost use Rattle.ar_value.specs.Limits.{most_loops};
 ghost use Rattle.ar_tree.specs.Expression.{expressions, BinaryAt, ChoiceAt, IndexAt};
 ghost use Rattle.ar_tree.specs.Views.{expression_of};
-ghost use Rattle.ar_check.specs.Found.{any_has_place, before, entered_item, found_kind, found_shape, has_place, entered_list, items_of, member_found, one, operands_at, right_found, two};
-ghost use Rattle.ar_check.specs.Private.Inside.{kind_view};
+ghost use Rattle.ar_check.specs.Found.{any_has_place, before, entered_item, found_kind, found_shape, has_place, entered_list, items_shape, member_found, one, operands_at, right_found, two};
+ghost use Rattle.ar_check.specs.Private.Inside.{view_of_kind};
 ghost use Rattle.ar_check.specs.Private.Search.{body_over, kind_at, place_among, place_in, place_in_predicate, place_over};
 
 use crate::error::TypeError;
@@ -35,14 +35,14 @@ pub enum OperandKind {
 pub enum Operands {
     /// What is before a field's name.
     Before(OperandKind),
-    /// The one that is wanted of another kind.
+    /// The one that is expected of another kind.
     One(OperandKind),
     /// Both, at an operator between two.
     Two(OperandKind, OperandKind),
 }
 
-/// What the operands of the tree at a place are: None where no tree that takes operands of some kinds
-/// is there, or where one of them has no kind. Right of `in` and `not in` a list is told by its items.
+/// What the operands of the tree at an offset are: None where no tree that takes operands of some kinds
+/// is there, or where one of them has no kind. Right of `in` and `not in` the items describe a list.
 ///
 /// # Errors
 ///
@@ -63,7 +63,7 @@ pub fn operands_at(
     found_in(alloc, tree, &scope, place)
 }
 
-/// What is found at a place in a tree.
+/// What is found at an offset in a tree.
 #[cycle(found_in)]
 fn found_in(
     alloc: Global,
@@ -258,7 +258,7 @@ fn found_among(
     Ok(None)
 }
 
-/// What is found at a predicate, in its body if the place is there, or else in its list.
+/// What is found at a predicate, in its body if the offset is there, or else in its list.
 #[cycle(found_in)]
 fn in_list_or_body(
     alloc: Global,
@@ -308,7 +308,7 @@ fn in_body_over(
     place: usize,
 ) -> Result<Option<Operands>, AllocError>
     ensures { IfOk result (λ found. found ≡ place_over scope.now place
-        (entered_item scope.now.around (kind_view list.now)) (expression_of body.value)) }
+        (entered_item scope.now.around (view_of_kind list.now)) (expression_of body.value)) }
 {
     let Some(item) = entered_item(scope.around, list) else {
         return Ok(None);
@@ -317,7 +317,7 @@ fn in_body_over(
     in_child(alloc, body, &inside, place)
 }
 
-/// Whether a tree, or one inside it, is at a place.
+/// Whether a tree, or one inside it, is at an offset.
 #[cycle(has_place)]
 fn has_place(tree: &Tree, place: usize) -> bool
     ensures { result ≡ has_place place (expression_of tree.now) }
@@ -380,7 +380,7 @@ fn before(
     }
 }
 
-/// What the one operand is that is wanted of a kind.
+/// What the one operand is that is expected of a kind.
 fn one(alloc: Global, operand: Box<Tree>, scope: &Scope<'_>) -> Result<Option<Operands>, AllocError>
     ensures { IfOk result (λ found. found ≡ one (kind_at scope.now (expression_of operand.value))) }
 {
@@ -435,7 +435,7 @@ fn one_over(
     scope: &Scope<'_>,
 ) -> Result<Option<Operands>, AllocError>
     ensures { IfOk result (λ found. found ≡ body_over scope.now
-        (entered_item scope.now.around (kind_view list.now)) (expression_of body.value)) }
+        (entered_item scope.now.around (view_of_kind list.now)) (expression_of body.value)) }
 {
     let Some(item) = entered_item(scope.around, list) else {
         return Ok(None);
@@ -450,7 +450,7 @@ fn kind_of<'s>(
     tree: Box<Tree>,
     scope: &Scope<'s>,
 ) -> Result<Option<Kind<'s>>, AllocError>
-    ensures { IfOk result (λ kind. option_map kind_view kind ≡ kind_at scope.now (expression_of tree.value)) }
+    ensures { IfOk result (λ kind. option_map view_of_kind kind ≡ kind_at scope.now (expression_of tree.value)) }
 {
     match child(alloc, tree, scope) {
         Ok(operand) => Ok(Some(Box::into_inner(operand).kind)),
@@ -469,7 +469,7 @@ fn kind_of<'s>(
 
 /// The shape of a list's items, where one more predicate may speak of them.
 fn entered_item<'a>(around: usize, list: &'a Kind<'_>) -> Option<&'a Shape>
-    ensures item { option_map (λ shape. shape_view shape.now) result ≡ entered_item around (kind_view list.now) }
+    ensures item { option_map (λ shape. shape_view shape.now) result ≡ entered_item around (view_of_kind list.now) }
     ensures few { IfSome result (λ _. around < most_loops) }
 {
     if around < MOST_LOOPS {
@@ -481,7 +481,7 @@ fn entered_item<'a>(around: usize, list: &'a Kind<'_>) -> Option<&'a Shape>
 
 /// The shape of a list's items.
 fn items_of<'a>(kind: &'a Kind<'_>) -> Option<&'a Shape>
-    ensures { option_map (λ shape. shape_view shape.now) result ≡ items_of (kind_view kind.now) }
+    ensures { option_map (λ shape. shape_view shape.now) result ≡ items_shape (view_of_kind kind.now) }
 {
     match plain_shape(kind)? {
         Shape::List { item, .. } => Some(item),
@@ -494,9 +494,9 @@ fn items_of<'a>(kind: &'a Kind<'_>) -> Option<&'a Shape>
     }
 }
 
-/// What the right operand of an operator is: that of `in` and `not in` is told by its items.
+/// What the right operand of an operator is: that of `in` and `not in` is described by its items.
 fn right_found(operator: Binary, kind: &Kind<'_>) -> OperandKind
-    ensures { result ≡ right_found operator (kind_view kind.now) }
+    ensures { result ≡ right_found operator (view_of_kind kind.now) }
 {
     match operator {
         Binary::In | Binary::NotIn => member_found(kind),
@@ -514,7 +514,7 @@ fn right_found(operator: Binary, kind: &Kind<'_>) -> OperandKind
 
 /// What the items of a list are; of no list, what it is itself.
 fn member_found(kind: &Kind<'_>) -> OperandKind
-    ensures { result ≡ member_found (kind_view kind.now) }
+    ensures { result ≡ member_found (view_of_kind kind.now) }
 {
     match items_of(kind) {
         Some(item) => found_shape(item),
@@ -523,7 +523,7 @@ fn member_found(kind: &Kind<'_>) -> OperandKind
 }
 
 fn found_kind(kind: &Kind<'_>) -> OperandKind
-    ensures { result ≡ found_kind (kind_view kind.now) }
+    ensures { result ≡ found_kind (view_of_kind kind.now) }
 {
     match kind {
         Kind::Nil => OperandKind::Nil,

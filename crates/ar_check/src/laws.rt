@@ -40,14 +40,14 @@ pub fn one_kind()
         → HasKind result item around tree first → HasKind result item around tree second → first ≡ second }
 {}
 
-/// `and` with a false left side is false, whatever stands right of it.
+/// `and` with a false left side is false, whatever is right of it.
 pub fn and_with_false_is_false()
     ensures { (result : Value) (here : Option Value) (left right : Typed)
         → mean result here left ≡ Ok (values.bool false)
         → mean result here (typed.both left right) ≡ Ok (values.bool false) }
 {}
 
-/// `or` with a true left side is true, whatever stands right of it.
+/// `or` with a true left side is true, whatever is right of it.
 pub fn or_with_true_is_true()
     ensures { (result : Value) (here : Option Value) (left right : Typed)
         → mean result here left ≡ Ok (values.bool true)

@@ -2,13 +2,13 @@
 
 ghost use Rattle.std.specs.Prelude.{◌≡◌, IfOk, map};
 ghost use Rattle.ar_value.specs.Answer.{Gives};
-ghost use Rattle.ar_value.specs.Kind.{shaped};
+ghost use Rattle.ar_value.specs.Kind.{shaped, scalar_shape};
 ghost use Rattle.ar_value.specs.Shape.{list};
 ghost use Rattle.ar_value.specs.View.{shape_view};
-ghost use Rattle.ar_check.specs.Check.{common_of, common_scalar, joined, list_of, no_scalar, scalar_shape, turned_item};
+ghost use Rattle.ar_check.specs.Check.{common_of, common_scalar, common_with, list_literal_of, no_scalar, turned_item};
 ghost use Rattle.ar_tree.specs.Views.{typed_view};
 ghost use Rattle.ar_check.specs.Memory.{is_memory};
-ghost use Rattle.ar_check.specs.Private.Inside.{boxed_view, item_view, kind_view, operand_view};
+ghost use Rattle.ar_check.specs.Private.Inside.{boxed_view, item_view, view_of_kind, operand_view};
 
 use crate::build::{self, listed};
 use crate::error::TypeError;
@@ -34,7 +34,7 @@ pub(crate) fn list<'s>(
     items: Vec<Item>,
 ) -> Result<Box<Operand<'s>>, TypeError>
     ensures { Gives is_memory boxed_view result
-        (list_of at (map item_view items.items) (no_scalar (map item_view items.items))) }
+        (list_literal_of at (map item_view items.items) (no_scalar (map item_view items.items))) }
 {
     if let Some(place) = no_scalar(&items) {
         return Err(TypeError::NotScalar(place));
@@ -47,7 +47,7 @@ pub(crate) fn list<'s>(
     given(alloc, tree, list_kind(alloc, scalar, max)?)
 }
 
-/// The place of the first item that is no scalar.
+/// The offset of the first item that is no scalar.
 fn no_scalar(items: &[Item]) -> Option<usize>
     ensures { result ≡ no_scalar (map item_view items.now) }
 {
@@ -70,7 +70,7 @@ fn common_of(items: &[Item]) -> Option<Scalar>
 }
 
 fn joined(first: Option<Scalar>, items: &[Item]) -> Option<Scalar>
-    ensures { result ≡ joined first (map item_view items.now) }
+    ensures { result ≡ common_with first (map item_view items.now) }
 {
     let mut common = first;
     for item in items {
@@ -115,7 +115,7 @@ fn turned_item(alloc: Global, scalar: Scalar, item: Item) -> Result<Typed, Alloc
 }
 
 fn list_kind<'s>(alloc: Global, scalar: Scalar, max: usize) -> Result<Kind<'s>, AllocError>
-    ensures { IfOk result (λ kind. kind_view kind ≡ shaped (list (scalar_shape scalar) max)) }
+    ensures { IfOk result (λ kind. view_of_kind kind ≡ shaped (list (scalar_shape scalar) max)) }
 {
     let item = Box::new(alloc, scalar_shape(scalar))?;
     Ok(Kind::Made(Shape::List { item, max }))

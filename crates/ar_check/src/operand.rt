@@ -6,11 +6,11 @@ ghost use Rattle.ar_value.specs.Kind.{common, nil, shaped};
 ghost use Rattle.ar_value.specs.Kind as shapes;
 ghost use Rattle.ar_value.specs.View.{shape_view};
 ghost use Rattle.ar_check.specs.Check.{field_shape, given, item_shape, plain_kind};
-ghost use Rattle.ar_check.specs.Operand.{is_text, is_truth, made_plain, numbers, plain_of, plain_tree, scalar, scalar_of, turned};
+ghost use Rattle.ar_check.specs.Operand.{is_text_operand, is_truth, made_plain, numbers, plain_of, plain_tree, scalar, scalar_of, turned};
 ghost use Rattle.ar_tree.specs.Typed as typed;
 ghost use Rattle.ar_tree.specs.Views.{typed_view};
 ghost use Rattle.ar_check.specs.Memory.{is_memory};
-ghost use Rattle.ar_check.specs.Private.Inside.{boxed_view, kind_view, operand_view, shaped_answer, turned_where, turns};
+ghost use Rattle.ar_check.specs.Private.Inside.{boxed_view, view_of_kind, operand_view, shaped_answer, turned_where, turns};
 
 use crate::build;
 use crate::error::TypeError;
@@ -44,7 +44,7 @@ pub(crate) fn given<'s>(
     tree: Box<Typed>,
     kind: Kind<'s>,
 ) -> Result<Box<Operand<'s>>, TypeError>
-    ensures { Gives is_memory boxed_view result (given (typed_view tree.value) (kind_view kind.entry)) }
+    ensures { Gives is_memory boxed_view result (given (typed_view tree.value) (view_of_kind kind.entry)) }
 {
     Ok(Box::new(alloc, Operand { tree, kind })?)
 }
@@ -57,7 +57,7 @@ pub(crate) fn given_unary<'s>(
     kind: Kind<'s>,
 ) -> Result<Box<Operand<'s>>, TypeError>
     ensures { Gives is_memory boxed_view result
-        (given (typed.unary operator (typed_view tree.value)) (kind_view kind.entry)) }
+        (given (typed.unary operator (typed_view tree.value)) (view_of_kind kind.entry)) }
 {
     let (kind, tree) = zip_ok(kind, build::unary(alloc, operator, tree))?;
     given(alloc, tree, kind)
@@ -65,7 +65,7 @@ pub(crate) fn given_unary<'s>(
 
 /// The shape of what isn't nil.
 pub(crate) fn plain_shape<'a>(kind: &'a Kind<'_>) -> Option<&'a Shape>
-    ensures { option_map (λ shape. shape_view shape.now) result ≡ plain_of (kind_view kind.now) }
+    ensures { option_map (λ shape. shape_view shape.now) result ≡ plain_of (view_of_kind kind.now) }
 {
     match kind {
         Kind::Nil => None,
@@ -80,7 +80,7 @@ pub(crate) fn unwrapped_tree(
     kind: &Kind<'_>,
     tree: Box<Typed>,
 ) -> Result<Box<Typed>, AllocError>
-    ensures { IfOk result (λ made. typed_view made.value ≡ plain_tree (kind_view kind.now) (typed_view tree.value)) }
+    ensures { IfOk result (λ made. typed_view made.value ≡ plain_tree (view_of_kind kind.now) (typed_view tree.value)) }
 {
     let is_optional = match kind {
         Kind::Nil => false,
@@ -160,7 +160,7 @@ pub(crate) fn is_truth(operand: &Operand<'_>) -> bool
 
 /// Whether an operand is a text once it is plain.
 pub(crate) fn is_text(operand: &Operand<'_>) -> bool
-    ensures { result ≡ is_text (operand_view operand.now) }
+    ensures { result ≡ is_text_operand (operand_view operand.now) }
 {
     matches!(scalar(operand), Some(Scalar::Text))
 }
@@ -191,8 +191,8 @@ pub(crate) fn field_kind<'s>(
     name: &str,
     kind: &Kind<'s>,
 ) -> Result<Kind<'s>, TypeError>
-    ensures { Gives is_memory kind_view result
-        (shaped_answer (field_shape at name.now (plain_of (kind_view kind.now)))) }
+    ensures { Gives is_memory view_of_kind result
+        (shaped_answer (field_shape at name.now (plain_of (view_of_kind kind.now)))) }
 {
     match kind {
         Kind::Nil => Err(TypeError::WrongOperand(at)),
@@ -219,7 +219,7 @@ fn item_in(at: usize, shape: &Shape) -> Result<&Shape, TypeError>
 /// The shape of a list's items.
 pub(crate) fn item_shape<'a>(at: usize, kind: &'a Kind<'_>) -> Result<&'a Shape, TypeError>
     ensures { Gives (λ _. false) (λ found. shape_view found.now) result
-        (item_shape at (plain_of (kind_view kind.now))) }
+        (item_shape at (plain_of (view_of_kind kind.now))) }
 {
     match kind {
         Kind::Nil => Err(TypeError::NotAList(at)),
@@ -235,7 +235,7 @@ pub(crate) fn item_kind<'s>(
     at: usize,
     kind: &Kind<'s>,
 ) -> Result<Kind<'s>, TypeError>
-    ensures { Gives is_memory kind_view result (shaped_answer (item_shape at (plain_of (kind_view kind.now)))) }
+    ensures { Gives is_memory view_of_kind result (shaped_answer (item_shape at (plain_of (view_of_kind kind.now)))) }
 {
     match kind {
         Kind::Nil => Err(TypeError::NotAList(at)),
@@ -246,7 +246,7 @@ pub(crate) fn item_kind<'s>(
 
 /// The kind without nil.
 pub(crate) fn plain_kind<'s>(alloc: Global, kind: &Kind<'s>) -> Result<Kind<'s>, AllocError>
-    ensures { IfOk result (λ plain. kind_view plain ≡ plain_kind (kind_view kind.now)) }
+    ensures { IfOk result (λ plain. view_of_kind plain ≡ plain_kind (view_of_kind kind.now)) }
 {
     match kind {
         Kind::Nil => Ok(Kind::Nil),
@@ -257,7 +257,7 @@ pub(crate) fn plain_kind<'s>(alloc: Global, kind: &Kind<'s>) -> Result<Kind<'s>,
 
 /// A copy of a kind: only a made shape is copied.
 fn clone_kind<'s>(alloc: Global, kind: &Kind<'s>) -> Result<Kind<'s>, AllocError>
-    ensures { IfOk result (λ copy. kind_view copy ≡ kind_view kind.now) }
+    ensures { IfOk result (λ copy. view_of_kind copy ≡ view_of_kind kind.now) }
 {
     match kind {
         Kind::Nil => Ok(Kind::Nil),
@@ -272,8 +272,8 @@ fn clone_either<'s>(
     left: &Kind<'s>,
     right: &Kind<'s>,
 ) -> Result<Kind<'s>, AllocError>
-    requires { kind_view left.now ≡ kind_view right.now }
-    ensures { IfOk result (λ kind. kind_view kind ≡ kind_view left.now) }
+    requires { view_of_kind left.now ≡ view_of_kind right.now }
+    ensures { IfOk result (λ kind. view_of_kind kind ≡ view_of_kind left.now) }
 {
     match left {
         Kind::Nil | Kind::Declared(_) => clone_kind(alloc, left),
@@ -283,7 +283,7 @@ fn clone_either<'s>(
 
 /// The kind of nil and of what has a kind.
 fn or_nil<'s>(alloc: Global, kind: &Kind<'s>) -> Result<Kind<'s>, AllocError>
-    ensures { IfOk result (λ either. Some (kind_view either) ≡ common nil (kind_view kind.now)) }
+    ensures { IfOk result (λ either. Some (view_of_kind either) ≡ common nil (view_of_kind kind.now)) }
 {
     match shape_of(kind) {
         None => Ok(Kind::Nil),
@@ -294,8 +294,8 @@ fn or_nil<'s>(alloc: Global, kind: &Kind<'s>) -> Result<Kind<'s>, AllocError>
 
 /// The shape of a kind, if it isn't that of the literal `nil`.
 fn shape_of<'a>(kind: &'a Kind<'_>) -> Option<&'a Shape>
-    ensures { MatchOption result (kind_view kind.now ≡ nil)
-        (λ shape. kind_view kind.now ≡ shaped (shape_view shape.now)) }
+    ensures { MatchOption result (view_of_kind kind.now ≡ nil)
+        (λ shape. view_of_kind kind.now ≡ shaped (shape_view shape.now)) }
 {
     match kind {
         Kind::Nil => None,
@@ -310,7 +310,8 @@ pub(crate) fn common<'s>(
     left: &Kind<'s>,
     right: &Kind<'s>,
 ) -> Result<Option<Kind<'s>>, AllocError>
-    ensures { IfOk result (λ kind. option_map kind_view kind ≡ common (kind_view left.now) (kind_view right.now)) }
+    ensures { IfOk result (λ kind. option_map view_of_kind kind
+        ≡ common (view_of_kind left.now) (view_of_kind right.now)) }
 {
     let (Some(one), Some(other)) = (shape_of(left), shape_of(right)) else {
         let kind = if matches!(left, Kind::Nil) {
@@ -331,7 +332,7 @@ pub(crate) fn common<'s>(
 
 /// Whether a tree of a kind is a whole next to a decimal.
 pub(crate) fn converts(other: &Kind<'_>, kind: &Kind<'_>) -> bool
-    ensures { result ≡ turns (kind_view other.now) (kind_view kind.now) }
+    ensures { result ≡ turns (view_of_kind other.now) (view_of_kind kind.now) }
 {
     let (Some(other), Some(shape)) = (plain_shape(other), plain_shape(kind)) else {
         return false;
@@ -391,7 +392,7 @@ pub(crate) fn converted_both(
 
 /// The kind without nil.
 pub(crate) fn without_nil<'s>(kind: Kind<'s>) -> Kind<'s>
-    ensures { kind_view result ≡ plain_kind (kind_view kind.entry) }
+    ensures { view_of_kind result ≡ plain_kind (view_of_kind kind.entry) }
 {
     match kind {
         Kind::Nil => Kind::Nil,

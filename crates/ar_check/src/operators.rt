@@ -3,12 +3,13 @@
 ghost use Rattle.std.specs.Prelude.{◌≡◌, ◌&&◌, false, IfOk, Some};
 ghost use Rattle.ar_value.specs.declared.operator.UnaryOperator.TheVariants as unary;
 ghost use Rattle.ar_value.specs.Answer.{Gives};
-ghost use Rattle.ar_check.specs.Check.{arithmetic_in, arithmetic_kind, binary_of, compared_of, comparison_of, equality_of, in_of, negated, number_kind, ordering_of, arithmetic_on, calculation_of, given, member_of, text_test_of, truth_kind, unary_of, where_wanted, widened};
-ghost use Rattle.ar_check.specs.Operand.{among, family_in};
+ghost use Rattle.ar_check.specs.Check.{arithmetic_in, arithmetic_kind, binary_of, compared_of, comparison_of, equality_of, in_of, negated, number_kind, ordering_of, arithmetic_on, calculation_of, given, member_of, text_test_of, unary_of, where_wanted, widened};
+ghost use Rattle.ar_value.specs.Kind.{truth_kind};
+ghost use Rattle.ar_check.specs.Operand.{among, scalar_family};
 ghost use Rattle.ar_tree.specs.Typed as typed;
 ghost use Rattle.ar_tree.specs.Views.{typed_view};
 ghost use Rattle.ar_check.specs.Memory.{is_memory};
-ghost use Rattle.ar_check.specs.Private.Inside.{boxed_view, connected_of, item_scalar, kind_view, operand_view};
+ghost use Rattle.ar_check.specs.Private.Inside.{boxed_view, connected_of, item_scalar, operand_view, side_by, view_of_kind};
 
 use crate::build::{self, Connective};
 use crate::error::TypeError;
@@ -26,7 +27,7 @@ use ar_value::operator::{
 use ar_value::shape::Shape;
 use std::alloc::{AllocError, Global};
 
-/// A tree of a kind, where its operands are what it wants.
+/// A tree of a kind, where its operands are what it requires.
 pub(crate) fn where_wanted<'s>(
     alloc: Global,
     at: usize,
@@ -35,7 +36,7 @@ pub(crate) fn where_wanted<'s>(
     kind: Kind<'s>,
 ) -> Result<Box<Operand<'s>>, TypeError>
     ensures { Gives is_memory boxed_view result
-        (where_wanted at wanted (typed_view tree.value) (kind_view kind.entry)) }
+        (where_wanted at wanted (typed_view tree.value) (view_of_kind kind.entry)) }
 {
     if wanted {
         given(alloc, tree, kind)
@@ -46,13 +47,13 @@ pub(crate) fn where_wanted<'s>(
 
 /// The kind of booleans.
 pub(crate) fn truth<'s>() -> Kind<'s>
-    ensures { kind_view result ≡ truth_kind }
+    ensures { view_of_kind result ≡ truth_kind }
 {
     Kind::Made(Shape::Bool)
 }
 
 fn number_kind<'s>(numbers: Numbers) -> Kind<'s>
-    ensures { kind_view result ≡ number_kind numbers }
+    ensures { view_of_kind result ≡ number_kind numbers }
 {
     match numbers {
         Numbers::Wholes => Kind::Made(Shape::Whole),
@@ -97,7 +98,8 @@ pub(crate) fn binary<'s>(
     right: Box<Operand<'_>>,
 ) -> Result<Box<Operand<'s>>, TypeError>
     ensures { Gives is_memory boxed_view result
-        (binary_of at operator nil_left nil_right (operand_view left.entry.value) (operand_view right.entry.value)) }
+        (binary_of at operator (side_by nil_left nil_right)
+        (operand_view left.entry.value) (operand_view right.entry.value)) }
 {
     let arithmetic = match operator {
         Binary::Or => return connect(alloc, at, Connective::Or, left, right),
@@ -151,7 +153,7 @@ fn compare<'s>(
     right: Box<Operand<'_>>,
 ) -> Result<Box<Operand<'s>>, TypeError>
     ensures { Gives is_memory boxed_view result
-        (comparison_of at comparison nil_left nil_right
+        (comparison_of at comparison (side_by nil_left nil_right)
         (operand_view left.entry.value) (operand_view right.entry.value)) }
 {
     let wanted = match comparison {
@@ -176,7 +178,7 @@ fn equate<'s>(
     right: Box<Operand<'_>>,
 ) -> Result<Box<Operand<'s>>, TypeError>
     ensures { Gives is_memory boxed_view result
-        (equality_of at nil_left nil_right (operand_view left.entry.value) (operand_view right.entry.value)) }
+        (equality_of at (side_by nil_left nil_right) (operand_view left.entry.value) (operand_view right.entry.value)) }
 {
     let sides = (scalar(&left), scalar(&right));
     let (left, right) = (into_tree(left), into_tree(right));
@@ -205,7 +207,7 @@ pub(crate) fn is_nil_of<'s>(
 }
 
 fn family(scalar: Scalar) -> Family
-    ensures { result ≡ family_in scalar }
+    ensures { result ≡ scalar_family scalar }
 {
     match scalar {
         Scalar::Bool => Family::Truth,
@@ -271,7 +273,7 @@ fn member<'s>(
 
 /// What scalar a list's items are once they are plain.
 fn item_scalar(at: usize, list: &Kind<'_>) -> Result<Option<Scalar>, TypeError>
-    ensures { Gives (λ _. false) (λ scalar. scalar) result (item_scalar at (kind_view list.now)) }
+    ensures { Gives (λ _. false) (λ scalar. scalar) result (item_scalar at (view_of_kind list.now)) }
 {
     Ok(scalar_of(plain(item_shape(at, list)?)))
 }
@@ -344,7 +346,7 @@ fn widened(left: Numbers, right: Numbers) -> Numbers
     }
 }
 
-/// A whole as a decimal, beside decimals.
+/// A whole as a decimal, next to decimals.
 fn among(
     alloc: Global,
     other: Numbers,
@@ -390,7 +392,7 @@ fn compared_of(left: Numbers, right: Numbers) -> Compared
 
 /// Quotients are decimals, also of wholes.
 fn arithmetic_kind<'s>(operator: Arithmetic, numbers: Numbers) -> Kind<'s>
-    ensures { kind_view result ≡ arithmetic_kind operator numbers }
+    ensures { view_of_kind result ≡ arithmetic_kind operator numbers }
 {
     match operator {
         Arithmetic::Divide => Kind::Made(Shape::Decimal),

@@ -9,9 +9,9 @@ ghost use Rattle.ar_tree.specs.Expression.{expressions, BinaryAt, ChoiceAt, Defa
 ghost use Rattle.ar_tree.specs.Views.{expression_of};
 ghost use Rattle.ar_check.specs.Answer.{ChecksTo};
 ghost use Rattle.ar_check.specs.Basics.{literal_kind};
-ghost use Rattle.ar_check.specs.Check.{choice_of, choice_tree, default_kind, default_of, default_tree, field_of, given, index_of, innermost, is_nil_literal, len_of, over_items, plain_kind, predicate_kind, predicate_of};
+ghost use Rattle.ar_check.specs.Check.{choice_of, choice_tree, common_default, default_of, default_tree, field_of, given, index_of, innermost, is_nil_literal, len_of, over_items, plain_kind, predicate_kind, predicate_of};
 ghost use Rattle.ar_check.specs.Operand.{made_plain, operand};
-ghost use Rattle.ar_check.specs.Private.Inside.{boxed_view, inside, item_in, item_view, items_in, kind_view, operand_view, turned_where, typed_in};
+ghost use Rattle.ar_check.specs.Private.Inside.{boxed_view, inside, item_in, item_view, items_in_scope, view_of_kind, operand_view, turned_where, typed_in};
 ghost use Rattle.ar_tree.specs.Typed as typed;
 ghost use Rattle.ar_tree.specs.Views.{typed_view};
 ghost use Rattle.ar_check.specs.Memory.{is_memory};
@@ -38,8 +38,8 @@ use std::alloc::{AllocError, Global};
 ///
 /// # Errors
 ///
-/// The first fault in that order, with the place of the tree that wants something else. At one tree
-/// `NotAList`, `NoSuchField`, `NotScalar` and `NoCommonKind` go before `WrongOperand`. `NotTruth`
+/// The first fault in that order, with the offset of the tree that requires something else. At one tree
+/// `NotAList`, `NoSuchField`, `NotScalar` and `NoCommonKind` take precedence over `WrongOperand`. `NotTruth`
 /// where the whole is no boolean.
 pub fn check(alloc: Global, tree: Tree, shape: &Shape) -> Result<Typed, TypeError>
     ensures { ChecksTo (shape_view shape.now) (expression_of tree) result }
@@ -58,18 +58,18 @@ pub fn check(alloc: Global, tree: Tree, shape: &Shape) -> Result<Typed, TypeErro
     }
 }
 
-/// What the names of a condition stand for at a place.
+/// What the names of a condition refer to at a point.
 #[derive(Clone, Copy)]
 pub(crate) struct Scope<'s> {
     /// The shape of `result`.
     pub measured: &'s Shape,
     /// The shape of the innermost item.
     pub item: Option<&'s Shape>,
-    /// How many predicates stand around the place.
+    /// How many predicates enclose this point.
     pub around: usize,
 }
 
-/// A tree where `result` has a shape, and so has the innermost item, inside so many predicates.
+/// A tree where `result` has a shape, and so has the innermost item, inside n predicates.
 #[cycle(typed)]
 fn typed<'s>(alloc: Global, tree: Tree, scope: &Scope<'s>) -> Result<Box<Operand<'s>>, TypeError>
     ensures { Gives is_memory boxed_view result (typed_in scope.now (expression_of tree)) }
@@ -260,7 +260,7 @@ fn typed_choice<'s>(
     choice_of(alloc, at, condition, yes, no)
 }
 
-/// An operand, or what stands in where it is nil.
+/// An operand, or its replacement where it is nil.
 #[cycle(typed)]
 fn typed_default<'s>(
     alloc: Global,
@@ -300,7 +300,7 @@ fn typed_predicate<'s>(
 #[tactic(auto, using(crate::proofs::Items::all_left))]
 fn typed_items(alloc: Global, trees: Vec<Tree>, scope: &Scope<'_>) -> Result<Vec<Item>, TypeError>
     ensures { Gives is_memory (λ items. map item_view items.items) result
-        (items_in scope.now (expressions (map expression_of trees.items))) }
+        (items_in_scope scope.now (expressions (map expression_of trees.items))) }
 {
     let mut items = Vec::with_capacity(alloc, trees.len())?;
     for tree in trees {
@@ -331,7 +331,7 @@ fn typed_body(
     scope: &Scope<'_>,
 ) -> Result<(bool, Box<Typed>), TypeError>
     ensures { Gives is_memory (λ found. (found.0, typed_view found.1.value)) result
-        (over_items at scope.now.around (kind_view list.now)
+        (over_items at scope.now.around (view_of_kind list.now)
         (λ shape. inside scope.now shape (expression_of body.value))) }
 {
     let shape = item_shape(at, list)?;
@@ -342,7 +342,7 @@ fn typed_body(
     Ok(as_truth(alloc, child(alloc, body, &inside)?)?)
 }
 
-/// What names stand for where a predicate speaks of an item, inside so many predicates.
+/// What names refer to where a predicate speaks of an item, inside `around` predicates.
 pub(crate) fn in_predicate<'s>(scope: &Scope<'s>, item: &'s Shape, around: usize) -> Scope<'s>
     ensures measured { shape_view result.measured.now ≡ shape_view scope.now.measured.now }
     ensures item { option_map (λ shape. shape_view shape.now) result.item ≡ Some (shape_view item.now) }
@@ -377,7 +377,7 @@ fn item_of<'s>(
 
 /// The kind of the innermost item.
 fn innermost_kind(at: usize, item: Option<&Shape>) -> Result<Kind<'_>, TypeError>
-    ensures { Gives (λ _. false) (λ kind. operand typed.item (kind_view kind)) result
+    ensures { Gives (λ _. false) (λ kind. operand typed.item (view_of_kind kind)) result
         (innermost at (option_map (λ shape. shape_view shape.now) item.entry)) }
 {
     match item {
@@ -516,7 +516,7 @@ fn choice_tree(
     node(alloc, Typed::Choice { condition, yes, no })
 }
 
-/// An operand, or what stands in where it is nil.
+/// An operand, or its replacement where it is nil.
 fn default_of<'s>(
     alloc: Global,
     at: usize,
@@ -567,7 +567,7 @@ fn default_kind<'s>(
     other: Kind<'s>,
 ) -> Result<Option<Kind<'s>>, AllocError>
     ensures { IfOk result
-        (λ kind. option_map kind_view kind ≡ default_kind (kind_view plain.entry) (kind_view other.entry)) }
+        (λ kind. option_map view_of_kind kind ≡ common_default (view_of_kind plain.entry) (view_of_kind other.entry)) }
 {
     if matches!(plain, Kind::Nil) {
         return Ok(Some(other));
@@ -618,7 +618,7 @@ fn predicate_kind<'s>(
     over: Predicate,
     list: &Kind<'s>,
 ) -> Result<Kind<'s>, AllocError>
-    ensures { IfOk result (λ kind. kind_view kind ≡ predicate_kind over (plain_kind (kind_view list.now))) }
+    ensures { IfOk result (λ kind. view_of_kind kind ≡ predicate_kind over (plain_kind (view_of_kind list.now))) }
 {
     match over {
         Predicate::All | Predicate::Any | Predicate::None | Predicate::One => Ok(truth()),

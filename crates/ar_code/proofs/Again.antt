@@ -49,7 +49,7 @@ cut_groups zero n rest =
     rw ends refl
 cut_groups (suc more) n rest = cut_by more n rest (ltb n 128) refl (λ m. cut_groups more m rest)
 
--- how many numbers have no more bytes than so many after the first
+-- how many numbers have at most n bytes after the first
 abbrev room : ℕ → ℕ
 room zero = 128
 room (suc more) = 128 * room more
@@ -232,7 +232,7 @@ text_again end text rest short utf8 =
     let long : ltb (length (text ++ rest)) (length text) ≡ false = le-ltb (length (text ++ rest)) (length text) (omega (arith, length-append text rest)) in
     rw (append_assoc (number (length text)) text rest, count_again end (length text) (text ++ rest) short, long, take_at text rest (length text) refl, drop_at text rest (length text) refl, utf8) refl
 
--- so many things are read again, if each of them is
+-- n things are read again, if each of them is
 many_again : {A : Type 0} (image : A → List ℕ) (P Q : A → Type 0) (one : List ℕ → Reading A) (many : ℕ → List ℕ → Reading (List A)) → Reads one many → ((x : A) (rest : List ℕ) → P x → Q x → one (image x ++ rest) ≡ Ok (x, rest))
     → (xs : List A) (rest : List ℕ) → AllByRecursion P xs → AllByRecursion Q xs → many (length xs) (flat_map image xs ++ rest) ≡ Ok (xs, rest)
 many_again image P Q one many reads each [] rest p q = reads.none rest

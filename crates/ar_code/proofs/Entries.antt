@@ -13,7 +13,7 @@ entry_there f xs n x within is = ap f is ∙ sym (get_or-map f xs n x [] within)
 pub no_entry : {A : Type 0} (f : A → List ℕ) (xs : List A) (n : ℕ) → length xs ≤ n → [] ≡ get_or (map f xs) n []
 no_entry f xs n past = sym (get_or_past (map f xs) n [] (rw (length-map xs f) past))
 
--- one more line stands after those that were written
+-- one more line comes after those that were written
 pub next_line : (code : Code) (ops : List Op) (place : ℕ) (op : Op) (written total : List ℕ) → place < length ops → op ≡ slice_index_or ops place op → written ++ lines code place (drop place ops) ≡ total
     → (written ++ line code place op) ++ lines code (place + 1) (drop (place + 1) ops) ≡ total
 next_line code ops place op written total within is so_far =

@@ -16,7 +16,7 @@ regroup : {A : Type 0} (front : List A) (first : A) (read : Reading (List A)) �
 regroup front first (Ok x) = ap (λ (xs : List _). Ok (xs, x.1)) (simp append_assoc)
 regroup front first (Err f) = refl
 
--- readers of so many things of a kind
+-- readers of n things of a kind
 pub record Reads {A : Type 0} (one : List ℕ → Reading A) (many : ℕ → List ℕ → Reading (List A)) : Type 0 where
   pub none : (bytes : List ℕ) → many 0 bytes ≡ Ok ([], bytes)
   pub more : (n : ℕ) (bytes : List ℕ) → many (suc n) bytes ≡ (one bytes >>= λ first. many n first.1 >>= λ others. Ok (first.0 ∷ others.0, others.1))

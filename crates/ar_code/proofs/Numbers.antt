@@ -6,7 +6,7 @@ use Rattle.std.specs.Bool.{Decides}
 use Rattle.std.proofs.lemmas.Slice.Eq.{bytes_eq-Decides}
 use Rattle.ar_code.specs.Image.{groups}
 
--- what stands in front of a number's bytes
+-- what comes before a number's bytes
 abbrev pub with_front : List ℕ → Option (List ℕ × List ℕ) → Option (List ℕ × List ℕ)
 with_front front cut = option_map (λ cut. (front ++ cut.0, cut.1)) cut
 

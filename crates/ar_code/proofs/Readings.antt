@@ -46,13 +46,13 @@ if_holds : {A : Type 0} (P : A → Type 0) (b : Bool) (e : ImageError) (r : Resu
 if_holds P true e r fault holds = holds refl
 if_holds P false e r fault holds = fault
 
--- what was read stands before the bytes after it
+-- what was read comes before the bytes after it
 abbrev Takes : {A : Type 0} → (A → List ℕ) → List ℕ → A × List ℕ → Type 0
 Takes image bytes x = bytes ≡ image x.0 ++ x.1
 
 -- ---- numbers
 
--- the bytes of a number stand before those after it
+-- the bytes of a number come before those after it
 abbrev IsCut : List ℕ → Option (List ℕ × List ℕ) → Type 0
 IsCut bytes None = Unit {0}
 IsCut bytes (Some cut) = bytes ≡ cut.0 ++ cut.1
@@ -126,7 +126,7 @@ entry_read end at count bytes =
 abbrev IsShort : List ℕ → List ℕ × List ℕ → Type 0
 IsShort bytes text = Takes string bytes text × IsEntry text.0
 
--- so many bytes, as a text of that length
+-- n bytes, as a text of that length
 abbrev IsOfLength : ℕ → List ℕ → List ℕ × List ℕ → Type 0
 IsOfLength len bytes text = (bytes ≡ text.0 ++ text.1) × (length text.0 ≡ len)
 
@@ -150,7 +150,7 @@ text_read end bytes =
     (λ len count. implied (IsOfLength len.0 len.1) (IsShort bytes) (letters_at end len.0 len.1) (letters_read end len.0 len.1)
     (λ text is. (counted text.0 len.0 text.0 text.1 len.1 bytes count.0 is.0 is.1, omega (arith, count.1, is.1))))
 
--- so many things, one after another
+-- n things, one after another
 abbrev IsOne : {A : Type 0} → (A → List ℕ) → (A → Type 0) → List ℕ → A × List ℕ → Type 0
 IsOne image P bytes x = Takes image bytes x × P x.0
 

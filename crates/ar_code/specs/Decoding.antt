@@ -1,6 +1,7 @@
 -- The code whose image bytes are, or the first fault from left to right.
 use Rattle.std.specs.Prelude.{ℕ, zero, suc, ◌+◌, ◌*◌, ◌-◌, ◌/◌, ◌%◌, ◌^◌, ◌==◌, nat_lt, ℤ, pos, negsuc, Bool, true, false, ◌&&◌, if◌then◌else◌, List, [], ◌∷◌, length, take, drop, Option, Some, None, option_map, Result, Ok, Err, ⊤}
 use Rattle.std.specs.Str.{bytes_eq, is_utf8}
+use Rattle.ar_value.specs.Terms.{Text}
 use Rattle.ar_value.specs.Answer.{◌>>=◌, holds_or}
 use Rattle.ar_value.specs.declared.operator.Arithmetic.TheVariants.{Add, Subtract, Multiply, Divide, Remainder}
 use Rattle.ar_value.specs.declared.operator.BinaryOperator.TheVariants as binary
@@ -28,8 +29,8 @@ use Rattle.ar_code.specs.declared.version.Version.TheVariants.{First, Second}
 use Rattle.ar_code.specs.declared.error.ImageError.{ImageError}
 use Rattle.ar_code.specs.declared.error.ImageError.TheVariants.{BadMagic, BadVersion, Truncated, BadNumber, UnknownOp, BadText, TooLarge, Trailing, OutOfMemory}
 
--- What is read is a value and the bytes after it. Where an input ends at a place, what begins with so many bytes of it
--- stands at the place before these.
+-- What is read is a value and the bytes after it. Where an input ends at an offset, what begins with the last n bytes
+-- of it is n bytes before that offset.
 abbrev pub Reading : Type 0 → Type 0
 Reading A = Result (A × List ℕ) ImageError
 
@@ -45,7 +46,8 @@ byte_at end (byte ∷ bytes) = Ok (byte, bytes)
 -- the bytes of a number, and those after it: the last is the first one below 128
 abbrev pub cut_number : List ℕ → Option (List ℕ × List ℕ)
 cut_number [] = None
-cut_number (byte ∷ bytes) = if nat_lt byte 128 then Some (byte ∷ [], bytes) else option_map (λ cut. (byte ∷ cut.0, cut.1)) (cut_number bytes)
+cut_number (byte ∷ bytes) =
+    if nat_lt byte 128 then Some (byte ∷ [], bytes) else option_map (λ cut. (byte ∷ cut.0, cut.1)) (cut_number bytes)
 
 -- seven bits a byte, the lowest first
 abbrev pub sum_of : List ℕ → ℕ
@@ -54,7 +56,8 @@ sum_of (byte ∷ bytes) = byte % 128 + 128 * sum_of bytes
 
 -- the number below a limit whose one form bytes are
 abbrev pub spelled : (limit : ℕ) → List ℕ → Option ℕ
-spelled limit text = if nat_lt (sum_of text) limit && bytes_eq (number (sum_of text)) text then Some (sum_of text) else None
+spelled limit text =
+    if nat_lt (sum_of text) limit && bytes_eq (number (sum_of text)) text then Some (sum_of text) else None
 
 abbrev pub where_spelled : (at : ℕ) → Option ℕ → List ℕ → Reading ℕ
 where_spelled at None bytes = Err (BadNumber at)
@@ -67,7 +70,7 @@ whole_number end at limit (Some cut) = where_spelled at (spelled limit cut.0) cu
 unfoldable pub number_at : ℕ → (limit : ℕ) → List ℕ → Reading ℕ
 number_at end limit bytes = whole_number end (place end bytes) limit (cut_number bytes)
 
--- counts and signed numbers have 64 bits, numbers of texts, names and places 32
+-- counts and signed numbers have 64 bits, numbers of texts, names and indexes 32
 abbrev pub wide : ℕ
 wide = 2 ^ 64
 
@@ -93,9 +96,11 @@ abbrev pub where_text : (at : ℕ) → Option (List ℕ) → List ℕ → Readin
 where_text at None bytes = Err (BadText at)
 where_text at (Some letters) bytes = Ok (letters, bytes)
 
--- so many bytes, which have to be UTF-8
+-- `len` bytes, which have to be UTF-8
 abbrev pub letters_at : ℕ → (len : ℕ) → List ℕ → Reading (List ℕ)
-letters_at end len bytes = if nat_lt (length bytes) len then Err (Truncated end) else where_text (place end bytes) (text_of (take len bytes)) (drop len bytes)
+letters_at end len bytes =
+    if nat_lt (length bytes) len then Err (Truncated end)
+    else where_text (place end bytes) (text_of (take len bytes)) (drop len bytes)
 
 unfoldable pub text_at : ℕ → List ℕ → Reading (List ℕ)
 text_at end bytes = count_at end bytes >>= λ len. letters_at end len.0 len.1
@@ -115,22 +120,30 @@ texts_at end bytes = count_at end bytes >>= λ count. so_many_texts end count.0 
 -- one operation for each code, in their order, its fields being empty
 abbrev pub all_ops : List Op
 all_ops =
-    Push (sources.Bool false) ∷ Push (sources.Whole (pos 0)) ∷ Push (sources.Decimal (pos 0)) ∷ Push (sources.Text 0) ∷ Push sources.Nil ∷ MakeList scalars.Bool 0
-    ∷ Push sources.Result ∷ Push sources.Item ∷ Field 0 ∷ Binary binary.Index ∷ Unary unary.Len ∷ Unary unary.Need ∷ Unary unary.IsNil ∷ Binary binary.Default
+    Push (sources.Bool false) ∷ Push (sources.Whole (pos 0)) ∷ Push (sources.Decimal (pos 0)) ∷ Push (sources.Text 0)
+    ∷ Push sources.Nil ∷ MakeList scalars.Bool 0
+    ∷ Push sources.Result ∷ Push sources.Item ∷ Field 0 ∷ Binary binary.Index ∷ Unary unary.Len ∷ Unary unary.Need
+    ∷ Unary unary.IsNil ∷ Binary binary.Default
     ∷ Unary unary.ToDecimal ∷ Binary binary.IsIn ∷ Unary unary.Not
-    ∷ Binary (binary.Wholes Add) ∷ Binary (binary.Wholes Subtract) ∷ Binary (binary.Wholes Multiply) ∷ Binary (binary.Wholes Divide) ∷ Binary (binary.Wholes Remainder)
+    ∷ Binary (binary.Wholes Add) ∷ Binary (binary.Wholes Subtract) ∷ Binary (binary.Wholes Multiply)
+    ∷ Binary (binary.Wholes Divide) ∷ Binary (binary.Wholes Remainder)
     ∷ Unary (unary.Negate Wholes)
-    ∷ Binary (binary.Decimals on_decimals.Add) ∷ Binary (binary.Decimals on_decimals.Subtract) ∷ Binary (binary.Decimals on_decimals.Multiply) ∷ Binary (binary.Decimals on_decimals.Divide)
+    ∷ Binary (binary.Decimals on_decimals.Add) ∷ Binary (binary.Decimals on_decimals.Subtract)
+    ∷ Binary (binary.Decimals on_decimals.Multiply) ∷ Binary (binary.Decimals on_decimals.Divide)
     ∷ Unary (unary.Negate Decimals)
-    ∷ Binary (binary.Compare compared.Wholes Less) ∷ Binary (binary.Compare compared.Wholes LessOrEqual) ∷ Binary (binary.Compare compared.Wholes Greater) ∷ Binary (binary.Compare compared.Wholes GreaterOrEqual)
-    ∷ Binary (binary.Compare compared.Decimals Less) ∷ Binary (binary.Compare compared.Decimals LessOrEqual) ∷ Binary (binary.Compare compared.Decimals Greater) ∷ Binary (binary.Compare compared.Decimals GreaterOrEqual)
-    ∷ Binary (binary.Compare compared.Mixed Less) ∷ Binary (binary.Compare compared.Mixed LessOrEqual) ∷ Binary (binary.Compare compared.Mixed Greater) ∷ Binary (binary.Compare compared.Mixed GreaterOrEqual)
+    ∷ Binary (binary.Compare compared.Wholes Less) ∷ Binary (binary.Compare compared.Wholes LessOrEqual)
+    ∷ Binary (binary.Compare compared.Wholes Greater) ∷ Binary (binary.Compare compared.Wholes GreaterOrEqual)
+    ∷ Binary (binary.Compare compared.Decimals Less) ∷ Binary (binary.Compare compared.Decimals LessOrEqual)
+    ∷ Binary (binary.Compare compared.Decimals Greater) ∷ Binary (binary.Compare compared.Decimals GreaterOrEqual)
+    ∷ Binary (binary.Compare compared.Mixed Less) ∷ Binary (binary.Compare compared.Mixed LessOrEqual)
+    ∷ Binary (binary.Compare compared.Mixed Greater) ∷ Binary (binary.Compare compared.Mixed GreaterOrEqual)
     ∷ Binary (binary.Equal families.Truth) ∷ Binary (binary.Equal families.Number) ∷ Binary (binary.Equal families.Text)
     ∷ Jump jumps.And 0 ∷ Jump jumps.Or 0 ∷ Jump jumps.Branch 0 ∷ Jump jumps.Always 0
     ∷ Enter predicates.All 0 ∷ Step predicates.All 0 ∷ Enter predicates.Any 0 ∷ Step predicates.Any 0
     ∷ Enter predicates.Count 0 ∷ Step predicates.Count 0 ∷ Enter predicates.Filter 0 ∷ Step predicates.Filter 0 ∷ Return
     ∷ Enter predicates.None 0 ∷ Step predicates.None 0 ∷ Enter predicates.One 0 ∷ Step predicates.One 0
-    ∷ Binary (binary.TextTest tests.Contains) ∷ Binary (binary.TextTest tests.StartsWith) ∷ Binary (binary.TextTest tests.EndsWith) ∷ []
+    ∷ Binary (binary.TextTest tests.Contains) ∷ Binary (binary.TextTest tests.StartsWith)
+    ∷ Binary (binary.TextTest tests.EndsWith) ∷ []
 
 abbrev pub among : List Op → ℕ → Option Op
 among [] code = None
@@ -166,17 +179,19 @@ items_at end bytes = do
   n ← number_at end wide bytes
   if nat_lt most_literal_items n.0 then Err (BadNumber (place end bytes)) else Ok n
 
--- a number of something that there are so many of, in an operation at a place
+-- a number of one of `count` entries, in an operation at an offset
 unfoldable pub entry_at : ℕ → (at count : ℕ) → List ℕ → Reading ℕ
 entry_at end at count bytes = do
   n ← number_at end narrow bytes
   if nat_lt n.0 count then Ok n else Err (BadText at)
 
--- a source with the field that stands after its code, in the operation at a place of code with so many texts
+-- a source with the field that comes after its code, in the operation at an offset of code with n texts
 unfoldable pub source_at : ℕ → (at texts : ℕ) → Source → List ℕ → Reading Source
 source_at end at texts (sources.Bool empty) bytes = bit_at end bytes >>= λ holds. Ok (sources.Bool holds.0, holds.1)
-source_at end at texts (sources.Whole empty) bytes = number_at end wide bytes >>= λ n. Ok (sources.Whole (signed n.0), n.1)
-source_at end at texts (sources.Decimal empty) bytes = number_at end wide bytes >>= λ n. Ok (sources.Decimal (signed n.0), n.1)
+source_at end at texts (sources.Whole empty) bytes =
+    number_at end wide bytes >>= λ n. Ok (sources.Whole (signed n.0), n.1)
+source_at end at texts (sources.Decimal empty) bytes =
+    number_at end wide bytes >>= λ n. Ok (sources.Decimal (signed n.0), n.1)
 source_at end at texts (sources.Text empty) bytes = entry_at end at texts bytes >>= λ n. Ok (sources.Text n.0, n.1)
 source_at end at texts source bytes = Ok (source, bytes)
 
@@ -186,14 +201,17 @@ list_at end bytes = do
   count ← items_at end scalar.1
   Ok (MakeList scalar.0 count.0, count.1)
 
--- the operation at a place with the fields that stand after its code, in code with so many texts and names
+-- the operation at an offset with the fields that come after its code, in code with n texts and m names
 unfoldable pub fields_at : ℕ → (at texts names : ℕ) → Op → List ℕ → Reading Op
-fields_at end at texts names (Push source) bytes = source_at end at texts source bytes >>= λ source. Ok (Push source.0, source.1)
+fields_at end at texts names (Push source) bytes =
+    source_at end at texts source bytes >>= λ source. Ok (Push source.0, source.1)
 fields_at end at texts names (MakeList scalar empty) bytes = list_at end bytes
 fields_at end at texts names (Field empty) bytes = entry_at end at names bytes >>= λ n. Ok (Field n.0, n.1)
 fields_at end at texts names (Jump jump empty) bytes = number_at end narrow bytes >>= λ n. Ok (Jump jump n.0, n.1)
-fields_at end at texts names (Enter predicate empty) bytes = number_at end narrow bytes >>= λ n. Ok (Enter predicate n.0, n.1)
-fields_at end at texts names (Step predicate empty) bytes = number_at end narrow bytes >>= λ n. Ok (Step predicate n.0, n.1)
+fields_at end at texts names (Enter predicate empty) bytes =
+    number_at end narrow bytes >>= λ n. Ok (Enter predicate n.0, n.1)
+fields_at end at texts names (Step predicate empty) bytes =
+    number_at end narrow bytes >>= λ n. Ok (Step predicate n.0, n.1)
 fields_at end at texts names op bytes = Ok (op, bytes)
 
 abbrev pub coded : ℕ → (at texts names : ℕ) → Option Op → List ℕ → Reading Op
@@ -214,11 +232,12 @@ so_many_ops end version texts names (suc count) bytes = do
 
 -- ---- images
 
--- bytes that have to stand there, one by one
+-- bytes that are required there, one by one
 abbrev pub expected : ℕ → (error : ImageError) → List ℕ → List ℕ → Result (List ℕ) ImageError
 expected end error [] bytes = Ok bytes
 expected end error (wanted ∷ others) [] = Err (Truncated end)
-expected end error (wanted ∷ others) (byte ∷ bytes) = if byte == wanted then expected end error others bytes else Err error
+expected end error (wanted ∷ others) (byte ∷ bytes) =
+    if byte == wanted then expected end error others bytes else Err error
 
 abbrev pub version_named : ℕ → Option Version
 version_named zero = None

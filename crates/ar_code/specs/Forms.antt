@@ -1,5 +1,6 @@
 -- What operations are but for their fields: a row for each, with its code in images and its name in listings.
-use Rattle.std.specs.Prelude.{ℕ, List, codes}
+use Rattle.std.specs.Prelude.{ℕ, codes}
+use Rattle.ar_value.specs.Terms.{Text}
 use Rattle.ar_value.specs.declared.operator.Arithmetic.{Arithmetic}
 use Rattle.ar_value.specs.declared.operator.Arithmetic.TheVariants.{Add, Subtract, Multiply, Divide, Remainder}
 use Rattle.ar_value.specs.declared.operator.BinaryOperator.{BinaryOperator}
@@ -28,9 +29,9 @@ use Rattle.ar_op.specs.declared.op.Source.TheVariants as sources
 
 pub record Row : Type 0 where
   pub code : ℕ
-  pub name : List ℕ
+  pub name : Text
 
-abbrev pub row : ℕ → List ℕ → Row
+abbrev pub row : ℕ → Text → Row
 row code name = record { code = code; name = name }
 
 abbrev pub source_row : Source → Row
@@ -134,5 +135,5 @@ row_of ops.Return = row 56 (codes "Return")
 abbrev pub code_of : Op → ℕ
 code_of op = (row_of op).code
 
-abbrev pub name_of : Op → List ℕ
+abbrev pub name_of : Op → Text
 name_of op = (row_of op).name

@@ -1,6 +1,7 @@
--- The image of code: the bytes that stand for it, each code having one.
+-- The image of code: the bytes that represent it, each code having one.
 use Rattle.std.specs.Prelude.{ℕ, zero, suc, ◌+◌, ◌*◌, ◌/◌, ◌%◌, nat_lt, ℤ, pos, negsuc, Bool, true, false, if◌then◌else◌, List, [], ◌∷◌, ◌++◌, length}
 use Rattle.std.specs.List.{flat_map, list_any}
+use Rattle.ar_value.specs.Terms.{Text}
 use Rattle.ar_value.specs.declared.operator.Scalar.{Scalar}
 use Rattle.ar_value.specs.declared.operator.Scalar.TheVariants as scalars
 use Rattle.ar_op.specs.Code.{Code}
@@ -15,7 +16,7 @@ use Rattle.ar_code.specs.Forms.{code_of}
 
 -- ---- numbers and texts
 
--- seven bits a byte, the lowest first, each byte but the last with 128 more; at most so many bytes after the first
+-- seven bits a byte, the lowest first, each byte but the last with 128 more; at most `more` bytes after the first
 abbrev pub groups : ℕ → ℕ → List ℕ
 groups zero n = n % 128 ∷ []
 groups (suc more) n = if nat_lt n 128 then n ∷ [] else (128 + n % 128) ∷ groups more (n / 128)
@@ -30,10 +31,10 @@ zigzag (pos n) = 2 * n
 zigzag (negsuc n) = 2 * n + 1
 
 -- a text's length and its bytes
-abbrev pub string : List ℕ → List ℕ
+abbrev pub string : Text → List ℕ
 string letters = number (length letters) ++ letters
 
-abbrev pub strings : List (List ℕ) → List ℕ
+abbrev pub strings : List Text → List ℕ
 strings texts = number (length texts) ++ flat_map string texts
 
 -- ---- operations

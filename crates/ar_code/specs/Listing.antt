@@ -1,6 +1,8 @@
--- The listing of code: a line for each operation, with its place, its name and its fields.
+-- The listing of code: a line for each operation, with its index, its name and its fields.
 use Rattle.std.specs.Prelude.{ℕ, suc, Bool, true, false, List, [], ◌∷◌, ◌++◌, codes, decimal, get_or}
 use Rattle.std.specs.Fmt.{signed_decimal}
+use Rattle.ar_value.specs.Bytes.{byte_of}
+use Rattle.ar_value.specs.Terms.{Index, Text}
 use Rattle.ar_value.specs.declared.operator.Scalar.{Scalar}
 use Rattle.ar_value.specs.declared.operator.Scalar.TheVariants as scalars
 use Rattle.ar_op.specs.Code.{Code}
@@ -11,27 +13,27 @@ use Rattle.ar_op.specs.declared.op.Source.{Source}
 use Rattle.ar_op.specs.declared.op.Source.TheVariants as sources
 use Rattle.ar_code.specs.Forms.{name_of}
 
-abbrev pub scalar_name : Scalar → List ℕ
+abbrev pub scalar_name : Scalar → Text
 scalar_name scalars.Bool = codes "bool"
 scalar_name scalars.Whole = codes "whole"
 scalar_name scalars.Decimal = codes "decimal"
 scalar_name scalars.Text = codes "text"
 
-abbrev pub truth_name : Bool → List ℕ
+abbrev pub truth_name : Bool → Text
 truth_name true = codes "true"
 truth_name false = codes "false"
 
 abbrev pub space : ℕ
-space = 32
+space = byte_of (codes " ")
 
 abbrev pub line_feed : ℕ
-line_feed = 10
+line_feed = byte_of (codes "\n")
 
 -- the number of an entry of a table, and the entry itself; in code there is one for each number
-abbrev pub numbered : List (List ℕ) → ℕ → List ℕ
+abbrev pub numbered : List Text → ℕ → Text
 numbered texts n = space ∷ (decimal n ++ (space ∷ get_or texts n []))
 
-abbrev pub source_text : Code → Source → List ℕ
+abbrev pub source_text : Code → Source → Text
 source_text code (sources.Bool holds) = space ∷ truth_name holds
 source_text code (sources.Whole value) = space ∷ signed_decimal value
 source_text code (sources.Decimal millionths) = space ∷ signed_decimal millionths
@@ -39,7 +41,7 @@ source_text code (sources.Text number) = numbered code.texts number
 source_text code source = []
 
 -- what comes after an operation's name
-abbrev pub fields_text : Code → Op → List ℕ
+abbrev pub fields_text : Code → Op → Text
 fields_text code (ops.Push source) = source_text code source
 fields_text code (ops.MakeList scalar count) = space ∷ (scalar_name scalar ++ (space ∷ decimal count))
 fields_text code (ops.Field number) = numbered code.names number
@@ -48,13 +50,13 @@ fields_text code (ops.Enter predicate step) = space ∷ decimal step
 fields_text code (ops.Step predicate enter) = space ∷ decimal enter
 fields_text code op = []
 
-abbrev pub line : Code → (place : ℕ) → Op → List ℕ
+abbrev pub line : Code → (place : Index) → Op → Text
 line code place op = decimal place ++ (space ∷ (name_of op ++ (fields_text code op ++ line_feed ∷ [])))
 
--- the lines of operations, the first of which stands at a place
-abbrev pub lines : Code → (place : ℕ) → List Op → List ℕ
+-- the lines of operations, the first of which is at `place`
+abbrev pub lines : Code → (place : Index) → List Op → Text
 lines code place [] = []
 lines code place (op ∷ ops) = line code place op ++ lines code (suc place) ops
 
-abbrev pub listing : Code → List ℕ
+abbrev pub listing : Code → Text
 listing code = lines code 0 code.ops

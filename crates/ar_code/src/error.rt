@@ -3,7 +3,7 @@
 use std::alloc::{AllocError, AllocFailed};
 use thiserror::Error;
 
-/// Why bytes are no image of code. Places are byte offsets from 0.
+/// Why bytes are no image of code. Numbers are byte offsets from 0.
 #[derive(Clone, Copy, Debug, Error)]
 pub enum ImageError {
     /// The bytes don't begin with "ARCV".
@@ -25,7 +25,7 @@ pub enum ImageError {
     /// A count, or the length of a text.
     #[error("TooLarge: expected at most 4096 operations, texts and names, and 4096 bytes a text")]
     TooLarge,
-    /// Bytes stand after the last operation.
+    /// There are bytes after the last operation.
     #[error("byte {0}: Trailing: expected the end of the image")]
     Trailing(usize),
     #[error("out of memory")]

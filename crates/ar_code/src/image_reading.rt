@@ -69,7 +69,7 @@ fn items_at(end: usize, bytes: &[u8]) -> Result<(u8, &[u8]), ImageError>
     Ok((count as u8, rest))
 }
 
-/// The number of something that there are so many of, in the operation at a place.
+/// The number of one of `count` entries, in the operation at the offset `at`.
 #[tactic(auto, unfolding(crate::specs::Decoding::entry_at))]
 fn entry_at(end: usize, at: usize, count: usize, bytes: &[u8]) -> Result<(u32, &[u8]), ImageError>
     requires { length bytes.now ≤ end }
@@ -90,7 +90,7 @@ struct Tables {
     names: usize,
 }
 
-/// A source with the field that stands after its code.
+/// A source with the field that comes after its code.
 #[tactic(auto, unfolding(crate::specs::Decoding::source_at))]
 fn source_at(
     end: usize,
@@ -136,7 +136,7 @@ fn list_at(end: usize, bytes: &[u8]) -> Result<(Op, &[u8]), ImageError>
     Ok((Op::MakeList { scalar, count }, rest))
 }
 
-/// An operation with the fields that stand after its code.
+/// An operation with the fields that come after its code.
 #[tactic(auto, unfolding(crate::specs::Decoding::fields_at))]
 fn fields_at(
     end: usize,
@@ -197,7 +197,7 @@ fn op_at(
     }
 }
 
-/// So many operations.
+/// `count` operations.
 fn ops_at(
     alloc: Global,
     end: usize,
@@ -233,7 +233,7 @@ fn text_at(alloc: Global, end: usize, bytes: &[u8]) -> Result<(String, &[u8]), I
     Ok((String::from_str(alloc, letters)?, after))
 }
 
-/// So many bytes, which have to be UTF-8.
+/// `len` bytes, which have to be UTF-8.
 fn letters_at(end: usize, len: usize, bytes: &[u8]) -> Result<(&str, &[u8]), ImageError>
     requires { length bytes.now ≤ end }
     ensures exact { Gives (λ _. false) (λ read. (read.0.now, read.1.now)) result (letters_at end len bytes.now) }
@@ -260,7 +260,7 @@ fn as_text(bytes: &[u8]) -> Option<&str>
     }
 }
 
-/// So many texts.
+/// `count` texts.
 fn so_many_texts(
     alloc: Global,
     end: usize,
@@ -294,7 +294,7 @@ fn texts_at(alloc: Global, end: usize, bytes: &[u8]) -> Result<(Vec<String>, &[u
     so_many_texts(alloc, end, count, rest)
 }
 
-/// Bytes that have to stand there, one by one.
+/// Bytes that are required there, one by one.
 fn expected<'b>(
     end: usize,
     wanted: &[u8],
@@ -355,7 +355,7 @@ fn parts_at(
 ///
 /// # Errors
 ///
-/// The first fault from left to right, with its place.
+/// The first fault from left to right, with its offset.
 pub fn decode(alloc: Global, bytes: &[u8]) -> Result<Code, ImageError>
     // This code, or this fault.
     ensures exact { Gives is_memory (λ code. code) result (decoded bytes.now) }

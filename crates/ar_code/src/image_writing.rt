@@ -17,10 +17,10 @@ use std::alloc::{AllocError, Global};
 /// What an image begins with.
 pub(crate) const MAGIC: [u8; 4] = *b"ARCV";
 
-/// How many bytes stand after the first of a number at most.
+/// How many bytes at most come after the first of a number.
 const MORE_NUMBER_BYTES: usize = 9;
 
-/// Seven bits a byte, the lowest first, in at most so many bytes after the first.
+/// Seven bits a byte, the lowest first, in at most `more` bytes after the first.
 #[tactic(auto, using(crate::proofs::Joins::one_more, crate::proofs::Joins::more_groups))]
 fn put_groups(out: &mut Vec<u8>, more: usize, n: u64) -> Result<(), AllocError>
     ensures { OnOk result (out.new.items ≡ out.old.items ++ groups more n) }

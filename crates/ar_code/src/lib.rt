@@ -2,9 +2,9 @@
 //!
 //! Code is a list of operations with the texts and names that they speak of by number, which
 //! `ar_op` has. An image is the one form of a code as bytes, which `specs/Image` defines: [`encode`]
-//! writes it, and [`decode`] reads it or answers the first fault from left to right, as
+//! writes it, and [`decode`] reads it or returns the first fault from left to right, as
 //! `specs/Decoding` defines it. What is accepted is the image of what was read, and the image of each
-//! code is accepted. Only out of memory can keep the two from their answers.
+//! code is accepted. Only out of memory can keep the two from their results.
 //!
 //! - `form`: the codes and the names of operations; `version`: the versions of images
 //! - `image_writing`, `image_reading`: images; `reader`: numbers in them

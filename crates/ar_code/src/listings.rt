@@ -75,7 +75,7 @@ fn put_line(out: &mut String, code: &Code, place: usize, op: Op) -> Result<(), A
     out.push('\n')
 }
 
-/// The listing of code: a line for each operation, with its place, its name and its fields, one space
+/// The listing of code: a line for each operation, with its index, its name and its fields, one space
 /// between, and the text itself after a text's or name's number. A text is listed as it is.
 ///
 /// # Errors

@@ -1,5 +1,5 @@
-//! Reading numbers from bytes. A reader is handed the bytes that are left and the length of all of
-//! them, and answers what it read and the bytes after it.
+//! Reading numbers from bytes. A reader gets the bytes that are left and the length of all of
+//! them, and returns what it read and the bytes after it.
 
 ghost use Rattle.std.specs.Prelude.{◌≡◌, ◌≤◌, drop, false, length, option_map, suc, take, IfNone, IfOk, IfSome};
 ghost use Rattle.std.specs.Str.{bytes_eq};
@@ -14,7 +14,7 @@ use ar_value::limits::MOST_CODE_ENTRIES;
 /// How many bytes a number of 64 bits has at most.
 const MOST_NUMBER_BYTES: usize = 10;
 
-/// The place where the bytes that are left begin.
+/// The offset where the bytes that are left begin.
 pub(crate) fn place(end: usize, bytes: &[u8]) -> usize
     requires { length bytes.now ≤ end }
     ensures { result ≡ place end bytes.now }
@@ -59,7 +59,7 @@ fn sum_of(text: &[u8]) -> Option<u64>
     }
 }
 
-/// Whether bytes are the one form of a number, of at most so many bytes after the first.
+/// Whether bytes are the one form of a number, of at most `more` bytes after the first.
 fn is_form_of(text: &[u8], more: usize, n: u64) -> bool
     ensures { result ≡ bytes_eq (groups more n) text.now }
 {

@@ -49,7 +49,7 @@ less_one : (number first : ℕ) (numbers others : List ℕ) (test : Bool) → (f
 less_one number first numbers others true is same = let one = times_by number first numbers true is in let other = times_by number first others true is in omega arith
 less_one number first numbers others false is same = sym (times_by number first numbers false is) ∙ (same ∙ times_by number first others false is)
 
--- rising numbers are those that stand in them
+-- rising numbers are those that are in them
 rising : (numbers others : List ℕ) → Rise numbers → Rise others → ((number : ℕ) → times_in number numbers ≡ times_in number others) → numbers ≡ others
 rising [] [] rise also same = refl
 rising [] (other ∷ others) rise also same = let one = first_once other others (other == other) refl in let none = same other in absurd (omega arith)
@@ -60,7 +60,7 @@ rising (first ∷ numbers) (other ∷ others) rise also same =
     let rest = rising numbers others rise.1 also.1 (λ number. less_one number first numbers others (first == number) refl (moved number)) in
     ap (λ more. first ∷ more) rest ∙ ap (λ o. o ∷ others) (sym is)
 
--- ---- whose numbers stand in a history
+-- ---- whose numbers are in a history
 
 other_by : (number first : ℕ) (numbers : List ℕ) (test : Bool) → (first == number) ≡ test → (first ≡ number → ⊥) → times_in number numbers ≡ 0 → times_in number (first ∷ numbers) ≡ 0
 other_by number first numbers true is unlike rest = absurd (unlike (grind (arith, nat_tests)))

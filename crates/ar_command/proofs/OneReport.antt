@@ -10,8 +10,8 @@ use Rattle.ar_limits.specs.declared.counts.Counts.{Counts}
 use Rattle.ar_limits.specs.declared.event.Effect.{Effect}
 use Rattle.ar_limits.specs.declared.limits.Limits.{Limits}
 use Rattle.ar_limits.specs.declared.phase.Phase.{Phase}
-use Rattle.ar_judge.specs.Built.{Condition}
-use Rattle.ar_judge.specs.Verdict.{Judge, Sample, measured, misfit, provider, said_of, sample_view, verdict}
+use Rattle.ar_judge.specs.Headline.{Condition}
+use Rattle.ar_judge.specs.Verdict.{Judge, Sample, measured, misfit, provider, said_of, said_where, sample_view, verdict}
 use Rattle.ar_bundle.specs.Bundle.{Bundle, event_of, events_of, found_of, happened, happened_as, judge_at, run_at}
 use Rattle.ar_bundle.specs.Lawful.{numbers_of}
 use Rattle.ar_bundle.specs.declared.bundle.EventPart.{EventPart}
@@ -36,7 +36,7 @@ use Rattle.ar_command_line.specs.declared.command_line.Command.TheVariants as co
 -- ---- verdicts
 
 same_said : (value : Value) (one other : Option Condition) → AreSameConditions one other
-    → option_and_then (said_of value) one ≡ option_and_then (said_of value) other
+    → said_where (said_of value) one ≡ said_where (said_of value) other
 same_said value (Some one) (Some other) same = let text = same.text in let shape = same.shape in rw (text, shape) refl
 same_said value (Some one) None same = absurd same
 same_said value None (Some other) same = absurd same
@@ -47,7 +47,7 @@ same_verdict provider one other success failure = refl
 same_verdict (misfit fault) one other success failure = refl
 same_verdict (measured value) one other success failure = rw (same_said value one.success other.success success) (rw (same_said value one.failure other.failure failure) refl)
 
--- ---- judges by their places
+-- ---- judges by their indexes
 
 abbrev AreSameHere : (one other : Option Judge) → Type 0
 AreSameHere (Some one) (Some other) = AreSameConditions one.success other.success × AreSameConditions one.failure other.failure
@@ -71,7 +71,7 @@ same_judge_at (one ∷ some) [] run metric same = absurd same
 same_judge_at (one ∷ some) (other ∷ others) zero metric same = same_judge one.judges other.judges metric same.0.judges
 same_judge_at (one ∷ some) (other ∷ others) (suc run) metric same = same_judge_at some others run metric same.1
 
--- ---- entries by their places
+-- ---- entries by their indexes
 
 abbrev AreSameEntries : (one other : Option EventPart) → Type 0
 AreSameEntries (Some one) (Some other) = entry_view one ≡ entry_view other

@@ -5,10 +5,12 @@ use Rattle.ar_value.specs.Shape.{Shape}
 use Rattle.ar_value.specs.declared.fault.Fault.{Fault}
 use Rattle.ar_manifest.specs.declared.bound.BoundMetric.{BoundMetric}
 use Rattle.ar_compile.specs.Compiled.{compiled}
-use Rattle.ar_safety.specs.Verdict.{IsVerified, Verified}
+use Rattle.ar_safety.specs.Verdict.{IsVerified}
+use Rattle.ar_safety.specs.Bounds.{Verified}
 use Rattle.ar_safety.proofs.OneVerdict.{same_bounds}
 use Rattle.ar_judge.proofs.Trees.{tree_by_parser}
-use Rattle.ar_judge.specs.Built.{Condition, IsBuilt}
+use Rattle.ar_judge.specs.Built.{IsBuilt}
+use Rattle.ar_judge.specs.Headline.{Condition}
 use Rattle.ar_judge.specs.Verdict.{AreBuilt, Judge}
 use Rattle.ar_bundle.specs.Bundle.{Bundle}
 use Rattle.ar_bundle.specs.declared.bundle.MetricPart.{MetricPart}

@@ -1,7 +1,8 @@
--- Bundles that are the same but for where their parts lie in memory.
-use Rattle.std.specs.Prelude.{◌≡◌, List, [], ◌∷◌, Option, Some, None, map}
+-- Bundles that are the same but for where their parts are in memory.
+use Rattle.std.specs.Prelude.{◌≡◌, List, [], ◌∷◌, Option, map}
+use Rattle.ar_value.specs.Answer.{BothOrNeither}
 use Rattle.ar_value.specs.View.{shape_view}
-use Rattle.ar_judge.specs.Built.{Condition}
+use Rattle.ar_judge.specs.Headline.{Condition}
 use Rattle.ar_judge.specs.Verdict.{Judge}
 use Rattle.ar_bundle.specs.Bundle.{Bundle}
 use Rattle.ar_bundle.specs.declared.bundle.RunPart.{RunPart}
@@ -17,13 +18,13 @@ pub record IsSameCondition (one other : Condition) : Type 0 where
   pub depth : one.verified.depth ≡ other.verified.depth
 
 abbrev pub AreSameConditions : (one other : Option Condition) → Type 0
-AreSameConditions (Some one) (Some other) = IsSameCondition one other
-AreSameConditions None None = Unit {0}
-AreSameConditions one other = ⊥
+AreSameConditions one other = BothOrNeither IsSameCondition one other
 
 abbrev pub AreSameJudges : (some others : List Judge) → Type 0
 AreSameJudges [] [] = Unit {0}
-AreSameJudges (one ∷ some) (other ∷ others) = (AreSameConditions one.success other.success × AreSameConditions one.failure other.failure) × AreSameJudges some others
+AreSameJudges (one ∷ some) (other ∷ others) =
+    (AreSameConditions one.success other.success × AreSameConditions one.failure other.failure)
+    × AreSameJudges some others
 AreSameJudges some others = ⊥
 
 pub record IsSameRun (one other : RunPart) : Type 0 where

@@ -2,6 +2,7 @@
 use Rattle.std.specs.Prelude.{◌≡◌, ◌≢◌, ◌≤◌, ℕ, Bool, true, false, List, ◌++◌, Option, codes, map, if◌then◌else◌, Result, Ok, Err}
 use Rattle.std.specs.Io.KnownBytes.{Appends}
 use Rattle.std.specs.List.{list_any}
+use Rattle.ar_value.specs.Terms.{Bytes, Text}
 use Rattle.ar_value.specs.Fault.{fault_name}
 use Rattle.ar_value.specs.declared.fault.Fault.{Fault}
 use Rattle.ar_limits.specs.Metric.{is_unsuccessful}
@@ -35,7 +36,7 @@ use Rattle.ar_workers.specs.declared.error.WorkError.TheVariants as work
 -- ---- what is written
 
 -- the line that is written: a boolean, or a fault by its name, and a line feed
-abbrev pub line_of : Result Bool Fault → List ℕ
+abbrev pub line_of : Result Bool Fault → Text
 line_of (Ok true) = codes "true\n"
 line_of (Ok false) = codes "false\n"
 line_of (Err fault) = codes "fault " ++ (fault_name fault ++ codes "\n")
@@ -47,7 +48,7 @@ pub record Writes (input line : List ℕ) : Type 0 where
   pub is : line ≡ line_of answer
 
 -- a text that shows the bundle of an input
-pub record Shows (show : Bundle → List ℕ) (input text : List ℕ) : Type 0 where
+pub record Shows (show : Bundle → List ℕ) (input : Bytes) (text : Text) : Type 0 where
   pub bundle : Bundle
   pub reads : document.ReadsInput input (Ok bundle)
   pub is : text ≡ show bundle
@@ -57,25 +58,25 @@ abbrev pub closing_of : List Phase → Closing
 closing_of phases = if list_any is_unsuccessful phases then Bad else Good
 
 -- the report of lawful histories of a bundle, and the closing by the phases in it
-pub record IsReported (bundle : Bundle) (histories : List (List Entry)) (text : List ℕ) (closing : Closing) : Type 0 where
+pub record IsReported (bundle : Bundle) (histories : List (List Entry)) (text : Text) (closing : Closing) : Type 0 where
   pub lawful : AreLawful bundle histories
   pub is : text ≡ report bundle (map numbers_of histories)
   pub closes : closing ≡ closing_of (run_phases bundle (map numbers_of histories))
 
 -- a report of the bundle of an input, for some lawful histories
-pub record Reports (input text : List ℕ) (closing : Closing) : Type 0 where
+pub record Reports (input : Bytes) (text : Text) (closing : Closing) : Type 0 where
   pub bundle : Bundle
   pub reads : document.ReadsInput input (Ok bundle)
   pub histories : List (List Entry)
   pub reported : IsReported bundle histories text closing
 
 -- for some in which numbers rise
-pub record ReportsInOrder (input text : List ℕ) (closing : Closing) : Type 0 where
+pub record ReportsInOrder (input : Bytes) (text : Text) (closing : Closing) : Type 0 where
   pub reports : Reports input text closing
   pub rise : AllRise reports.histories
 
 -- what a command writes for an input, and how it closes
-abbrev pub Says : Command → (input text : List ℕ) → Closing → Type 0
+abbrev pub Says : Command → (input : Bytes) (text : Text) → Closing → Type 0
 Says commands.Eval input text closing = Writes input text × (closing ≡ Good)
 Says commands.Check input text closing = Shows check_text input text × (closing ≡ Good)
 Says commands.List input text closing = Shows list_text input text × (closing ≡ Good)
@@ -84,25 +85,28 @@ Says commands.Plain input text closing = ReportsInOrder input text closing
 Says (commands.Ordered workers) input text closing = ReportsInOrder input text closing
 
 -- a command was carried out: what it says of the bytes that were taken was written
-pub record IsCarriedOut (command : Command) (taken_before taken_after contents_before contents_after : Option (List ℕ)) (closing : Closing) : Type 0 where
+pub record IsCarriedOut (command : Command) (taken_before taken_after contents_before contents_after : Option (List ℕ))
+    (closing : Closing) : Type 0 where
   pub input : List ℕ
-  pub text : List ℕ
+  pub text : Text
   pub took : Appends taken_before taken_after input
   pub says : Says command input text closing
   pub wrote : Appends contents_before contents_after text
 
 -- a command's output was cut: a front of what it says of the bytes that were taken was written
-pub record IsCut (command : Command) (taken_before taken_after contents_before contents_after : Option (List ℕ)) : Type 0 where
+pub record IsCut (command : Command)
+    (taken_before taken_after contents_before contents_after : Option (List ℕ)) : Type 0 where
   pub input : List ℕ
-  pub text : List ℕ
+  pub text : Text
   pub closing : Closing
   pub took : Appends taken_before taken_after input
   pub says : Says command input text closing
   pub wrote : AppendsFront contents_before contents_after text
 
 -- a front of what a command says of an input was written
-pub record WritesFront (command : Command) (contents_before contents_after : Option (List ℕ)) (input : List ℕ) : Type 0 where
-  pub text : List ℕ
+pub record WritesFront (command : Command) (contents_before contents_after : Option (List ℕ))
+    (input : Bytes) : Type 0 where
+  pub text : Text
   pub closing : Closing
   pub says : Says command input text closing
   pub wrote : AppendsFront contents_before contents_after text
@@ -110,14 +114,15 @@ pub record WritesFront (command : Command) (contents_before contents_after : Opt
 -- ---- what is refused
 
 -- the first fault of an input for a command
-abbrev pub RefusesInput : Command → (input : List ℕ) → Refusal → Type 0
+abbrev pub RefusesInput : Command → (input : Bytes) → Refusal → Type 0
 RefusesInput commands.Eval input (refusals.Eval fault) = Evaluates input (Err fault)
 RefusesInput commands.Eval input (refusals.Bundle error) = ⊥
 RefusesInput command input (refusals.Bundle error) = document.ReadsInput input (Err error)
 RefusesInput command input (refusals.Eval fault) = ⊥
 
 -- the bytes that were taken are refused
-pub record RefusesTaken (command : Command) (taken_before taken_after : Option (List ℕ)) (refusal : Refusal) : Type 0 where
+pub record RefusesTaken (command : Command) (taken_before taken_after : Option (List ℕ))
+    (refusal : Refusal) : Type 0 where
   pub input : List ℕ
   pub took : Appends taken_before taken_after input
   pub refuses : RefusesInput command input refusal
@@ -141,8 +146,8 @@ abbrev pub IsCauseOf : Command → Bundle → WorkError → Type 0
 IsCauseOf (commands.Ordered workers) bundle error = IsNotLost error
 IsCauseOf command bundle error = IsWorkCause bundle error
 
--- and so no report of the bundle of an input; out of memory is answered as such
-pub record Breaks (command : Command) (input : List ℕ) (error : WorkError) : Type 0 where
+-- and so no report of the bundle of an input; out of memory is returned as such
+pub record Breaks (command : Command) (input : Bytes) (error : WorkError) : Type 0 where
   pub bundle : Bundle
   pub reads : document.ReadsInput input (Ok bundle)
   pub cause : IsCauseOf command bundle error
@@ -154,7 +159,7 @@ pub record IsBroken (command : Command) (taken_before taken_after : Option (List
   pub took : Appends taken_before taken_after input
   pub breaks : Breaks command input error
 
--- ---- faults of a command's parts, as the command answers them
+-- ---- faults of a command's parts, as the command returns them
 
 abbrev pub of_input : InputError → ServeError
 of_input input.Read = Read

@@ -9,7 +9,7 @@ ghost use Rattle.ar_command.specs.declared.serving.Closing.{Closing};
 ghost use Rattle.ar_command_line.specs.declared.command_line.Command.{Command};
 ghost use Rattle.ar_command_line.specs.declared.command_line.Command.TheVariants as commands;
 
-/// An input is one bundle, up to where its parts lie in memory.
+/// An input is one bundle, up to where its parts are in memory.
 #[tactic(auto, using(crate::proofs::OneText::one_bundle))]
 pub fn one_bundle()
     ensures { (input : List ℕ) (one other : Bundle) → ReadsInput input (Ok one) → ReadsInput input (Ok other)

@@ -2,10 +2,10 @@
 //!
 //! [`serve`] runs a document with workers and [`serve_plain`] carries out the other commands, over
 //! any reader and writer, and their contracts are the program's promise: what is written is what the
-//! command says of the bytes that were taken, or the input is refused by the first fault that stands
+//! command says of the bytes that were taken, or the input is refused by the first fault that is
 //! in it and nothing is written. Only out of memory, a failed read or write, a thread that can't be
 //! started and a lost number can keep them from that; after a failed write a front of it is written.
-//! What is left to the program are the words of refusals and the exit status. What `eval` answers is
+//! What is left to the program are the words of refusals and the exit status. What `eval` returns is
 //! `ar_eval`'s.
 //!
 //! - [`serving`]: a command, from the bytes read to the bytes written

@@ -146,8 +146,8 @@ pub fn serve<S: Source, W: Sink, G: Gate, R: Threads + Wait + Sync>(
     write(writer, &said)
 }
 
-/// Reads a document, carries a command for one thread out on it, and writes the answer. A refused
-/// document, or out of memory, has nothing written.
+/// Reads a document, carries a command for one thread out on it, and writes the answer. For a refused
+/// document, or out of memory, nothing is written.
 ///
 /// # Errors
 ///
@@ -174,7 +174,7 @@ pub fn serve_plain<S: Source, W: Sink>(
     write(writer, &said)
 }
 
-/// Writes what a command says, and answers how it closes.
+/// Writes what a command says, and returns how it closes.
 fn write<W: Sink>(writer: &mut W, said: &Said) -> Result<Closing, ServeError>
     requires { W.has_failed writer.old ≡ false }
     ensures closing { IfOk result (λ closing. closing ≡ said.now.closing) }

@@ -1,4 +1,4 @@
--- The number of workers of a command that is named lies in its bounds.
+-- The number of workers of a command that is named is in its bounds.
 use Rattle.std.proofs.Common.{ap, List, ◌≡◌, ◌≤◌, ℕ, Bool, true, false, Option, Some, None, Result, Ok, Err, arith, cond, refl, sym, subst, ◌∙◌, codes}
 use Rattle.std.specs.Prelude.{IfOk}
 use Rattle.std.specs.Option.{option_map_or}
@@ -34,7 +34,7 @@ given_bounds : (given : Option Text) (n : ℕ) → option_map_or number_of_worke
 given_bounds None n is = let same : 4 ≡ n = cc in (omega (arith, same), omega (arith, same))
 given_bounds (Some text) n is = number_bounds text n is
 
--- a command that is one with so many workers
+-- a command that is one with n workers
 abbrev HasWorkers : Command → ℕ → Type 0
 HasWorkers Eval n = ⊥
 HasWorkers Check n = ⊥

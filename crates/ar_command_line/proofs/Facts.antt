@@ -9,7 +9,7 @@ use Rattle.ar_command_line.specs.declared.command_line.Command.TheVariants.{Eval
 use Rattle.ar_command_line.specs.declared.command_line.UsageError.{UsageError}
 use Rattle.ar_command_line.specs.declared.command_line.UsageError.TheVariants.{Workers, Conflict}
 
--- what is answered for the words after the program's name, where `clap` finds no fault in them
+-- what is returned for the words after the program's name, where `clap` finds no fault in them
 abbrev asked : List Text → Result Command UsageError
 asked words = command_named (subcommand_of application (codes "argo_judge" ∷ words))
 

@@ -18,7 +18,7 @@ use Rattle.ar_command_line.specs.declared.command_line.Command.{Command}
 use Rattle.ar_command_line.specs.declared.command_line.UsageError.{UsageError}
 use Rattle.ar_command_line.specs.declared.command_line.UsageError.TheVariants.{Words}
 
--- ---- the command line is one of those of which `clap` tells what a parse gives
+-- ---- the command line is one of those of which `clap` says what a parse gives
 
 pub simple : is_simple application ≡ true
 unfolding application

@@ -31,7 +31,7 @@ number_read text n parsed one most =
     Accepts-accepts false (vp.Unsigned 1 most_workers) text (parsed.0.0, parsed.0.1, subst (λ (k : ℕ). 1 ≤ k) same one, subst (λ (k : ℕ). k ≤ 16) same most) in
     ap (λ b. cond b (Some value) None) is_in ∙ ap Some (sym same)
 
--- a text whose number doesn't lie in the range
+-- a text whose number isn't in the range
 named_none : (text : Text) → (Accepts false (vp.Unsigned 1 most_workers) text → ⊥) → number_of_workers text ≡ None
 named_none text outside = go (is_unsigned_in 1 most_workers text) refl
   where
@@ -53,7 +53,7 @@ no_number text error parsed = named_none text (λ inside. parsed (inside.0, insi
 pub first_text : (f : Found) (id : Text) → first_value f id ≡ first_of id (rows_of f)
 first_text = first_value-rows
 
--- what a flag comes to, by the text that it has
+-- the value of a flag, by the text that it has
 abbrev flag_of : Option Text → Bool
 flag_of text = option_map_or (λ t. bytes_eq t (codes "true")) text false
 

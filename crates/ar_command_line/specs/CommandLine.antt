@@ -27,7 +27,9 @@ abbrev pub flag_named : (name : Text) → Rule
 flag_named name = record (new_rule name) { long = Some name; action = Some SetTrue }
 
 abbrev pub run_app : App
-run_app = with_rule (with_rule (with_rule (new_app (codes "run")) workers_option) (flag_named (codes "plain"))) (flag_named (codes "ordered"))
+run_app =
+    with_rule (with_rule (with_rule (new_app (codes "run")) workers_option) (flag_named (codes "plain")))
+    (flag_named (codes "ordered"))
 
 -- the program's own name and settings: a subcommand has to be named, and `help` is none
 abbrev pub program : App
@@ -41,7 +43,8 @@ program = record (new_app (codes "argo_judge")) {
 
 -- the subcommands that take no arguments
 abbrev pub without_run : App
-without_run = fold with_subcommand program (new_shape (codes "eval") ∷ new_shape (codes "check") ∷ new_shape (codes "list") ∷ [])
+without_run =
+    fold with_subcommand program (new_shape (codes "eval") ∷ new_shape (codes "check") ∷ new_shape (codes "list") ∷ [])
 
 unfoldable pub application : App
 application = with_subcommand without_run run_app.top
@@ -66,15 +69,16 @@ has_flag name rows = option_map_or (λ text. bytes_eq text (codes "true")) (one_
 
 -- the run that is asked for
 abbrev pub run_of : (plain ordered : Bool) → (workers : ℕ) → Result Command UsageError
-run_of false false workers = Ok (Run workers)
-run_of true false workers = Ok Plain
-run_of false true workers = Ok (Ordered workers)
-run_of true true workers = Err Conflict
+run_of plain ordered workers =
+    if plain && ordered then Err Conflict
+    else (if plain then Ok Plain
+    else (if ordered then Ok (Ordered workers) else Ok (Run workers)))
 
 -- `run` in one thread has no use for a number of workers, but a bad one is refused all the same
 abbrev pub run_command : List Row → Result Command UsageError
 run_command rows =
-    option_map_or (run_of (has_flag (codes "plain") rows) (has_flag (codes "ordered") rows)) (workers_of rows) (Err Workers)
+    option_map_or (run_of (has_flag (codes "plain") rows) (has_flag (codes "ordered") rows)) (workers_of rows)
+    (Err Workers)
 
 abbrev pub named : Text → List Row → Result Command UsageError
 named name rows =
@@ -95,25 +99,28 @@ texts_of = map string_bytes
 -- what the words of a command line ask for
 pub record AsksForCommand (given : List Text) (result : Result Command UsageError) : Type 0 where
   -- the command is the one that the words name, and `clap` finds no fault in them
-  pub named : IfOk result (λ command. (fault_of application given ≡ []) × (command_named (subcommand_of application given) ≡ Ok command))
+  pub named : IfOk result
+      (λ command. (fault_of application given ≡ []) × (command_named (subcommand_of application given) ≡ Ok command))
   -- a command's number of workers is from 1 to 16
   pub bounds : (n : ℕ) → result ≡ Ok (Run n) → (1 ≤ n) × (n ≤ most_workers)
   pub ordered_bounds : (n : ℕ) → result ≡ Ok (Ordered n) → (1 ≤ n) × (n ≤ most_workers)
   -- words are refused only where `clap` finds a fault
   pub words : result ≡ Err Words → fault_of application given ≢ []
   -- a number of workers is refused only where the words are good but for that
-  pub workers : result ≡ Err Workers → (fault_of application given ≡ []) × (command_named (subcommand_of application given) ≡ Err Workers)
+  pub workers : result ≡ Err Workers
+      → (fault_of application given ≡ []) × (command_named (subcommand_of application given) ≡ Err Workers)
   -- two ways to run are refused only where the words are good but for that
-  pub conflict : result ≡ Err Conflict → (fault_of application given ≡ []) × (command_named (subcommand_of application given) ≡ Err Conflict)
+  pub conflict : result ≡ Err Conflict
+      → (fault_of application given ≡ []) × (command_named (subcommand_of application given) ≡ Err Conflict)
 
--- an error of `clap`, as it is answered: out of memory, or else that it refuses the words
+-- an error of `clap`, as it is returned: out of memory, or else that it refuses the words
 abbrev pub of_kind : ErrorKind → UsageError
 of_kind kind.OutOfMemory = OutOfMemory
 of_kind _ = Words
 
 -- ---- the texts of `--help` and `--version`
 
--- an error of this kind stands for such a text
+-- an error of this kind represents such a text
 abbrev pub is_request : ErrorKind → Bool
 is_request kind.DisplayHelp = true
 is_request kind.DisplayVersion = true

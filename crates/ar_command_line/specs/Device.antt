@@ -21,12 +21,12 @@ abbrev pub or_first : Option Error → Error → Option Error
 or_first None fault = Some fault
 or_first (Some first) fault = Some first
 
--- the first fault, after one more answer
+-- the first fault, after one more result
 abbrev pub first_fault : {A : Type 0} → Option Error → Result A Error → Option Error
 first_fault first (Ok value) = first
 first_fault first (Err fault) = or_first first fault
 
--- an answer, with the mere fact of a fault in place of its words
+-- a result, with the mere fact of a fault instead of its words
 abbrev pub answer_of : {A : Type 0} → Result A Error → Result A DeviceFault
 answer_of (Ok value) = Ok value
 answer_of (Err fault) = Err (record {})

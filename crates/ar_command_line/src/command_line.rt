@@ -19,15 +19,15 @@ pub const DEFAULT_WORKERS: usize = 4;
 pub enum Command {
     /// Judge one condition on one value.
     Eval,
-    /// Tell the bounds of each condition of a bundle.
+    /// Report the bounds of each condition of a bundle.
     Check,
     /// List the code of each condition of a bundle.
     List,
-    /// Run a bundle with so many workers, from 1 to 16, and report its runs.
+    /// Run a bundle with n workers, from 1 to 16, and report its runs.
     Run(usize),
     /// Run a bundle in one thread, and report its runs.
     Plain,
-    /// Judge a bundle's measurements with so many workers, from 1 to 16, apply them in their order, and
+    /// Judge a bundle's measurements with n workers, from 1 to 16, apply them in their order, and
     /// report its runs.
     Ordered(usize),
 }
@@ -93,7 +93,7 @@ pub fn command_of(alloc: Global, words: Vec<String>) -> Result<Command, UsageErr
 ///
 /// Out of memory.
 pub fn shown(alloc: Global, words: &[String]) -> Result<Option<String>, AllocError>
-    // `clap` tells of such a request as of a fault, by its kind.
+    // `clap` reports such a request as a fault, by its kind.
     ensures { IfOk result (λ text. AsksForText (fault_of application (texts_of words.now)) (is_some text)) }
 {
     match application(alloc)?.try_get_matches_from(words) {
@@ -102,7 +102,7 @@ pub fn shown(alloc: Global, words: &[String]) -> Result<Option<String>, AllocErr
     }
 }
 
-/// The text that an error of `clap` stands for, where it is a request for one.
+/// The text that an error of `clap` represents, where it is a request for one.
 fn text_of(alloc: Global, error: &clap::Error) -> Result<Option<String>, AllocError>
     ensures kind { IfOk result (λ text. is_some text ≡ is_request (kind_of error.now)) }
     ensures memory { kind_of error.now ≡ ErrorKind.OutOfMemory → IsErr result }
@@ -140,7 +140,7 @@ fn named(name: &str, matches: &ArgMatches<'_>) -> Result<Command, UsageError>
 }
 
 /// The command that `run` with these arguments asks for. A run in one thread has no use for a
-/// number of workers, which is looked at all the same.
+/// number of workers, which is checked all the same.
 fn run_command(matches: &ArgMatches<'_>) -> Result<Command, UsageError>
     ensures { result ≡ run_command (rows_of (found_of matches.now)) }
 {

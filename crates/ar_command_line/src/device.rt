@@ -39,7 +39,7 @@ impl<T> Device<T> {
         self.fault.as_ref()
     }
 
-    /// What the reader or the writer answered; the first fault is kept.
+    /// What the reader or the writer returned; the first fault is kept.
     fn answered<A>(&mut self, answer: io::Result<A>) -> Result<A, DeviceFault>
         requires lasting { IfErr answer IsLasting }
         ensures answer { result ≡ answer_of answer }

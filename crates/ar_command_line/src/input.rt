@@ -11,10 +11,10 @@ use std::alloc::{AllocError, Global};
 /// How many bytes one read asks for.
 const CHUNK: usize = 65_536;
 
-/// Each turn but the last reads a byte or more, and the first byte too many ends the loop.
+/// Each iteration but the last reads a byte or more, and the first byte too many ends the loop.
 const TURNS: usize = MOST_BYTES + 2;
 
-/// Why an input can't be had.
+/// Why an input can't be read.
 #[derive(Drop)]
 pub enum InputError {
     Read,

@@ -71,7 +71,7 @@ impl<S: Source> Source for Kept<S> {
         ensures works { OnOk result ((kept.wants_memory self.new || S.has_failed (kept.source_of self.new))
             ≡ (kept.wants_memory self.old || S.has_failed (kept.source_of self.old))) }
         ensures fails { OnErr result ((kept.wants_memory self.new || S.has_failed (kept.source_of self.new)) ≡ true) }
-        // Out of memory is told before the source is read, and a failed read of the source never as that.
+        // Out of memory is reported before the source is read, and a failed read of the source never as that.
         ensures cause { OnErr result (kept.IsOutOfMemory self.old self.new
             ⊎ kept.IsFailed S.has_failed self.old self.new) }
     {

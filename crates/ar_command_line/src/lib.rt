@@ -1,14 +1,14 @@
-//! What the program `argo_judge` meets of the system: its command line, its input and its output.
+//! What the program `argo_judge` uses of the system: its command line, its input and its output.
 //!
-//! [`command_of`] answers what the words of a command line ask for: a [`Command`], or why they ask
+//! [`command_of`] returns what the words of a command line ask for: a [`Command`], or why they ask
 //! for none. `specs/CommandLine` has the command line as `clap`'s specifications see it,
 //! `application`, and the command that a subcommand with its matches names, `command_named`. Where
-//! `clap` finds no fault in the words, that command is answered, or `Workers` where its number of
+//! `clap` finds no fault in the words, that command is returned, or `Workers` where its number of
 //! workers is none from 1 to 16, or else `Conflict` where `run` is to be both ordered and plain; where
 //! it finds one, `Words`. Only out of memory can keep it from that. [`shown`] is the text of `--help`
 //! or `--version`, where the words ask for one.
 //!
-//! A [`Source`] and a [`Sink`] tell what was read and written and whether that failed. A [`Device`] makes
+//! A [`Source`] and a [`Sink`] report what was read and written and whether that failed. A [`Device`] makes
 //! either of a reader or a writer of the standard library, and keeps the first fault; [`Kept`] is a source
 //! that keeps what was read, for the words of refusals; [`read_input`] reads all of an input, or more than
 //! a document may have; [`write_output`] writes all of an output, or a front of it where the writer fails.

@@ -6,8 +6,8 @@ ghost use Rattle.ar_command_line.specs.Output.{AppendsFront};
 
 use crate::stream::{DeviceFault, Sink};
 
-/// Writes all of the bytes and flushes the sink. Each turn writes a byte or more, so there are at most as
-/// many turns as bytes. Of a sink that fails the front of the bytes that it took is known to be written.
+/// Writes all of the bytes and flushes the sink. Each iteration writes a byte or more, so there are at most as
+/// many iterations as bytes. Of a sink that fails the front of the bytes that it took is known to be written.
 pub fn write_output<W: Sink>(sink: &mut W, bytes: &[u8]) -> Result<(), DeviceFault>
     requires { W.has_failed sink.old ≡ false }
     ensures whole { OnOk result (Appends (W.contents sink.old) (W.contents sink.new) bytes.now) }

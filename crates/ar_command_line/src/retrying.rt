@@ -56,7 +56,7 @@ pub(crate) fn flush_retrying<T: Write>(writer: &mut T) -> io::Result<()>
     Err(interrupted_too_often())
 }
 
-/// Whether an answer is that a signal interrupted the call, which did nothing then.
+/// Whether a result is that a signal interrupted the call, which did nothing then.
 fn is_interrupted<A>(answer: &io::Result<A>) -> bool
     ensures interrupted { result ≡ true → IsInterrupted answer.now }
     ensures ended { result ≡ false → IfErr answer.now IsLasting }
@@ -67,7 +67,7 @@ fn is_interrupted<A>(answer: &io::Result<A>) -> bool
     }
 }
 
-/// What is told of a call that was interrupted each time.
+/// What is reported of a call that was interrupted each time.
 fn interrupted_too_often() -> io::Error
     ensures { error_kind result ≡ ErrorKind.TimedOut }
 {

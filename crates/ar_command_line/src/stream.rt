@@ -1,6 +1,6 @@
 //! What an input is read from and what an output is written to.
 //!
-//! Both remember whether they failed, so that a contract can say that a fault was answered only
+//! Both remember whether they failed, so that a contract can say that a fault was returned only
 //! where one came.
 
 ghost use Rattle.std.specs.Prelude.{◌≡◌, ◌||◌, ℕ, List, Bool, true, Option, IfOk, OnOk, OnErr, take};
@@ -8,7 +8,7 @@ ghost use Rattle.std.specs.Io.{ReadsAtMost, WritesAtMost};
 ghost use Rattle.std.specs.Io.KnownBytes.{Appends, Keeps, ReadConsumes, WriteAppends};
 ghost use Rattle.ar_command_line.specs.Output.{takes_nothing};
 
-/// A read or a write failed; a `Device` tells why.
+/// A read or a write failed; a `Device` says why.
 #[derive(Clone, Copy)]
 pub struct DeviceFault;
 
@@ -23,7 +23,7 @@ pub trait Source {
     // Whether a read failed.
     ghost has_failed: { Self → Bool };
 
-    /// Reads bytes into the front of the buffer and tells how many; none only at the end of the
+    /// Reads bytes into the front of the buffer and returns how many; none only at the end of the
     /// input, or where the buffer is empty.
     fn read(&mut self, buf: &mut [u8]) -> Result<usize, DeviceFault>
         ensures bound { ReadsAtMost result buf.new }
@@ -45,7 +45,7 @@ pub trait Sink {
     // Whether a write or a flush failed.
     ghost has_failed: { Self → Bool };
 
-    /// Writes bytes from the front of those handed in and tells how many. A write that takes none of
+    /// Writes bytes from the front of those handed in and returns how many. A write that takes none of
     /// them, though there are some, has failed.
     fn write(&mut self, buf: &[u8]) -> Result<usize, DeviceFault>
         ensures bound { WritesAtMost result buf.now }

@@ -107,7 +107,7 @@ fn at_end(next: Next) -> Option<(Next, &'static str)>
     }
 }
 
-/// The first word that isn't taken, with what could have come in its place, or the last if something
+/// The first word that isn't taken, with what could have come instead, or the last if something
 /// has to come after it.
 #[tactic(auto, using(crate::proofs::Refused::taken, crate::proofs::Refused::refused, crate::proofs::Refused::none_left))]
 fn first_refused(words: &[String]) -> Option<(Next, &str)>

@@ -2,7 +2,7 @@
 use Rattle.std.proofs.Common.{◌≡◌, ◌<◌, ◌≤◌, ℕ, zero, suc, ◌+◌, true, false, List, [], ◌∷◌, length, Option, Some, None, Result, Ok, Err, IfOk, refl, sym, ap, subst, inl, inr, ◌∙◌, arith}
 use Rattle.std.specs.Prelude.{◌⊎◌, nat_lt}
 use Rattle.std.proofs.lemmas.Bool.Decides.{nat_tests}
-use Rattle.ar_value.specs.Kind.{Kind, merge, shaped}
+use Rattle.ar_value.specs.Kind.{Kind, merge, shaped, scalar_shape, truth_kind}
 use Rattle.ar_value.specs.Shape.{Shape, shape_named}
 use Rattle.ar_value.specs.Shape as shapes
 use Rattle.ar_value.specs.declared.operator.Predicate.{Predicate}
@@ -16,15 +16,14 @@ use Rattle.ar_tree.specs.Typed as typed
 use Rattle.ar_tree.specs.declared.tree.Literal.{Literal}
 use Rattle.ar_tree.specs.declared.tree.Literal.TheVariants as literals
 use Rattle.ar_check.specs.Basics.{literal_kind}
-use Rattle.ar_check.specs.Check.{checked, predicate_kind, scalar_shape, truth_kind}
+use Rattle.ar_check.specs.Check.{checked, predicate_kind}
 use Rattle.ar_op.specs.Code.{Code}
 use Rattle.ar_op.specs.declared.op.Op.{Op}
 use Rattle.ar_op.specs.declared.op.Jump.TheVariants as jumps
 use Rattle.ar_op.specs.declared.op.Op.TheVariants.{Push, MakeList, Field, Unary, Binary, Jump, Enter, Step}
 use Rattle.ar_op.specs.declared.op.Source.TheVariants as sources
-use Rattle.ar_safety.specs.Arrivals.{Around, answer_kind, item_of, lacks, operands}
-use Rattle.ar_safety.specs.Effects.{decimal_kind, decimal_shape, effect, is_family, is_scalar, list_made, of_one_family, truth}
-use Rattle.ar_safety.specs.Effects as effects
+use Rattle.ar_safety.specs.Arrivals.{Around, answer_kind, innermost_shape, lacks, operands}
+use Rattle.ar_safety.specs.Effects.{decimal_kind, decimal_shape, kinds_left, is_family, is_scalar_kind, list_kind_left, are_one_family}
 use Rattle.ar_safety.specs.Arrivals.{Sent, all_sent}
 use Rattle.ar_safety.specs.declared.error.Cause.{Cause}
 use Rattle.ar_safety.specs.declared.error.Cause.TheVariants.{Fault}
@@ -52,7 +51,7 @@ enough n m h = grind (arith, nat_tests)
 record Gives (code : Code) (shape : Shape) (around : List Around) (op : Op) (kinds given : List Kind) : Type 0 where
   plain : IsPlain op
   has : lacks op (operands kinds around) ≡ false
-  gives : effect code shape (item_of around) op kinds ≡ Some given
+  gives : kinds_left code shape (innermost_shape around) op kinds ≡ Some given
 
 module _ (code : Code) (wanted : Shape) (around : List Around) where
   abbrev Does : Op → List Kind → List Kind → Type 0
@@ -75,7 +74,7 @@ module _ (code : Code) (wanted : Shape) (around : List Around) where
 
   -- ---- list literals
 
-  -- so many scalars more
+  -- n scalars more
   copies : Scalar → ℕ → List Kind → List Kind
   copies scalar zero kinds = kinds
   copies scalar (suc n) kinds = copies scalar n (shaped (scalar_shape scalar) ∷ kinds)
@@ -90,22 +89,16 @@ module _ (code : Code) (wanted : Shape) (around : List Around) where
   copies_length scalar zero kinds = omega arith
   copies_length scalar (suc n) kinds = let rest = copies_length scalar n (shaped (scalar_shape scalar) ∷ kinds) in omega arith
 
-  is_scalar_shape : (scalar : Scalar) → is_scalar scalar (shaped (scalar_shape scalar)) ≡ true
+  is_scalar_shape : (scalar : Scalar) → is_scalar_kind scalar (shaped (scalar_shape scalar)) ≡ true
   is_scalar_shape scalars.Bool = refl
   is_scalar_shape scalars.Whole = refl
   is_scalar_shape scalars.Decimal = refl
   is_scalar_shape scalars.Text = refl
 
-  same_scalar : (scalar : Scalar) → effects.scalar_shape scalar ≡ scalar_shape scalar
-  same_scalar scalars.Bool = refl
-  same_scalar scalars.Whole = refl
-  same_scalar scalars.Decimal = refl
-  same_scalar scalars.Text = refl
-
-  copies_made : (scalar : Scalar) (max n : ℕ) (kinds : List Kind) → list_made scalar max n (copies scalar n kinds) ≡ Some (shaped (shapes.list (scalar_shape scalar) max) ∷ kinds)
+  copies_made : (scalar : Scalar) (max n : ℕ) (kinds : List Kind) → list_kind_left scalar max n (copies scalar n kinds) ≡ Some (shaped (shapes.list (scalar_shape scalar) max) ∷ kinds)
   unfolding copies
-  copies_made scalar max zero kinds = ap (λ shape. Some (shaped (shapes.list shape max) ∷ kinds)) (same_scalar scalar)
-  copies_made scalar max (suc n) kinds = ap (list_made scalar max (suc n)) (copies_front scalar n kinds) ∙ rw (is_scalar_shape scalar) (copies_made scalar max n kinds)
+  copies_made scalar max zero kinds = refl
+  copies_made scalar max (suc n) kinds = ap (list_kind_left scalar max (suc n)) (copies_front scalar n kinds) ∙ rw (is_scalar_shape scalar) (copies_made scalar max n kinds)
 
   list_does : (scalar : Scalar) (n : ℕ) (kinds : List Kind) → Does (MakeList scalar n) (copies scalar n kinds) (shaped (shapes.list (scalar_shape scalar) n) ∷ kinds)
   list_does scalar n kinds = record { plain = tt; has = let long = copies_length scalar n kinds in enough (length (copies scalar n kinds)) n (omega arith); gives = copies_made scalar n n kinds }
@@ -211,7 +204,7 @@ module _ (code : Code) (wanted : Shape) where
       (in_turn goes (further (subst (λ place. At code wanted place op) (sym same) at) does))
 
   mutual
-    flows : (inner : Option Shape) (deep : ℕ) (tree : Typed) (kind : Kind) → Kinded wanted inner deep tree kind → (place : ℕ) → Stands code place tree → (around : List Around) → item_of around ≡ inner → length around ≡ deep → (kinds : List Kind)
+    flows : (inner : Option Shape) (deep : ℕ) (tree : Typed) (kind : Kind) → Kinded wanted inner deep tree kind → (place : ℕ) → Stands code place tree → (around : List Around) → innermost_shape around ≡ inner → length around ≡ deep → (kinds : List Kind)
         → Goes around place kinds (place + operations tree) (kind ∷ kinds)
     flows inner deep typed.result kind measured place there around item long kinds =
         up_to around place (suc place) (place + 1) kinds (kind ∷ kinds) (add_one place) (op_goes around place (Push sources.Result) kinds (kind ∷ kinds) there (record { plain = tt; has = enough (length kinds) 0 (omega arith); gives = refl }))
@@ -248,7 +241,7 @@ module _ (code : Code) (wanted : Shape) where
         loop_goes around place predicate list body shape max kinds (flows inner deep list (shaped (shapes.list shape max)) list_is place there.0 around item long kinds) (rw long within) there.1
         (flows (Some shape) (suc deep) body truth_kind body_is (place + operations list + 1) there.2 (record { item = shape; most = max; below = kinds } ∷ around) refl (ap suc long) []) there.3
 
-    items_flow : (inner : Option Shape) (deep : ℕ) (items : Typeds) (scalar : Scalar) → AllKinded wanted inner deep items scalar → (place : ℕ) → StandItems code place items → (around : List Around) → item_of around ≡ inner → length around ≡ deep → (kinds : List Kind)
+    items_flow : (inner : Option Shape) (deep : ℕ) (items : Typeds) (scalar : Scalar) → AllKinded wanted inner deep items scalar → (place : ℕ) → StandItems code place items → (around : List Around) → innermost_shape around ≡ inner → length around ≡ deep → (kinds : List Kind)
         (op : Op) (given : List Kind) → At code wanted (place + operations_of_items items) op → Gives code wanted around op (copies code wanted around scalar (how_many items) kinds) given → Goes around place kinds (suc (place + operations_of_items items)) given
     items_flow inner deep typed.none scalar none place there around item long kinds op given at does = no_items_go around place kinds scalar op given at does
     items_flow inner deep (typed.more first others) scalar (one_more first_is others_are) place there around item long kinds op given at does =

@@ -1,5 +1,5 @@
--- Blocks of code: the operations between two places, which a run enters at the first one and leaves at the last. The code of a
--- tree is one, and the verifier's passes 1 to 4 find nothing in it.
+-- Blocks of code: the operations between two indexes, which a run enters at the first one and leaves at the last. The
+-- code of a tree is one, and the verifier's passes 1 to 4 find nothing in it.
 use Rattle.std.proofs.Common.{◌≡◌, ◌<◌, ◌≤◌, ℕ, suc, ◌-◌, true, nat_le, List, [], ◌∷◌, length, Some, None, Ok, refl, sym, ap, subst, inl, inr, ◌∙◌, arith}
 use Rattle.std.specs.Prelude.{◌==◌, nat_lt}
 use Rattle.std.proofs.lemmas.Bool.{le-leb}
@@ -11,10 +11,10 @@ use Rattle.ar_op.specs.Machine.{nth}
 use Rattle.ar_op.specs.declared.op.Op.{Op}
 use Rattle.ar_op.specs.declared.op.Jump.TheVariants as jumps
 use Rattle.ar_op.specs.declared.op.Op.TheVariants.{Jump, Enter, Step, Return}
-use Rattle.ar_safety.specs.Places.{forward, has_ops, held, in_innermost, names_well, nests_well, places_pass, same_loops, stays}
+use Rattle.ar_safety.specs.Places.{forward, has_ops, loops_around, in_innermost, names_well, nests_well, places_pass, same_loops, stays}
 use Rattle.ar_safety.proofs.Nesting.{IsNoLoop, all_pass_each, begins, behind_step, reaches_less, stands_below, stays_around}
 
--- an operation that goes on to the next place alone
+-- an operation that continues at the next index alone
 abbrev pub IsPlain : Op → Type 0
 IsPlain (Jump jump target) = ⊥
 IsPlain (Enter predicate step) = ⊥
@@ -22,7 +22,7 @@ IsPlain (Step predicate enter) = ⊥
 IsPlain Return = ⊥
 IsPlain op = Unit {0}
 
--- a jump where a boolean decides, or the next place
+-- a jump where a boolean decides, or the next index
 abbrev pub SkipsTo : ℕ → Op → Type 0
 SkipsTo target (Jump jumps.And place) = place ≡ target
 SkipsTo target (Jump jumps.Or place) = place ≡ target
@@ -36,7 +36,7 @@ module _ (ops : List Op) where
   abbrev pub At : (place : ℕ) → Op → Type 0
   At place op = nth ops place ≡ Some op
 
-  -- inside so many loops, from a place up to another one
+  -- inside n loops, from an index up to another one
   pub data Block : ℕ → (begin end : ℕ) → Type 0 where
     one : {around begin : ℕ} {op : Op} → At begin op → IsPlain op → Block around begin (suc begin)
     both : {around begin middle end : ℕ} → Block around begin middle → Block around middle end → Block around begin end
@@ -56,7 +56,7 @@ module _ (ops : List Op) where
   one_op : (place : ℕ) (op other : Op) → At place op → At place other → op ≡ other
   one_op place op other h k = cc
 
-  -- ---- places of operations
+  -- ---- indexes of operations
 
   abbrev NamesWell : (place : ℕ) → Type 0
   NamesWell place = (op : Op) → At place op → names_well ops place op ≡ None
@@ -93,7 +93,7 @@ module _ (ops : List Op) where
   at_begin : (begin place : ℕ) → begin ≤ place → place < suc begin → NamesWell begin → NamesWell place
   at_begin begin place from below well = let same : begin ≡ place = omega arith in subst NamesWell same well
 
-  -- the operations of a block name places as they should
+  -- the operations of a block name indexes as they should
   pub names : {around begin end : ℕ} → Block around begin end → end < length ops → (place : ℕ) → begin ≤ place → place < end → NamesWell place
   names (one {begin = begin} {op = op} there plain) within place from below = at_begin begin place from below (is_named begin op there (plain_named begin op plain))
   names (both {middle = middle} first second) within place from below =
@@ -133,7 +133,7 @@ module _ (ops : List Op) where
 
   -- ---- loops
 
-  -- where the names of all places are as they should be
+  -- where the names of all indexes are as they should be
   module _ (paired : (place : ℕ) (op : Op) → At place op → names_well ops place op ≡ None) where
     abbrev NestsWell : (place : ℕ) → Type 0
     NestsWell place = (op : Op) → At place op → nests_well ops place op ≡ None
@@ -161,10 +161,10 @@ module _ (ops : List Op) where
     alike_loops [] = refl
     alike_loops (enter ∷ enters) = rw (itself enter, alike_loops enters) refl
 
-    stays_there : (place target : ℕ) → held ops place ≡ held ops target → stays ops place target ≡ None
-    stays_there place target same = rw (same, alike_loops (held ops target)) refl
+    stays_there : (place target : ℕ) → loops_around ops place ≡ loops_around ops target → stays ops place target ≡ None
+    stays_there place target same = rw (same, alike_loops (loops_around ops target)) refl
 
-    skip_nested : (place target : ℕ) (op : Op) → SkipsTo target op → held ops place ≡ held ops target → nests_well ops place op ≡ None
+    skip_nested : (place target : ℕ) (op : Op) → SkipsTo target op → loops_around ops place ≡ loops_around ops target → nests_well ops place op ≡ None
     skip_nested place target (Jump jumps.And named) to same = rw to (stays_there place target same)
     skip_nested place target (Jump jumps.Or named) to same = rw to (stays_there place target same)
     skip_nested place target op to same = absurd to
@@ -177,7 +177,7 @@ module _ (ops : List Op) where
     -- the operations of a block are nested as they should be, and after it the same loops are around as before it
     record Nested (around begin end : ℕ) : Type 0 where
       each : (place : ℕ) → begin ≤ place → place < end → NestsWell place
-      behind : held ops end ≡ held ops begin
+      behind : loops_around ops end ≡ loops_around ops begin
 
     below_or_in : (begin end : ℕ) → EntersBelow begin → ((place : ℕ) → begin ≤ place → place < end → NestsWell place) → EntersBelow end
     below_or_in begin end before each enter step predicate below there = elim (leb_tells begin enter) [
@@ -199,12 +199,12 @@ module _ (ops : List Op) where
       | inr w ↦ before enter step predicate w.1 enter_there
     ]
 
-    nest : {around begin end : ℕ} → Block around begin end → in_innermost ops (held ops begin) end ≡ true → length (held ops begin) ≡ around → EntersBelow begin → Nested around begin end
+    nest : {around begin end : ℕ} → Block around begin end → in_innermost ops (loops_around ops begin) end ≡ true → length (loops_around ops begin) ≡ around → EntersBelow begin → Nested around begin end
     nest (one {begin = begin} {op = op} there plain) inner deep before =
         record { each = λ place from below. at_first begin place from below (is_nested begin op there (plain_nested begin op plain)); behind = stays_around ops paired begin op there (no_loop op plain) }
     nest (both {begin = begin} {middle = middle} {end = end} first second) inner deep before =
         let k = forth second in
-        let one_nest = nest first (reach_less (held ops begin) middle end k inner) deep before in
+        let one_nest = nest first (reach_less (loops_around ops begin) middle end k inner) deep before in
         let other = nest second (rw one_nest.behind inner) (rw one_nest.behind deep) (below_or_in begin middle before one_nest.each) in
         record {
           each = λ place from below. elim (leb_tells middle place) [
@@ -214,9 +214,9 @@ module _ (ops : List Op) where
           behind = other.behind ∙ one_nest.behind;
         }
     nest (skips {begin = begin} {end = end} {op = op} there to rest) inner deep before =
-        let next : held ops (suc begin) ≡ held ops begin = stays_around ops paired begin op there (skip_no_loop end op to) in
+        let next : loops_around ops (suc begin) ≡ loops_around ops begin = stays_around ops paired begin op there (skip_no_loop end op to) in
         let rest_nest = nest rest (rw next inner) (rw next deep) (no_enter begin op there (skip_no_loop end op to) before) in
-        let behind : held ops end ≡ held ops begin = rest_nest.behind ∙ next in
+        let behind : loops_around ops end ≡ loops_around ops begin = rest_nest.behind ∙ next in
         record {
           each = λ place from below. elim (leb_tells (suc begin) place) [
             | inl w ↦ rest_nest.each place w.1 below
@@ -227,12 +227,12 @@ module _ (ops : List Op) where
     nest (branches {begin = begin} {middle = middle} {end = end} branch met jump unmet) inner deep before =
         let ahead = forth met in
         let further = forth unmet in
-        let next : held ops (suc begin) ≡ held ops begin = stays_around ops paired begin (Jump jumps.Branch (suc middle)) branch tt in
-        let met_nest = nest met (rw next (reach_less (held ops begin) middle end (omega arith) inner)) (rw next deep) (no_enter begin (Jump jumps.Branch (suc middle)) branch tt before) in
-        let at_jump : held ops middle ≡ held ops begin = met_nest.behind ∙ next in
-        let behind_jump : held ops (suc middle) ≡ held ops begin = stays_around ops paired middle (Jump jumps.Always end) jump tt ∙ at_jump in
+        let next : loops_around ops (suc begin) ≡ loops_around ops begin = stays_around ops paired begin (Jump jumps.Branch (suc middle)) branch tt in
+        let met_nest = nest met (rw next (reach_less (loops_around ops begin) middle end (omega arith) inner)) (rw next deep) (no_enter begin (Jump jumps.Branch (suc middle)) branch tt before) in
+        let at_jump : loops_around ops middle ≡ loops_around ops begin = met_nest.behind ∙ next in
+        let behind_jump : loops_around ops (suc middle) ≡ loops_around ops begin = stays_around ops paired middle (Jump jumps.Always end) jump tt ∙ at_jump in
         let unmet_nest = nest unmet (rw behind_jump inner) (rw behind_jump deep) (no_enter middle (Jump jumps.Always end) jump tt (below_or_in (suc begin) middle (no_enter begin (Jump jumps.Branch (suc middle)) branch tt before) met_nest.each)) in
-        let behind : held ops end ≡ held ops begin = unmet_nest.behind ∙ behind_jump in
+        let behind : loops_around ops end ≡ loops_around ops begin = unmet_nest.behind ∙ behind_jump in
         record {
           each = λ place from below. elim (leb_tells (suc middle) place) [
             | inl w ↦ unmet_nest.each place w.1 below
@@ -248,12 +248,12 @@ module _ (ops : List Op) where
         }
     nest (loops {around = around} {begin = begin} {step = step} {predicate = predicate} few enter body step_there) inner deep before =
         let ahead = forth body in
-        let next : held ops (suc begin) ≡ begin ∷ held ops begin = begins ops paired predicate begin step enter in
-        let shallow : nat_le (length (held ops (suc begin))) most_loops ≡ true = rw (next, deep) (le-leb (suc around) most_loops few) in
-        let inside_it : in_innermost ops (held ops begin) step ≡ true = reach_less (held ops begin) step (suc step) (omega arith) inner in
+        let next : loops_around ops (suc begin) ≡ begin ∷ loops_around ops begin = begins ops paired predicate begin step enter in
+        let shallow : nat_le (length (loops_around ops (suc begin))) most_loops ≡ true = rw (next, deep) (le-leb (suc around) most_loops few) in
+        let inside_it : in_innermost ops (loops_around ops begin) step ≡ true = reach_less (loops_around ops begin) step (suc step) (omega arith) inner in
         let enter_nested : nests_well ops begin (Enter predicate step) ≡ None = rw (shallow, inside_it) refl in
         let entered = below_or_in begin (suc begin) before (λ place from below. at_first begin place from below (is_nested begin (Enter predicate step) enter enter_nested)) in
-        let own : in_innermost ops (held ops (suc begin)) step ≡ true = rw (next, enter) (le-leb step step (omega arith)) in
+        let own : in_innermost ops (loops_around ops (suc begin)) step ≡ true = rw (next, enter) (le-leb step step (omega arith)) in
         let body_nest = nest body own (rw next (ap suc deep)) entered in
         record {
           each = λ place from below. elim (leb_tells step place) [

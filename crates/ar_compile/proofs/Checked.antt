@@ -4,7 +4,7 @@ use Rattle.std.specs.Prelude.{◌&&◌, ◌≤◌, if◌then◌else◌}
 use Rattle.ar_value.specs.declared.operator.BinaryOperator.TheVariants as binary
 use Rattle.ar_value.specs.declared.operator.UnaryOperator.TheVariants as unary
 use Rattle.ar_value.specs.Answer.{◌>>=◌}
-use Rattle.ar_value.specs.Kind.{Kind, nil, shaped, common, is_decimal, is_optional, plain}
+use Rattle.ar_value.specs.Kind.{Kind, nil, shaped, common, is_decimal, is_optional, plain, truth_kind}
 use Rattle.ar_value.specs.Shape.{Shape}
 use Rattle.ar_value.specs.Shape as shapes
 use Rattle.ar_value.specs.declared.operator.Arithmetic.{Arithmetic}
@@ -18,7 +18,7 @@ use Rattle.ar_value.specs.declared.operator.Predicate.{Predicate}
 use Rattle.ar_value.specs.declared.operator.Scalar.{Scalar}
 use Rattle.ar_value.specs.declared.operator.Scalar.TheVariants as scalars
 use Rattle.ar_value.specs.Limits.{most_literal_items}
-use Rattle.ar_tree.specs.Expression.{Expression, Expressions, count, place_of}
+use Rattle.ar_tree.specs.Expression.{Expression, Expressions, expression_count, place_of}
 use Rattle.ar_tree.specs.Expression as trees
 use Rattle.ar_tree.specs.Limits.{AllInLimits, AllWrittenInLimits, InLimits, IsShort, WrittenInLimits}
 use Rattle.ar_tree.specs.declared.tree.Binary.{Binary}
@@ -29,11 +29,12 @@ use Rattle.ar_tree.specs.declared.tree.Unary.{Unary}
 use Rattle.ar_tree.specs.declared.tree.Unary.TheVariants as unaries
 use Rattle.ar_tree.specs.Typed.{Typed, Typeds, how_many, typeds}
 use Rattle.ar_tree.specs.Typed as typed
-use Rattle.ar_check.specs.Check.{Answer, Item, arithmetic_kind, arithmetic_on, binary_of, body_of, calculation_of, checked, choice_in, choice_of, choice_tree, common_of, comparison_of, condition_of, default_kind, default_of, default_tree, entered, equal_of, equality_of, field_of, field_shape, given, in_common, in_of, index_of, innermost, is_nil_literal, is_whole_number, item_of, item_shape, items_typed, len_of, list_in_common, list_of, member_of, negated, negation_of, no_scalar, ordered_of, ordering_of, over_items, plain_kind, plus_of, predicate_kind, predicate_of, same_family, arithmetic_in, where_there, truth_kind, turned_item, typed_of, unary_of, where_wanted, widened}
-use Rattle.ar_check.specs.Operand.{Operand, among, family_in, is_text, is_truth, is_whole, made_plain, numbers, plain_of, plain_tree, scalar, scalar_of, turned}
+use Rattle.ar_check.specs.Check.{Answer, Item, arithmetic_kind, arithmetic_on, binary_of, body_of, calculation_of, checked, choice_in, choice_of, choice_tree, common_of, comparison_of, condition_of, common_default, default_of, default_tree, predicate_entered, equal_of, equality_of, field_of, field_shape, given, in_common, in_of, index_of, innermost, is_nil_literal, is_whole_number, item_of, item_shape, items_typed, len_of, list_in_common, list_literal_of, member_of, negated, negation_of, no_scalar, ordered_of, ordering_of, over_items, plain_kind, plus_of, predicate_kind, predicate_of, same_family, arithmetic_in, where_there, turned_item, typed_of, unary_of, where_wanted, widened}
+use Rattle.ar_check.specs.Operand.{Operand, among, scalar_family, is_text_operand, is_truth, is_whole, made_plain, numbers, plain_of, plain_tree, scalar, scalar_of, turned}
 use Rattle.ar_check.specs.declared.error.TypeError.{TypeError}
 use Rattle.ar_check.specs.declared.error.TypeError.TheVariants.{NotTruth}
 use Rattle.ar_check.proofs.Means.{answers}
+use Rattle.ar_check.specs.Private.Inside.{side_by}
 
 abbrev Within : Operand → Type 0
 Within operand = InLimits operand.tree
@@ -47,7 +48,7 @@ wanted_within : (at : ℕ) (is_wanted : Bool) (tree : Typed) (kind : Kind) → I
 wanted_within at true tree kind h = h
 wanted_within at false tree kind h = tt
 
--- ---- what is made plain, and what is turned into decimal
+-- ---- what is unwrapped, and what is converted to decimal
 
 plain_chosen : (test : Bool) (tree : Typed) → InLimits tree → InLimits (if test then typed.unary unary.Need tree else tree)
 plain_chosen true tree h = h
@@ -133,17 +134,17 @@ negated_within (Ok operand) h = h
 negated_within (Err error) h = tt
 
 equal_within : (at : ℕ) (m n : Option Scalar) (left right : Typed) → InLimits left → InLimits right → IfOk (equal_of at m n left right) Within
-equal_within at (Some m) (Some n) left right h k = wanted_within at (same_family (family_in m) (family_in n)) (typed.binary (binary.Equal (family_in m)) left right) truth_kind (h, k)
+equal_within at (Some m) (Some n) left right h k = wanted_within at (same_family (scalar_family m) (scalar_family n)) (typed.binary (binary.Equal (scalar_family m)) left right) truth_kind (h, k)
 equal_within at (Some m) None left right h k = tt
 equal_within at None n left right h k = tt
 
-equality_within : (at : ℕ) (nil_left nil_right : Bool) (left right : Operand) → Within left → Within right → IfOk (equality_of at nil_left nil_right left right) Within
+equality_within : (at : ℕ) (nil_left nil_right : Bool) (left right : Operand) → Within left → Within right → IfOk (equality_of at (side_by nil_left nil_right) left right) Within
 equality_within at true nil_right left right h k = k
 equality_within at false true left right h k = h
 equality_within at false false left right h k = equal_within at (scalar left) (scalar right) left.tree right.tree h k
 
 member_within : (at : ℕ) (m n : Option Scalar) (operand list : Typed) → InLimits operand → InLimits list → IfOk (member_of at m n operand list) Within
-member_within at (Some m) (Some n) operand list h k = wanted_within at (same_family (family_in m) (family_in n)) (typed.binary binary.IsIn operand list) truth_kind (h, k)
+member_within at (Some m) (Some n) operand list h k = wanted_within at (same_family (scalar_family m) (scalar_family n)) (typed.binary binary.IsIn operand list) truth_kind (h, k)
 member_within at (Some m) None operand list h k = tt
 member_within at None n operand list h k = tt
 
@@ -154,22 +155,22 @@ in_within at left right h k =
 
 -- ---- operators
 
-comparison_within : (at : ℕ) (comparison : Comparison) (nil_left nil_right : Bool) (left right : Operand) → Within left → Within right → IfOk (comparison_of at comparison nil_left nil_right left right) Within
+comparison_within : (at : ℕ) (comparison : Comparison) (nil_left nil_right : Bool) (left right : Operand) → Within left → Within right → IfOk (comparison_of at comparison (side_by nil_left nil_right) left right) Within
 comparison_within at comparisons.Equal nil_left nil_right left right h k = equality_within at nil_left nil_right left right h k
-comparison_within at comparisons.NotEqual nil_left nil_right left right h k = negated_within (equality_of at nil_left nil_right left right) (equality_within at nil_left nil_right left right h k)
+comparison_within at comparisons.NotEqual nil_left nil_right left right h k = negated_within (equality_of at (side_by nil_left nil_right) left right) (equality_within at nil_left nil_right left right h k)
 comparison_within at comparisons.Less nil_left nil_right left right h k = order_within at Less left right h k
 comparison_within at comparisons.LessOrEqual nil_left nil_right left right h k = order_within at LessOrEqual left right h k
 comparison_within at comparisons.Greater nil_left nil_right left right h k = order_within at Greater left right h k
 comparison_within at comparisons.GreaterOrEqual nil_left nil_right left right h k = order_within at GreaterOrEqual left right h k
 
-binary_within : (at : ℕ) (operator : Binary) (nil_left nil_right : Bool) (left right : Operand) → Within left → Within right → IfOk (binary_of at operator nil_left nil_right left right) Within
+binary_within : (at : ℕ) (operator : Binary) (nil_left nil_right : Bool) (left right : Operand) → Within left → Within right → IfOk (binary_of at operator (side_by nil_left nil_right) left right) Within
 binary_within at binaries.Or nil_left nil_right left right h k = wanted_within at (is_truth left && is_truth right) (typed.either (made_plain left) (made_plain right)) truth_kind (plain_within left h, plain_within right k)
 binary_within at binaries.And nil_left nil_right left right h k = wanted_within at (is_truth left && is_truth right) (typed.both (made_plain left) (made_plain right)) truth_kind (plain_within left h, plain_within right k)
 binary_within at (binaries.Comparison comparison) nil_left nil_right left right h k = comparison_within at comparison nil_left nil_right left right h k
 binary_within at binaries.In nil_left nil_right left right h k = in_within at left right h k
 binary_within at binaries.NotIn nil_left nil_right left right h k = negated_within (in_of at left right) (in_within at left right h k)
 binary_within at (binaries.TextTest test) nil_left nil_right left right h k =
-    wanted_within at (is_text left && is_text right) (typed.binary (binary.TextTest test) (made_plain left) (made_plain right)) truth_kind (plain_within left h, plain_within right k)
+    wanted_within at (is_text_operand left && is_text_operand right) (typed.binary (binary.TextTest test) (made_plain left) (made_plain right)) truth_kind (plain_within left h, plain_within right k)
 binary_within at binaries.Add nil_left nil_right left right h k = sum_within at Add left right h k
 binary_within at binaries.Subtract nil_left nil_right left right h k = sum_within at Subtract left right h k
 binary_within at binaries.Multiply nil_left nil_right left right h k = sum_within at Multiply left right h k
@@ -193,7 +194,7 @@ default_found at tree None h = tt
 
 default_within : (at : ℕ) (first other : Operand) → Within first → Within other → IfOk (default_of at first other) Within
 default_within at first other h k =
-    default_found at (default_tree first.tree (plain_kind first.kind) other.tree other.kind) (default_kind (plain_kind first.kind) other.kind)
+    default_found at (default_tree first.tree (plain_kind first.kind) other.tree other.kind) (common_default (plain_kind first.kind) other.kind)
     (turned_within other.kind (plain_kind first.kind) first.tree h, turned_within (plain_kind first.kind) other.kind other.tree k)
 
 -- ---- list literals
@@ -221,13 +222,13 @@ in_common_within : (at : ℕ) (items : List Item) (found : Option Scalar) → le
 in_common_within at items (Some found) few h = (all_turned found items h, rw (as_many found items) few)
 in_common_within at items None few h = tt
 
-list_within : (at : ℕ) (items : List Item) (place : Option ℕ) → length items ≤ most_literal_items → AllWithin items → IfOk (list_of at items place) Within
+list_within : (at : ℕ) (items : List Item) (place : Option ℕ) → length items ≤ most_literal_items → AllWithin items → IfOk (list_literal_of at items place) Within
 list_within at items (Some place) few h = tt
 list_within at items None few h = in_common_within at items (common_of items) few h
 
 -- items that are within limits, as many as were written
 abbrev Found : Expressions → List Item → Type 0
-Found written items = AllWithin items × (length items ≡ count written)
+Found written items = AllWithin items × (length items ≡ expression_count written)
 
 -- ---- predicates
 
@@ -237,8 +238,8 @@ BodyWithin body = InLimits body.1
 over_within : (around at : ℕ) (kind : Kind) (found : Shape → Answer) → ((shape : Shape) → IfOk (found shape) Within) → IfOk (over_items at around kind found) BodyWithin
 unfolding over_items
 over_within around at kind found each =
-    after BodyWithin (item_shape at (plain_of kind)) (λ shape. entered at around shape >>= λ inside. found inside >>= body_of)
-    (λ shape. after BodyWithin (entered at around shape) (λ inside. found inside >>= body_of)
+    after BodyWithin (item_shape at (plain_of kind)) (λ shape. predicate_entered at around shape >>= λ inside. found inside >>= body_of)
+    (λ shape. after BodyWithin (predicate_entered at around shape) (λ inside. found inside >>= body_of)
     (λ inside. answers Within BodyWithin (found inside) body_of (each inside) (λ body h. plain_within body h)))
 
 predicate_within : (at : ℕ) (predicate : Predicate) (list : Operand) (body : Bool × Typed) → Within list → BodyWithin body → IfOk (predicate_of at predicate list body.0 body.1) Within
@@ -258,15 +259,15 @@ module _ (wanted : Shape) where
         (λ first h. answers Within Within (typed_of wanted inner around position) (index_of at first) (tree_within inner around position few.1) (λ second k. index_within at first second h k))
     tree_within inner around (trees.UnaryAt at operator operand) few = answers Within Within (typed_of wanted inner around operand) (unary_of at operator) (tree_within inner around operand few) (unary_within at operator)
     tree_within inner around (trees.BinaryAt at operator left right) few =
-        answers Within Within (typed_of wanted inner around left) (λ first. typed_of wanted inner around right >>= binary_of at operator (is_nil_literal left) (is_nil_literal right) first) (tree_within inner around left few.0)
-        (λ first h. answers Within Within (typed_of wanted inner around right) (binary_of at operator (is_nil_literal left) (is_nil_literal right) first) (tree_within inner around right few.1)
+        answers Within Within (typed_of wanted inner around left) (λ first. typed_of wanted inner around right >>= binary_of at operator (side_by (is_nil_literal left) (is_nil_literal right)) first) (tree_within inner around left few.0)
+        (λ first h. answers Within Within (typed_of wanted inner around right) (binary_of at operator (side_by (is_nil_literal left) (is_nil_literal right)) first) (tree_within inner around right few.1)
         (λ second k. binary_within at operator (is_nil_literal left) (is_nil_literal right) first second h k))
     tree_within inner around (trees.ChoiceAt at condition met unmet) few =
         answers Within Within (typed_of wanted inner around condition) (λ a. typed_of wanted inner around met >>= λ b. typed_of wanted inner around unmet >>= choice_of at a b) (tree_within inner around condition few.0)
         (λ a h. answers Within Within (typed_of wanted inner around met) (λ b. typed_of wanted inner around unmet >>= choice_of at a b) (tree_within inner around met few.1)
         (λ b k. answers Within Within (typed_of wanted inner around unmet) (choice_of at a b) (tree_within inner around unmet few.2) (λ c l. choice_within at a b c h k l)))
     tree_within inner around (trees.ListAt at items) few =
-        answers (Found items) Within (items_typed wanted inner around items) (λ found. list_of at found (no_scalar found)) (items_within inner around items few.0)
+        answers (Found items) Within (items_typed wanted inner around items) (λ found. list_literal_of at found (no_scalar found)) (items_within inner around items few.0)
         (λ found h. list_within at found (no_scalar found) (subst (λ many. many ≤ most_literal_items) (sym h.1) few.1) h.0)
     tree_within inner around (trees.LenAt at list) few = answers Within Within (typed_of wanted inner around list) (len_of at) (tree_within inner around list few) (len_within at)
     tree_within inner around (trees.IsNilAt at operand) few = answers Within Within (typed_of wanted inner around operand) (λ operand. given (typed.unary unary.IsNil operand.tree) truth_kind) (tree_within inner around operand few) (λ operand h. h)

@@ -10,22 +10,22 @@ use Rattle.ar_op.specs.Code.{Code, code_of_parts}
 use Rattle.ar_op.specs.declared.op.Op.{Op}
 use Rattle.ar_op.specs.declared.op.Jump.TheVariants as jumps
 use Rattle.ar_op.specs.declared.op.Op.TheVariants.{MakeList, Field, Jump, Enter, Step, Return, Unary, Binary}
-use Rattle.ar_compile.specs.Compiled.{Tables, code_at, compiled, items_at, literal_op, literal_tables, number_of, tables_with, tables_with_items, with_text}
+use Rattle.ar_compile.specs.Compiled.{Tables, code_at, compiled, items_at, literal_op, literal_tables, index_among, tables_with, tables_with_items, with_text}
 use Rattle.ar_compile.specs.Length.{operations}
-use Rattle.ar_compile.specs.Private.Drafts.{drafted, drafted_items, enters, no_code, place_of, with_field, with_literal, with_loop, with_op, with_set, jumps_on}
+use Rattle.ar_compile.specs.Private.Drafts.{drafted, drafted_items, enters, no_code, draft_place, with_field, with_literal, with_loop, with_op, with_set, jumps_on}
 use Rattle.ar_compile.proofs.Standing.{around_length, length_is, one_length}
 
 abbrev tables_of : Code → Tables
 tables_of draft = record { texts = draft.texts; names = draft.names }
 
--- operations after those of a draft, and tables in place of its own
+-- operations after those of a draft, and tables instead of its own
 abbrev extended : Code → List Op → Tables → Code
 extended draft ops tables = code_of_parts (draft.ops ++ ops) tables.texts tables.names
 
 abbrev Drafted : Typed → Code → Type 0
-Drafted tree draft = drafted tree draft ≡ extended draft (code_at (place_of draft) (tables_of draft) tree) (tables_with tree (tables_of draft))
+Drafted tree draft = drafted tree draft ≡ extended draft (code_at (draft_place draft) (tables_of draft) tree) (tables_with tree (tables_of draft))
 
--- a draft with other operations, as far as its tables go
+-- other operations, with the tables of a draft
 abbrev other_ops : List Op → Code → Code
 other_ops ops draft = code_of_parts ops draft.texts draft.names
 
@@ -37,8 +37,8 @@ set_behind : (xs : List Op) (x y : Op) (ys : List Op) → set (xs ++ (x ∷ ys))
 set_behind [] x y ys = refl
 set_behind (z ∷ xs) x y ys = ap (λ l. z ∷ l) (set_behind xs x y ys)
 
-place_behind : (draft : Code) (ops : List Op) (n : ℕ) → length ops ≡ n → length (draft.ops ++ ops) ≡ place_of draft + n
-place_behind draft ops n is = length-append draft.ops ops ∙ ap (λ k. place_of draft + k) is
+place_behind : (draft : Code) (ops : List Op) (n : ℕ) → length ops ≡ n → length (draft.ops ++ ops) ≡ draft_place draft + n
+place_behind draft ops n is = length-append draft.ops ops ∙ ap (λ k. draft_place draft + k) is
 
 -- an operation after extended code
 then_op : (draft found : Code) (ops : List Op) (tables : Tables) (op : Op) → found ≡ extended draft ops tables → with_op op found ≡ extended draft (ops ++ op ∷ []) tables
@@ -46,13 +46,13 @@ then_op draft found ops tables op is = ap (with_op op) is ∙ behind_one draft o
 
 -- a tree after extended code
 then_tree : (draft found : Code) (ops : List Op) (tables : Tables) (n : ℕ) (tree : Typed) → found ≡ extended draft ops tables → length ops ≡ n → ((d : Code) → Drafted tree d)
-    → drafted tree found ≡ extended draft (ops ++ code_at (place_of draft + n) tables tree) (tables_with tree tables)
+    → drafted tree found ≡ extended draft (ops ++ code_at (draft_place draft + n) tables tree) (tables_with tree tables)
 then_tree draft found ops tables n tree is many drafts =
     let there = extended draft ops tables in
     let t = tables_with tree tables in
     ap (drafted tree) is ∙ drafts there
     ∙ ap (λ place. extended there (code_at place tables tree) t) (place_behind draft ops n many)
-    ∙ ap (λ o. code_of_parts o t.texts t.names) (append_assoc draft.ops ops (code_at (place_of draft + n) tables tree))
+    ∙ ap (λ o. code_of_parts o t.texts t.names) (append_assoc draft.ops ops (code_at (draft_place draft + n) tables tree))
 
 -- an operation in extended code is set
 then_set : (draft found : Code) (xs ys : List Op) (x y : Op) (tables : Tables) (place : ℕ) → found ≡ extended draft (xs ++ (x ∷ ys)) tables → place ≡ length (draft.ops ++ xs)
@@ -63,9 +63,9 @@ then_set draft found xs ys x y tables place is at =
     ∙ ap (λ o. code_of_parts (set o (length (draft.ops ++ xs)) y) tables.texts tables.names) (sym (append_assoc draft.ops xs (x ∷ ys)))
     ∙ ap (λ o. code_of_parts o tables.texts tables.names) (set_behind (draft.ops ++ xs) x y ys ∙ append_assoc draft.ops xs (y ∷ ys))
 
--- the place after extended code
-place_found : (draft found : Code) (ops : List Op) (tables : Tables) (n : ℕ) → found ≡ extended draft ops tables → length ops ≡ n → place_of found ≡ place_of draft + n
-place_found draft found ops tables n is many = ap place_of is ∙ place_behind draft ops n many
+-- the index after extended code
+place_found : (draft found : Code) (ops : List Op) (tables : Tables) (n : ℕ) → found ≡ extended draft ops tables → length ops ≡ n → draft_place found ≡ draft_place draft + n
+place_found draft found ops tables n is many = ap draft_place is ∙ place_behind draft ops n many
 
 -- operations written in another way
 same_ops : (draft : Code) (xs ys : List Op) (tables : Tables) → xs ≡ ys → extended draft xs tables ≡ extended draft ys tables
@@ -86,9 +86,9 @@ further_on p m n = omega arith
 -- a tree, an operation and another tree
 jump_between : (draft : Code) (left right : Typed) (op : Op) → ((d : Code) → Drafted left d) → ((d : Code) → Drafted right d)
     → drafted right (with_op op (drafted left draft))
-    ≡ extended draft (code_at (place_of draft) (tables_of draft) left ++ (op ∷ code_at (place_of draft + operations left + 1) (tables_with left (tables_of draft)) right)) (tables_with right (tables_with left (tables_of draft)))
+    ≡ extended draft (code_at (draft_place draft) (tables_of draft) left ++ (op ∷ code_at (draft_place draft + operations left + 1) (tables_with left (tables_of draft)) right)) (tables_with right (tables_with left (tables_of draft)))
 jump_between draft left right op drafts_left drafts_right =
-    let p = place_of draft in
+    let p = draft_place draft in
     let t = tables_of draft in
     let l = code_at p t left in
     let tl = tables_with left t in
@@ -100,9 +100,9 @@ jump_between draft left right op drafts_left drafts_right =
 -- two trees and an operation
 two_drafted : (draft : Code) (left right : Typed) (op : Op) → ((d : Code) → Drafted left d) → ((d : Code) → Drafted right d)
     → with_op op (drafted right (drafted left draft))
-    ≡ extended draft (code_at (place_of draft) (tables_of draft) left ++ (code_at (place_of draft + operations left) (tables_with left (tables_of draft)) right ++ op ∷ [])) (tables_with right (tables_with left (tables_of draft)))
+    ≡ extended draft (code_at (draft_place draft) (tables_of draft) left ++ (code_at (draft_place draft + operations left) (tables_with left (tables_of draft)) right ++ op ∷ [])) (tables_with right (tables_with left (tables_of draft)))
 two_drafted draft left right op drafts_left drafts_right =
-    let p = place_of draft in
+    let p = draft_place draft in
     let t = tables_of draft in
     let l = code_at p t left in
     let tl = tables_with left t in
@@ -112,8 +112,8 @@ two_drafted draft left right op drafts_left drafts_right =
     ∙ same_ops draft ((l ++ r) ++ op ∷ []) (l ++ (r ++ op ∷ [])) tr (append_assoc l r (op ∷ []))
 
 one_drafted : (draft : Code) (operand : Typed) (op : Op) → ((d : Code) → Drafted operand d)
-    → with_op op (drafted operand draft) ≡ extended draft (code_at (place_of draft) (tables_of draft) operand ++ op ∷ []) (tables_with operand (tables_of draft))
-one_drafted draft operand op drafts = then_op draft (drafted operand draft) (code_at (place_of draft) (tables_of draft) operand) (tables_with operand (tables_of draft)) op (drafts draft)
+    → with_op op (drafted operand draft) ≡ extended draft (code_at (draft_place draft) (tables_of draft) operand ++ op ∷ []) (tables_with operand (tables_of draft))
+one_drafted draft operand op drafts = then_op draft (drafted operand draft) (code_at (draft_place draft) (tables_of draft) operand) (tables_with operand (tables_of draft)) op (drafts draft)
 
 literal_drafted : (literal : Literal) (draft : Code) → with_literal literal draft ≡ extended draft (literal_op literal (tables_of draft) ∷ []) (literal_tables literal (tables_of draft))
 literal_drafted literals.Nil draft = refl
@@ -124,11 +124,11 @@ literal_drafted (literals.Text letters) draft = refl
 
 -- a jump over the right side
 jump_drafted : (draft : Code) (left right : Typed) (op : Op) (jump : ℕ → Op) → ((d : Code) → Drafted left d) → ((d : Code) → Drafted right d)
-    → with_set (place_of (drafted left draft)) (jump (place_of (drafted right (with_op op (drafted left draft))))) (drafted right (with_op op (drafted left draft)))
-    ≡ extended draft (code_at (place_of draft) (tables_of draft) left ++ (jump (place_of draft + operations left + 1 + operations right) ∷ code_at (place_of draft + operations left + 1) (tables_with left (tables_of draft)) right))
+    → with_set (draft_place (drafted left draft)) (jump (draft_place (drafted right (with_op op (drafted left draft))))) (drafted right (with_op op (drafted left draft)))
+    ≡ extended draft (code_at (draft_place draft) (tables_of draft) left ++ (jump (draft_place draft + operations left + 1 + operations right) ∷ code_at (draft_place draft + operations left + 1) (tables_with left (tables_of draft)) right))
     (tables_with right (tables_with left (tables_of draft)))
 jump_drafted draft left right op jump drafts_left drafts_right =
-    let p = place_of draft in
+    let p = draft_place draft in
     let t = tables_of draft in
     let l = code_at p t left in
     let tl = tables_with left t in
@@ -137,22 +137,22 @@ jump_drafted draft left right op jump drafts_left drafts_right =
     let whole = drafted right (with_op op (drafted left draft)) in
     let is = jump_between draft left right op drafts_left drafts_right in
     let end = place_found draft whole (l ++ (op ∷ r)) tr (operations left + 1 + operations right) is (around_length l r op (operations left) (operations right) (length_is p t left) (length_is (p + operations left + 1) tl right)) in
-    let at = ap place_of (drafts_left draft) in
-    ap (λ e. with_set (place_of (drafted left draft)) (jump e) whole) (end ∙ further p (operations left) (operations right))
-    ∙ then_set draft whole l r op (jump (p + operations left + 1 + operations right)) tr (place_of (drafted left draft)) is at
+    let at = ap draft_place (drafts_left draft) in
+    ap (λ e. with_set (draft_place (drafted left draft)) (jump e) whole) (end ∙ further p (operations left) (operations right))
+    ∙ then_set draft whole l r op (jump (p + operations left + 1 + operations right)) tr (draft_place (drafted left draft)) is at
 
 -- a loop over a body
 loop_drafted : (draft : Code) (list body : Typed) (predicate : Predicate) → ((d : Code) → Drafted list d) → ((d : Code) → Drafted body d)
-    → with_loop predicate (place_of (drafted list draft)) (drafted body (with_op (Enter predicate 0) (drafted list draft)))
-    ≡ extended draft (code_at (place_of draft) (tables_of draft) (typed.predicate predicate list body)) (tables_with body (tables_with list (tables_of draft)))
+    → with_loop predicate (draft_place (drafted list draft)) (drafted body (with_op (Enter predicate 0) (drafted list draft)))
+    ≡ extended draft (code_at (draft_place draft) (tables_of draft) (typed.predicate predicate list body)) (tables_with body (tables_with list (tables_of draft)))
 loop_drafted draft list body predicate drafts_list drafts_body =
-    let p = place_of draft in
+    let p = draft_place draft in
     let t = tables_of draft in
     let l = code_at p t list in
     let tl = tables_with list t in
     let b = code_at (p + operations list + 1) tl body in
     let tb = tables_with body tl in
-    let enter = place_of (drafted list draft) in
+    let enter = draft_place (drafted list draft) in
     let step = p + operations list + 1 + operations body in
     let over = l ++ (Enter predicate step ∷ b) in
     let at = place_found draft (drafted list draft) l tl (operations list) (drafts_list draft) (length_is p t list) in
@@ -174,7 +174,7 @@ regroup c m u x y =
 -- one of two branches
 choice_drafted : (draft : Code) (condition met unmet : Typed) → ((d : Code) → Drafted condition d) → ((d : Code) → Drafted met d) → ((d : Code) → Drafted unmet d) → Drafted (typed.choice condition met unmet) draft
 choice_drafted draft condition met unmet drafts_condition drafts_met drafts_unmet =
-    let p = place_of draft in
+    let p = draft_place draft in
     let t = tables_of draft in
     let c = code_at p t condition in
     let tc = tables_with condition t in
@@ -193,9 +193,9 @@ choice_drafted draft condition met unmet drafts_condition drafts_met drafts_unme
     let b_place = place_found draft b (c ++ (Jump jumps.Branch 0 ∷ m)) tm (operations condition + 1 + operations met) b_is many ∙ further p (operations condition) (operations met) in
     let jumped_place = place_found draft (with_op (Jump jumps.Always 0) b) ((c ++ (Jump jumps.Branch 0 ∷ m)) ++ Jump jumps.Always 0 ∷ []) tm (operations condition + 1 + operations met + 1) (then_op draft b (c ++ (Jump jumps.Branch 0 ∷ m)) tm (Jump jumps.Always 0) b_is)
     (one_length (c ++ (Jump jumps.Branch 0 ∷ m)) (Jump jumps.Always 0) (operations condition + 1 + operations met) many) ∙ further_on p (operations condition) (operations met) in
-    let d = jumps_on jumps.Branch (place_of a) (with_op (Jump jumps.Always 0) b) in
-    let d_is = ap (λ e. with_set (place_of a) (Jump jumps.Branch e) (with_op (Jump jumps.Always 0) b)) jumped_place
-    ∙ then_set draft (with_op (Jump jumps.Always 0) b) c (m ++ Jump jumps.Always 0 ∷ []) (Jump jumps.Branch 0) (Jump jumps.Branch r) tm (place_of a) jumped (ap place_of (drafts_condition draft)) in
+    let d = jumps_on jumps.Branch (draft_place a) (with_op (Jump jumps.Always 0) b) in
+    let d_is = ap (λ e. with_set (draft_place a) (Jump jumps.Branch e) (with_op (Jump jumps.Always 0) b)) jumped_place
+    ∙ then_set draft (with_op (Jump jumps.Always 0) b) c (m ++ Jump jumps.Always 0 ∷ []) (Jump jumps.Branch 0) (Jump jumps.Branch r) tm (draft_place a) jumped (ap draft_place (drafts_condition draft)) in
     let e = drafted unmet d in
     let front = c ++ (Jump jumps.Branch r ∷ (m ++ Jump jumps.Always 0 ∷ [])) in
     let front_many = around_length c (m ++ Jump jumps.Always 0 ∷ []) (Jump jumps.Branch r) (operations condition) (operations met + 1) (length_is p t condition) (one_length m (Jump jumps.Always 0) (operations met) (length_is q tc met)) in
@@ -206,8 +206,8 @@ choice_drafted draft condition met unmet drafts_condition drafts_met drafts_unme
     let to_met_many = around_length c m (Jump jumps.Branch r) (operations condition) (operations met) (length_is p t condition) (length_is q tc met) in
     let e_place = place_found draft e (to_met ++ (Jump jumps.Always 0 ∷ u)) tu (operations condition + 1 + operations met + 1 + operations unmet) e_is (around_length to_met u (Jump jumps.Always 0) (operations condition + 1 + operations met) (operations unmet) to_met_many (length_is r tm unmet))
     ∙ to_the_end p (operations condition) (operations met) (operations unmet) in
-    ap (λ n. with_set (place_of b) (Jump jumps.Always n) e) e_place
-    ∙ then_set draft e to_met u (Jump jumps.Always 0) (Jump jumps.Always end) tu (place_of b) e_is (b_place ∙ sym (place_behind draft to_met (operations condition + 1 + operations met) to_met_many ∙ further p (operations condition) (operations met)))
+    ap (λ n. with_set (draft_place b) (Jump jumps.Always n) e) e_place
+    ∙ then_set draft e to_met u (Jump jumps.Always 0) (Jump jumps.Always end) tu (draft_place b) e_is (b_place ∙ sym (place_behind draft to_met (operations condition + 1 + operations met) to_met_many ∙ further p (operations condition) (operations met)))
     ∙ same_ops draft (to_met ++ (Jump jumps.Always end ∷ u)) (c ++ (Jump jumps.Branch r ∷ (m ++ (Jump jumps.Always end ∷ u)))) tu (append_assoc c (Jump jumps.Branch r ∷ m) (Jump jumps.Always end ∷ u))
 
 mutual
@@ -216,24 +216,24 @@ mutual
   drafted_is typed.item draft = refl
   drafted_is (typed.literal literal) draft = literal_drafted literal draft
   drafted_is (typed.field owner name) draft =
-      let p = place_of draft in
+      let p = draft_place draft in
       let t = tables_of draft in
       let to = tables_with owner t in
       ap (with_field name) (drafted_is owner draft)
-      ∙ ap (λ ops. code_of_parts ops to.texts (with_text name to.names)) (append_assoc draft.ops (code_at p t owner) (Field (number_of name to.names) ∷ []))
+      ∙ ap (λ ops. code_of_parts ops to.texts (with_text name to.names)) (append_assoc draft.ops (code_at p t owner) (Field (index_among name to.names) ∷ []))
   drafted_is (typed.unary operator operand) draft = one_drafted draft operand (Unary operator) (λ d. drafted_is operand d)
   drafted_is (typed.binary operator left right) draft = two_drafted draft left right (Binary operator) (λ d. drafted_is left d) (λ d. drafted_is right d)
   drafted_is (typed.both left right) draft = jump_drafted draft left right (Jump jumps.And 0) (Jump jumps.And) (λ d. drafted_is left d) (λ d. drafted_is right d)
   drafted_is (typed.either left right) draft = jump_drafted draft left right (Jump jumps.Or 0) (Jump jumps.Or) (λ d. drafted_is left d) (λ d. drafted_is right d)
   drafted_is (typed.choice condition met unmet) draft = choice_drafted draft condition met unmet (λ d. drafted_is condition d) (λ d. drafted_is met d) (λ d. drafted_is unmet d)
   drafted_is (typed.listed scalar items) draft =
-      then_op draft (drafted_items items draft) (items_at (place_of draft) (tables_of draft) items) (tables_with_items items (tables_of draft)) (MakeList scalar (how_many items)) (items_are items draft)
+      then_op draft (drafted_items items draft) (items_at (draft_place draft) (tables_of draft) items) (tables_with_items items (tables_of draft)) (MakeList scalar (how_many items)) (items_are items draft)
   drafted_is (typed.predicate predicate list body) draft = loop_drafted draft list body predicate (λ d. drafted_is list d) (λ d. drafted_is body d)
 
-  items_are : (items : Typeds) (draft : Code) → drafted_items items draft ≡ extended draft (items_at (place_of draft) (tables_of draft) items) (tables_with_items items (tables_of draft))
+  items_are : (items : Typeds) (draft : Code) → drafted_items items draft ≡ extended draft (items_at (draft_place draft) (tables_of draft) items) (tables_with_items items (tables_of draft))
   items_are typed.none draft = ap (λ ops. code_of_parts ops draft.texts draft.names) (sym (append-nil draft.ops))
   items_are (typed.more first others) draft =
-      let p = place_of draft in
+      let p = draft_place draft in
       let t = tables_of draft in
       let f = code_at p t first in
       let tf = tables_with first t in
@@ -249,13 +249,13 @@ unfolding compiled
 whole_is condition = ap (with_op Return) (drafted_is condition no_code)
 
 -- how many operations there are once a tree was drafted
-pub drafted_length : (tree : Typed) (draft : Code) → place_of (drafted tree draft) ≡ place_of draft + operations tree
-drafted_length tree draft = place_found draft (drafted tree draft) (code_at (place_of draft) (tables_of draft) tree) (tables_with tree (tables_of draft)) (operations tree) (drafted_is tree draft) (length_is (place_of draft) (tables_of draft) tree)
+pub drafted_length : (tree : Typed) (draft : Code) → draft_place (drafted tree draft) ≡ draft_place draft + operations tree
+drafted_length tree draft = place_found draft (drafted tree draft) (code_at (draft_place draft) (tables_of draft) tree) (tables_with tree (tables_of draft)) (operations tree) (drafted_is tree draft) (length_is (draft_place draft) (tables_of draft) tree)
 
 -- one operation more
-pub one_place_more : (draft : Code) (op : Op) → place_of (with_op op draft) ≡ place_of draft + 1
+pub one_place_more : (draft : Code) (op : Op) → draft_place (with_op op draft) ≡ draft_place draft + 1
 one_place_more draft op = length-append draft.ops (op ∷ [])
 
 -- as many operations once one is another
-pub same_place : (draft : Code) (place : ℕ) (op : Op) → place_of (with_set place op draft) ≡ place_of draft
+pub same_place : (draft : Code) (place : ℕ) (op : Op) → draft_place (with_set place op draft) ≡ draft_place draft
 same_place draft place op = length-set draft.ops place op

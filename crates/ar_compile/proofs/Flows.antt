@@ -6,7 +6,7 @@ use Rattle.std.specs.List.{AllByRecursion}
 use Rattle.std.proofs.lemmas.Bool.Decides.{nat_tests}
 use Rattle.std.proofs.lemmas.List.{append-nil, append_assoc}
 use Rattle.ar_value.specs.Answer.{◌>>=◌}
-use Rattle.ar_value.specs.Kind.{Kind, merge, shaped}
+use Rattle.ar_value.specs.Kind.{Kind, merge, shaped, truth_kind}
 use Rattle.ar_value.specs.Shape.{Shape, list}
 use Rattle.ar_value.specs.declared.operator.Predicate.{Predicate}
 use Rattle.ar_value.proofs.Merges.{merge_with_itself}
@@ -16,8 +16,8 @@ use Rattle.ar_op.specs.Machine.{nth}
 use Rattle.ar_op.specs.declared.op.Op.{Op}
 use Rattle.ar_op.specs.declared.op.Jump.TheVariants as jumps
 use Rattle.ar_op.specs.declared.op.Op.TheVariants.{Jump, Enter, Step, Return}
-use Rattle.ar_safety.specs.Arrivals.{Around, Operands, Sent, all_sent, answer_kind, arrived, at_place, deepest, item_of, joined, lacks, merged, operands, passed_on, sent, sent_on, sent_to, to_next}
-use Rattle.ar_safety.specs.Effects.{effect, truth}
+use Rattle.ar_safety.specs.Arrivals.{Around, Operands, Sent, all_sent, answer_kind, arrived, at_place, deepest, innermost_shape, merged_all, lacks, merged, operands, passed_on, sent, sent_on, sent_to, to_next}
+use Rattle.ar_safety.specs.Effects.{kinds_left}
 use Rattle.ar_safety.specs.declared.error.Cause.{Cause}
 use Rattle.ar_safety.specs.declared.error.Cause.TheVariants.{Fault}
 use Rattle.ar_safety.specs.declared.error.Reason.TheVariants.{StackTooDeep}
@@ -44,16 +44,16 @@ module _ (code : Code) (shape : Shape) where
   abbrev pub At : (place : ℕ) → Op → Type 0
   At place op = nth code.ops place ≡ Some op
 
-  -- in these loops, from a place where operands of these kinds are above the floor to a place where operands of those kinds are
+  -- in these loops, from an index with operands of these kinds above the floor to one with operands of those kinds
   pub data Flows : List Around → (begin : ℕ) → List Kind → (end : ℕ) → List Kind → Type 0 where
-    one_op : {around : List Around} {begin : ℕ} {kinds given : List Kind} {op : Op} → At begin op → IsPlain op → lacks op (operands kinds around) ≡ false → effect code shape (item_of around) op kinds ≡ Some given
+    one_op : {around : List Around} {begin : ℕ} {kinds given : List Kind} {op : Op} → At begin op → IsPlain op → lacks op (operands kinds around) ≡ false → kinds_left code shape (innermost_shape around) op kinds ≡ Some given
         → Flows around begin kinds (suc begin) given
     in_turn : {around : List Around} {begin middle end : ℕ} {kinds given last : List Kind} → Flows around begin kinds middle given → Flows around middle given end last → Flows around begin kinds end last
-    skipped : {around : List Around} {begin end : ℕ} {kinds : List Kind} {op : Op} → At begin op → SkipsTo end op → Flows around (suc begin) kinds end (truth ∷ kinds) → Flows around begin (truth ∷ kinds) end (truth ∷ kinds)
+    skipped : {around : List Around} {begin end : ℕ} {kinds : List Kind} {op : Op} → At begin op → SkipsTo end op → Flows around (suc begin) kinds end (truth_kind ∷ kinds) → Flows around begin (truth_kind ∷ kinds) end (truth_kind ∷ kinds)
     one_of_two : {around : List Around} {begin middle end : ℕ} {kinds : List Kind} {left right kind : Kind} → At begin (Jump jumps.Branch (suc middle)) → Flows around (suc begin) kinds middle (left ∷ kinds) → At middle (Jump jumps.Always end)
-        → Flows around (suc middle) kinds end (right ∷ kinds) → merge left right ≡ Some kind → Flows around begin (truth ∷ kinds) end (kind ∷ kinds)
+        → Flows around (suc middle) kinds end (right ∷ kinds) → merge left right ≡ Some kind → Flows around begin (truth_kind ∷ kinds) end (kind ∷ kinds)
     over_list : {around : List Around} {begin step most : ℕ} {kinds : List Kind} {item : Shape} {predicate : Predicate} → length around < most_loops → At begin (Enter predicate step)
-        → Flows (record { item = item; most = most; below = kinds } ∷ around) (suc begin) [] step (truth ∷ []) → At step (Step predicate begin)
+        → Flows (record { item = item; most = most; below = kinds } ∷ around) (suc begin) [] step (truth_kind ∷ []) → At step (Step predicate begin)
         → Flows around begin (shaped (list item most) ∷ kinds) (suc step) (answer_kind predicate item most ∷ kinds)
 
   pub block : {around : List Around} {begin end : ℕ} {kinds given : List Kind} → Flows around begin kinds end given → Block code.ops (length around) begin end
@@ -70,7 +70,7 @@ module _ (code : Code) (shape : Shape) where
   ahead (one_of_two branch met jump unmet common) = let h = ahead met in let k = ahead unmet in omega arith
   ahead (over_list few enter body step) = let h = ahead body in omega arith
 
-  -- ---- the verifier at a place
+  -- ---- the verifier at an index
 
   abbrev flow : (place : ℕ) → List Sent → Result (List Sent) Cause
   flow place before = sent_on code shape place (drop place code.ops) before
@@ -92,7 +92,7 @@ module _ (code : Code) (shape : Shape) where
   steps place op had before more there came enough passes =
       rw (dropped code.ops place op there, came, enough, passes) (by_height place op (drop (suc place) code.ops) before more (nat_le (deepest more) most_operands))
 
-  -- ---- what is sent to a place
+  -- ---- what is sent to an index
 
   sent_here : (place : ℕ) (kinds : List Kind) (around : List Around) (others : List Sent) → sent_to place (sent place kinds around ∷ others) ≡ operands kinds around ∷ sent_to place others
   sent_here place kinds around others = rw (itself place) refl
@@ -124,7 +124,7 @@ module _ (code : Code) (shape : Shape) where
   front_arrives around first given all [] h k = absurd cc
   front_arrives around first given all (second ∷ others) h k =
       let same : second.loops ≡ around = first_loops second others (operands given around) h in
-      joined_front around first second.kinds given all others (subst (λ around_it. joined (Ok (operands second.kinds around_it)) others ≡ Ok (operands given around)) same h) k
+      joined_front around first second.kinds given all others (subst (λ around_it. merged_all (Ok (operands second.kinds around_it)) others ≡ Ok (operands given around)) same h) k
 
   -- ---- through a block
 
@@ -140,21 +140,21 @@ module _ (code : Code) (shape : Shape) where
   abbrev Outcome : List Around → (begin end : ℕ) → List Kind → List Sent → Type 0
   Outcome around begin end given before = Through around begin end given before ⊎ TooDeep begin before
 
-  -- to the places inside a block nothing is sent from before it
+  -- to the indexes inside a block nothing is sent from before it
   abbrev Fresh : (begin end : ℕ) → List Sent → Type 0
   Fresh begin end before = (place : ℕ) → begin < place → place < end → sent_to place before ≡ []
 
   abbrev Passes : List Around → (begin : ℕ) → List Kind → (end : ℕ) → List Kind → Type 0
   Passes around begin kinds end given = (before : List Sent) → arrived (sent_to begin before) ≡ Ok (operands kinds around) → Fresh begin end before → Outcome around begin end given before
 
-  plain_passes : (place : ℕ) (op : Op) (kinds : List Kind) (around : List Around) → IsPlain op → passed_on code shape place op kinds around ≡ to_next place around (effect code shape (item_of around) op kinds)
+  plain_passes : (place : ℕ) (op : Op) (kinds : List Kind) (around : List Around) → IsPlain op → passed_on code shape place op kinds around ≡ to_next place around (kinds_left code shape (innermost_shape around) op kinds)
   plain_passes place (Jump jump target) kinds around plain = absurd plain
   plain_passes place (Enter predicate step) kinds around plain = absurd plain
   plain_passes place (Step predicate enter) kinds around plain = absurd plain
   plain_passes place Return kinds around plain = absurd plain
   plain_passes place op kinds around plain = refl
 
-  one_op_passes : (around : List Around) (begin : ℕ) (kinds given : List Kind) (op : Op) → At begin op → IsPlain op → lacks op (operands kinds around) ≡ false → effect code shape (item_of around) op kinds ≡ Some given
+  one_op_passes : (around : List Around) (begin : ℕ) (kinds given : List Kind) (op : Op) → At begin op → IsPlain op → lacks op (operands kinds around) ≡ false → kinds_left code shape (innermost_shape around) op kinds ≡ Some given
       → Passes around begin kinds (suc begin) given
   one_op_passes around begin kinds given op there plain enough gives before came fresh =
       let sent_next = sent (suc begin) given around ∷ [] in
@@ -187,12 +187,12 @@ module _ (code : Code) (shape : Shape) where
 
   -- the messages of a jump, and all that comes after it
   skip_passes : (place target : ℕ) (op : Op) (kinds : List Kind) (around : List Around) → SkipsTo target op
-      → (lacks op (operands (truth ∷ kinds) around) ≡ false) × (passed_on code shape place op (truth ∷ kinds) around ≡ Ok (sent target (truth ∷ kinds) around ∷ sent (suc place) kinds around ∷ []))
+      → (lacks op (operands (truth_kind ∷ kinds) around) ≡ false) × (passed_on code shape place op (truth_kind ∷ kinds) around ≡ Ok (sent target (truth_kind ∷ kinds) around ∷ sent (suc place) kinds around ∷ []))
   skip_passes place target (Jump jumps.And named) kinds around to = (none_lacks (length kinds), rw to refl)
   skip_passes place target (Jump jumps.Or named) kinds around to = (none_lacks (length kinds), rw to refl)
   skip_passes place target op kinds around to = absurd to
 
-  -- from messages to the end of a block and to another place, through what is after that place
+  -- from messages to the end of a block and to another index, through what is after that index
   two_ways : (around_it : List Around) (begin start end : ℕ) (first second given all : List Kind) (before : List Sent) → begin < start → start < end → flow begin before ≡ flow start (before ++ sent end first around_it ∷ sent start second around_it ∷ [])
       → Through around_it start end given (before ++ sent end first around_it ∷ sent start second around_it ∷ []) → merged first given ≡ Some all → Through around_it begin end all before
   two_ways around_it begin start end first second given all before h k goes rest merges =
@@ -212,16 +212,16 @@ module _ (code : Code) (shape : Shape) where
         came = ap arrived all_there ∙ front_arrives around_it first given all (sent_to end rest.more) rest.came merges;
       }
 
-  skipped_passes : (around : List Around) (begin end : ℕ) (kinds : List Kind) (op : Op) → At begin op → SkipsTo end op → suc begin < end → Passes around (suc begin) kinds end (truth ∷ kinds) → Passes around begin (truth ∷ kinds) end (truth ∷ kinds)
+  skipped_passes : (around : List Around) (begin end : ℕ) (kinds : List Kind) (op : Op) → At begin op → SkipsTo end op → suc begin < end → Passes around (suc begin) kinds end (truth_kind ∷ kinds) → Passes around begin (truth_kind ∷ kinds) end (truth_kind ∷ kinds)
   skipped_passes around begin end kinds op there to h rest before came fresh =
       let passes = skip_passes begin end op kinds around to in
-      let two = sent end (truth ∷ kinds) around ∷ sent (suc begin) kinds around ∷ [] in
-      let next : sent_to (suc begin) two ≡ operands kinds around ∷ [] = sent_away (suc begin) end (truth ∷ kinds) around (sent (suc begin) kinds around ∷ []) (λ same. omega arith) ∙ sent_here (suc begin) kinds around [] in
+      let two = sent end (truth_kind ∷ kinds) around ∷ sent (suc begin) kinds around ∷ [] in
+      let next : sent_to (suc begin) two ≡ operands kinds around ∷ [] = sent_away (suc begin) end (truth_kind ∷ kinds) around (sent (suc begin) kinds around ∷ []) (λ same. omega arith) ∙ sent_here (suc begin) kinds around [] in
       let came_next = ap arrived (only_more (suc begin) before two (fresh (suc begin) (omega arith) h) ∙ next) in
       let fresh_next : Fresh (suc begin) end (before ++ two) = λ place from below. none_more place before two (fresh place (omega arith) below) (elsewhere place two ((λ same. omega arith), ((λ same. omega arith), tt))) in
-      elim (steps begin op (operands (truth ∷ kinds) around) before two there came passes.0 passes.1) [
+      elim (steps begin op (operands (truth_kind ∷ kinds) around) before two there came passes.0 passes.1) [
         | inl goes ↦ elim (rest (before ++ two) came_next fresh_next) [
-          | inl other ↦ inl (two_ways around begin (suc begin) end (truth ∷ kinds) kinds (truth ∷ kinds) (truth ∷ kinds) before (omega arith) h goes other (merged_self (truth ∷ kinds)))
+          | inl other ↦ inl (two_ways around begin (suc begin) end (truth_kind ∷ kinds) kinds (truth_kind ∷ kinds) (truth_kind ∷ kinds) before (omega arith) h goes other (merged_self (truth_kind ∷ kinds)))
           | inr deep ↦ inr (deep.0, goes ∙ deep.1)
         ]
         | inr deep ↦ inr (begin, deep)
@@ -275,14 +275,14 @@ module _ (code : Code) (shape : Shape) where
 
   -- one of two blocks
   branch_passes : (around : List Around) (begin middle end : ℕ) (kinds : List Kind) (left right kind : Kind) → At begin (Jump jumps.Branch (suc middle)) → At middle (Jump jumps.Always end) → suc begin < middle → suc middle < end → merge left right ≡ Some kind
-      → Passes around (suc begin) kinds middle (left ∷ kinds) → Passes around (suc middle) kinds end (right ∷ kinds) → Passes around begin (truth ∷ kinds) end (kind ∷ kinds)
+      → Passes around (suc begin) kinds middle (left ∷ kinds) → Passes around (suc middle) kinds end (right ∷ kinds) → Passes around begin (truth_kind ∷ kinds) end (kind ∷ kinds)
   branch_passes around begin middle end kinds left right kind branch jump h k common met unmet before came fresh =
       let two = sent (suc middle) kinds around ∷ sent (suc begin) kinds around ∷ [] in
       let next : sent_to (suc begin) two ≡ operands kinds around ∷ [] = sent_away (suc begin) (suc middle) kinds around (sent (suc begin) kinds around ∷ []) (λ same. omega arith) ∙ sent_here (suc begin) kinds around [] in
       let came_next = ap arrived (only_more (suc begin) before two (fresh (suc begin) (omega arith) (omega arith)) ∙ next) in
       let away_two : (place : ℕ) → suc begin < place → (place ≡ suc middle → ⊥) → sent_to place two ≡ [] = λ place from differs. elsewhere place two ((λ same. differs (sym same)), ((λ same. omega arith), tt)) in
       let fresh_next : Fresh (suc begin) middle (before ++ two) = λ place from below. none_more place before two (fresh place (omega arith) (omega arith)) (away_two place from (λ same. omega arith)) in
-      elim (steps begin (Jump jumps.Branch (suc middle)) (operands (truth ∷ kinds) around) before two branch came (none_lacks (length kinds)) refl) [
+      elim (steps begin (Jump jumps.Branch (suc middle)) (operands (truth_kind ∷ kinds) around) before two branch came (none_lacks (length kinds)) refl) [
         | inl goes ↦ elim (met (before ++ two) came_next fresh_next) [
           | inl through_met ↦ branch_on around begin middle end kinds left right kind jump h k common unmet before fresh goes through_met away_two
           | inr deep ↦ inr (deep.0, goes ∙ deep.1)
@@ -292,7 +292,7 @@ module _ (code : Code) (shape : Shape) where
 
   -- a loop
   loop_passes : (around : List Around) (begin step most : ℕ) (kinds : List Kind) (item : Shape) (predicate : Predicate) → At begin (Enter predicate step) → At step (Step predicate begin) → suc begin < step
-      → Passes (record { item = item; most = most; below = kinds } ∷ around) (suc begin) [] step (truth ∷ []) → Passes around begin (shaped (list item most) ∷ kinds) (suc step) (answer_kind predicate item most ∷ kinds)
+      → Passes (record { item = item; most = most; below = kinds } ∷ around) (suc begin) [] step (truth_kind ∷ []) → Passes around begin (shaped (list item most) ∷ kinds) (suc step) (answer_kind predicate item most ∷ kinds)
   loop_passes around begin step most kinds item predicate enter step_there h body before came fresh =
       let inner : Around = record { item = item; most = most; below = kinds } in
       let answer = answer_kind predicate item most ∷ kinds in
@@ -308,7 +308,7 @@ module _ (code : Code) (shape : Shape) where
               let three = (before ++ two) ++ through.more in
               let came_step = ap arrived (only_more step (before ++ two) through.more (none_more step before two (fresh step (omega arith) (omega arith)) (away_two step h (omega arith)))) ∙ through.came in
               let low : sent_to (suc step) through.more ≡ [] = elsewhere (suc step) through.more (all_more (λ sent. (suc begin < sent.target) × (sent.target ≤ step)) (λ sent. sent.target ≡ suc step → ⊥) through.more (λ sent w same. omega (arith, w.1)) through.within) in
-              elim (steps step (Step predicate begin) (operands (truth ∷ []) (inner ∷ around)) three (one_more ∷ []) step_there came_step refl refl) [
+              elim (steps step (Step predicate begin) (operands (truth_kind ∷ []) (inner ∷ around)) three (one_more ∷ []) step_there came_step refl refl) [
                 | inl ends ↦
                     let front : sent_to (suc step) two ≡ operands answer around ∷ [] = sent_away (suc step) (suc begin) [] (inner ∷ around) (sent (suc step) answer around ∷ []) (λ same. omega arith) ∙ sent_here (suc step) answer around [] in
                     let all_there : sent_to (suc step) (two ++ (through.more ++ one_more ∷ [])) ≡ operands answer around ∷ operands answer around ∷ [] =
@@ -358,14 +358,14 @@ module _ (code : Code) (shape : Shape) where
   past_end (op ∷ ops) (suc n) past = past_end ops n (omega arith)
 
   -- nothing is wrong with what is sent through it, unless the operands are too many
-  pub all_arrive : (end : ℕ) → Flows [] 0 [] end (truth ∷ []) → At end Return → length code.ops ≡ suc end → Answers (all_sent code shape)
+  pub all_arrive : (end : ℕ) → Flows [] 0 [] end (truth_kind ∷ []) → At end Return → length code.ops ≡ suc end → Answers (all_sent code shape)
   all_arrive end flows last long =
       elim (passes flows (sent 0 [] [] ∷ []) refl (λ place from below. elsewhere place (sent 0 [] [] ∷ []) ((λ same. omega arith), tt))) [
         | inl through ↦
             let before = (sent 0 [] [] ∷ []) ++ through.more in
             let came = ap arrived (only_more end (sent 0 [] [] ∷ []) through.more (elsewhere end (sent 0 [] [] ∷ []) ((λ same. let far = ahead flows in omega (arith, far, same)), tt))) ∙ through.came in
             let none : drop (suc end) code.ops ≡ [] = past_end code.ops (suc end) (omega (arith, long)) in
-            elim (steps end Return (operands (truth ∷ []) []) before [] last came refl refl) [
+            elim (steps end Return (operands (truth_kind ∷ []) []) before [] last came refl refl) [
               | inl goes ↦ subst Answers (sym (through.flows ∙ goes ∙ ap (λ rest. sent_on code shape (suc end) rest (before ++ [])) none)) tt
               | inr deep ↦ subst Answers (sym (through.flows ∙ deep)) (end, refl)
             ]

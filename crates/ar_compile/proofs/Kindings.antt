@@ -5,7 +5,7 @@ use Rattle.std.proofs.lemmas.Bool.{ltb-true}
 use Rattle.ar_value.specs.declared.operator.BinaryOperator.TheVariants as binary
 use Rattle.ar_value.specs.declared.operator.UnaryOperator.TheVariants as unary
 use Rattle.ar_value.specs.Answer.{◌>>=◌}
-use Rattle.ar_value.specs.Kind.{Kind, nil, shaped, common, is_decimal, merge, plain, turned_beside, whole_as_decimal}
+use Rattle.ar_value.specs.Kind.{Kind, nil, shaped, common, is_decimal, merge, plain, turned_beside, whole_as_decimal, scalar_shape, truth_kind}
 use Rattle.ar_value.specs.Shape.{Shape, FieldShapes, shape_named}
 use Rattle.ar_value.specs.Shape as shapes
 use Rattle.ar_value.specs.declared.operator.Arithmetic.{Arithmetic}
@@ -31,8 +31,8 @@ use Rattle.ar_tree.specs.declared.tree.Unary.{Unary}
 use Rattle.ar_tree.specs.declared.tree.Unary.TheVariants as unaries
 use Rattle.ar_tree.specs.Typed.{Typed, Typeds, typeds, how_many}
 use Rattle.ar_tree.specs.Typed as typed
-use Rattle.ar_check.specs.Check.{Answer, Item, arithmetic_kind, arithmetic_on, binary_of, body_of, calculation_of, checked, choice_in, choice_of, common_of, comparison_of, condition_of, default_kind, default_of, entered, equal_of, equality_of, field_of, field_shape, found_field, given, in_common, in_of, index_of, innermost as innermost_of, is_nil_literal, is_whole_number, item_of, item_shape, items_typed, len_of, list_in_common, list_of, member_of, negated, negation_of, no_scalar, number_kind, ordered_of, ordering_of, over_items, plain_kind, plus_of, predicate_kind, predicate_of, same_family, scalar_shape, arithmetic_in, compared_of, where_there, truth_kind, turned_item, typed_of, unary_of, where_wanted, widened}
-use Rattle.ar_check.specs.Operand.{Operand, among, family_in, is_text, is_text_scalar, is_truth, is_bool, is_whole, made_plain, numbers, numbers_in, plain_of, plain_tree, scalar, scalar_of, turned}
+use Rattle.ar_check.specs.Check.{Answer, Item, arithmetic_kind, arithmetic_on, binary_of, body_of, calculation_of, checked, choice_in, choice_of, common_of, comparison_of, condition_of, common_default, default_of, predicate_entered, equal_of, equality_of, field_of, field_shape, found_field, given, in_common, in_of, index_of, innermost as innermost_of, is_nil_literal, is_whole_number, item_of, item_shape, items_typed, len_of, list_in_common, list_literal_of, member_of, negated, negation_of, no_scalar, number_kind, ordered_of, ordering_of, over_items, plain_kind, plus_of, predicate_kind, predicate_of, same_family, arithmetic_in, compared_of, where_there, turned_item, typed_of, unary_of, where_wanted, widened}
+use Rattle.ar_check.specs.Operand.{Operand, among, scalar_family, is_text_operand, is_text_scalar, is_truth, is_bool, is_whole, made_plain, numbers, numbers_in, plain_of, plain_tree, scalar, scalar_of, turned}
 use Rattle.ar_check.specs.declared.error.TypeError.TheVariants.{NotTruth, PredicatesTooDeep}
 use Rattle.ar_check.proofs.Lists.{all_suit, common_suits, suits}
 use Rattle.ar_check.proofs.Means.{answers, both_hold}
@@ -40,6 +40,7 @@ use Rattle.ar_check.proofs.Parts.{ListOf, is_list, one_family}
 use Rattle.ar_safety.specs.Effects.{binary_kind, family_of, is_family, unary_kind}
 use Rattle.ar_safety.specs.Effects as effects
 use Rattle.ar_compile.specs.Private.Kinded.{Kinded, AllKinded, measured, innermost, literally, of_field, of_unary, of_binary, of_both, of_either, of_choice, of_list, of_predicate, none, one_more}
+use Rattle.ar_check.specs.Private.Inside.{side_by}
 
 module _ (wanted : Shape) (inner : Option Shape) (around : ℕ) where
   abbrev Has : Typed → Kind → Type 0
@@ -48,7 +49,7 @@ module _ (wanted : Shape) (inner : Option Shape) (around : ℕ) where
   abbrev Is : Operand → Type 0
   Is operand = Has operand.tree operand.kind
 
-  -- what is given where operands are what is wanted
+  -- what is given where operands are what is required
   wanted_kinded : (at : ℕ) (is_wanted : Bool) (tree : Typed) (kind : Kind) → (is_wanted ≡ true → Has tree kind) → IfOk (where_wanted at is_wanted tree kind) Is
   wanted_kinded at true tree kind h = h refl
   wanted_kinded at false tree kind h = tt
@@ -106,7 +107,7 @@ module _ (wanted : Shape) (inner : Option Shape) (around : ℕ) where
   text_of_scalar (Some scalars.Text) tree h is = h
   text_of_scalar found tree h is = absurd cc
 
-  is_letters : (operand : Operand) → Is operand → is_text operand ≡ true → Has (made_plain operand) (shaped shapes.text)
+  is_letters : (operand : Operand) → Is operand → is_text_operand operand ≡ true → Has (made_plain operand) (shaped shapes.text)
   is_letters operand h is = text_of_scalar (scalar operand) (made_plain operand) (is_scalar operand h) is
 
   whole_of_scalar : (found : Option Scalar) (tree : Typed) → HasScalar found tree → is_whole_number found ≡ true → Has tree (shaped shapes.whole)
@@ -244,14 +245,14 @@ module _ (wanted : Shape) (inner : Option Shape) (around : ℕ) where
   -- ---- equality and membership
 
   -- a scalar is of its family
-  shape_family : (shape : Shape) (found : Scalar) → scalar_of shape ≡ Some found → family_of shape ≡ Some (family_in found)
+  shape_family : (shape : Shape) (found : Scalar) → scalar_of shape ≡ Some found → family_of shape ≡ Some (scalar_family found)
   shape_family shapes.bool scalars.Bool is = refl
   shape_family shapes.whole scalars.Whole is = refl
   shape_family shapes.decimal scalars.Decimal is = refl
   shape_family shapes.text scalars.Text is = refl
   shape_family shape found is = absurd cc
 
-  kind_family : (kind : Kind) (found : Scalar) → option_and_then scalar_of (plain_of kind) ≡ Some found → effects.family_in kind ≡ Some (family_in found)
+  kind_family : (kind : Kind) (found : Scalar) → option_and_then scalar_of (plain_of kind) ≡ Some found → effects.family_in kind ≡ Some (scalar_family found)
   kind_family nil found is = absurd cc
   kind_family (shaped shape) found is = shape_family (plain shape) found is
 
@@ -262,12 +263,12 @@ module _ (wanted : Shape) (inner : Option Shape) (around : ℕ) where
 
   equal_kinded : (at : ℕ) (m n : Option Scalar) (left right : Operand) → scalar left ≡ m → scalar right ≡ n → Is left → Is right → IfOk (equal_of at m n left.tree right.tree) IsTruth
   equal_kinded at (Some m) (Some n) left right of_m of_n h k =
-      truth_wanted at (same_family (family_in m) (family_in n)) (typed.binary (binary.Equal (family_in m)) left.tree right.tree)
-      (λ is. of_binary h k (rw (kind_family left.kind m of_m, kind_family right.kind n of_n, one_family m n is, is_itself (family_in m)) refl))
+      truth_wanted at (same_family (scalar_family m) (scalar_family n)) (typed.binary (binary.Equal (scalar_family m)) left.tree right.tree)
+      (λ is. of_binary h k (rw (kind_family left.kind m of_m, kind_family right.kind n of_n, one_family m n is, is_itself (scalar_family m)) refl))
   equal_kinded at (Some m) None left right of_m of_n h k = tt
   equal_kinded at None n left right of_m of_n h k = tt
 
-  equality_kinded : (at : ℕ) (nil_left nil_right : Bool) (left right : Operand) → Is left → Is right → IfOk (equality_of at nil_left nil_right left right) IsTruth
+  equality_kinded : (at : ℕ) (nil_left nil_right : Bool) (left right : Operand) → Is left → Is right → IfOk (equality_of at (side_by nil_left nil_right) left right) IsTruth
   equality_kinded at true nil_right left right h k = (refl, of_unary k refl)
   equality_kinded at false true left right h k = (refl, of_unary h refl)
   equality_kinded at false false left right h k = equal_kinded at (scalar left) (scalar right) left right refl refl h k
@@ -275,8 +276,8 @@ module _ (wanted : Shape) (inner : Option Shape) (around : ℕ) where
   member_kinded : (at : ℕ) (m n : Option Scalar) (left : Operand) (list : Typed) (shape : Shape) (max : ℕ) → scalar left ≡ m → scalar_of (plain shape) ≡ n → Is left → Has list (shaped (shapes.list shape max))
       → IfOk (member_of at m n left.tree list) IsTruth
   member_kinded at (Some m) (Some n) left list shape max of_m of_n h k =
-      truth_wanted at (same_family (family_in m) (family_in n)) (typed.binary binary.IsIn left.tree list)
-      (λ is. of_binary h k (rw (kind_family left.kind m of_m, shape_family (plain shape) n of_n, one_family m n is, is_itself (family_in m)) refl))
+      truth_wanted at (same_family (scalar_family m) (scalar_family n)) (typed.binary binary.IsIn left.tree list)
+      (λ is. of_binary h k (rw (kind_family left.kind m of_m, shape_family (plain shape) n of_n, one_family m n is, is_itself (scalar_family m)) refl))
   member_kinded at (Some m) None left list shape max of_m of_n h k = tt
   member_kinded at None n left list shape max of_m of_n h k = tt
 
@@ -287,15 +288,15 @@ module _ (wanted : Shape) (inner : Option Shape) (around : ℕ) where
 
   -- ---- operators
 
-  comparison_kinded : (at : ℕ) (comparison : Comparison) (nil_left nil_right : Bool) (left right : Operand) → Is left → Is right → IfOk (comparison_of at comparison nil_left nil_right left right) Is
-  comparison_kinded at comparisons.Equal nil_left nil_right left right h k = truth_kinded (equality_of at nil_left nil_right left right) (equality_kinded at nil_left nil_right left right h k)
-  comparison_kinded at comparisons.NotEqual nil_left nil_right left right h k = negated_kinded (equality_of at nil_left nil_right left right) (equality_kinded at nil_left nil_right left right h k)
+  comparison_kinded : (at : ℕ) (comparison : Comparison) (nil_left nil_right : Bool) (left right : Operand) → Is left → Is right → IfOk (comparison_of at comparison (side_by nil_left nil_right) left right) Is
+  comparison_kinded at comparisons.Equal nil_left nil_right left right h k = truth_kinded (equality_of at (side_by nil_left nil_right) left right) (equality_kinded at nil_left nil_right left right h k)
+  comparison_kinded at comparisons.NotEqual nil_left nil_right left right h k = negated_kinded (equality_of at (side_by nil_left nil_right) left right) (equality_kinded at nil_left nil_right left right h k)
   comparison_kinded at comparisons.Less nil_left nil_right left right h k = order_kinded at Less left right h k
   comparison_kinded at comparisons.LessOrEqual nil_left nil_right left right h k = order_kinded at LessOrEqual left right h k
   comparison_kinded at comparisons.Greater nil_left nil_right left right h k = order_kinded at Greater left right h k
   comparison_kinded at comparisons.GreaterOrEqual nil_left nil_right left right h k = order_kinded at GreaterOrEqual left right h k
 
-  binary_kinded : (at : ℕ) (operator : Binary) (nil_left nil_right : Bool) (left right : Operand) → Is left → Is right → IfOk (binary_of at operator nil_left nil_right left right) Is
+  binary_kinded : (at : ℕ) (operator : Binary) (nil_left nil_right : Bool) (left right : Operand) → Is left → Is right → IfOk (binary_of at operator (side_by nil_left nil_right) left right) Is
   binary_kinded at binaries.Or nil_left nil_right left right h k =
       wanted_kinded at (is_truth left && is_truth right) (typed.either (made_plain left) (made_plain right)) truth_kind
       (λ is. let parts = both_hold (is_truth left) (is_truth right) is in of_either (is_true left h parts.0) (is_true right k parts.1))
@@ -306,8 +307,8 @@ module _ (wanted : Shape) (inner : Option Shape) (around : ℕ) where
   binary_kinded at binaries.In nil_left nil_right left right h k = truth_kinded (in_of at left right) (in_kinded at left right h k)
   binary_kinded at binaries.NotIn nil_left nil_right left right h k = negated_kinded (in_of at left right) (in_kinded at left right h k)
   binary_kinded at (binaries.TextTest test) nil_left nil_right left right h k =
-      wanted_kinded at (is_text left && is_text right) (typed.binary (binary.TextTest test) (made_plain left) (made_plain right)) truth_kind
-      (λ is. let parts = both_hold (is_text left) (is_text right) is in of_binary (is_letters left h parts.0) (is_letters right k parts.1) refl)
+      wanted_kinded at (is_text_operand left && is_text_operand right) (typed.binary (binary.TextTest test) (made_plain left) (made_plain right)) truth_kind
+      (λ is. let parts = both_hold (is_text_operand left) (is_text_operand right) is in of_binary (is_letters left h parts.0) (is_letters right k parts.1) refl)
   binary_kinded at binaries.Add nil_left nil_right left right h k = sum_kinded at Add left right h k
   binary_kinded at binaries.Subtract nil_left nil_right left right h k = sum_kinded at Subtract left right h k
   binary_kinded at binaries.Multiply nil_left nil_right left right h k = sum_kinded at Multiply left right h k
@@ -339,7 +340,7 @@ module _ (wanted : Shape) (inner : Option Shape) (around : ℕ) where
       choice_found at (common met.kind unmet.kind) (turned_beside unmet.kind met.kind) (turned_beside met.kind unmet.kind) condition (turned unmet.kind met.kind met.tree) (turned met.kind unmet.kind unmet.tree) refl h
       (turned_kinded unmet.kind met.kind met.tree k) (turned_kinded met.kind unmet.kind unmet.tree l)
 
-  -- what is turned by its plain shape
+  -- what is converted by its plain shape
   record PlainTurned (tree : Typed) (kind : Kind) : Type 0 where
     of : Shape
     has : Has tree (shaped of)
@@ -363,7 +364,7 @@ module _ (wanted : Shape) (inner : Option Shape) (around : ℕ) where
   default_found at (Some kind) of right first other h is k = of_binary h.has k (subst (λ of. merge of right ≡ Some kind) h.is is)
 
   default_kinds : (at : ℕ) (of of_other : Kind) (first other : Typed) → Has first of → Has other of_other
-      → IfOk (in_common at (typed.binary binary.Default (turned of_other (plain_kind of) first) (turned (plain_kind of) of_other other)) (default_kind (plain_kind of) of_other)) Is
+      → IfOk (in_common at (typed.binary binary.Default (turned of_other (plain_kind of) first) (turned (plain_kind of) of_other other)) (common_default (plain_kind of) of_other)) Is
   default_kinds at nil nil first other h k = of_binary h k refl
   default_kinds at nil (shaped shape) first other h k = of_binary h k refl
   default_kinds at (shaped shape) of_other first other h k =
@@ -405,7 +406,7 @@ module _ (wanted : Shape) (inner : Option Shape) (around : ℕ) where
       subst (λ many. Has (typed.listed found (turned_items found items)) (shaped (shapes.list (scalar_shape found) many))) (as_many found items) (of_list (all_turned found items (common_suits found items is) h))
   in_common_kinded at items None is h = tt
 
-  list_kinded : (at : ℕ) (items : List Item) (place : Option ℕ) → HaveScalars items → IfOk (list_of at items place) Is
+  list_kinded : (at : ℕ) (items : List Item) (place : Option ℕ) → HaveScalars items → IfOk (list_literal_of at items place) Is
   list_kinded at items (Some place) h = tt
   list_kinded at items None h = in_common_kinded at items (common_of items) refl h
 
@@ -438,8 +439,8 @@ module _ (wanted : Shape) where
   over_kinded : (inner : Option Shape) (around at : ℕ) (kind : Kind) (found : Shape → Answer) → ((shape : Shape) → IfOk (found shape) (Typing (Some shape) (suc around))) → IfOk (over_items at around kind found) (Body wanted inner around kind)
   unfolding over_items
   over_kinded inner around at kind found has =
-      answers (ListOf kind) (Body wanted inner around kind) (item_shape at (plain_of kind)) (λ shape. entered at around shape >>= λ inside. found inside >>= body_of) (is_list at kind)
-      (λ shape of. answers (Inside wanted inner around shape) (Body wanted inner around kind) (entered at around shape) (λ inside. found inside >>= body_of) (entered_by wanted inner around at shape (nat_lt around most_loops) refl)
+      answers (ListOf kind) (Body wanted inner around kind) (item_shape at (plain_of kind)) (λ shape. predicate_entered at around shape >>= λ inside. found inside >>= body_of) (is_list at kind)
+      (λ shape of. answers (Inside wanted inner around shape) (Body wanted inner around kind) (predicate_entered at around shape) (λ inside. found inside >>= body_of) (entered_by wanted inner around at shape (nat_lt around most_loops) refl)
       (λ inside enters. answers (Typing (Some inside) (suc around)) (Body wanted inner around kind) (found inside) body_of (has inside)
       (λ body h. record { shape = shape; of = of; within = enters.within; has = λ is. subst (λ (s : Shape). Kinded wanted (Some s) (suc around) (made_plain body) truth_kind) enters.same (is_true wanted (Some inside) (suc around) body h is) })))
 
@@ -454,15 +455,15 @@ module _ (wanted : Shape) where
         (λ first h. answers _ _ (typed_of wanted inner around position) (index_of at first) (tree_kinded inner around position) (λ second k. index_kinded wanted inner around at first second h k))
     tree_kinded inner around (trees.UnaryAt at operator operand) = answers _ _ (typed_of wanted inner around operand) (unary_of at operator) (tree_kinded inner around operand) (unary_kinded wanted inner around at operator)
     tree_kinded inner around (trees.BinaryAt at operator left right) =
-        answers _ _ (typed_of wanted inner around left) (λ first. typed_of wanted inner around right >>= binary_of at operator (is_nil_literal left) (is_nil_literal right) first) (tree_kinded inner around left)
-        (λ first h. answers _ _ (typed_of wanted inner around right) (binary_of at operator (is_nil_literal left) (is_nil_literal right) first) (tree_kinded inner around right)
+        answers _ _ (typed_of wanted inner around left) (λ first. typed_of wanted inner around right >>= binary_of at operator (side_by (is_nil_literal left) (is_nil_literal right)) first) (tree_kinded inner around left)
+        (λ first h. answers _ _ (typed_of wanted inner around right) (binary_of at operator (side_by (is_nil_literal left) (is_nil_literal right)) first) (tree_kinded inner around right)
         (λ second k. binary_kinded wanted inner around at operator (is_nil_literal left) (is_nil_literal right) first second h k))
     tree_kinded inner around (trees.ChoiceAt at condition met unmet) =
         answers _ _ (typed_of wanted inner around condition) (λ a. typed_of wanted inner around met >>= λ b. typed_of wanted inner around unmet >>= choice_of at a b) (tree_kinded inner around condition)
         (λ a h. answers _ _ (typed_of wanted inner around met) (λ b. typed_of wanted inner around unmet >>= choice_of at a b) (tree_kinded inner around met)
         (λ b k. answers _ _ (typed_of wanted inner around unmet) (choice_of at a b) (tree_kinded inner around unmet) (λ c l. choice_kinded wanted inner around at a b c h k l)))
     tree_kinded inner around (trees.ListAt at items) =
-        answers _ _ (items_typed wanted inner around items) (λ items. list_of at items (no_scalar items)) (items_kinded inner around items) (λ items h. list_kinded wanted inner around at items (no_scalar items) h)
+        answers _ _ (items_typed wanted inner around items) (λ items. list_literal_of at items (no_scalar items)) (items_kinded inner around items) (λ items h. list_kinded wanted inner around at items (no_scalar items) h)
     tree_kinded inner around (trees.LenAt at list) = answers _ _ (typed_of wanted inner around list) (len_of at) (tree_kinded inner around list) (len_kinded wanted inner around at)
     tree_kinded inner around (trees.IsNilAt at operand) = answers _ _ (typed_of wanted inner around operand) (λ operand. given (typed.unary unary.IsNil operand.tree) truth_kind) (tree_kinded inner around operand) (λ operand h. of_unary h refl)
     tree_kinded inner around (trees.DefaultAt at operand otherwise) =

@@ -14,7 +14,7 @@ use Rattle.ar_op.specs.Machine.{nth}
 use Rattle.ar_op.specs.declared.op.Op.{Op}
 use Rattle.ar_op.specs.declared.op.Jump.TheVariants as jumps
 use Rattle.ar_op.specs.declared.op.Op.TheVariants.{MakeList, Field, Jump, Enter, Step, Return, Unary, Binary}
-use Rattle.ar_compile.specs.Compiled.{Tables, code_at, compiled, items_at, literal_op, literal_tables, no_tables, number_of, tables_with, tables_with_items, with_text}
+use Rattle.ar_compile.specs.Compiled.{Tables, code_at, compiled, items_at, literal_op, literal_tables, no_tables, index_among, tables_with, tables_with_items, with_text}
 use Rattle.ar_compile.specs.Length.{length_of, operations, operations_of_items}
 use Rattle.ar_tree.specs.Limits.{AllInLimits, InLimits, IsShortLiteral}
 use Rattle.ar_compile.proofs.Standing.{GrowTables, is_there, items_grow, length_is, one_text_grows, tables_grow, then_grow}
@@ -30,7 +30,7 @@ below (first ∷ texts) (suc n) text is = let others = below texts n text is in 
 
 -- ---- tables
 
--- tables grow by no more than so many, and by short texts alone
+-- tables grow by at most `n`, and by short texts alone
 record Little (tables grown : Tables) (n : ℕ) : Type 0 where
   texts : length grown.texts ≤ length tables.texts + n
   names : length grown.names ≤ length tables.names + n
@@ -156,7 +156,7 @@ module _ (final : Tables) where
   literal_fits (literals.Bool truth) tables grow = tt
   literal_fits (literals.Whole value) tables grow = tt
   literal_fits (literals.Decimal millionths) tables grow = tt
-  literal_fits (literals.Text letters) tables grow = below final.texts (number_of letters tables.texts) letters (grow.0 (number_of letters tables.texts) letters (is_there letters tables.texts))
+  literal_fits (literals.Text letters) tables grow = below final.texts (index_among letters tables.texts) letters (grow.0 (index_among letters tables.texts) letters (is_there letters tables.texts))
 
   mutual
     code_fits : (tree : Typed) (place : ℕ) (tables : Tables) → InLimits tree → GrowTables (tables_with tree tables) final → AllFit (code_at place tables tree)
@@ -165,7 +165,7 @@ module _ (final : Tables) where
     code_fits (typed.literal literal) place tables h grow = (literal_fits literal tables grow, tt)
     code_fits (typed.field owner name) place tables h grow =
         let to = tables_with owner tables in
-        let n = number_of name to.names in
+        let n = index_among name to.names in
         one_fits (code_at place tables owner) (Field n) (code_fits owner place tables h.0 (grow.0, λ k found is. grow.1 k found (one_text_grows name to.names k found is)))
         (below final.names n name (grow.1 n name (is_there name to.names)))
     code_fits (typed.unary operator operand) place tables h grow = one_fits (code_at place tables operand) (Unary operator) (code_fits operand place tables h grow) tt

@@ -14,11 +14,11 @@ use Rattle.ar_value.specs.declared.operator.Predicate.{Predicate}
 use Rattle.ar_value.specs.declared.operator.Predicate.TheVariants as predicates
 use Rattle.ar_tree.specs.Meaning.{all_hold, any_holds, mean, none_holds, over, those}
 use Rattle.ar_tree.specs.Typed.{Typed}
-use Rattle.ar_check.specs.Check.{truth_kind}
+use Rattle.ar_value.specs.Kind.{truth_kind}
 use Rattle.ar_check.proofs.Means.{MeansKind, both_hold}
 use Rattle.ar_check.proofs.Operands.{on_bool}
 use Rattle.ar_op.specs.Code.{Code}
-use Rattle.ar_op.specs.Machine.{Loop, answer_of, begins_loop, decided, entered, floor, found_by, looked_at, next_item, nth, performed}
+use Rattle.ar_op.specs.Machine.{Loop, loop_answer, begins_loop, decided, entered, floor, found_by, looked_at, next_item, nth, performed}
 use Rattle.ar_op.specs.declared.op.Op.TheVariants.{Enter, Step}
 use Rattle.ar_compile.specs.Private.Standing.{At}
 use Rattle.ar_compile.proofs.Nodes.{LeadsTo, Reached, leads_fit, room_for_one}
@@ -72,7 +72,7 @@ module _ (code : Code) (result : Value) (answer : Result Bool Fault) (body : Typ
   abbrev gathered : (Items → Value) → (found : List Value) → Items → Meaning
   gathered give found items = those holds items >>= λ others. Ok (give (before found others))
 
-  -- what a loop comes to over the items that are left, where some were found before
+  -- what a loop evaluates to over the items that are left, where some were found before
   abbrev left_over : Predicate → (found : List Value) → Items → Meaning
   left_over predicates.All found items = all_hold holds items
   left_over predicates.Any found items = any_holds holds items
@@ -98,7 +98,7 @@ module _ (code : Code) (result : Value) (answer : Result Bool Fault) (body : Typ
   abbrev Left : Value → Type 0
   Left v = Reached code result answer (suc step) (v ∷ operands) loops
 
-  -- what is left once the item at hand was looked at: an answer, or the other items
+  -- what is left once the current item was examined: an answer, or the other items
   abbrev Then : Predicate → List Value → Items → Option Value → Type 0
   Then predicate found rest (Some value) = Left value
   Then predicate found rest None = LeadsBy (left_over predicate found rest) Left
@@ -123,7 +123,7 @@ module _ (code : Code) (result : Value) (answer : Result Bool Fault) (body : Typ
   by_none found rest true h = h
   by_none found rest false h = h
 
-  -- an item that was looked at is among those found, or left out
+  -- an item that was examined is among those found, or left out
   with_item : (give : Items → Value) (found : List Value) (first : Value) (rest : Items) (b : Bool) (others : Items)
       → give (before found (if b then item first others else others)) ≡ give (before (found_by b (loop_at first rest found)) others)
   with_item give found first rest true others = ap give (sym (before_more found first others))
@@ -163,7 +163,7 @@ module _ (code : Code) (result : Value) (answer : Result Bool Fault) (body : Typ
   all_gathered : (give : Items → Value) (found : List Value) (v : Value) → give (items_of found) ≡ v → LeadsBy (gathered give found no_items) Left → Left v
   all_gathered give found v same h = subst Left (ap give (before_none found) ∙ same) h
 
-  at_end : (predicate : Predicate) (found : List Value) → LeadsBy (left_over predicate found no_items) Left → Left (answer_of predicate found)
+  at_end : (predicate : Predicate) (found : List Value) → LeadsBy (left_over predicate found no_items) Left → Left (loop_answer predicate found)
   at_end predicates.All found h = h
   at_end predicates.Any found h = h
   at_end predicates.None found h = h

@@ -2,7 +2,7 @@
 use Rattle.std.proofs.Common.{◌≡◌, ℕ, suc, true, nat_le, Option, Some, None, IfSome, Ok, Err, refl, subst}
 use Rattle.ar_value.specs.Answer.{◌>>=◌}
 use Rattle.ar_value.specs.Fits.{all_items, fits}
-use Rattle.ar_value.specs.Kind.{Kind, shaped, fits_kind}
+use Rattle.ar_value.specs.Kind.{Kind, shaped, fits_kind, scalar_shape, truth_kind}
 use Rattle.ar_value.specs.Operators.{Meaning, faulted, ill_kinded}
 use Rattle.ar_value.specs.Operators as operators
 use Rattle.ar_value.specs.Shape.{Shape}
@@ -15,7 +15,6 @@ use Rattle.ar_value.specs.declared.operator.UnaryOperator.{UnaryOperator}
 use Rattle.ar_tree.specs.Meaning.{items_mean, mean}
 use Rattle.ar_tree.specs.Typed.{Typed, Typeds, how_many}
 use Rattle.ar_tree.specs.Typed as typed
-use Rattle.ar_check.specs.Check.{scalar_shape, truth_kind}
 use Rattle.ar_check.proofs.Branches.{choice_means, left_fits, means_more, right_fits}
 use Rattle.ar_check.proofs.Lists.{Fill, as_long, more_mean}
 use Rattle.ar_check.proofs.Means.{IsThere, Means, MeansKind, both, means_then}
@@ -40,11 +39,11 @@ given_means : (found : Option Kind) (kind : Kind) (m : Meaning) → found ≡ So
 given_means (Some given) kind m is h = let same : given ≡ kind = cc in as_checked kind m (subst (λ kind. MeansFitting kind m) same h)
 given_means None kind m is h = absurd cc
 
-unary_means : (operator : UnaryOperator) (of kind : Kind) (v : Value) → unary_kind operator of ≡ Some kind → fits_kind v of ≡ true → MeansKind kind (operators.one operator v)
-unary_means operator of kind v gives fits = given_means (unary_kind operator of) kind (operators.one operator v) gives (unary_sound operator of v fits)
+unary_means : (operator : UnaryOperator) (of kind : Kind) (v : Value) → unary_kind operator of ≡ Some kind → fits_kind v of ≡ true → MeansKind kind (operators.unary_meaning operator v)
+unary_means operator of kind v gives fits = given_means (unary_kind operator of) kind (operators.unary_meaning operator v) gives (unary_sound operator of v fits)
 
-binary_means : (operator : BinaryOperator) (of beside kind : Kind) (v w : Value) → binary_kind operator of beside ≡ Some kind → fits_kind v of ≡ true → fits_kind w beside ≡ true → MeansKind kind (operators.two operator v w)
-binary_means operator of beside kind v w gives fits also = given_means (binary_kind operator of beside) kind (operators.two operator v w) gives (binary_sound operator of beside v w fits also)
+binary_means : (operator : BinaryOperator) (of beside kind : Kind) (v w : Value) → binary_kind operator of beside ≡ Some kind → fits_kind v of ≡ true → fits_kind w beside ≡ true → MeansKind kind (operators.binary_meaning operator v w)
+binary_means operator of beside kind v w gives fits also = given_means (binary_kind operator of beside) kind (operators.binary_meaning operator v w) gives (binary_sound operator of beside v w fits also)
 
 module _ (wanted : Shape) (result : Value) (fit : fits result wanted ≡ true) where
   mutual
@@ -56,10 +55,10 @@ module _ (wanted : Shape) (result : Value) (fit : fits result wanted ≡ true) w
     kinded_means inner at_hand there around (typed.field owner name) kind (of_field {shape = shape} {fields = fields} owner_is named) =
         field_means result at_hand fields shape owner name named (kinded_means inner at_hand there around owner (shaped (shapes.object fields)) owner_is)
     kinded_means inner at_hand there around (typed.unary operator operand) kind (of_unary {of = of} operand_is gives) =
-        means_then (λ v. fits_kind v of ≡ true) _ (mean result at_hand operand) (operators.one operator) (kinded_means inner at_hand there around operand of operand_is) (λ v fits. unary_means operator of kind v gives fits)
+        means_then (λ v. fits_kind v of ≡ true) _ (mean result at_hand operand) (operators.unary_meaning operator) (kinded_means inner at_hand there around operand of operand_is) (λ v fits. unary_means operator of kind v gives fits)
     kinded_means inner at_hand there around (typed.binary operator left right) kind (of_binary {of = of} {beside = beside} left_is right_is gives) =
-        means_then (λ v. fits_kind v of ≡ true) _ (mean result at_hand left) (λ v. mean result at_hand right >>= λ w. operators.two operator v w) (kinded_means inner at_hand there around left of left_is)
-        (λ v fits. means_then (λ w. fits_kind w beside ≡ true) _ (mean result at_hand right) (λ w. operators.two operator v w) (kinded_means inner at_hand there around right beside right_is)
+        means_then (λ v. fits_kind v of ≡ true) _ (mean result at_hand left) (λ v. mean result at_hand right >>= λ w. operators.binary_meaning operator v w) (kinded_means inner at_hand there around left of left_is)
+        (λ v fits. means_then (λ w. fits_kind w beside ≡ true) _ (mean result at_hand right) (λ w. operators.binary_meaning operator v w) (kinded_means inner at_hand there around right beside right_is)
         (λ w also. binary_means operator of beside kind v w gives fits also))
     kinded_means inner at_hand there around (typed.both left right) kind (of_both left_is right_is) =
         both_means result at_hand left right (kinded_means inner at_hand there around left truth_kind left_is) (kinded_means inner at_hand there around right truth_kind right_is)

@@ -4,7 +4,7 @@ use Rattle.std.specs.Prelude.{◌||◌, option_and_then}
 use Rattle.std.specs.Str.{bytes_eq}
 use Rattle.std.proofs.lemmas.Slice.Eq.{bytes_eq-Decides}
 use Rattle.ar_value.specs.Kind.{Kind, is_optional, joined_field, merge, nil, or_nil, plain, shaped, widest, widest_fields}
-use Rattle.ar_safety.specs.Arrivals.{Around, Operands, joined, merged, of_loops, operands}
+use Rattle.ar_safety.specs.Arrivals.{Around, Operands, merged_all, merged, of_loops, operands}
 use Rattle.ar_safety.specs.declared.error.Reason.{Reason}
 use Rattle.ar_safety.specs.declared.error.Reason.TheVariants.{BadMerge}
 use Rattle.ar_value.specs.Shape.{Shape, FieldShapes, bool, whole, decimal, text, list, object, optional, no_fields, field}
@@ -103,7 +103,7 @@ shapes_taken first second third both all h k =
 
 -- ---- kinds
 
--- a shape, or nil beside it
+-- a shape, or nil next to it
 abbrev with_nil : Bool → Shape → Shape
 with_nil true shape = optional shape
 with_nil false shape = shape
@@ -180,7 +180,7 @@ or_true : (b : Bool) → (b || true) ≡ true
 or_true true = refl
 or_true false = refl
 
--- a shape beside nil, which may be nil
+-- a shape next to nil, which may be nil
 beside_nil : (first third : Shape) (all : Kind) → merge (shaped first) (shaped (or_nil third)) ≡ Some all → Front (shaped first) nil (shaped third) all
 beside_nil first third all h =
     let parts = to_both first (or_nil third) all h in
@@ -252,29 +252,29 @@ done x = Ok x
 one_joined : (x y : Operands) → done x ≡ done y → x ≡ y
 one_joined x y h = cc
 
-never_joined : (reason : Reason) (others : List Operands) (all : Operands) → joined (Err reason) others ≡ Ok all → ⊥
+never_joined : (reason : Reason) (others : List Operands) (all : Operands) → merged_all (Err reason) others ≡ Ok all → ⊥
 never_joined reason [] all h = cc
 never_joined reason (next ∷ others) all h = never_joined reason others all h
 
 abbrev JoinedFront : (around : List Around) (first second all : List Kind) → List Operands → Type 0
-JoinedFront around first second all others = joined (of_loops around (merged first second)) others ≡ Ok (operands all around)
+JoinedFront around first second all others = merged_all (of_loops around (merged first second)) others ≡ Ok (operands all around)
 
 -- once more, where the second one and the next have something in common
 joined_step : (around : List Around) (first second all : List Kind) (next : Operands) (others : List Operands) (middle : List Kind) → merged second next.kinds ≡ Some middle → (whole : Option (List Kind)) → merged first middle ≡ whole
-    → joined (of_loops around whole) others ≡ Ok (operands all around) → JoinedFront around first second all (next ∷ others)
+    → merged_all (of_loops around whole) others ≡ Ok (operands all around) → JoinedFront around first second all (next ∷ others)
 joined_step around first second all next others middle is (Some behind) also h =
     let front = kinds_front first second next.kinds middle behind is also in
     rw (front.1, front.2) h
 joined_step around first second all next others middle is None also h = absurd (never_joined BadMerge others (operands all around) h)
 
 joined_by : (around : List Around) (first second both all : List Kind) (next : Operands) (others : List Operands)
-    → ((middle : List Kind) → joined (Ok (operands middle around)) others ≡ Ok (operands both around) → JoinedFront around first middle all others)
-    → (middle : Option (List Kind)) → merged second next.kinds ≡ middle → joined (of_loops around middle) others ≡ Ok (operands both around) → JoinedFront around first second all (next ∷ others)
+    → ((middle : List Kind) → merged_all (Ok (operands middle around)) others ≡ Ok (operands both around) → JoinedFront around first middle all others)
+    → (middle : Option (List Kind)) → merged second next.kinds ≡ middle → merged_all (of_loops around middle) others ≡ Ok (operands both around) → JoinedFront around first second all (next ∷ others)
 joined_by around first second both all next others further (Some middle) is h = joined_step around first second all next others middle is (merged first middle) refl (further middle h)
 joined_by around first second both all next others further None is h = absurd (never_joined BadMerge others (operands both around) h)
 
 -- what comes first, and what is joined of all that comes after it
-pub joined_front : (around : List Around) (first second both all : List Kind) (others : List Operands) → joined (Ok (operands second around)) others ≡ Ok (operands both around) → merged first both ≡ Some all → JoinedFront around first second all others
+pub joined_front : (around : List Around) (first second both all : List Kind) (others : List Operands) → merged_all (Ok (operands second around)) others ≡ Ok (operands both around) → merged first both ≡ Some all → JoinedFront around first second all others
 joined_front around first second both all [] h k =
     let same : second ≡ both = ap (λ (o : Operands). o.kinds) (one_joined (operands second around) (operands both around) h) in
     ap (of_loops around) (ap (merged first) same ∙ k)

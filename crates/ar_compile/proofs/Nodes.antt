@@ -1,9 +1,9 @@
--- Trees of one operand, of two, and with jumps: where the machine on the code of their parts comes to what these mean, it does so on theirs.
+-- Trees of one operand, of two, and with jumps: the code evaluates as the tree means, if that of its parts does.
 use Rattle.std.proofs.Common.{◌≡◌, ℕ, suc, ◌+◌, ◌≤◌, Bool, true, false, List, ◌∷◌, length, Result, Ok, Err, refl, sym, subst, arith}
 use Rattle.std.specs.Prelude.{if◌then◌else◌}
 use Rattle.ar_value.specs.Answer.{◌>>=◌}
-use Rattle.ar_value.specs.Kind.{Kind, fits_kind}
-use Rattle.ar_value.specs.Operators.{Meaning, faulted, ill_kinded, truth, two}
+use Rattle.ar_value.specs.Kind.{Kind, fits_kind, truth_kind}
+use Rattle.ar_value.specs.Operators.{Meaning, faulted, ill_kinded, truth, binary_meaning}
 use Rattle.ar_value.specs.Value.{Value}
 use Rattle.ar_value.specs.Value as values
 use Rattle.ar_value.specs.declared.fault.Fault.{Fault}
@@ -11,7 +11,6 @@ use Rattle.ar_value.specs.declared.operator.BinaryOperator.{BinaryOperator}
 use Rattle.ar_tree.specs.Meaning.{mean}
 use Rattle.ar_tree.specs.Typed.{Typed}
 use Rattle.ar_tree.specs.Typed as typed
-use Rattle.ar_check.specs.Check.{truth_kind}
 use Rattle.ar_check.proofs.Means.{MeansKind}
 use Rattle.ar_check.proofs.Operands.{on_bool}
 use Rattle.ar_op.specs.Code.{Code}
@@ -54,11 +53,11 @@ module _ (code : Code) (result : Value) (answer : Result Bool Fault) where
   abbrev pub Reached : ℕ → List Value → List Loop → Type 0
   Reached place operands loops = Good code result answer place operands loops
 
-  -- a place by another name
+  -- an index by another name
   pub reached_at : (p q : ℕ) (operands : List Value) (loops : List Loop) → p ≡ q → Reached p operands loops → Reached q operands loops
   reached_at p q operands loops is h = subst (λ place. Reached place operands loops) is h
 
-  -- what a meaning leads to, at a place
+  -- what a meaning leads to, at `place`
   abbrev pub LeadsTo : Meaning → (place : ℕ) → List Value → List Loop → Type 0
   LeadsTo m place operands loops = Leads code result answer m (λ v. Reached place (v ∷ operands) loops)
 
@@ -71,11 +70,11 @@ module _ (code : Code) (result : Value) (answer : Result Bool Fault) where
   leads_fit kind (Err (faulted fault)) P Q fit each h = h
   leads_fit kind (Err ill_kinded) P Q fit each h = h
 
-  -- the machine on the code of a tree at a place comes to what the tree means
+  -- the machine on the code of a tree at `place` evaluates to what the tree means
   abbrev pub Runs : (place : ℕ) → Typed → List Loop → Type 0
   Runs place tree loops = (operands : List Value) → floor loops ≤ length operands → LeadsTo (mean result (here loops) tree) (place + operations tree) operands loops → Reached place operands loops
 
-  -- an operation that goes on to the next place
+  -- an operation that continues at the next index
   abbrev pub Falls : Op → Type 0
   Falls op = (s : State) → performed code result op s ≡ falls s (effect code result (here s.loops) op s.operands)
 
@@ -112,7 +111,7 @@ module _ (code : Code) (result : Value) (answer : Result Bool Fault) where
   of_two place loops left right operator runs_left runs_right there operands room leads =
       let mean_left = mean result (here loops) left in
       let mean_right = mean result (here loops) right in
-      let f = λ (v w : Value). two operator v w in
+      let f = λ (v w : Value). binary_meaning operator v w in
       let end = place + (operations left + operations right + 1) in
       runs_left operands room
       (leads_more code result answer mean_left (λ v. LeadsTo (mean_right >>= λ w. f v w) end operands loops) (λ v. Reached (place + operations left) (v ∷ operands) loops)
@@ -177,7 +176,7 @@ module _ (code : Code) (result : Value) (answer : Result Bool Fault) where
 
   -- ---- choices
 
-  -- after what is met, on to the end
+  -- after the then branch, on to the end
   met_jumps : (place target end : ℕ) (v : Value) (operands : List Value) (loops : List Loop) → At code place (Jump jumps.Always target) → target ≡ end → floor loops ≤ length operands
       → Reached end (v ∷ operands) loops → Reached place (v ∷ operands) loops
   met_jumps place target end v operands loops there to room h =

@@ -6,7 +6,7 @@ use Rattle.ar_value.specs.Value.{Value, Items, count, item, no_items}
 use Rattle.ar_value.specs.Value as values
 use Rattle.ar_value.specs.declared.operator.Scalar.{Scalar}
 use Rattle.ar_value.specs.declared.operator.Scalar.TheVariants as scalars
-use Rattle.ar_check.specs.Check.{scalar_shape}
+use Rattle.ar_value.specs.Kind.{scalar_shape}
 use Rattle.ar_op.specs.Machine.{is_scalar, list_made}
 
 -- items that are all one kind of scalar
@@ -36,7 +36,7 @@ one_later m n = omega arith
 from_zero : (n : ℕ) → 0 + n ≡ n
 from_zero n = omega arith
 
--- so many scalars are taken again, in their order
+-- n scalars are taken again, in their order
 made_again : (scalar : Scalar) (vs : Items) (n : ℕ) (others : Items) (operands : List Value) → AllScalar scalar vs
     → list_made scalar (count vs + n) others (pushed vs operands) ≡ list_made scalar n (in_front vs others) operands
 made_again scalar values.no_items n others operands all = ap (λ m. list_made scalar m others operands) (from_zero n)

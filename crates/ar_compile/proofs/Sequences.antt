@@ -57,5 +57,5 @@ pub all_are_inside : {A : Type 0} (f : A → Typed) (xs : List A) (i : ℕ) (who
 unfolding Agree
 all_are_inside f xs i whole past agree = (λ e. agree.1 (subst (λ ys. AllInLimits (typeds (map f ys))) (sym (drop_of_length-le xs past)) tt), λ h. refl)
 
--- what is told of a draft by what it was before, and of the parts of a tree one by one
+-- what is said of a draft by what it was before, and of the parts of a tree one by one
 pub ruleset drafts = (drafted_length, one_place_more, same_place, next_operations, no_operations, next_limits, next_drafted, none_drafted, as_many)

@@ -1,9 +1,9 @@
--- The machine on the code of a tree comes to what the tree means.
+-- The machine on the code of a tree evaluates to what the tree means.
 use Rattle.std.proofs.Common.{◌≡◌, ℕ, suc, ◌+◌, ◌≤◌, Bool, true, List, ◌∷◌, length, Option, Some, Result, Ok, refl, sym, ap, subst, arith}
 use Rattle.ar_value.specs.Answer.{◌>>=◌}
 use Rattle.ar_value.specs.Fits.{fits}
-use Rattle.ar_value.specs.Kind.{Kind, shaped}
-use Rattle.ar_value.specs.Operators.{Failure, Meaning, field_in, ill_kinded, items_in, one, scalar_item, truth}
+use Rattle.ar_value.specs.Kind.{Kind, shaped, scalar_shape, truth_kind}
+use Rattle.ar_value.specs.Operators.{Failure, Meaning, field_in, ill_kinded, items_in, unary_meaning, scalar_item, truth}
 use Rattle.ar_value.specs.Operators.{there as there_or}
 use Rattle.ar_value.specs.Shape.{Shape}
 use Rattle.ar_value.specs.Shape as shapes
@@ -17,7 +17,6 @@ use Rattle.ar_tree.specs.Typed.{Typed, Typeds, how_many}
 use Rattle.ar_tree.specs.Typed as typed
 use Rattle.ar_tree.specs.declared.tree.Literal.{Literal}
 use Rattle.ar_tree.specs.declared.tree.Literal.TheVariants as literals
-use Rattle.ar_check.specs.Check.{scalar_shape, truth_kind}
 use Rattle.ar_check.proofs.Means.{IsThere, MeansKind}
 use Rattle.ar_check.proofs.Operands.{on_list}
 use Rattle.ar_op.specs.Code.{Code}
@@ -151,7 +150,7 @@ module _ (code : Code) (wanted : Shape) (result : Value) (answer : Result Bool F
         of_one code result answer place loops owner (Field there.1.0) (field_in name) (runs inner around owner (shaped (shapes.object fields)) owner_is place there.0 loops fit) there.1.1 refl (λ s. refl)
         (λ v operands. rw there.1.2 refl)
     runs inner around (typed.unary operator operand) kind (of_unary {of = of} operand_is gives) place there loops fit =
-        of_one code result answer place loops operand (Unary operator) (one operator) (runs inner around operand of operand_is place there.0 loops fit) there.1 refl (λ s. refl) (λ v operands. refl)
+        of_one code result answer place loops operand (Unary operator) (unary_meaning operator) (runs inner around operand of operand_is place there.0 loops fit) there.1 refl (λ s. refl) (λ v operands. refl)
     runs inner around (typed.binary operator left right) kind (of_binary {of = of} {beside = beside} left_is right_is gives) place there loops fit =
         of_two code result answer place loops left right operator (runs inner around left of left_is place there.0 loops fit) (runs inner around right beside right_is (place + operations left) there.1 loops fit) there.2
     runs inner around (typed.both left right) kind (of_both left_is right_is) place there loops fit =

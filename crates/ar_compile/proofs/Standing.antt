@@ -1,4 +1,4 @@
--- The code of a tree stands where it was put.
+-- The code of a tree is where it was put.
 use Rattle.std.proofs.Common.{◌≡◌, ℕ, zero, suc, ◌+◌, Bool, true, false, cond, List, [], ◌∷◌, ◌++◌, length, Some, refl, sym, ap, subst, ◌∙◌, append_assoc, arith}
 use Rattle.std.specs.Str.{bytes_eq}
 use Rattle.std.proofs.lemmas.List.{length-append}
@@ -12,7 +12,7 @@ use Rattle.ar_op.specs.Machine.{nth}
 use Rattle.ar_op.specs.declared.op.Op.{Op}
 use Rattle.ar_op.specs.declared.op.Jump.TheVariants as jumps
 use Rattle.ar_op.specs.declared.op.Op.TheVariants.{MakeList, Field, Jump, Enter, Step, Return, Unary, Binary}
-use Rattle.ar_compile.specs.Compiled.{Tables, code_at, compiled, items_at, literal_op, literal_tables, no_tables, number_of, tables_with, tables_with_items, with_text}
+use Rattle.ar_compile.specs.Compiled.{Tables, code_at, compiled, items_at, literal_op, literal_tables, no_tables, index_among, tables_with, tables_with_items, with_text}
 use Rattle.ar_compile.specs.Length.{operations, operations_of_items}
 use Rattle.ar_compile.specs.Private.Standing.{At, StandItems, Stands, StandsLiteral}
 
@@ -44,7 +44,7 @@ mutual
   length_is place tables typed.result = refl
   length_is place tables typed.item = refl
   length_is place tables (typed.literal literal) = refl
-  length_is place tables (typed.field owner name) = one_length (code_at place tables owner) (Field (number_of name (tables_with owner tables).names)) (operations owner) (length_is place tables owner)
+  length_is place tables (typed.field owner name) = one_length (code_at place tables owner) (Field (index_among name (tables_with owner tables).names)) (operations owner) (length_is place tables owner)
   length_is place tables (typed.unary operator operand) = one_length (code_at place tables operand) (Unary operator) (operations operand) (length_is place tables operand)
   length_is place tables (typed.binary operator left right) =
       two_lengths (code_at place tables left) (code_at (place + operations left) (tables_with left tables) right) (Binary operator) (operations left) (operations right)
@@ -79,7 +79,7 @@ mutual
 
 -- ---- tables
 
--- what stands in a table stands there in one that has grown
+-- what is in a table is there in one that has grown
 abbrev pub Grows : List (List ℕ) → List (List ℕ) → Type 0
 Grows texts grown = (n : ℕ) (text : List ℕ) → nth texts n ≡ Some text → nth grown n ≡ Some text
 
@@ -104,13 +104,13 @@ one_text_grows text (first ∷ others) (suc n) found is = grown_by (bytes_eq fir
 same_text : (first text : List ℕ) → bytes_eq first text ≡ true → first ≡ text
 same_text first text h = (bytes_eq-Decides first text).0 h
 
--- a text stands at its number, once it is among the others
-there_by : (b : Bool) (first text : List ℕ) (others : List (List ℕ)) → bytes_eq first text ≡ b → nth (with_text text others) (number_of text others) ≡ Some text
-    → nth (first ∷ cond b others (with_text text others)) (cond b 0 (suc (number_of text others))) ≡ Some text
+-- a text is at its number, once it is among the others
+there_by : (b : Bool) (first text : List ℕ) (others : List (List ℕ)) → bytes_eq first text ≡ b → nth (with_text text others) (index_among text others) ≡ Some text
+    → nth (first ∷ cond b others (with_text text others)) (cond b 0 (suc (index_among text others))) ≡ Some text
 there_by true first text others is h = ap (λ t. Some t) (same_text first text is)
 there_by false first text others is h = h
 
-pub is_there : (text : List ℕ) (texts : List (List ℕ)) → nth (with_text text texts) (number_of text texts) ≡ Some text
+pub is_there : (text : List ℕ) (texts : List (List ℕ)) → nth (with_text text texts) (index_among text texts) ≡ Some text
 is_there text [] = refl
 is_there text (first ∷ others) = there_by (bytes_eq first text) first text others refl (is_there text others)
 
@@ -151,7 +151,7 @@ mutual
 
 -- ---- operations
 
--- operations stand one after the other from a place
+-- operations are one after the other from an index
 abbrev pub Hold : List Op → (place : ℕ) → List Op → Type 0
 Hold ops place [] = Unit {0}
 Hold ops place (op ∷ others) = (nth ops place ≡ Some op) × Hold ops (place + 1) others
@@ -168,7 +168,7 @@ hold_split ops place (x ∷ xs) ys h =
     let others = hold_split ops (place + 1) xs ys h.1 in
     ((h.0, others.0), subst (λ (p : ℕ). Hold ops p ys) (next_place place (length xs)) others.1)
 
--- parts of which the first has so many operations
+-- parts of which the first has `n` operations
 hold_parts : (ops : List Op) (place n : ℕ) (xs ys : List Op) → length xs ≡ n → Hold ops place (xs ++ ys) → Hold ops place xs × Hold ops (place + n) ys
 hold_parts ops place n xs ys is h =
     let parts = hold_split ops place xs ys h in (parts.0, subst (λ (m : ℕ). Hold ops (place + m) ys) is parts.1)
@@ -184,7 +184,7 @@ hold_behind before (op ∷ others) =
     let here : Hold (before ++ (op ∷ others)) (length (before ++ op ∷ [])) others = subst (λ (ops : List Op). Hold ops (length (before ++ op ∷ [])) others) (append_assoc before (op ∷ []) others) rest in
     (behind before op others, subst (λ (p : ℕ). Hold (before ++ (op ∷ others)) p others) (one_length before op (length before) refl) here)
 
--- all operations stand from the first place
+-- all operations are there from the first index
 pub hold_all : (ops : List Op) → Hold ops 0 ops
 hold_all ops = hold_behind [] ops
 
@@ -198,7 +198,7 @@ module _ (code : Code) where
   have_before : (tables grown : Tables) → GrowTables tables grown → Have grown → Have tables
   have_before tables grown h k = (λ n text is. k.0 n text (h.0 n text is), λ n name is. k.1 n name (h.1 n name is))
 
-  -- an operation after so many others
+  -- an operation after n others
   at_end : (place m n : ℕ) (op : Op) → m ≡ n → Hold code.ops (place + m) (op ∷ []) → At code (place + n) op
   at_end place m n op is h = subst (λ (k : ℕ). At code (place + k) op) is h.0
 
@@ -207,7 +207,7 @@ module _ (code : Code) where
   literal_stands place tables (literals.Bool truth) h have = h.0
   literal_stands place tables (literals.Whole value) h have = h.0
   literal_stands place tables (literals.Decimal millionths) h have = h.0
-  literal_stands place tables (literals.Text letters) h have = (number_of letters tables.texts, h.0, have.0 (number_of letters tables.texts) letters (is_there letters tables.texts))
+  literal_stands place tables (literals.Text letters) h have = (index_among letters tables.texts, h.0, have.0 (index_among letters tables.texts) letters (is_there letters tables.texts))
 
   abbrev After : Tables → (place : ℕ) → Typed → Type 0
   After tables place tree = Hold code.ops place (code_at place tables tree)
@@ -253,7 +253,7 @@ module _ (code : Code) where
     standing (typed.literal literal) place tables h have = literal_stands place tables literal h have
     standing (typed.field owner name) place tables h have =
         let before = tables_with owner tables in
-        let n = number_of name before.names in
+        let n = index_among name before.names in
         let parts = one_holds place tables owner (Field n) h in
         (standing owner place tables parts.0 (have.0, λ k found is. have.1 k found (one_text_grows name before.names k found is)), (n, parts.1, have.1 n name (is_there name before.names)))
     standing (typed.unary operator operand) place tables h have = let parts = one_holds place tables operand (Unary operator) h in (standing operand place tables parts.0 have, parts.1)

@@ -1,4 +1,4 @@
--- What the machine comes to from a state, told from where its next step leads.
+-- What the machine evaluates to from a state, by where its next step leads.
 use Rattle.std.proofs.Common.{◌≡◌, ℕ, suc, ◌+◌, ◌≤◌, Bool, true, nat_le, List, ◌∷◌, length, Some, Result, Ok, Err, refl, sym, ap, ◌∙◌, arith}
 use Rattle.std.proofs.lemmas.Bool.Decides.{nat_tests}
 use Rattle.ar_value.specs.Answer.{◌>>=◌}
@@ -21,7 +21,7 @@ module _ (code : Code) (result : Value) (answer : Result Bool Fault) where
   abbrev pub Ends : State → Type 0
   Ends s = (n : ℕ) × (total : ℕ) × (after code result n s ≡ ends answer total)
 
-  -- from a place with these operands and loops, whatever was paid
+  -- from an index with these operands and loops, whatever was paid
   abbrev pub Good : (place : ℕ) → List Value → List Loop → Type 0
   Good place operands loops = (cost : ℕ) → Ends (at place operands loops cost)
 
@@ -64,7 +64,7 @@ module _ (code : Code) (result : Value) (answer : Result Bool Fault) where
       by_next (at place operands loops cost) (performed code result op (paid op (at place operands loops cost)))
       (step_is op (at place operands loops cost) there (enough (floor loops + takes op) (length operands) room)) (each (cost + cost_of op operands))
 
-  -- an operation that gives a value or meets a fault, and goes on to the next place
+  -- an operation that gives a value or meets a fault, and continues at the next index
   by_effect : (m : Meaning) (place : ℕ) (operands others : List Value) (loops : List Loop) (cost : ℕ) → Leads m (λ v. Good (suc place) (v ∷ others) loops)
       → EndsNext (falls (at place operands loops cost) (m >>= λ v. Ok (v ∷ others)))
   by_effect (Ok v) place operands others loops cost good = good cost

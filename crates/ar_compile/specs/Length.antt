@@ -12,13 +12,13 @@ abbrev mutual
   operations (typed.field owner name) = operations owner + 1
   operations (typed.unary operator operand) = operations operand + 1
   operations (typed.binary operator left right) = operations left + operations right + 1
-  -- a jump stands between the sides
+  -- a jump is between the sides
   operations (typed.both left right) = operations left + 1 + operations right
   operations (typed.either left right) = operations left + 1 + operations right
-  -- a branch stands before what is met, and a jump after it
+  -- a branch comes before the then branch, and a jump after it
   operations (typed.choice condition met unmet) = operations condition + 1 + operations met + 1 + operations unmet
   operations (typed.listed scalar items) = operations_of_items items + 1
-  -- the body stands between the loop's Enter and its Step
+  -- the body is between the loop's Enter and its Step
   operations (typed.predicate predicate list body) = operations list + 1 + operations body + 1
 
   pub operations_of_items : Typeds → ℕ

@@ -10,7 +10,7 @@ ghost use Rattle.ar_op.specs.declared.op.Op.TheVariants.{MakeList, Jump as JumpT
 ghost use Rattle.ar_compile.specs.Answer.{CompilesTo};
 ghost use Rattle.ar_compile.specs.Compiled.{compiled};
 ghost use Rattle.ar_compile.specs.Length.{length_of, operations, operations_of_items};
-ghost use Rattle.ar_compile.specs.Private.Drafts.{drafted, drafted_items, jumps_on, place_of, with_field, with_literal, with_op};
+ghost use Rattle.ar_compile.specs.Private.Drafts.{drafted, drafted_items, jumps_on, draft_place, with_field, with_literal, with_op};
 ghost use Rattle.ar_compile.specs.Private.Trees.{items_view};
 
 use crate::draft::Draft;
@@ -25,7 +25,7 @@ use ar_value::operator::{Predicate, Scalar};
 use std::alloc::{AllocError, Global};
 
 fn put_literal(alloc: Global, draft: &mut Draft, literal: &Literal) -> Result<(), AllocError>
-    requires { place_of draft.old ≤ most_code_entries }
+    requires { draft_place draft.old ≤ most_code_entries }
     ensures { OnOk result (draft.new ≡ with_literal literal.now draft.old) }
 {
     match literal {
@@ -41,7 +41,7 @@ fn put_literal(alloc: Global, draft: &mut Draft, literal: &Literal) -> Result<()
 #[cycle(compiler)]
 pub(crate) fn put(alloc: Global, draft: &mut Draft, tree: &Typed) -> Result<(), AllocError>
     requires { (InLimits (typed_view tree.now))
-        × (place_of draft.old + operations (typed_view tree.now) ≤ most_code_entries) }
+        × (draft_place draft.old + operations (typed_view tree.now) ≤ most_code_entries) }
     ensures { OnOk result (draft.new ≡ drafted (typed_view tree.now) draft.old) }
 {
     match tree {
@@ -74,7 +74,7 @@ pub(crate) fn put(alloc: Global, draft: &mut Draft, tree: &Typed) -> Result<(), 
 #[tactic(auto, using(crate::proofs::Drafts::drafted_length))]
 fn put_field(alloc: Global, draft: &mut Draft, owner: &Typed, name: &str) -> Result<(), AllocError>
     requires { (InLimits (typed_view owner.now))
-        × (place_of draft.old + operations (typed_view owner.now) ≤ most_code_entries) }
+        × (draft_place draft.old + operations (typed_view owner.now) ≤ most_code_entries) }
     ensures { OnOk result (draft.new ≡ with_field name.now (drafted (typed_view owner.now) draft.old)) }
 {
     put(alloc, draft, owner)?;
@@ -85,7 +85,7 @@ fn put_field(alloc: Global, draft: &mut Draft, owner: &Typed, name: &str) -> Res
 #[cycle(compiler)]
 fn put_one(alloc: Global, draft: &mut Draft, operand: &Typed, op: Op) -> Result<(), AllocError>
     requires { (InLimits (typed_view operand.now))
-        × (place_of draft.old + operations (typed_view operand.now) ≤ most_code_entries) }
+        × (draft_place draft.old + operations (typed_view operand.now) ≤ most_code_entries) }
     ensures { OnOk result (draft.new ≡ with_op op (drafted (typed_view operand.now) draft.old)) }
 {
     put(alloc, draft, operand)?;
@@ -103,7 +103,7 @@ fn put_two(
     op: Op,
 ) -> Result<(), AllocError>
     requires { (InLimits (typed_view left.now)) × (InLimits (typed_view right.now))
-        × (place_of draft.old + operations (typed_view left.now) + operations (typed_view right.now)
+        × (draft_place draft.old + operations (typed_view left.now) + operations (typed_view right.now)
         ≤ most_code_entries) }
     ensures { OnOk result
         (draft.new ≡ with_op op (drafted (typed_view right.now) (drafted (typed_view left.now) draft.old))) }
@@ -124,9 +124,9 @@ fn put_sides(
     right: &Typed,
 ) -> Result<(), AllocError>
     requires { (InLimits (typed_view left.now)) × (InLimits (typed_view right.now))
-        × (place_of draft.old + operations (typed_view left.now) + 1 + operations (typed_view right.now)
+        × (draft_place draft.old + operations (typed_view left.now) + 1 + operations (typed_view right.now)
         ≤ most_code_entries) }
-    ensures { OnOk result (draft.new ≡ jumps_on jump (place_of (drafted (typed_view left.now) draft.old))
+    ensures { OnOk result (draft.new ≡ jumps_on jump (draft_place (drafted (typed_view left.now) draft.old))
         (drafted (typed_view right.now) (with_op (JumpTo jump 0) (drafted (typed_view left.now) draft.old)))) }
 {
     put(alloc, draft, left)?;
@@ -150,7 +150,7 @@ fn put_choice(
 ) -> Result<(), AllocError>
     requires { (InLimits (typed_view condition.now)) × (InLimits (typed_view met.now))
         × (InLimits (typed_view unmet.now))
-        × (place_of draft.old + operations
+        × (draft_place draft.old + operations
         (typed.choice (typed_view condition.now) (typed_view met.now) (typed_view unmet.now)) ≤ most_code_entries) }
     ensures { OnOk result (draft.new
         ≡ drafted (typed.choice (typed_view condition.now) (typed_view met.now) (typed_view unmet.now)) draft.old) }
@@ -179,7 +179,7 @@ fn put_list(
     items: &[Typed],
 ) -> Result<(), AllocError>
     requires { (AllInLimits (items_view items.now)) × (how_many (items_view items.now) ≤ most_literal_items)
-        × (place_of draft.old + operations_of_items (items_view items.now) ≤ most_code_entries) }
+        × (draft_place draft.old + operations_of_items (items_view items.now) ≤ most_code_entries) }
     ensures { OnOk result (draft.new
         ≡ with_op (MakeList scalar (how_many (items_view items.now)))
         (drafted_items (items_view items.now) draft.old)) }
@@ -193,7 +193,7 @@ fn put_list(
 #[tactic(auto, using(crate::proofs::Sequences::next_operations, crate::proofs::Sequences::no_operations, crate::proofs::Sequences::next_limits, crate::proofs::Sequences::next_drafted, crate::proofs::Sequences::none_drafted, crate::proofs::Drafts::drafted_length))]
 fn put_items(alloc: Global, draft: &mut Draft, items: &[Typed]) -> Result<(), AllocError>
     requires { (AllInLimits (items_view items.now))
-        × (place_of draft.old + operations_of_items (items_view items.now) ≤ most_code_entries) }
+        × (draft_place draft.old + operations_of_items (items_view items.now) ≤ most_code_entries) }
     ensures { OnOk result (draft.new ≡ drafted_items (items_view items.now) draft.old) }
 {
     for item in items {
@@ -213,7 +213,7 @@ fn put_loop(
     body: &Typed,
 ) -> Result<(), AllocError>
     requires { (InLimits (typed_view list.now)) × (InLimits (typed_view body.now))
-        × (place_of draft.old + operations (typed_view list.now) + 1 + operations (typed_view body.now) + 1
+        × (draft_place draft.old + operations (typed_view list.now) + 1 + operations (typed_view body.now) + 1
         ≤ most_code_entries) }
     ensures { OnOk result
         (draft.new ≡ drafted (typed.predicate predicate (typed_view list.now) (typed_view body.now)) draft.old) }

@@ -1,4 +1,4 @@
--- What is answered for a document.
+-- What is returned for a document.
 use Rattle.std.proofs.Common.{◌≡◌, ◌≤◌, List, length, Result, Ok, Err, sym, subst}
 use Rattle.std.specs.Prelude.{IfErr}
 use Rattle.std.specs.List.{AllByRecursion}
@@ -7,7 +7,7 @@ use Rattle.ar_value.specs.Answer.{Gives, Unless, UnlessMemory, IfRefused}
 use Rattle.ar_value.proofs.Steps.{leads}
 use Rattle.ar_value.specs.Limits.{most_runs}
 use Rattle.ar_document.specs.Entries.{Entry, entries_in}
-use Rattle.ar_bundle.specs.Sound.{IsBundle, IsEventPart}
+use Rattle.ar_bundle.specs.Sound.{IsBundle, FitsBundle}
 use Rattle.ar_limits.specs.Replay.{most_events}
 use Rattle.ar_bundle.specs.Bundle.{bundle_of}
 use Rattle.ar_bundle.specs.declared.bundle.EventPart.{EventPart}
@@ -29,7 +29,7 @@ refuses document OutOfMemory fault = tt
 refuses document error fault = fault
 
 pub parts_are_bundle : (opened : Opened) (parts : List RunPart) (entries : List EventPart) → IsOpened opened → HaveParts (opened_view opened) opened.runs.items parts → length entries ≤ most_events
-    → AllByRecursion (IsEventPart opened.metrics.items (length opened.runs.items)) entries → IsBundle (bundle_of opened.metrics.items parts entries)
+    → AllByRecursion (FitsBundle opened.metrics.items (length opened.runs.items)) entries → IsBundle (bundle_of opened.metrics.items parts entries)
 parts_are_bundle opened parts entries is are few all =
     let many = as_many_parts opened opened.runs.items parts are in
     record {
@@ -37,7 +37,7 @@ parts_are_bundle opened parts entries is are few all =
       few_runs = subst (λ n. n ≤ most_runs) (sym many) is.few_runs;
       few_events = few;
       runs = are_runs opened opened.runs.items parts are;
-      entries = subst (λ n. AllByRecursion (IsEventPart opened.metrics.items n) entries) (sym many) all;
+      entries = subst (λ n. AllByRecursion (FitsBundle opened.metrics.items n) entries) (sym many) all;
     }
 
 -- what refuses the parts or the entries of what was opened is the document's first fault

@@ -5,8 +5,9 @@ use Rattle.std.proofs.lemmas.Option.{slice_get-map}
 use Rattle.ar_value.specs.Shape.{Shape}
 use Rattle.ar_value.specs.View.{shape_view}
 use Rattle.ar_manifest.specs.declared.bound.BoundMetric.{BoundMetric}
-use Rattle.ar_judge.specs.Built.{Condition, IsBuilt}
-use Rattle.ar_judge.specs.Judging.{own_condition}
+use Rattle.ar_judge.specs.Built.{IsBuilt}
+use Rattle.ar_judge.specs.Headline.{Condition}
+use Rattle.ar_judge.specs.Judging.{condition_as}
 use Rattle.ar_judge.specs.Verdict.{AreBuilt, IsJudge, Judge}
 use Rattle.ar_judge.specs.declared.judge.Which.{Which}
 use Rattle.ar_judge.specs.declared.judge.Which.TheVariants.{Success, Failure}
@@ -24,7 +25,7 @@ of_its_text : (shape : Shape) (text : Option (List ℕ)) (condition : Condition)
 of_its_text shape (Some text) condition built = subst (λ (text : List ℕ). IsBuilt shape text condition) (sym built.text_is) built
 of_its_text shape None condition built = absurd built
 
-of_judge : (shape : Shape) (success failure : Option (List ℕ)) (judge : Judge) → IsJudge shape success failure judge → (which : Which) (condition : Condition) → own_condition which judge ≡ Some condition → IsBuilt shape condition.text condition
+of_judge : (shape : Shape) (success failure : Option (List ℕ)) (judge : Judge) → IsJudge shape success failure judge → (which : Which) (condition : Condition) → condition_as which judge ≡ Some condition → IsBuilt shape condition.text condition
 of_judge shape success failure judge is Success condition e = of_its_text shape success condition (subst (λ found. AreBuilt shape success found) e is.success_is)
 of_judge shape success failure judge is Failure condition e = of_its_text shape failure condition (subst (λ found. AreBuilt shape failure found) e is.failure_is)
 
@@ -33,10 +34,10 @@ same x y e = cc
 
 -- the judge of a metric by its number
 of_judges : (metrics : List Metric) (bound : List BoundMetric) (judges : List Judge) → AreJudges metrics bound judges → (number : ℕ) (metric : Metric) (judge : Judge) → slice_get metrics number ≡ Some metric → slice_get judges number ≡ Some judge
-    → (which : Which) (condition : Condition) → own_condition which judge ≡ Some condition → IsBuilt metric.shape condition.text condition
+    → (which : Which) (condition : Condition) → condition_as which judge ≡ Some condition → IsBuilt metric.shape condition.text condition
 of_judges (first ∷ metrics) (own ∷ bound) (one ∷ judges) are zero metric judge m j which condition is =
     subst (λ (metric : Metric). IsBuilt metric.shape condition.text condition) (same first metric m)
-    (of_judge first.shape own.success_condition own.failure_condition one are.0 which condition (subst (λ judge. own_condition which judge ≡ Some condition) (sym (same one judge j)) is))
+    (of_judge first.shape own.success_condition own.failure_condition one are.0 which condition (subst (λ judge. condition_as which judge ≡ Some condition) (sym (same one judge j)) is))
 of_judges (first ∷ metrics) (own ∷ bound) (one ∷ judges) are (suc number) metric judge m j which condition is = of_judges metrics bound judges are.1 number metric judge m j which condition is
 of_judges [] [] [] are number metric judge m j which condition is = absurd cc
 of_judges [] [] (one ∷ judges) are number metric judge m j which condition is = absurd are

@@ -106,7 +106,7 @@ module _ (runs : List Run) (i : ℕ) (run : Run) (inside : i < length runs) (is 
   unfolding are_new
   next = ap (λ rest. are_new (names_of (take i runs)) (names_of rest)) (drop_more runs i run inside ∙ ap (λ (first : Run). first ∷ drop (i + 1) runs) (sym is))
 
-  -- as many names stand before it as its number says
+  -- as many names are before it as its number says
   pub names_before : length (names_of (take i runs)) ≡ i
   names_before = length-map (take i runs) (λ run. run.name) ∙ length-take-le i runs (omega (arith, inside))
 

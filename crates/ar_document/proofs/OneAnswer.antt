@@ -1,4 +1,4 @@
--- That a document comes to one thing: a bundle, or one fault.
+-- That a document has one result: a bundle, or one fault.
 use Rattle.std.proofs.Common.{◌≡◌, ℕ, zero, suc, List, [], ◌∷◌, take, Some, Result, Ok, Err, sym, subst, inl, inr, ◌∙◌, ap, arith}
 use Rattle.std.specs.Prelude.{◌<◌, slice_get}
 use Rattle.std.proofs.lemmas.Bool.Decides.{leb_tells}
@@ -18,16 +18,16 @@ use Rattle.ar_json.specs.declared.document.JsonError.{JsonError}
 use Rattle.ar_document.specs.declared.runs.Run.{Run}
 use Rattle.ar_judge.proofs.OneCause.{judged_alone, one_error}
 
--- ---- items and their places
+-- ---- items and their positions
 
--- an item before the end of what is taken stands in it
+-- an item before the end of what is taken is in it
 kept : {A : Type 0} (xs : List A) (end place : ℕ) (x : A) → place < end → slice_get xs place ≡ Some x → slice_get (take end xs) place ≡ Some x
 kept [] end place x less is = absurd cc
 kept (first ∷ xs) zero place x less is = absurd (omega arith)
 kept (first ∷ xs) (suc end) zero x less is = is
 kept (first ∷ xs) (suc end) (suc place) x less is = kept xs end place x (omega arith) is
 
--- of two places one is the lower, or they are the same
+-- of two positions one is the lower, or they are the same
 data Order (one other : ℕ) : Type 0 where
   below : one < other → Order one other
   above : other < one → Order one other

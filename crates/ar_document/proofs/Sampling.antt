@@ -6,7 +6,7 @@ use Rattle.std.specs.Option.{MatchOption, ok_or}
 use Rattle.std.proofs.lemmas.Option.{slice_get-map, slice_get_read}
 use Rattle.serde_json.specs.Data.{Data}
 use Rattle.ar_value.specs.Answer.{Unless}
-use Rattle.ar_json.specs.Reading.{is_memory, is_memory_under, read}
+use Rattle.ar_json.specs.Reading.{is_reading_memory, is_memory_under, read}
 use Rattle.ar_value.specs.Shape.{Shape}
 use Rattle.ar_value.specs.declared.shape.Shape.{Shape as Declared}
 use Rattle.ar_json.specs.declared.value_reading.ShapeFault.{ShapeFault}
@@ -24,11 +24,11 @@ by_memory memory true P more none told = absurd (let is = more refl in cc)
 by_memory memory false P more none told = told
 
 -- what was read is a misfit, where it isn't out of memory
-pub misfit_told : (shape : Shape) (json : Data) (fault : ShapeFault) → is_memory fault ≡ false → Unless (is_memory_under shape fault) (read shape json ≡ Err fault) → sample_by (read shape json) ≡ misfit fault
-misfit_told shape json fault none told = rw (by_memory (is_memory fault) (is_memory_under shape fault) (read shape json ≡ Err fault) (under_is_memory shape fault) none told) refl
+pub misfit_told : (shape : Shape) (json : Data) (fault : ShapeFault) → is_reading_memory fault ≡ false → Unless (is_memory_under shape fault) (read shape json ≡ Err fault) → sample_by (read shape json) ≡ misfit fault
+misfit_told shape json fault none told = rw (by_memory (is_reading_memory fault) (is_memory_under shape fault) (read shape json ≡ Err fault) (under_is_memory shape fault) none told) refl
 
-pub misfit_suits : (fault : ShapeFault) → is_memory fault ≡ false → fault ≢ OutOfMemory
-misfit_suits fault none same = absurd (let is : is_memory OutOfMemory ≡ false = rw same at none in cc)
+pub misfit_suits : (fault : ShapeFault) → is_reading_memory fault ≡ false → fault ≢ OutOfMemory
+misfit_suits fault none same = absurd (let is : is_reading_memory OutOfMemory ≡ false = rw same at none in cc)
 
 -- the reader that was found at a number
 pub found_at : {X : Type 0} (readers : List X) (i : ℕ) (found : Option (Bor X)) (reader : Bor X) (refusal : BundleError) → Ok reader ≡ ok_or found refusal → IfSome found (λ x. x.now ≡ get_or readers i x.now)

@@ -1,4 +1,4 @@
--- Runs whose conditions were bound shortened come to what they come to whole.
+-- Runs whose conditions were bound shortened have the result that they have whole.
 use Rattle.std.proofs.Common.{◌≡◌, ℕ, List, [], ◌∷◌, length, map, take, Option, Some, None, Result, Ok, Err, refl, sym, ◌∙◌, ap, subst}
 use Rattle.std.specs.Prelude.{slice_get, option_map}
 use Rattle.std.proofs.lemmas.List.{length-map, take-map}

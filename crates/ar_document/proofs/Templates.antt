@@ -14,7 +14,7 @@ use Rattle.ar_document.specs.declared.error.BundleError.TheVariants.{Manifest}
 use Rattle.ar_manifest.specs.Binding.{RunArguments}
 use Rattle.ar_manifest.specs.Bound.{bound_condition, bound_limit, bound_metric, bound_of, count_without, effective_count, next_bound}
 use Rattle.ar_manifest.specs.DryRun.{dry_names, with_dry, with_dry_run}
-use Rattle.ar_manifest.specs.Template.{TemplateArguments, arguments_of, counted, counted_metrics, head_of, metric_of, template_of}
+use Rattle.ar_manifest.specs.Template.{TemplateArguments, arguments_of, metrics_counted, counted_metrics, head_of, metric_of, template_of}
 use Rattle.ar_manifest.specs.declared.template.Metric.{Metric}
 use Rattle.ar_document.proofs.Growing.{one_more}
 use Rattle.ar_manifest.specs.declared.bound.BoundMetric.{BoundMetric}
@@ -25,7 +25,7 @@ use Rattle.ar_manifest.specs.declared.error.ManifestError.{ManifestError}
 use Rattle.ar_manifest.specs.declared.error.ManifestError.TheVariants.{IntervalMissing, NoMetrics}
 use Rattle.ar_manifest.specs.declared.template.Template.{Template}
 
--- the first of two steps answers, where both do
+-- the first of two steps returns, where both do
 module _ {A B : Type 0} (second : A → Result B ManifestError) (all : B) where
   pub first_answers : (first : Result A ManifestError) → first >>= second ≡ Ok all → (made : A) × (first ≡ Ok made) × (second made ≡ Ok all)
   first_answers (Ok made) both = (made, refl, both)
@@ -39,7 +39,7 @@ as_many {B = B} step earlier (item ∷ items) all is =
     let made = first_answers (λ made. each_behind step (earlier ++ made ∷ []) items) all (step earlier item) is in
     as_many step (earlier ++ made.0 ∷ []) items all made.2 ∙ rw (length-append {A = B} earlier (made.0 ∷ [])) (omega arith)
 
-few_items : (items some : List Data) → counted items ≡ Ok some → length some ≤ most_metrics
+few_items : (items some : List Data) → metrics_counted items ≡ Ok some → length some ≤ most_metrics
 few_items [] some is = absurd cc
 few_items (item ∷ items) some is = by_test (nat_lt most_metrics (length (item ∷ items))) refl
   where
@@ -50,7 +50,7 @@ few_items (item ∷ items) some is = by_test (nat_lt most_metrics (length (item 
 same_metrics : (made template : Template) (answer : Result Template ManifestError) → answer ≡ Ok made → answer ≡ Ok template → made.metrics ≡ template.metrics
 same_metrics made template answer first is = let same : made ≡ template = cc in ap (λ (template : Template). template.metrics) same
 
--- as many metrics stand after `dryRun` as before it
+-- as many metrics are there after `dryRun` as before it
 as_many_dry : (found : Option Data) (metrics marked : List Metric) → with_dry_run found metrics ≡ Ok marked → length marked ≡ length metrics
 as_many_dry found metrics marked is =
     let named = first_answers (λ (names : List (List ℕ)). Ok (map (with_dry names) metrics)) marked (dry_names metrics found) is in
@@ -66,7 +66,7 @@ few_metrics document template is =
     let listed = first_answers _ template (counted_metrics (member_of_member (codes "spec") (codes "metrics") document)) argued.2 in
     let made = first_answers _ template (each_behind metric_of [] listed.0) listed.2 in
     let marked = first_answers _ template (with_dry_run (member_of_member (codes "spec") (codes "dryRun") document) made.0) made.2 in
-    let items = first_answers counted listed.0 (there_or NoMetrics (option_and_then list_of (member_of_member (codes "spec") (codes "metrics") document))) listed.1 in
+    let items = first_answers metrics_counted listed.0 (there_or NoMetrics (option_and_then list_of (member_of_member (codes "spec") (codes "metrics") document))) listed.1 in
     let few = few_items items.0 listed.0 items.2 in
     let many = as_many metric_of [] listed.0 made.0 made.1 in
     let dry = as_many_dry (member_of_member (codes "spec") (codes "dryRun") document) made.0 marked.0 marked.1 in

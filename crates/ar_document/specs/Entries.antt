@@ -1,5 +1,6 @@
--- What the measurements of a document are: entries, each of which tells what happened to a run.
+-- What the measurements of a document are: entries, each of which says what happened to a run.
 use Rattle.std.specs.Prelude.{ℕ, nat_lt, Bool, false, if◌then◌else◌, List, [], length, map, codes, slice_get, Option, Some, None, option_and_then, Result, Ok, Err}
+use Rattle.ar_value.specs.Terms.{Text}
 use Rattle.serde_json.specs.Data.{Data, boolean}
 use Rattle.serde_json.specs.Find.{get, as_str}
 use Rattle.ar_value.specs.Answer.{◌>>=◌, there_or, each_behind}
@@ -39,7 +40,7 @@ entry_view part = entry_of part.run (what_view part.what)
 -- ---- one entry
 
 -- a member that is a text
-abbrev pub text_of : List ℕ → Data → Option (List ℕ)
+abbrev pub text_of : Text → Data → Option (List ℕ)
 text_of name item = option_and_then as_str (get name item)
 
 abbrev pub is_true : Option Data → Bool
@@ -85,7 +86,8 @@ measurement_of opened number name item = do
 unfoldable pub entry_in : Opened → (earlier : List Entry) → Data → Result Entry BundleError
 entry_in opened earlier item = do
   name ← there_or (BadEntry (length earlier)) (text_of (codes "run") item)
-  if is_true (get (codes "stop") item) then stop_of opened (length earlier) name else measurement_of opened (length earlier) name item
+  if is_true (get (codes "stop") item) then stop_of opened (length earlier) name
+  else measurement_of opened (length earlier) name item
 
 -- ---- all entries
 

@@ -1,7 +1,8 @@
--- What a document has before its runs are looked at one by one: its template, the shapes of the template's metrics, and
+-- What a document has before its runs are examined one by one: its template, the shapes of the template's metrics, and
 -- the runs as they are written. Each may be refused, in this order.
 use Rattle.std.specs.Prelude.{ℕ, suc, nat_lt, if◌then◌else◌, List, [], ◌∷◌, ◌++◌, length, map, codes, Option, Some, None, is_none, option_and_then, option_map, unwrap_or, Result, Ok, Err, ⊤}
 use Rattle.std.specs.Str.{bytes_eq}
+use Rattle.ar_value.specs.Terms.{Text}
 use Rattle.serde_json.specs.Data.{Data, null, string, object, Members, no_members, member}
 use Rattle.serde_json.specs.Find.{get, as_str}
 use Rattle.ar_value.specs.Answer.{◌>>=◌, there_or, holds_or, each_behind}
@@ -31,10 +32,10 @@ template_in document = refused_as Manifest (template_of (unwrap_or (get (codes "
 
 -- a metric's name, and the shape of its measured values
 pub record Metric : Type 0 where
-  pub name : List ℕ
+  pub name : Text
   pub shape : Shape
 
-abbrev pub metric_with : List ℕ → Shape → Metric
+abbrev pub metric_with : Text → Shape → Metric
 metric_with name shape = record { name = name; shape = shape }
 
 abbrev pub metric_view : MetricPart → Metric
@@ -78,14 +79,16 @@ few_runs [] = Err Runs
 few_runs (item ∷ items) = if nat_lt most_runs (length (item ∷ items)) then Err Runs else Ok (item ∷ items)
 
 -- the number of a name among others: that of the first which is the same
-abbrev pub index_of_name : List ℕ → List (List ℕ) → Option ℕ
+abbrev pub index_of_name : Text → List Text → Option ℕ
 index_of_name name [] = None
 index_of_name name (first ∷ names) = if bytes_eq name first then Some 0 else option_map suc (index_of_name name names)
 
 -- names after earlier ones, each of which is new
-unfoldable pub are_new : (earlier : List (List ℕ)) → List (List ℕ) → Result ⊤ BundleError
+unfoldable pub are_new : (earlier : List (List ℕ)) → List Text → Result ⊤ BundleError
 are_new earlier [] = Ok tt
-are_new earlier (name ∷ names) = holds_or (DoubleRun (length earlier)) (is_none (index_of_name name earlier)) >>= λ new. are_new (earlier ++ name ∷ []) names
+are_new earlier (name ∷ names) =
+    holds_or (DoubleRun (length earlier)) (is_none (index_of_name name earlier))
+    >>= λ new. are_new (earlier ++ name ∷ []) names
 
 abbrev pub names_of : List Run → List (List ℕ)
 names_of runs = map (λ run. run.name) runs

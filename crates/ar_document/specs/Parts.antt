@@ -1,5 +1,5 @@
--- What the runs of a document come to: of each, its template is bound to its arguments, and each metric has a judge and
--- limits. Of the runs, and of the metrics of one, the first that is refused is named.
+-- What the runs of a document are read as: of each, its template is bound to its arguments, and each metric has a judge
+-- and limits. Of the runs, and of the metrics of one, the first that is refused is named.
 use Rattle.std.specs.Prelude.{◌≡◌, ◌≢◌, ℕ, List, [], ◌∷◌, map, take, slice_get, Some, Ok, Err}
 use Rattle.ar_manifest.specs.Bound.{bound_of}
 use Rattle.ar_manifest.specs.declared.bound.BoundMetric.{BoundMetric}
@@ -16,12 +16,20 @@ use Rattle.ar_document.specs.declared.runs.Run.{Run}
 -- ---- a run's part of the bundle
 
 abbrev pub limits_of : BoundMetric → Limits
-limits_of metric = record { failure = metric.failure_limit; inconclusive = metric.inconclusive_limit; consecutive_error = metric.consecutive_error_limit; count = metric.count; dry = metric.dry }
+limits_of metric =
+    record {
+      failure = metric.failure_limit;
+      inconclusive = metric.inconclusive_limit;
+      consecutive_error = metric.consecutive_error_limit;
+      count = metric.count;
+      dry = metric.dry;
+    }
 
 -- each metric has the judge of its bound conditions under its shape
 abbrev pub AreJudges : List Metric → List BoundMetric → List Judge → Type 0
 AreJudges [] [] [] = Unit {0}
-AreJudges (metric ∷ metrics) (bound ∷ others) (judge ∷ judges) = IsJudge metric.shape bound.success_condition bound.failure_condition judge × AreJudges metrics others judges
+AreJudges (metric ∷ metrics) (bound ∷ others) (judge ∷ judges) =
+    IsJudge metric.shape bound.success_condition bound.failure_condition judge × AreJudges metrics others judges
 AreJudges metrics bound judges = ⊥
 
 pub record IsPart (opened : Opened) (run : Run) (part : RunPart) : Type 0 where

@@ -33,7 +33,7 @@ fn parts_and_entries(
     zip_ok(parts, read_entries(alloc, opened, document))
 }
 
-/// The bundle of a JSON document, which is dropped as it is read, so that it isn't kept beside the bundle.
+/// The bundle of a JSON document, which is dropped as it is read, so that it isn't kept with the bundle.
 fn bundle_of(alloc: Global, document: Json) -> Result<Bundle, BundleError>
     ensures { UnlessMemory is_bundle_memory result (Reads (view document)) }
 {
@@ -48,7 +48,7 @@ fn bundle_of(alloc: Global, document: Json) -> Result<Bundle, BundleError>
 ///
 /// # Errors
 ///
-/// The first fault that stands in the input, in the order that `BundleError` states.
+/// The first fault in the input, in the order that `BundleError` states.
 pub fn read_bundle(alloc: Global, input: &[u8]) -> Result<Bundle, BundleError>
     ensures exact { UnlessMemory is_bundle_memory result (ReadsInput input.now) }
 

@@ -7,9 +7,9 @@ ghost use Rattle.serde_json.specs.View.{view};
 ghost use Rattle.ar_value.specs.Answer.{Gives, each_behind, there_or};
 ghost use Rattle.ar_value.specs.View.{shape_view};
 ghost use Rattle.ar_json.specs.Members.{unless_null};
-ghost use Rattle.ar_json.specs.Reading.{is_memory as is_fault_of_memory};
+ghost use Rattle.ar_json.specs.Reading.{is_reading_memory as is_fault_of_memory};
 ghost use Rattle.ar_judge.specs.Verdict.{misfit, sample_view};
-ghost use Rattle.ar_bundle.specs.Sound.{IsEventPart, SampleSuits};
+ghost use Rattle.ar_bundle.specs.Sound.{FitsBundle, SampleSuits};
 ghost use Rattle.ar_limits.specs.Replay.{most_events};
 ghost use Rattle.ar_document.specs.Document.{is_bundle_memory};
 ghost use Rattle.ar_document.specs.Entries.{Entry, entries_in, entry_in, entry_items, entry_view, measured_or_failed, is_true, listed_entries, measured_of, measurement_of, sample_of, stop_of, text_of};
@@ -97,7 +97,7 @@ fn sample_of(alloc: Global, reader: &Reader, found: Option<&Json>) -> Result<Sam
     }
 }
 
-/// The number of the run with a name, which the entry with a number tells of.
+/// The number of the run with a name, which the entry with a number names.
 #[tactic(auto, using(crate::proofs::Naming::run_inside))]
 fn run_number(opened: &Opened, number: usize, name: &str) -> Result<usize, BundleError>
     requires { IsOpened opened.now }
@@ -112,7 +112,7 @@ fn run_number(opened: &Opened, number: usize, name: &str) -> Result<usize, Bundl
 fn stop_of(opened: &Opened, number: usize, name: &str) -> Result<EventPart, BundleError>
     requires { IsOpened opened.now }
     ensures exact { Gives (λ _. false) entry_view result (stop_of (opened_view opened.now) number name.now) }
-    ensures entry { IfOk result (IsEventPart opened.now.metrics.items (length opened.now.runs.items)) }
+    ensures entry { IfOk result (FitsBundle opened.now.metrics.items (length opened.now.runs.items)) }
 {
     let run = run_number(opened, number, name)?;
     Ok(EventPart {
@@ -134,7 +134,7 @@ fn measured_of(
     requires run { run < length opened.now.runs.items }
     ensures exact { Gives is_bundle_memory entry_view result
         (measured_of (opened_view opened.now) number run name.now (option_map (λ json. view json.now) found.entry)) }
-    ensures entry { IfOk result (IsEventPart opened.now.metrics.items (length opened.now.runs.items)) }
+    ensures entry { IfOk result (FitsBundle opened.now.metrics.items (length opened.now.runs.items)) }
 {
     let metric = number_of(&opened.metric_numbers, name).ok_or(BundleError::UnknownMetric(number))?;
     let reader = opened
@@ -159,7 +159,7 @@ fn measurement_of(
     requires { IsOpened opened.now }
     ensures exact { Gives is_bundle_memory entry_view result
         (measurement_of (opened_view opened.now) number name.now (view item.now)) }
-    ensures entry { IfOk result (IsEventPart opened.now.metrics.items (length opened.now.runs.items)) }
+    ensures entry { IfOk result (FitsBundle opened.now.metrics.items (length opened.now.runs.items)) }
 {
     let metric = text_of(item, "metric").ok_or(BundleError::BadEntry(number))?;
     let found = given(item.get("value"), item.get("error")).ok_or(BundleError::BadEntry(number))?;
@@ -178,7 +178,7 @@ fn entry_of(
     requires { IsOpened opened.now }
     ensures exact { (earlier : List Entry) → length earlier ≡ number
         → Gives is_bundle_memory entry_view result (entry_in (opened_view opened.now) earlier (view item.now)) }
-    ensures entry { IfOk result (IsEventPart opened.now.metrics.items (length opened.now.runs.items)) }
+    ensures entry { IfOk result (FitsBundle opened.now.metrics.items (length opened.now.runs.items)) }
 {
     let name = text_of(item, "run").ok_or(BundleError::BadEntry(number))?;
     if is_true(item.get("stop")) {
@@ -236,7 +236,7 @@ fn entries_of(
     ensures each { IfOk result (λ entries. length entries.items ≡ length items.items) }
     ensures entries { IfOk result
         (λ entries. AllByRecursion
-        (IsEventPart opened.now.metrics.items (length opened.now.runs.items)) entries.items) }
+        (FitsBundle opened.now.metrics.items (length opened.now.runs.items)) entries.items) }
 {
     let mut entries = Vec::with_capacity(alloc, items.len())?;
     for item in items {
@@ -261,7 +261,7 @@ pub(crate) fn read_entries(
     ensures few { IfOk result (λ entries. length entries.items ≤ most_events) }
     ensures entries { IfOk result
         (λ entries. AllByRecursion
-        (IsEventPart opened.now.metrics.items (length opened.now.runs.items)) entries.items) }
+        (FitsBundle opened.now.metrics.items (length opened.now.runs.items)) entries.items) }
 {
     let items = entry_items(alloc, document)?;
     entries_of(alloc, opened, items)

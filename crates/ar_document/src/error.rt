@@ -8,9 +8,9 @@ use std::alloc::{AllocError, AllocFailed};
 use std::fmt;
 use thiserror::Error;
 
-/// Why an input is no bundle, in the order in which it is looked at; but `ShapeMissing` and `Shapes`
-/// go metric by metric, `Bind` and `Build` run by run, and the last three entry by entry, of which
-/// `BadEntry` goes before the names. Numbers of metrics, runs and entries count from 0.
+/// Why an input is no bundle, in the order of the checks; but `ShapeMissing` and `Shapes` are
+/// checked metric by metric, `Bind` and `Build` run by run, and the last three entry by entry, of which
+/// `BadEntry` comes before the names. Numbers of metrics, runs and entries count from 0.
 #[derive(Clone, Copy, Debug, Error)]
 pub enum BundleError {
     /// It has more than 16,777,216 bytes.

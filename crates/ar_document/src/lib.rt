@@ -1,16 +1,16 @@
 //! Documents of the program, read as bundles.
 //!
 //! [`read_bundle`] takes the bytes of one JSON document with a template `manifest`, the `shapes` of
-//! its metrics, `runs` and `measurements`, and answers the bundle that `specs/Document` defines, or
-//! the first fault that stands in the document: its parts are looked at in their order, its runs one
-//! after another, and so are its entries. Only out of memory can keep it from its answer. Names of
+//! its metrics, `runs` and `measurements`, and returns the bundle that `specs/Document` defines, or
+//! the first fault in the document: its parts are examined in their order, its runs one
+//! after another, and so are its entries. Only out of memory can keep it from its result. Names of
 //! runs and metrics are found by a map.
 //!
 //! - [`bundle`]: bundles of documents; [`error`]: why a document is none
 //! - `opening`: the template, its metrics and their shapes; [`runs`]: runs as they are written;
 //!   `names`: numbers by name
 //! - `parts`: a judge and limits for each run and metric; `entries`: what happened
-//! - [`laws`]: that an input comes to one thing
+//! - [`laws`]: that an input has one result
 #![tactic(auto)]
 
 pub mod bundle;

@@ -10,7 +10,7 @@ use std::alloc::{AllocError, Global};
 /// Names with their numbers, which are found without looking at one name after another.
 pub(crate) type Numbers = Arguments<usize>;
 
-/// Gives the next name its number, unless an earlier one is the same, and tells whether it is new.
+/// Gives the next name its number, unless an earlier one is the same, and returns whether it is new.
 #[tactic(auto, using(crate::proofs::Naming::new_name, crate::proofs::Naming::old_name))]
 pub(crate) fn add_name(
     alloc: Global,

@@ -1,4 +1,4 @@
-//! What a document has before its runs are looked at one by one.
+//! What a document has before its runs are examined one by one.
 
 ghost use Rattle.std.specs.Prelude.{◌≡◌, IfOk, List, length, map, option_and_then, option_map};
 ghost use Rattle.serde_json.specs.Find.{get};
@@ -41,7 +41,7 @@ pub(crate) struct Opened {
 }
 
 impl Opened {
-    /// Its metrics, once nothing else of it is wanted.
+    /// Its metrics, once nothing else of it is needed.
     pub(crate) fn into_metrics(self) -> Vec<MetricPart>
         ensures { result ≡ self.metrics }
     {

@@ -77,7 +77,7 @@ fn earlier_condition<'p>(
     None
 }
 
-/// The judge of a metric, whose number and whose run's number are told where there is none. A text that an
+/// The judge of a metric, whose number and whose run's number are reported where there is none. A text that an
 /// earlier run's metric has, too, isn't built again.
 fn judge_of(
     alloc: Global,

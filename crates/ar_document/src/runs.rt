@@ -24,7 +24,7 @@ use std::alloc::Global;
 #[derive(Drop)]
 pub struct Run {
     pub name: Text,
-    /// Its own arguments, which go before the template's.
+    /// Its own arguments, which take precedence over the template's.
     pub own: Args,
 }
 

@@ -1,8 +1,8 @@
--- What a condition comes to on what was read.
+-- What a condition evaluates to on what was read.
 use Rattle.std.proofs.Common.{◌≡◌, ℕ, Bool, List, Some, Result, Ok, Err, refl, subst}
 use Rattle.serde_json.specs.Data.{Data}
 use Rattle.ar_value.specs.Answer.{Unless, UnlessMemory}
-use Rattle.ar_json.specs.Reading.{is_memory, is_memory_under, read}
+use Rattle.ar_json.specs.Reading.{is_reading_memory, is_memory_under, read}
 use Rattle.ar_value.specs.Shape.{Shape}
 use Rattle.ar_value.specs.Value.{Value}
 use Rattle.ar_value.specs.View.{shape_view}
@@ -11,11 +11,12 @@ use Rattle.ar_value.proofs.Answers.{unless_more}
 use Rattle.ar_json.proofs.ReadLemmas.{under_is_memory}
 use Rattle.ar_json.specs.declared.value_reading.ShapeFault.{ShapeFault}
 use Rattle.ar_json.specs.declared.value_reading.ShapeFault.TheVariants as shape_fault
-use Rattle.ar_judge.specs.Built.{Condition, IsBuilt}
+use Rattle.ar_judge.specs.Built.{IsBuilt}
+use Rattle.ar_judge.specs.Headline.{Condition}
 use Rattle.ar_judge.specs.Condition.{IsRefused, said}
 use Rattle.ar_judge.specs.declared.error.BuildCause.{BuildCause}
 use Rattle.ar_judge.specs.declared.error.BuildCause.TheVariants as causes
-use Rattle.ar_json.specs.Document.{is_memory as is_json_memory, json_in}
+use Rattle.ar_json.specs.Document.{is_document_memory as is_json_memory, json_in}
 use Rattle.ar_json.specs.declared.document.JsonError.{JsonError}
 use Rattle.ar_json.specs.declared.document.JsonError.TheVariants as json_error
 use Rattle.ar_eval.specs.Evaluation.{is_eval_memory, Evaluates, Follows, Answers, prepared_of, of_build, eval_json_error, of_misfit, prepared, prepared_input}
@@ -33,7 +34,7 @@ not_built text shape measured (causes.Verifier place reason) refused = refused
 said_as : (shape : Shape) (text : List ℕ) (condition : Condition) (value : Value) (answer : Result Bool Fault) → IsBuilt shape text condition → said (shape_view condition.verified.shape) condition.text value ≡ Some answer → said shape text value ≡ Some answer
 said_as shape text condition value answer built says = subst (λ text. said shape text value ≡ Some answer) built.text_is (subst (λ shape. said shape condition.text value ≡ Some answer) built.shape_is says)
 
--- a condition that is run on what was read answers what is meant
+-- a condition that is run on what was read returns what is meant
 pub answered : (text : List ℕ) (shape : Shape) (measured : Data) (condition : Condition) (value : Value) (answer : Result Bool Fault) → IsBuilt shape text condition → read (shape_view condition.verified.shape) measured ≡ Ok value → said (shape_view condition.verified.shape) condition.text value ≡ Some answer
     → Answers (prepared_of text shape measured) (Ok answer)
 answered text shape measured condition value answer built is_read says =
@@ -41,8 +42,8 @@ answered text shape measured condition value answer built is_read says =
     let said_shape = said_as shape text condition value answer built says in
     (record { condition = condition; built = built }, rw (read_shape, said_shape) refl)
 
--- a misfit of what was measured is told, where the condition can be run
-pub misfit_told : (text : List ℕ) (shape : Shape) (measured : Data) (condition : Condition) (fault : ShapeFault) → IsBuilt shape text condition → Unless (is_memory fault) (read (shape_view condition.verified.shape) measured ≡ Err fault)
+-- a misfit of what was measured is reported, where the condition can be run
+pub misfit_told : (text : List ℕ) (shape : Shape) (measured : Data) (condition : Condition) (fault : ShapeFault) → IsBuilt shape text condition → Unless (is_reading_memory fault) (read (shape_view condition.verified.shape) measured ≡ Err fault)
     → UnlessMemory is_eval_memory (Err (of_misfit fault)) (Answers (prepared_of text shape measured))
 misfit_told text shape measured condition shape_fault.OutOfMemory built told = tt
 misfit_told text shape measured condition fault built told =
@@ -64,5 +65,5 @@ of_no_document input json_error.TooLarge none = record { follows = rw none refl 
 of_no_document input json_error.Utf8OrJson none = record { follows = rw none refl }
 
 -- what may be out of memory under a shape is out of memory
-pub misfits : (shape : Shape) (json : Data) (fault : ShapeFault) → Unless (is_memory_under shape fault) (read shape json ≡ Err fault) → Unless (is_memory fault) (read shape json ≡ Err fault)
-misfits shape json fault h = unless_more (read shape json ≡ Err fault) (is_memory_under shape fault) (is_memory fault) (under_is_memory shape fault) h
+pub misfits : (shape : Shape) (json : Data) (fault : ShapeFault) → Unless (is_memory_under shape fault) (read shape json ≡ Err fault) → Unless (is_reading_memory fault) (read shape json ≡ Err fault)
+misfits shape json fault h = unless_more (read shape json ≡ Err fault) (is_memory_under shape fault) (is_reading_memory fault) (under_is_memory shape fault) h

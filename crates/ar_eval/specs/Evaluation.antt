@@ -1,5 +1,6 @@
--- What is answered for an input: a relation, since a condition's verified code is one.
-use Rattle.std.specs.Prelude.{◌≡◌, ℕ, Bool, true, false, List, codes, Option, Some, None, option_and_then, Result, Ok, Err}
+-- What is returned for an input: a relation, since which verified code a text has is one.
+use Rattle.std.specs.Prelude.{◌≡◌, Bool, true, false, codes, Option, Some, option_and_then, Result, Ok, Err}
+use Rattle.ar_value.specs.Terms.{Bytes, Text}
 use Rattle.serde_json.specs.Data.{Data}
 use Rattle.serde_json.specs.Find.{get, as_str}
 use Rattle.ar_value.specs.Answer.{◌>>=◌, there_or}
@@ -10,7 +11,8 @@ use Rattle.ar_json.specs.declared.shape_reading.ShapeError.TheVariants as shape_
 use Rattle.ar_json.specs.declared.value_reading.ShapeFault.{ShapeFault}
 use Rattle.ar_json.specs.declared.value_reading.ShapeFault.TheVariants as shape_fault
 use Rattle.ar_value.specs.Shape.{Shape}
-use Rattle.ar_judge.specs.Built.{Condition, IsBuilt}
+use Rattle.ar_judge.specs.Built.{IsBuilt}
+use Rattle.ar_judge.specs.Headline.{Condition}
 use Rattle.ar_judge.specs.Condition.{IsRefused, refused_as, said}
 use Rattle.ar_judge.specs.declared.error.BuildCause.{BuildCause}
 use Rattle.ar_judge.specs.declared.error.BuildCause.TheVariants as causes
@@ -21,8 +23,8 @@ use Rattle.ar_json.specs.declared.document.JsonError.TheVariants as json_error
 use Rattle.ar_eval.specs.declared.eval.EvalError.{EvalError}
 use Rattle.ar_eval.specs.declared.eval.EvalError.TheVariants.{TooLarge, Utf8OrJson, BadDocument, Shape as BadShape, Grammar, Kinds, Compiler, Verifier, Misfit, OutOfMemory}
 
--- a document's condition, shape and value, which all have to be there
-abbrev pub document_parts : Data → Result (List ℕ × Data × Data) EvalError
+-- a document's condition, shape and value, which are all required
+abbrev pub document_parts : Data → Result (Text × Data × Data) EvalError
 document_parts document = do
   text ← there_or BadDocument (option_and_then as_str (get (codes "condition") document))
   declared ← there_or BadDocument (get (codes "shape") document)
@@ -31,11 +33,11 @@ document_parts document = do
 
 -- a condition's text, the shape that `result` has, and what was measured
 pub record Prepared : Type 0 where
-  pub text : List ℕ
+  pub text : Text
   pub shape : Shape
   pub measured : Data
 
-abbrev pub prepared_of : List ℕ → Shape → Data → Prepared
+abbrev pub prepared_of : Text → Shape → Data → Prepared
 prepared_of text shape measured = record { text = text; shape = shape; measured = measured }
 
 unfoldable pub prepared : Data → Result Prepared EvalError
@@ -50,13 +52,13 @@ meant given = do
   value ← refused_as Misfit (read given.shape given.measured)
   Ok (said given.shape given.text value)
 
--- faults of JSON, as they are answered
+-- faults of JSON, as they are returned
 abbrev pub eval_json_error : JsonError → EvalError
 eval_json_error json_error.TooLarge = TooLarge
 eval_json_error json_error.Utf8OrJson = Utf8OrJson
 eval_json_error json_error.OutOfMemory = OutOfMemory
 
-unfoldable pub prepared_input : List ℕ → Result Prepared EvalError
+unfoldable pub prepared_input : Bytes → Result Prepared EvalError
 prepared_input input = refused_as eval_json_error (json_in input) >>= prepared
 
 -- the text is a condition that can be run
@@ -64,7 +66,7 @@ pub record IsRunnable (given : Prepared) : Type 0 where
   pub condition : Condition
   pub built : IsBuilt given.shape given.text condition
 
--- what is answered: why the text is no condition that can be run, or else what it says of the value
+-- what is returned: why the text is no condition that can be run, or else what it says of the value
 abbrev pub Answers : Prepared → Result (Result Bool Fault) EvalError → Type 0
 Answers given (Err (Grammar error)) = IsRefused given.shape given.text (causes.Grammar error)
 Answers given (Err (Kinds error)) = IsRefused given.shape given.text (causes.Kinds error)
@@ -77,11 +79,11 @@ abbrev pub Follows : Result Prepared EvalError → Result (Result Bool Fault) Ev
 Follows (Ok given) answer = Answers given answer
 Follows (Err fault) answer = answer ≡ Err fault
 
--- what an input's condition says of its value, or the first fault that stands in the input
-pub record Evaluates (input : List ℕ) (answer : Result (Result Bool Fault) EvalError) : Type 0 where
+-- what an input's condition says of its value, or the first fault in the input
+pub record Evaluates (input : Bytes) (answer : Result (Result Bool Fault) EvalError) : Type 0 where
   pub follows : Follows (prepared_input input) answer
 
--- why a text is no condition that can be run, as `eval` answers it
+-- why a text is no condition that can be run, as `eval` returns it
 abbrev pub of_build : BuildCause → EvalError
 of_build causes.OutOfMemory = OutOfMemory
 of_build (causes.Grammar error) = Grammar error
@@ -89,7 +91,7 @@ of_build (causes.Kinds error) = Kinds error
 of_build (causes.Compiler error) = Compiler error
 of_build (causes.Verifier place reason) = Verifier place reason
 
--- a fault of the shape, and of the value, likewise
+-- a fault of the shape, and of the value, in the same way
 abbrev pub of_shape : ShapeError → EvalError
 of_shape shape_error.OutOfMemory = OutOfMemory
 of_shape error = BadShape error

@@ -25,7 +25,7 @@ use serde_json::Value as Json;
 use std::alloc::{AllocError, Global};
 use thiserror::Error;
 
-/// Why an input can't be evaluated, in the order in which it is looked at.
+/// Why an input can't be evaluated, in the order of the checks.
 #[derive(Clone, Copy, Debug, Error)]
 pub enum EvalError {
     #[error("document: TooLarge: expected at most 16777216 bytes")]
@@ -127,7 +127,7 @@ impl From<JsonError> for EvalError {
 ///
 /// # Errors
 ///
-/// The first fault that stands in the input, in the order of `EvalError`.
+/// The first fault in the input, in the order of `EvalError`.
 #[tactic(auto, using(crate::proofs::Judging::of_document, crate::proofs::Judging::of_no_document))]
 pub fn evaluate(alloc: Global, input: &[u8]) -> Result<Answer, EvalError>
     ensures exact { UnlessMemory is_eval_memory result (Evaluates input.now) }

@@ -5,7 +5,7 @@ use Rattle.serde_json.specs.Data.{Data, Members, null, boolean, number, string, 
 use Rattle.serde_json.specs.View.{view, members_view}
 use Rattle.serde_json.specs.declared.value.Value.{Value as Json, String as JsonString, the_lemmas}
 use Rattle.ar_value.specs.Answer.{◌>>=◌, Gives, Unless}
-use Rattle.ar_json.specs.Declaration.{fields_declared, is_memory, is_memory_for, object_declared, scalar_named, shape_within}
+use Rattle.ar_json.specs.Declaration.{fields_declared, is_shape_memory, is_memory_for, object_declared, scalar_named, shape_within}
 use Rattle.ar_json.specs.Names.{member_names}
 use Rattle.ar_value.specs.Shape.{Shape, FieldShapes, field_shapes_of, field}
 use Rattle.ar_value.specs.Shape as shapes
@@ -31,7 +31,7 @@ object_level zero given h = absurd (h refl)
 object_level (suc levels) given h = simp unary_clauses refl
 
 -- what may be out of memory for some JSON is out of memory
-pub for_is_memory : (d : Data) (e : ShapeError) → is_memory_for d e ≡ true → is_memory e ≡ true
+pub for_is_memory : (d : Data) (e : ShapeError) → is_memory_for d e ≡ true → is_shape_memory e ≡ true
 for_is_memory null e h = absurd (cc)
 for_is_memory (boolean b) e h = absurd (cc)
 for_is_memory (number n) e h = absurd (cc)
@@ -39,8 +39,8 @@ for_is_memory (string bytes) e h = absurd (cc)
 for_is_memory (array items) e h = absurd (cc)
 for_is_memory (object given) e h = h
 
-pub gives_any : (d : Data) (r : Result ShapeCode ShapeError) (answer : Result Shape ShapeError) → Gives (is_memory_for d) shape_view r answer → Gives is_memory shape_view r answer
-gives_any d r answer h = gives_more (is_memory_for d) is_memory shape_view r answer (for_is_memory d) h
+pub gives_any : (d : Data) (r : Result ShapeCode ShapeError) (answer : Result Shape ShapeError) → Gives (is_memory_for d) shape_view r answer → Gives is_shape_memory shape_view r answer
+gives_any d r answer h = gives_more (is_memory_for d) is_shape_memory shape_view r answer (for_is_memory d) h
 
 abbrev pub Entry : Type 0
 Entry = String Global × Json
@@ -87,9 +87,9 @@ module _ (R : Data → Result Shape ShapeError) (all now left : List Entry) (don
         before.3 ∙ ap (Shapes_before names done) (front ∙ rw shape refl) ∙ moved names s (fields_declared R (members_view left)) before.2,
       )
 
-  pub shape_fails : (error : ShapeError) → Declared R all now done → Unless (is_memory error) (R (view json) ≡ Err error) → Unless (is_memory error) (fields_declared R (members_view all) ≡ Err error)
+  pub shape_fails : (error : ShapeError) → Declared R all now done → Unless (is_shape_memory error) (R (view json) ≡ Err error) → Unless (is_shape_memory error) (fields_declared R (members_view all) ≡ Err error)
   shape_fails error before fails =
-      leads (is_memory error) (λ (h : R (view json) ≡ Err error). before.3 ∙ ap (Shapes_before before.0 done) (front ∙ failed (R (view json)) _ error h)) fails
+      leads (is_shape_memory error) (λ (h : R (view json) ≡ Err error). before.3 ∙ ap (Shapes_before before.0 done) (front ∙ failed (R (view json)) _ error h)) fails
 
 pub no_shape_left : (R : Data → Result Shape ShapeError) (all now : List Entry) (done : List ShapeCode) → now ≡ [] → Declared R all now done
     → fields_declared R (members_view all) ≡ Ok (field_shapes_of (member_names (members_view all)) (map shape_view done))

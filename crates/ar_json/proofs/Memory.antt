@@ -11,7 +11,7 @@ use Rattle.ar_value.specs.DecimalText.{decimal_of}
 use Rattle.ar_json.specs.Declaration as declaration
 use Rattle.ar_json.specs.Declaration.{scalar_named, max_of, declares_optional, fields_declared, record_declared, optional_declared, list_declared, object_declared, most_shape_levels, shape_within, shape_of}
 use Rattle.ar_json.specs.Reading as reading
-use Rattle.ar_json.specs.Reading.{read, whole_of, decimal_of_whole, decimal_of_text, item_count, items_read, absent_read, field_read, fields_read}
+use Rattle.ar_json.specs.Reading.{read, read_whole, whole_as_millionths, decimal_of_text, item_count, items_read, absent_read, field_read, fields_read}
 use Rattle.ar_value.specs.Shape.{Shape, FieldShapes}
 use Rattle.ar_value.specs.Shape as shapes
 use Rattle.ar_value.specs.Value.{Value, Items, Fields}
@@ -39,7 +39,7 @@ judges_if m false x y p q = q
 -- ---- Shapes
 
 abbrev Declares : {A : Type 0} → Result A ShapeError → Type 0
-Declares answer = Judges declaration.is_memory answer
+Declares answer = Judges declaration.is_shape_memory answer
 
 scalar_judged : (name : List ℕ) → Declares (scalar_named name)
 scalar_judged name =
@@ -90,9 +90,9 @@ shape_not_memory d h = let judged : Declares (shape_within most_shape_levels d) 
 -- ---- Values
 
 abbrev Reads : {A : Type 0} → Result A ShapeFault → Type 0
-Reads answer = Judges reading.is_memory answer
+Reads answer = Judges reading.is_reading_memory answer
 
-whole_judged : (number : Option ℤ) → Reads (whole_of number)
+whole_judged : (number : Option ℤ) → Reads (read_whole number)
 whole_judged None = refl
 whole_judged (Some z) = judges_if _ (is_i64 z) _ _ tt refl
 
@@ -100,7 +100,7 @@ decimal_within : (b : Bool) (z : ℤ) → Reads (if b then Ok (values.decimal z)
 decimal_within true z = tt
 decimal_within false z = refl
 
-decimal_judged : (number : Option ℤ) → Reads (decimal_of_whole number)
+decimal_judged : (number : Option ℤ) → Reads (whole_as_millionths number)
 decimal_judged None = refl
 decimal_judged (Some z) = decimal_within _ _
 

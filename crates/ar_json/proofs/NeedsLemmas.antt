@@ -18,7 +18,7 @@ there [] i within = absurd (omega (arith, within))
 there (x ∷ xs) zero within = (x, refl)
 there (x ∷ xs) (suc i) within = there xs i (omega (arith, within))
 
--- what fields need that were looked at, before what the others need
+-- what the examined fields need, before what the others need
 abbrev pub inner_onto : List Needs → Inner → Inner
 inner_onto [] rest = rest
 inner_onto (needs ∷ others) rest = more needs (inner_onto others rest)
@@ -31,7 +31,7 @@ onto_one : (done : List Needs) (needs : Needs) (rest : Inner) → inner_onto don
 onto_one [] needs rest = refl
 onto_one (first ∷ done) needs rest = ap (more first) (onto_one done needs rest)
 
--- the first fields were looked at
+-- the first fields were examined
 abbrev pub Inner_before : List (List ℕ) → List ShapeCode → ℕ → List NeedsCode → Type 0
 Inner_before names of place done = inner_needs (Of names of) ≡ inner_onto (map needs_view done) (inner_needs (Of (drop place names) (drop place of)))
 

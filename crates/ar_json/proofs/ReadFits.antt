@@ -10,7 +10,7 @@ use Rattle.ar_value.specs.Answer.{◌>>=◌, Gives}
 use Rattle.ar_value.specs.Decimal.{is_i64}
 use Rattle.ar_value.specs.DecimalText.{decimal_of}
 use Rattle.ar_value.specs.Fits.{all_items, fields_fit, fits}
-use Rattle.ar_json.specs.Reading.{read, whole_of, decimal_of_whole, decimal_of_text, item_count, items_read, absent_read, field_read, fields_read, is_memory_under}
+use Rattle.ar_json.specs.Reading.{read, read_whole, whole_as_millionths, decimal_of_text, item_count, items_read, absent_read, field_read, fields_read, is_memory_under}
 use Rattle.ar_value.specs.Shape.{Shape, FieldShapes}
 use Rattle.ar_value.specs.Shape as shapes
 use Rattle.ar_value.specs.Value.{Value, Items, Fields, count}
@@ -41,11 +41,11 @@ decimal_within : (b : Bool) (z : ℤ) → Ok_fits shapes.decimal (if b then Ok (
 decimal_within true z = refl
 decimal_within false z = tt
 
-whole_fits : (number : Option ℤ) → Ok_fits shapes.whole (whole_of number)
+whole_fits : (number : Option ℤ) → Ok_fits shapes.whole (read_whole number)
 whole_fits None = tt
 whole_fits (Some z) = whole_within (is_i64 z) z
 
-decimal_fits : (number : Option ℤ) → Ok_fits shapes.decimal (decimal_of_whole number)
+decimal_fits : (number : Option ℤ) → Ok_fits shapes.decimal (whole_as_millionths number)
 decimal_fits None = tt
 decimal_fits (Some z) = decimal_within _ _
 

@@ -9,7 +9,7 @@ use Rattle.serde_json.specs.Find.{get_member}
 use Rattle.serde_json.specs.View.{view, items_view}
 use Rattle.serde_json.specs.declared.value.Value.{Value as Json}
 use Rattle.ar_value.specs.Answer.{◌>>=◌, Gives, Unless}
-use Rattle.ar_json.specs.Reading.{read, items_read, list_read, fields_read, field_read, item_count, is_memory, is_memory_under}
+use Rattle.ar_json.specs.Reading.{read, items_read, list_read, fields_read, field_read, item_count, is_reading_memory, is_memory_under}
 use Rattle.ar_value.specs.Shape.{Shape}
 use Rattle.ar_value.specs.Shape as shapes
 use Rattle.ar_value.specs.Value.{Value, Items, Fields, items_of, fields_from, value_at, nil, no_items, item, no_fields, field, list, object}
@@ -35,7 +35,7 @@ leads true f h = tt
 leads false f h = f h
 
 -- what may be out of memory under a shape is out of memory
-pub under_is_memory : (shape : Shape) (e : ShapeFault) → is_memory_under shape e ≡ true → is_memory e ≡ true
+pub under_is_memory : (shape : Shape) (e : ShapeFault) → is_memory_under shape e ≡ true → is_reading_memory e ≡ true
 under_is_memory shapes.bool e h = absurd (cc)
 under_is_memory shapes.whole e h = absurd (cc)
 under_is_memory shapes.decimal e h = absurd (cc)
@@ -51,10 +51,10 @@ item_same (first ∷ xs) (suc i) x y within is_x is_y = item_same xs i x y (omeg
 
 -- what is read under the shape at a place
 pub nth_gives : (of : List ShapeCode) (place : ℕ) (at shape : ShapeCode) (d : Data) (r : Result ValueCode ShapeFault) → place < length of → at ≡ slice_index_or of place at → shape ≡ slice_index_or of place shape
-    → Gives (is_memory_under (shape_view at)) value_view r (read (shape_view at) d) → Gives is_memory value_view r (read (shape_view shape) d)
+    → Gives (is_memory_under (shape_view at)) value_view r (read (shape_view at) d) → Gives is_reading_memory value_view r (read (shape_view shape) d)
 nth_gives of place at shape d r within is_at is_shape given =
-    subst (λ s. Gives is_memory value_view r (read (shape_view s) d)) (item_same of place at shape within is_at is_shape)
-    (gives_more (is_memory_under (shape_view at)) is_memory value_view r (read (shape_view at) d) (under_is_memory (shape_view at)) given)
+    subst (λ s. Gives is_reading_memory value_view r (read (shape_view s) d)) (item_same of place at shape within is_at is_shape)
+    (gives_more (is_memory_under (shape_view at)) is_reading_memory value_view r (read (shape_view at) d) (under_is_memory (shape_view at)) given)
 
 -- Items that were read, before what is read of the rest.
 
@@ -93,10 +93,10 @@ next_item R json i x done v all inside is_x before is_v =
 pub item_fails : (shape : Shape) (json : List Json) (i : ℕ) (x : Json) (done : List ValueCode) (e : ShapeFault) (all : Result Items ShapeFault) → i < length json → x ≡ slice_index_or json i x
     → all ≡ Items_before (map value_view done) (items_read (λ d. read shape d) (items_view (drop i json)))
     → Unless (is_memory_under shape e) (read shape (view x) ≡ Err e)
-    → Unless (is_memory e) (all ≡ Err e)
+    → Unless (is_reading_memory e) (all ≡ Err e)
 item_fails shape json i x done e all inside is_x before is_e =
-    leads (is_memory e) (λ (fails : read shape (view x) ≡ Err e). before ∙ ap (Items_before (map value_view done)) (at (λ d. read shape d) json i x inside is_x ∙ rw fails refl) ∙ before_err (map value_view done) e)
-    (unless_more (read shape (view x) ≡ Err e) (is_memory_under shape e) (is_memory e) (under_is_memory shape e) is_e)
+    leads (is_reading_memory e) (λ (fails : read shape (view x) ≡ Err e). before ∙ ap (Items_before (map value_view done)) (at (λ d. read shape d) json i x inside is_x ∙ rw fails refl) ∙ before_err (map value_view done) e)
+    (unless_more (read shape (view x) ≡ Err e) (is_memory_under shape e) (is_reading_memory e) (under_is_memory shape e) is_e)
 
 pub no_item_left : (R : Data → Result Value ShapeFault) (json : List Json) (i : ℕ) (done : List ValueCode) (all : Result Items ShapeFault) → length json ≤ i
     → all ≡ Items_before (map value_view done) (items_read R (items_view (drop i json)))
@@ -225,9 +225,9 @@ module _ (names : List (List ℕ)) (of : List ShapeCode) (given : json.Members) 
         before;
   }
 
-  pub field_fails : (places : List ℕ) (vs : List ValueCode) (e : ShapeFault) → Fields_before names of given place places vs → Unless (is_memory e) (here ≡ Err e) → Unless (is_memory e) (fields_read (Of names of) given ≡ Err e)
+  pub field_fails : (places : List ℕ) (vs : List ValueCode) (e : ShapeFault) → Fields_before names of given place places vs → Unless (is_reading_memory e) (here ≡ Err e) → Unless (is_reading_memory e) (fields_read (Of names of) given ≡ Err e)
   field_fails places vs e before is =
-      leads (is_memory e) (λ fails. before.read ∙ ap (λ all. all >>= λ rest. Ok (fields_onto 0 (take place names) places (map value_view vs) rest)) (fields_here ∙ failed here _ e fails)) is
+      leads (is_reading_memory e) (λ fails. before.read ∙ ap (λ all. all >>= λ rest. Ok (fields_onto 0 (take place names) places (map value_view vs) rest)) (fields_here ∙ failed here _ e fails)) is
 
 pub no_field_left : (names : List (List ℕ)) (of : List ShapeCode) (given : json.Members) (place : ℕ) (places : List ℕ) (vs : List ValueCode) → length names ≤ length of → length names ≤ place
     → Fields_before names of given place places vs → fields_read (Of names of) given ≡ Ok (fields_from 0 names places (map value_view vs))
@@ -257,9 +257,9 @@ record_read of of_shapes given fields boxed is first is_read =
     (sym (record_view boxed ∙ ap (λ f. object (fields_from 0 (out-Fields f).names (out-Fields f).places (map value_view (out-Fields f).values.items))) is))
 
 pub record_fails : (of names : List (List ℕ)) (of_shapes : List ShapeCode) (given : json.Members) (e : ShapeFault) → names ≡ take (length of_shapes) of
-    → Unless (is_memory e) (fields_read (Of names of_shapes) given ≡ Err e) → Unless (is_memory e) (read (shapes.object (Of of of_shapes)) (json.object given) ≡ Err e)
+    → Unless (is_reading_memory e) (fields_read (Of names of_shapes) given ≡ Err e) → Unless (is_reading_memory e) (read (shapes.object (Of of of_shapes)) (json.object given) ≡ Err e)
 record_fails of names of_shapes given e first fails =
-    leads (is_memory e) (λ (h : fields_read (Of names of_shapes) given ≡ Err e).
+    leads (is_reading_memory e) (λ (h : fields_read (Of names of_shapes) given ≡ Err e).
     failed (fields_read (Of of of_shapes) given) (λ f. Ok (object f)) e (ap (λ fs. fields_read fs given) (sym (first_names of of_shapes) ∙ ap (λ ns. Of ns of_shapes) (sym first)) ∙ h)) fails
 
 -- Lists.

@@ -9,7 +9,7 @@ use Rattle.ar_value.specs.Decimal.{is_i64}
 use Rattle.ar_value.specs.DecimalText.{decimal_of}
 use Rattle.ar_value.specs.Names.{Rise}
 use Rattle.ar_json.specs.Names.{shape_names, field_names, ShapeNamesRise, FieldShapeNamesRise, ValueNamesRise, ItemNamesRise, FieldNamesRise}
-use Rattle.ar_json.specs.Reading.{read, whole_of, decimal_of_whole, decimal_of_text, item_count, items_read, absent_read, field_read, fields_read, is_memory_under}
+use Rattle.ar_json.specs.Reading.{read, read_whole, whole_as_millionths, decimal_of_text, item_count, items_read, absent_read, field_read, fields_read, is_memory_under}
 use Rattle.ar_value.specs.Shape.{Shape, FieldShapes}
 use Rattle.ar_value.specs.Shape as shapes
 use Rattle.ar_value.specs.Value.{Value, Items, Fields}
@@ -33,11 +33,11 @@ decimal_within : (b : Bool) (z : ℤ) → Rises (if b then Ok (values.decimal z)
 decimal_within true z = tt
 decimal_within false z = tt
 
-whole_rises : (number : Option ℤ) → Rises (whole_of number)
+whole_rises : (number : Option ℤ) → Rises (read_whole number)
 whole_rises None = tt
 whole_rises (Some z) = whole_within (is_i64 z) z
 
-decimal_rises : (number : Option ℤ) → Rises (decimal_of_whole number)
+decimal_rises : (number : Option ℤ) → Rises (whole_as_millionths number)
 decimal_rises None = tt
 decimal_rises (Some z) = decimal_within _ _
 

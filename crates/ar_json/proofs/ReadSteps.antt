@@ -33,7 +33,7 @@ use Rattle.ar_value.proofs.FieldLists.{Of}
 use Rattle.ar_value.proofs.Orders.{index_within, sorted_drop}
 use Rattle.ar_json.specs.Names.{member_names}
 use Rattle.ar_json.specs.Private.Needs.{passed, passed_to, required_in}
-use Rattle.ar_json.specs.Reading.{absent_read, field_read, fields_read, is_memory, read}
+use Rattle.ar_json.specs.Reading.{absent_read, field_read, fields_read, is_reading_memory, read}
 use Rattle.ar_json.specs.declared.value_reading.ShapeFault.{ShapeFault}
 use Rattle.ar_json.specs.declared.value_reading.ShapeFault.TheVariants.{MissingField}
 use Rattle.ar_json.proofs.Declarations.{Entry}
@@ -60,7 +60,7 @@ of_same Less here rest same = absurd (cc)
 of_same Equal here rest same = refl
 of_same Greater here rest same = absurd (cc)
 
--- a member of another name isn't looked at
+-- a member of another name isn't examined
 unread : (of name : List ℕ) (d : Data) (later : json.Members) → is_eq (slice_cmp nat_cmp of name) ≡ false → get_member of (json.member name d later) ≡ get_member of later
 unread of name d later differs = of_other (slice_cmp nat_cmp of name) (Some d) (get_member of later) differs
 
@@ -143,7 +143,7 @@ module _ (given later : json.Members) (name : List ℕ) (d : Data) where
             after = found.after;
           }
 
--- ---- the fields between, of which some have to be there
+-- ---- the fields between, of which some are required
 
 abbrev first_of : List ℕ → Option ℕ
 first_of [] = None
@@ -192,7 +192,7 @@ stops next place e (first ∷ later) is = by (nat_lt first place) (first == plac
 abbrev same_answer : ℕ → ℕ → Type 0
 same_answer a b = ◌≡◌ {A = Result ℕ ShapeFault} (Ok a) (Ok b)
 
--- the field at the place may be absent: the next that has to be there is after it
+-- the field at the place may be absent: the next that is required is after it
 stays : (next place after : ℕ) (places : List ℕ) → passed_to next place (first_of places) ≡ Ok after → NoneBefore (suc place) places → after ≡ next
 stays next place after [] is none = cc
 stays next place after (first ∷ later) is none =
@@ -203,7 +203,7 @@ stays next place after (first ∷ later) is none =
     stepped : same_answer next after → after ≡ next
     stepped e = cc
 
--- the field at the place has to be there, and is
+-- the field at the place is required, and is there
 goes_on : (next place after : ℕ) (later : List ℕ) → passed_to next place (Some place) ≡ Ok after → after ≡ suc next
 goes_on next place after later is =
     let below : nat_lt place place ≡ false = grind (arith, nat_tests) in
@@ -226,7 +226,7 @@ required_absent : (shape : Shape) → is_optional shape ≡ false → absent_rea
 required_absent (shapes.optional shape) is = absurd (cc)
 required_absent shape is = refl
 
--- places of fields that have to be there are not before the first field's
+-- places of required fields are not before the first field's
 not_before : (place : ℕ) (fields : FieldShapes) → NoneBefore place (required_in place fields)
 not_before place shapes.no_fields = tt
 not_before place (shapes.field name shape others) = by (is_optional shape) (required_in (suc place) others) (not_before (suc place) others)
@@ -254,7 +254,7 @@ module _ (names : List (List ℕ)) (of : List ShapeCode) (given : json.Members) 
   absent_front from k name within is absent =
       let e : drop from names ≡ name ∷ drop (from + 1) names = drop_more names from name within ∙ ap (λ n. n ∷ drop (from + 1) names) (sym is) in rw e at absent
 
-  -- absent fields of which none has to be there are passed over
+  -- absent fields of which none is required are skipped
   gap : (k from to : ℕ) (places : List ℕ) (vs : List ValueCode) → to ≡ from + k → to ≤ length names → AllByRecursion (Absent given) (take k (drop from names)) → NoneBefore to (required_in from (Left names of from))
       → Fields_before names of given from places vs → Fields_before names of given to places vs × (required_in from (Left names of from) ≡ required_in to (Left names of to))
   gap zero from to places vs is inside absent none before = let e : from ≡ to = omega (arith, is) in
@@ -279,7 +279,7 @@ module _ (names : List (List ℕ)) (of : List ShapeCode) (given : json.Members) 
           let e = required_here names of from shape (omega (arith, is, inside)) (omega (arith, is, inside, long)) is_shape false optional in
           let wrong : to ≤ from = subst (NoneBefore to) e none in absurd (omega (arith, wrong, is))
 
-  -- an absent field that has to be there is missing
+  -- an absent field that is required is missing
   missing : (k from to : ℕ) (places : List ℕ) (vs : List ValueCode) → to ≡ from + k → to ≤ length names → AllByRecursion (Absent given) (take k (drop from names)) → OneBefore to (required_in from (Left names of from))
       → Fields_before names of given from places vs → fields_read (Of names of) given ≡ Err MissingField
   missing zero from to places vs is inside absent one before =
@@ -306,7 +306,7 @@ module _ (names : List (List ℕ)) (of : List ShapeCode) (given : json.Members) 
 -- ---- the members that were read
 
 -- What was read so far: the fields before `from` with their values, where these members are left, and the required
--- field at the index `next` is the next to be met.
+-- field at the index `next` is the next that has to be present.
 pub record Members_read (names : List (List ℕ)) (of : List ShapeCode) (given : json.Members) (required : List ℕ) (left : List Entry) (from next : ℕ) (places : List ℕ) (vs : List ValueCode) : Type 0 where
   pub before : Fields_before names of given from places vs
   pub inside : from ≤ length names
@@ -390,13 +390,13 @@ module _ {names : List (List ℕ)} {of : List ShapeCode} {given : json.Members} 
       field_here n shape is_name = rw (facts.here n (is_name ∙ ap (λ at. slice_index_or names at n) index.2 ∙ sym (get_or-drop from names index.0 n))) refl
 
       -- the field is refused
-      pub place_fails : (e : ShapeFault) → ((shape : ShapeCode) → shape ≡ slice_index_or of place shape → Unless (is_memory e) (read (shape_view shape) (view value) ≡ Err e))
-          → Unless (is_memory e) (fields_read (Of names of) given ≡ Err e)
+      pub place_fails : (e : ShapeFault) → ((shape : ShapeCode) → shape ≡ slice_index_or of place shape → Unless (is_reading_memory e) (read (shape_view shape) (view value) ≡ Err e))
+          → Unless (is_reading_memory e) (fields_read (Of names of) given ≡ Err e)
       place_fails e fails =
           let n = there names place place_inside in
           let shape = there of place (omega (arith, place_inside, long)) in
           field_fails names of given place n.0 shape.0 place_inside (omega (arith, place_inside, long)) n.1 shape.1 places vs e over.0
-          (leads (is_memory e) (λ (h : read (shape_view shape.0) (view value) ≡ Err e). field_here n.0 shape.0 n.1 ∙ h) (fails shape.0 shape.1))
+          (leads (is_reading_memory e) (λ (h : read (shape_view shape.0) (view value) ≡ Err e). field_here n.0 shape.0 n.1 ∙ h) (fails shape.0 shape.1))
 
       wanted_next : (shape : ShapeCode) → shape ≡ slice_index_or of place shape → drop after required ≡ required_in (place + 1) (Left names of (place + 1))
       wanted_next shape is_shape = by (is_optional (shape_view shape)) refl
@@ -433,7 +433,7 @@ module _ {names : List (List ℕ)} {of : List ShapeCode} {given : json.Members} 
   absent_end : AllByRecursion (Absent given) (take (length names - from) (drop from names))
   absent_end = rw (take_all (length names - from) (drop from names) (omega (arith, length-drop from names))) known_end
 
-  -- no field after the last member has to be there
+  -- no field after the last member is required
   pub ends : (after : ℕ) → Ok after ≡ passed required next (length names) → fields_read (Of names of) given ≡ Ok (fields_from 0 names places (map value_view vs))
   ends after met =
       let met_from = sym (met ∙ passed_from required _ next (length names) so_far.wanted) in

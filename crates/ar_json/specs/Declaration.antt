@@ -4,8 +4,9 @@
 --     {"list": shape, "max": number}    items, at most that number
 --     {"record": {name: shape, ..}}     fields by name
 --     {"optional": shape}               null, or a value of the shape
-use Rattle.std.specs.Prelude.{ℕ, zero, suc, Bool, true, false, ◌&&◌, nat_le, if◌then◌else◌, List, codes, Option, Some, None, option_and_then, Result, Ok, Err}
+use Rattle.std.specs.Prelude.{ℕ, zero, suc, Bool, true, false, ◌&&◌, nat_le, if◌then◌else◌, codes, Option, Some, None, option_and_then, Result, Ok, Err}
 use Rattle.std.specs.Str.{bytes_eq}
+use Rattle.ar_value.specs.Terms.{Text}
 use Rattle.serde_json.specs.Data.{Data, Members, string, object, no_members, member}
 use Rattle.serde_json.specs.Find.{as_number, as_u64}
 use Rattle.ar_value.specs.Answer.{◌>>=◌}
@@ -15,7 +16,7 @@ use Rattle.ar_json.specs.declared.shape_reading.ShapeError.{ShapeError}
 use Rattle.ar_json.specs.declared.shape_reading.ShapeError.TheVariants.{TooDeep, UnknownShape, MaxMissing, MaxTooLarge, NestedOptional, OutOfMemory}
 
 -- a scalar shape is written by its name
-abbrev pub scalar_named : List ℕ → Result Shape ShapeError
+abbrev pub scalar_named : Text → Result Shape ShapeError
 scalar_named name =
     if bytes_eq name (codes "bool") then Ok bool
     else (if bytes_eq name (codes "whole") then Ok whole
@@ -47,7 +48,8 @@ record_declared inner (object members) = fields_declared inner members >>= λ fi
 record_declared inner json = Err UnknownShape
 
 abbrev pub optional_declared : (Data → Result Shape ShapeError) → Data → Result Shape ShapeError
-optional_declared inner json = if declares_optional json then Err NestedOptional else (inner json >>= λ shape. Ok (optional shape))
+optional_declared inner json =
+    if declares_optional json then Err NestedOptional else (inner json >>= λ shape. Ok (optional shape))
 
 abbrev pub list_declared : (Data → Result Shape ShapeError) → Data → Data → Result Shape ShapeError
 list_declared inner json max_json = do
@@ -55,7 +57,7 @@ list_declared inner json max_json = do
   shape ← inner json
   Ok (list shape max)
 
--- the shape that an object declares by the names of its members, which stand in byte order
+-- the shape that an object declares by the names of its members, which are in byte order
 abbrev pub object_declared : (Data → Result Shape ShapeError) → Members → Result Shape ShapeError
 object_declared inner (member name json no_members) =
     if bytes_eq name (codes "list") then Err MaxMissing
@@ -63,7 +65,8 @@ object_declared inner (member name json no_members) =
     else (if bytes_eq name (codes "optional") then optional_declared inner json
     else Err UnknownShape))
 object_declared inner (member first json (member second max no_members)) =
-    if bytes_eq first (codes "list") && bytes_eq second (codes "max") then list_declared inner json max else Err UnknownShape
+    if bytes_eq first (codes "list") && bytes_eq second (codes "max") then list_declared inner json max
+    else Err UnknownShape
 object_declared inner others = Err UnknownShape
 
 -- a shape of at most n levels, where each shape in it is a level
@@ -79,11 +82,11 @@ most_shape_levels = 16
 unfoldable pub shape_of : Data → Result Shape ShapeError
 shape_of json = shape_within most_shape_levels json
 
-abbrev pub is_memory : ShapeError → Bool
-is_memory OutOfMemory = true
-is_memory error = false
+abbrev pub is_shape_memory : ShapeError → Bool
+is_shape_memory OutOfMemory = true
+is_shape_memory error = false
 
 -- out of memory may be returned only where an object declares the shape: a name takes none
 abbrev pub is_memory_for : Data → ShapeError → Bool
-is_memory_for (object given) error = is_memory error
+is_memory_for (object given) error = is_shape_memory error
 is_memory_for json error = false

@@ -1,6 +1,7 @@
 -- JSON documents of limited size.
-use Rattle.std.specs.Prelude.{ℕ, nat_lt, Bool, true, false, if◌then◌else◌, List, length, Option, None, Result, Err}
+use Rattle.std.specs.Prelude.{ℕ, nat_lt, Bool, true, false, if◌then◌else◌, length, Option, None, Result, Err}
 use Rattle.std.specs.Str.{is_utf8}
+use Rattle.ar_value.specs.Terms.{Bytes}
 use Rattle.serde_json.specs.Data.{Data}
 use Rattle.serde_json.specs.Read.{read}
 use Rattle.ar_value.specs.Answer.{there_or}
@@ -12,13 +13,13 @@ abbrev pub most_bytes : ℕ
 most_bytes = 16777216
 
 -- the JSON value (RFC 8259) whose text in UTF-8 an input is: of at most 127 levels, and of equal names the last counts
-abbrev pub json_of : List ℕ → Option Data
+abbrev pub json_of : Bytes → Option Data
 json_of input = if is_utf8 input then read input else None
 
 -- the JSON document that an input is, or its first fault
-unfoldable pub json_in : List ℕ → Result Data JsonError
+unfoldable pub json_in : Bytes → Result Data JsonError
 json_in input = if nat_lt most_bytes (length input) then Err TooLarge else there_or Utf8OrJson (json_of input)
 
-abbrev pub is_memory : JsonError → Bool
-is_memory OutOfMemory = true
-is_memory error = false
+abbrev pub is_document_memory : JsonError → Bool
+is_document_memory OutOfMemory = true
+is_document_memory error = false

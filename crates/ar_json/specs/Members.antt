@@ -1,5 +1,6 @@
 -- Looking into a JSON document (RFC 8259).
-use Rattle.std.specs.Prelude.{ℕ, List, [], ◌∷◌, Option, Some, None, option_and_then, option_map, Result, Ok, Err}
+use Rattle.std.specs.Prelude.{List, [], ◌∷◌, Option, Some, None, option_and_then, option_map, Result, Ok, Err}
+use Rattle.ar_value.specs.Terms.{Text}
 use Rattle.serde_json.specs.Data.{Data, null, string, Items, no_items, item}
 use Rattle.serde_json.specs.Find.{get, as_array, as_str}
 
@@ -10,19 +11,19 @@ unless_null (Some null) = None
 unless_null (Some d) = Some d
 
 -- the member of an object; what is no object has no members
-abbrev pub member : List ℕ → Data → Option Data
+abbrev pub member : Text → Data → Option Data
 member name d = unless_null (get name d)
 
 -- a member's member
-abbrev pub member_of_member : List ℕ → List ℕ → Data → Option Data
+abbrev pub member_of_member : Text → Text → Data → Option Data
 member_of_member outer name d = option_and_then (member name) (member outer d)
 
 -- a member that is a text
-abbrev pub text_member : List ℕ → Data → Option (List ℕ)
+abbrev pub text_member : Text → Data → Option Text
 text_member name d = option_and_then as_str (member name d)
 
 -- a text that may be missing; any other value is refused
-abbrev pub text_or : {E : Type 0} → E → Option Data → Result (Option (List ℕ)) E
+abbrev pub text_or : {E : Type 0} → E → Option Data → Result (Option Text) E
 text_or refusal None = Ok None
 text_or refusal (Some (string text)) = Ok (Some text)
 text_or refusal (Some d) = Err refusal
@@ -36,6 +37,6 @@ abbrev pub list_of : Data → Option (List Data)
 list_of d = option_map listed (as_array d)
 
 -- an empty text counts as missing
-abbrev pub unless_empty : List ℕ → Option (List ℕ)
+abbrev pub unless_empty : Text → Option Text
 unless_empty [] = None
 unless_empty (byte ∷ text) = Some (byte ∷ text)

@@ -1,5 +1,6 @@
 -- The order of a record's fields: what is read has them by name, and the names strictly rise, byte by byte.
-use Rattle.std.specs.Prelude.{ℕ, List, [], ◌∷◌}
+use Rattle.std.specs.Prelude.{List, [], ◌∷◌}
+use Rattle.ar_value.specs.Terms.{Text}
 use Rattle.serde_json.specs.Data.{Members, no_members, member}
 use Rattle.ar_value.specs.Names.{Rise}
 use Rattle.ar_value.specs.Shape.{Shape, FieldShapes}
@@ -8,15 +9,15 @@ use Rattle.ar_value.specs.Value.{Value, Items, Fields}
 use Rattle.ar_value.specs.Value as values
 
 -- the names of an object's members, in their order
-abbrev pub member_names : Members → List (List ℕ)
+abbrev pub member_names : Members → List Text
 member_names no_members = []
 member_names (member name json others) = name ∷ member_names others
 
-abbrev pub shape_names : FieldShapes → List (List ℕ)
+abbrev pub shape_names : FieldShapes → List Text
 shape_names shapes.no_fields = []
 shape_names (shapes.field name shape others) = name ∷ shape_names others
 
-abbrev pub field_names : Fields → List (List ℕ)
+abbrev pub field_names : Fields → List Text
 field_names values.no_fields = []
 field_names (values.field name value others) = name ∷ field_names others
 

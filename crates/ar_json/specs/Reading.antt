@@ -1,5 +1,5 @@
 -- Reading a JSON value (RFC 8259) under a shape: the value, or the first thing that is wrong with it.
-use Rattle.std.specs.Prelude.{ℕ, suc, ℤ, ◌*ℤ◌, Bool, true, false, nat_le, if◌then◌else◌, Option, Some, None, Result, Ok, Err}
+use Rattle.std.specs.Prelude.{ℕ, suc, ℤ, ◌*ℤ◌, Bool, true, false, nat_le, if◌then◌else◌, Option, Some, None, Result, Ok, Err, ◌≡◌, pos, codes, refl}
 use Rattle.serde_json.specs.Data as json
 use Rattle.serde_json.specs.Data.{Data}
 use Rattle.serde_json.specs.Find.{as_integer, get_member}
@@ -15,17 +15,17 @@ use Rattle.ar_json.specs.declared.value_reading.ShapeFault.{ShapeFault}
 use Rattle.ar_json.specs.declared.value_reading.ShapeFault.TheVariants.{WrongKind, FloatNumber, NotFinite, BadDecimal, OutOfRange, ListTooLong, MissingField, OutOfMemory}
 
 -- a number where it fits a signed 64-bit number
-abbrev pub within : (ℤ → Value) → ℤ → Result Value ShapeFault
-within value z = if is_i64 z then Ok (value z) else Err OutOfRange
+abbrev pub in_range_as : (ℤ → Value) → ℤ → Result Value ShapeFault
+in_range_as value z = if is_i64 z then Ok (value z) else Err OutOfRange
 
 -- a JSON number that is no whole number of 64 bits, with a sign or without, is a float
-abbrev pub whole_of : Option ℤ → Result Value ShapeFault
-whole_of None = Err FloatNumber
-whole_of (Some z) = within whole z
+abbrev pub read_whole : Option ℤ → Result Value ShapeFault
+read_whole None = Err FloatNumber
+read_whole (Some z) = in_range_as whole z
 
-abbrev pub decimal_of_whole : Option ℤ → Result Value ShapeFault
-decimal_of_whole None = Err FloatNumber
-decimal_of_whole (Some z) = within decimal (z *ℤ million)
+abbrev pub whole_as_millionths : Option ℤ → Result Value ShapeFault
+whole_as_millionths None = Err FloatNumber
+whole_as_millionths (Some z) = in_range_as decimal (z *ℤ million)
 
 abbrev pub decimal_of_text : Result ℤ NumberFault → Result Value ShapeFault
 decimal_of_text (Ok millionths) = Ok (decimal millionths)
@@ -48,7 +48,8 @@ items_read read (json.item d others) = do
 
 -- a list is too long before its items are read
 abbrev pub list_read : (Data → Result Value ShapeFault) → ℕ → json.Items → Result Value ShapeFault
-list_read read max items = if nat_le (item_count items) max then (items_read read items >>= λ values. Ok (list values)) else Err ListTooLong
+list_read read max items =
+    if nat_le (item_count items) max then (items_read read items >>= λ values. Ok (list values)) else Err ListTooLong
 
 -- a field that is absent is nil where it is optional
 abbrev pub absent_read : Shape → Result Value ShapeFault
@@ -64,8 +65,8 @@ abbrev mutual
   -- decimal from a text or a JSON number, a text from a JSON string, a list from an array and a record from an object.
   pub read : Shape → Data → Result Value ShapeFault
   read shapes.bool (json.boolean b) = Ok (bool b)
-  read shapes.whole (json.number n) = whole_of (as_integer n)
-  read shapes.decimal (json.number n) = decimal_of_whole (as_integer n)
+  read shapes.whole (json.number n) = read_whole (as_integer n)
+  read shapes.decimal (json.number n) = whole_as_millionths (as_integer n)
   read shapes.decimal (json.string bytes) = decimal_of_text (decimal_of bytes)
   read shapes.text (json.string bytes) = Ok (text bytes)
   read (shapes.list shape max) (json.array items) = list_read (λ d. read shape d) max items
@@ -82,9 +83,9 @@ abbrev mutual
     fields ← fields_read others given
     Ok (field name value fields)
 
-abbrev pub is_memory : ShapeFault → Bool
-is_memory OutOfMemory = true
-is_memory fault = false
+abbrev pub is_reading_memory : ShapeFault → Bool
+is_reading_memory OutOfMemory = true
+is_reading_memory fault = false
 
 -- out of memory may be returned only where values of the shape take memory: booleans and numbers take none
 abbrev pub is_memory_under : Shape → ShapeFault → Bool
@@ -92,4 +93,25 @@ is_memory_under shapes.bool fault = false
 is_memory_under shapes.whole fault = false
 is_memory_under shapes.decimal fault = false
 is_memory_under (shapes.optional shape) fault = is_memory_under shape fault
-is_memory_under shape fault = is_memory fault
+is_memory_under shape fault = is_reading_memory fault
+
+-- ---- worked rows
+
+null_of_optional : read (shapes.optional shapes.whole) json.null ≡ Ok nil
+null_of_optional = refl
+
+text_for_decimal : read shapes.decimal (json.string (codes "0.5")) ≡ Ok (decimal (pos 500000))
+unfolding decimal_of
+text_for_decimal = refl
+
+text_for_whole : read shapes.whole (json.string (codes "1")) ≡ Err WrongKind
+text_for_whole = refl
+
+one_item_too_many : read (shapes.list shapes.bool 0) (json.array (json.item (json.boolean true) json.no_items))
+    ≡ Err ListTooLong
+one_item_too_many = refl
+
+field_absent : read (shapes.object (shapes.field (codes "a") shapes.whole shapes.no_fields))
+    (json.object json.no_members)
+    ≡ Err MissingField
+field_absent = refl

@@ -3,7 +3,7 @@
 ghost use Rattle.std.specs.Prelude.{◌≡◌, ◌<◌, Err, length};
 ghost use Rattle.serde_json.specs.View.{view};
 ghost use Rattle.ar_value.specs.Answer.{Gives};
-ghost use Rattle.ar_json.specs.Document.{is_memory, json_in, most_bytes};
+ghost use Rattle.ar_json.specs.Document.{is_document_memory, json_in, most_bytes};
 ghost use Rattle.ar_json.specs.declared.document.JsonError.TheVariants.{TooLarge};
 
 use serde_json::Value as Json;
@@ -45,10 +45,10 @@ impl fmt::Display for JsonError {
 ///
 /// # Errors
 ///
-/// `TooLarge`, which is answered before memory is taken, or `Utf8OrJson`.
+/// `TooLarge`, which is returned before memory is taken, or `Utf8OrJson`.
 #[tactic(auto, using(crate::proofs::Documents::json, crate::proofs::Documents::no_json), unfolding(crate::specs::Document::json_in))]
 pub fn read_json(alloc: Global, input: &[u8]) -> Result<Json, JsonError>
-    ensures exact { Gives is_memory (λ json. view json) result (json_in input.now) }
+    ensures exact { Gives is_document_memory (λ json. view json) result (json_in input.now) }
 
     // An input that is too large is refused for that alone.
     ensures too_large { most_bytes < length input.now → result ≡ Err TooLarge }

@@ -8,11 +8,11 @@
 //! What is proved, for all inputs: an input is the JSON value of `specs/Document`, or refused by the
 //! one name that it gives; a JSON value declares the shape of `specs/Declaration`; it is read under a
 //! shape as `specs/Reading` defines, and what is read fits its shape, its records' fields by rising
-//! names (`specs/Names`). Only a refused allocation can keep a call from its answer.
+//! names (`specs/Names`). Only a refused allocation can keep a call from its result.
 //!
 //! - [`document`]: JSON documents of limited size; [`members`]: members of objects
 //! - [`shape_reading`], [`value_reading`]: reading shapes and values
-//! - [`reader`]: reading many values of one shape; `needs` is what a shape asks of records, worked out once
+//! - [`reader`]: reading many values of one shape; `needs` is what a shape requires of records, computed once
 //! - [`laws`]: what holds of reading as a whole
 #![tactic(auto)]
 

@@ -1,4 +1,4 @@
-//! What reading needs to know of a shape's records, worked out once for a shape.
+//! What reading needs to know of a shape's records, computed once for a shape.
 
 ghost use Rattle.std.specs.Prelude.{◌≡◌, IfErr, IfOk, map, true};
 ghost use Rattle.ar_value.specs.Shape.{field_shapes_of};
@@ -12,7 +12,7 @@ use ar_value::shape::Shape;
 use ar_value::text::Text;
 use std::alloc::{AllocError, Global};
 
-/// Which fields have to be there in the records of a shape. An optional shape has what its plain shape has. Contracts
+/// Which fields are required in the records of a shape. An optional shape has what its plain shape has. Contracts
 /// see it by `needs_view` of `specs/Private/Needs`.
 #[cycle(needs)]
 #[derive(Drop)]
@@ -28,7 +28,7 @@ pub(crate) enum Needs {
 #[cycle(needs)]
 #[derive(Drop)]
 pub(crate) struct FieldNeeds {
-    /// The places of the fields that have to be there, in their order.
+    /// The places of the required fields, in their order.
     pub required: Vec<usize>,
     /// What the shape of each field needs.
     pub inner: Vec<Needs>,
@@ -55,7 +55,7 @@ impl Needs {
         }
     }
 
-    /// The places of the fields that a record has to have.
+    /// The places of the fields that a record is required to have.
     pub fn required(&self) -> &[usize]
         ensures { result.now ≡ required_places (needs_view self.now) }
     {
@@ -116,7 +116,7 @@ fn inner_of(alloc: Global, shapes: &[Shape], names: &[Text]) -> Result<Vec<Needs
     Ok(inner)
 }
 
-/// The places of those fields of these names and shapes that have to be there.
+/// The places of the required ones among the fields of these names and shapes.
 #[tactic(auto, using(crate::proofs::NeedsLemmas::none_required, crate::proofs::NeedsLemmas::next_required, crate::proofs::NeedsLemmas::next_optional, crate::proofs::NeedsLemmas::required_done))]
 fn required_of(alloc: Global, shapes: &[Shape], names: &[Text]) -> Result<Vec<usize>, AllocError>
     ensures { IfOk result (λ places. places.items

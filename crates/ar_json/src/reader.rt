@@ -16,7 +16,7 @@ use serde_json::Value as Json;
 use std::alloc::{AllocError, Global};
 use std::marker::Model;
 
-/// Reads values of one shape. What it asks of their records is worked out once, so that a record then takes steps for
+/// Reads values of one shape. What it asks of their records is computed once, so that a record then takes steps for
 /// its members alone, whatever fields the shape has. Contracts see the shape.
 #[derive(Drop)]
 pub struct Reader {

@@ -5,7 +5,7 @@ ghost use Rattle.serde_json.specs.Data.{member, no_members};
 ghost use Rattle.serde_json.specs.Find.{as_number, as_u64};
 ghost use Rattle.serde_json.specs.View.{members_view, view};
 ghost use Rattle.ar_value.specs.Answer.{Gives};
-ghost use Rattle.ar_json.specs.Declaration.{declares_optional, fields_declared, is_memory, is_memory_for, list_declared, max_of, object_declared, optional_declared, record_declared, scalar_named, shape_of, shape_within};
+ghost use Rattle.ar_json.specs.Declaration.{declares_optional, fields_declared, is_shape_memory, is_memory_for, list_declared, max_of, object_declared, optional_declared, record_declared, scalar_named, shape_of, shape_within};
 ghost use Rattle.ar_json.specs.Names.{FieldShapeNamesRise, ShapeNamesRise, member_names, shape_names};
 ghost use Rattle.ar_value.specs.Names.{Rise};
 ghost use Rattle.ar_value.specs.Shape.{field_shapes_of};
@@ -138,7 +138,7 @@ fn object_shape(
     members: &Map<String, Json>,
     levels: usize,
 ) -> Result<Shape, ShapeError>
-    ensures exact { Gives is_memory shape_view result
+    ensures exact { Gives is_shape_memory shape_view result
         (object_declared (shape_within levels) (members_view members.now.entries)) }
     ensures names_rise { IfOk result (λ shape. ShapeNamesRise (shape_view shape)) }
 {
@@ -162,7 +162,7 @@ fn object_shape(
 /// The shape that an object of one name declares.
 #[cycle(shape_within)]
 fn named_shape(alloc: Global, name: &str, inner: &Json, levels: usize) -> Result<Shape, ShapeError>
-    ensures exact { Gives is_memory shape_view result
+    ensures exact { Gives is_shape_memory shape_view result
         (object_declared (shape_within levels) (member name.now (view inner.now) no_members)) }
     ensures names_rise { IfOk result (λ shape. ShapeNamesRise (shape_view shape)) }
 {
@@ -177,7 +177,7 @@ fn named_shape(alloc: Global, name: &str, inner: &Json, levels: usize) -> Result
 #[cycle(shape_within)]
 #[tactic(auto, using(crate::proofs::Declarations::gives_any))]
 fn list_shape(alloc: Global, item: &Json, max: &Json, levels: usize) -> Result<Shape, ShapeError>
-    ensures exact { Gives is_memory shape_view result
+    ensures exact { Gives is_shape_memory shape_view result
         (list_declared (shape_within levels) (view item.now) (view max.now)) }
     ensures names_rise { IfOk result (λ shape. ShapeNamesRise (shape_view shape)) }
 {
@@ -199,7 +199,7 @@ fn greatest_length(json: &Json) -> Result<usize, ShapeError>
 #[cycle(shape_within)]
 #[tactic(auto, using(crate::proofs::Declarations::gives_any))]
 fn optional_shape(alloc: Global, inner: &Json, levels: usize) -> Result<Shape, ShapeError>
-    ensures exact { Gives is_memory shape_view result
+    ensures exact { Gives is_shape_memory shape_view result
         (optional_declared (shape_within levels) (view inner.now)) }
     ensures names_rise { IfOk result (λ shape. ShapeNamesRise (shape_view shape)) }
 {
@@ -226,7 +226,7 @@ fn declares_optional(json: &Json) -> bool
 
 #[cycle(shape_within)]
 fn record_shape(alloc: Global, json: &Json, levels: usize) -> Result<Shape, ShapeError>
-    ensures exact { Gives is_memory shape_view result
+    ensures exact { Gives is_shape_memory shape_view result
         (record_declared (shape_within levels) (view json.now)) }
     ensures names_rise { IfOk result (λ shape. ShapeNamesRise (shape_view shape)) }
 {
@@ -265,7 +265,7 @@ fn field_shapes(
     members: &Map<String, Json>,
     levels: usize,
 ) -> Result<Vec<Shape>, ShapeError>
-    ensures exact { Gives is_memory
+    ensures exact { Gives is_shape_memory
         (λ vec. field_shapes_of (member_names (members_view members.now.entries)) (map shape_view vec.items)) result
         (fields_declared (shape_within levels) (members_view members.now.entries)) }
     ensures names_rise { IfOk result (λ vec. Rise (shape_names

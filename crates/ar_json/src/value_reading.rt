@@ -9,7 +9,7 @@ ghost use Rattle.ar_value.specs.Answer.{Gives};
 ghost use Rattle.ar_value.specs.DecimalText.{decimal_of};
 ghost use Rattle.ar_value.specs.Fits.{fits};
 ghost use Rattle.ar_json.specs.Names.{ShapeNamesRise, ValueNamesRise};
-ghost use Rattle.ar_json.specs.Reading.{decimal_of_text, decimal_of_whole, fields_read, is_memory, is_memory_under, items_read, list_read, read, whole_of};
+ghost use Rattle.ar_json.specs.Reading.{decimal_of_text, whole_as_millionths, fields_read, is_reading_memory, is_memory_under, items_read, list_read, read, read_whole};
 ghost use Rattle.ar_value.specs.Shape.{field_shapes_of, object, optional};
 ghost use Rattle.ar_value.specs.Value.{fields_from, items_of};
 ghost use Rattle.ar_value.specs.View.{shape_view, value_view};
@@ -87,7 +87,7 @@ impl<T: Drop> From<AllocFailed<T>> for ShapeFault {
 /// The value that a JSON value is under a shape. Null is nil under an optional shape. A boolean is
 /// read from a JSON boolean, a whole from a whole JSON number, a decimal from such a number or a text
 /// as `"0.95"`, a text from a JSON string, a list from an array and a record from an object. It takes
-/// memory for texts, lists and records alone. It looks at the whole shape: for many values of one
+/// memory for texts, lists and records alone. It examines the whole shape: for many values of one
 /// shape a `Reader` does that once.
 ///
 /// # Errors
@@ -113,7 +113,7 @@ pub fn read_value(alloc: Global, json: &Json, shape: &Shape) -> Result<Value, Sh
     value_under(alloc, shape, &needs, json)
 }
 
-/// The value under a shape with these needs. The recursion goes down the shape.
+/// The value under a shape with these needs. The recursion descends the shape.
 #[cycle(value_under)]
 pub(crate) fn value_under(
     alloc: Global,
@@ -171,7 +171,7 @@ fn list_under(
     json: &[Json],
 ) -> Result<Value, ShapeFault>
     requires { needs_view needs.now ≡ needs_of (shape_view item.now) }
-    ensures { Gives is_memory value_view result
+    ensures { Gives is_reading_memory value_view result
         (list_read (λ d. read (shape_view item.now) d) max (items_view json.now)) }
 {
     if json.len() > max {
@@ -190,7 +190,7 @@ fn items_under(
     json: &[Json],
 ) -> Result<Vec<Value>, ShapeFault>
     requires { needs_view needs.now ≡ needs_of (shape_view item.now) }
-    ensures { Gives is_memory (λ vec. items_of (map value_view vec.items)) result
+    ensures { Gives is_reading_memory (λ vec. items_of (map value_view vec.items)) result
         (items_read (λ d. read (shape_view item.now) d) (items_view json.now)) }
 {
     let mut items = Vec::with_capacity(alloc, json.len())?;
@@ -210,7 +210,7 @@ fn record_under(
     members: &Map<String, Json>,
 ) -> Result<Value, ShapeFault>
     requires { needs_view needs.now ≡ needs_of (object (field_shapes_of of.now (map shape_view shapes.now))) }
-    ensures { Gives is_memory value_view result
+    ensures { Gives is_reading_memory value_view result
         (read (object (field_shapes_of of.now (map shape_view shapes.now)))
         (json_object (members_view members.now.entries))) }
 {
@@ -266,7 +266,7 @@ fn fields_under(
 ) -> Result<Present, ShapeFault>
     requires long { length names.now ≤ length shapes.now }
     requires needs { needs_view needs.now ≡ needs_of (object (field_shapes_of names.now (map shape_view shapes.now))) }
-    ensures { Gives is_memory
+    ensures { Gives is_reading_memory
         (λ present. fields_from 0 names.now present.places (map value_view present.values.items)) result
         (fields_read (field_shapes_of names.now (map shape_view shapes.now)) (members_view members.now.entries)) }
 {
@@ -288,7 +288,7 @@ fn fields_under(
     Ok(present)
 }
 
-/// The value under the shape at a place, whose needs are at the same.
+/// The value under the shape at a place, whose needs are at the same place.
 #[cycle(value_under)]
 fn nth_under(
     alloc: Global,
@@ -299,17 +299,17 @@ fn nth_under(
 ) -> Result<Value, ShapeFault>
     requires { AreNeedsAt shapes.now inner.now place }
     ensures { (shape : Shape) → shape ≡ slice_index_or shapes.now place shape
-        → Gives is_memory value_view result (read (shape_view shape) (view json.now)) }
+        → Gives is_reading_memory value_view result (read (shape_view shape) (view json.now)) }
 {
     value_under(alloc, &shapes[place], &inner[place], json)
 }
 
-/// Of a record's required fields, whose places these are, those before the index `next` were met. Then comes the field
-/// at a place: the index of the next required field that has to be met.
+/// Of a record's required fields, whose places these are, those before the index `next` were
+/// present. Then comes the field at a place: the index of the next required field that must be present.
 ///
 /// # Errors
 ///
-/// `MissingField` where a required field was passed over.
+/// `MissingField` where a required field was skipped.
 fn passed(required: &[usize], next: usize, place: usize) -> Result<usize, ShapeFault>
     ensures { result ≡ passed required.now next place }
 {
@@ -321,7 +321,7 @@ fn passed(required: &[usize], next: usize, place: usize) -> Result<usize, ShapeF
 }
 
 fn whole(number: &Number) -> Result<Value, ShapeFault>
-    ensures { Gives (λ _. false) value_view result (whole_of (as_integer (number_view number.now))) }
+    ensures { Gives (λ _. false) value_view result (read_whole (as_integer (number_view number.now))) }
 {
     let whole = number.as_i128().ok_or(ShapeFault::FloatNumber)?;
     match i64::try_from(whole) {
@@ -332,7 +332,7 @@ fn whole(number: &Number) -> Result<Value, ShapeFault>
 
 #[tactic(auto, using(crate::proofs::Wholes::whole_outside, crate::proofs::Wholes::millionths_outside, crate::proofs::Wholes::millionths_inside))]
 fn decimal_of_whole(number: &Number) -> Result<Value, ShapeFault>
-    ensures { Gives (λ _. false) value_view result (decimal_of_whole (as_integer (number_view number.now))) }
+    ensures { Gives (λ _. false) value_view result (whole_as_millionths (as_integer (number_view number.now))) }
 {
     let whole = number.as_i128().ok_or(ShapeFault::FloatNumber)?;
     let Ok(whole) = i64::try_from(whole) else {

@@ -15,8 +15,9 @@ use Rattle.ar_op.specs.declared.op.Op.TheVariants.{Return, Enter, Step}
 use Rattle.ar_compile.specs.Compiled.{Tables, code_at, compiled, items_at, literal_op, no_tables, tables_with}
 use Rattle.ar_compile.specs.Length.{operations}
 use Rattle.ar_machine.proofs.NoFilter.{HasNoFilter, is_of_filter, none_begun}
-use Rattle.ar_judge.specs.Built.{Condition, IsBuilt}
-use Rattle.ar_judge.specs.Condition.{text_typed}
+use Rattle.ar_judge.specs.Built.{IsBuilt}
+use Rattle.ar_judge.specs.Headline.{Condition}
+use Rattle.ar_judge.specs.Condition.{typed_text}
 use Rattle.ar_judge.specs.declared.error.BuildCause.{BuildCause}
 use Rattle.ar_judge.proofs.Trees.{tree_by_parser}
 use Rattle.ar_judge.specs.Filters.{FiltersAsWritten, has_filter, have_filter}
@@ -93,5 +94,5 @@ same_tree found one other is same = cc
 
 pub filters_as_written : (shape : Shape) (text : List ℕ) (condition : Condition) → IsBuilt shape text condition → FiltersAsWritten shape text condition
 filters_as_written shape text condition built tree typed e =
-    let same : tree ≡ built.tree = same_tree (text_typed shape text) tree built.tree typed (tree_by_parser shape text built.tree built.has_tree) in
+    let same : tree ≡ built.tree = same_tree (typed_text shape text) tree built.tree typed (tree_by_parser shape text built.tree built.has_tree) in
     λ value. none_begun condition.verified.code value (subst HasNoFilter (ap compiled same ∙ sym built.code_is) (compiled_none tree e))

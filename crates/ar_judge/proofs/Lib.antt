@@ -5,3 +5,4 @@ pub mod OneCause
 pub mod Shortened
 pub mod Headline
 pub mod Filters
+pub mod Ready

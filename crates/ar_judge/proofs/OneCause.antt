@@ -1,4 +1,4 @@
--- That a text comes to one thing: it is built, or refused for one cause; and so do the texts of a metric.
+-- That a text has one result: it is built, or refused for one cause; and so do the texts of a metric.
 use Rattle.std.proofs.Common.{◌≡◌, ◌≢◌, ℕ, List, Option, Some, None, refl, sym, subst, ◌∙◌, ap, arith}
 use Rattle.std.specs.Prelude.{◌<◌, ◌≤◌}
 use Rattle.ar_value.specs.Shape.{Shape}
@@ -8,7 +8,8 @@ use Rattle.ar_compile.specs.Length.{length_of}
 use Rattle.ar_safety.specs.Verdict.{IsFault}
 use Rattle.ar_safety.specs.declared.error.Reason.{Reason}
 use Rattle.ar_safety.proofs.OneVerdict.{one_verdict, same_fault}
-use Rattle.ar_judge.specs.Built.{Condition, IsBuilt}
+use Rattle.ar_judge.specs.Built.{IsBuilt}
+use Rattle.ar_judge.specs.Headline.{Condition}
 use Rattle.ar_judge.specs.Condition.{IsRefused, IsTooLong, IsUnsafe}
 use Rattle.ar_judge.proofs.Trees.{tree_by_parser}
 use Rattle.ar_judge.specs.Verdict.{AreBuilt, IsJudge, Judge, RefusesText, RefusesTexts}

@@ -1,5 +1,5 @@
 -- Conditions that are built of texts, and what they say when they are run.
-use Rattle.std.proofs.Common.{◌≡◌, ◌<◌, ℕ, ◌+◌, List, Bool, true, None, Some, Result, Ok, Err, refl, sym, ap, ◌∙◌, subst, arith}
+use Rattle.std.proofs.Common.{◌≡◌, ◌<◌, ℕ, ◌+◌, List, Bool, true, Some, Result, Ok, Err, refl, ap, ◌∙◌, subst, arith}
 use Rattle.ar_value.specs.Fits.{fits}
 use Rattle.ar_value.specs.Shape.{Shape}
 use Rattle.ar_value.specs.declared.shape.Shape.{Shape as Declared}
@@ -9,7 +9,6 @@ use Rattle.ar_value.specs.declared.fault.Fault.{Fault}
 use Rattle.ar_value.specs.Limits.{most_code_entries}
 use Rattle.ar_tree.specs.Expression.{Expression}
 use Rattle.ar_tree.specs.Limits.{InLimits, WrittenInLimits}
-use Rattle.ar_tree.specs.Meaning.{answer_of, mean}
 use Rattle.ar_tree.specs.Typed.{Typed}
 use Rattle.ar_syntax.specs.Parse.{parse_of}
 use Rattle.ar_check.specs.Check.{checked}
@@ -22,17 +21,19 @@ use Rattle.ar_compile.specs.declared.error.CompileError.{CompileError}
 use Rattle.ar_compile.specs.declared.error.CompileError.TheVariants.{TooManyOps, OutOfMemory}
 use Rattle.ar_machine.proofs.Ends as runs
 use Rattle.ar_machine.specs.Run.{IsDone}
-use Rattle.ar_safety.specs.Verdict.{IsCause, IsFault, IsVerified, Verified}
+use Rattle.ar_safety.specs.Verdict.{IsCause, IsFault, IsVerified}
+use Rattle.ar_safety.specs.Bounds.{Verified}
 use Rattle.ar_safety.specs.declared.error.Cause.{Cause}
 use Rattle.ar_safety.specs.declared.error.Cause.TheVariants as causes
-use Rattle.ar_judge.specs.Built.{IsBuilt, condition_with}
+use Rattle.ar_judge.specs.Built.{IsBuilt}
+use Rattle.ar_judge.specs.Headline.{condition_with}
 use Rattle.ar_judge.specs.Building.{of_compiler, of_verifier}
-use Rattle.ar_judge.specs.Condition.{IsRefused, said, text_typed}
+use Rattle.ar_judge.specs.Condition.{IsRefused, said, typed_text}
 use Rattle.ar_judge.proofs.Trees.{tree_by_grammar}
 use Rattle.ar_judge.specs.Private.Readiness.{IsCodeOf, IsReady, Means}
 
 -- a text that is parsed and checked has the tree that was checked
-pub typed_as : (shape : Shape) (text : List ℕ) (tree : Expression) (condition : Typed) → parse_of text ≡ Ok tree → checked shape tree ≡ Ok condition → text_typed shape text ≡ Ok condition
+pub typed_as : (shape : Shape) (text : List ℕ) (tree : Expression) (condition : Typed) → parse_of text ≡ Ok tree → checked shape tree ≡ Ok condition → typed_text shape text ≡ Ok condition
 typed_as shape text tree condition parsed is = rw (parsed, is) refl
 
 -- a condition that was parsed and checked is within limits
@@ -50,16 +51,7 @@ pub has_no_code : (shape : Shape) (text : List ℕ) (tree : Expression) (conditi
 has_no_code shape text tree condition TooManyOps parsed is long = (refl, record { tree = condition; typed = typed_as shape text tree condition parsed is; long = long refl })
 has_no_code shape text tree condition OutOfMemory parsed is long = tt
 
--- verified, it is ready to be run
-pub ready : (shape : Declared) (text : List ℕ) (code : Code) (verified : Verified) → IsCodeOf (shape_view shape) text code → verified.code ≡ code → verified.shape ≡ shape → IsReady text verified
-ready shape text code verified is code_is shape_is =
-    record {
-      tree = is.tree;
-      typed = subst (λ shape. text_typed (shape_view shape) text ≡ Ok is.tree) (sym shape_is) is.typed;
-      means = subst (λ shape. Means (shape_view shape) is.tree verified.code) (sym shape_is) (subst (λ code. Means (shape_view shape) is.tree code) (sym code_is) is.means);
-    }
-
--- and is what the text is built to
+-- verified, it is what the text is built to
 pub built : (shape : Declared) (text : List ℕ) (code : Code) (verified : Verified) → IsCodeOf (shape_view shape) text code → verified.code ≡ code → verified.shape ≡ shape → IsVerified code (shape_view shape) verified.budget verified.depth → IsBuilt (shape_view shape) text (condition_with text verified)
 built shape text code verified is code_is shape_is accepted =
     record {
@@ -87,5 +79,6 @@ one_answer code value fuel cost answer meant done ends =
 pub run_says : (text : List ℕ) (verified : Verified) (value : Value) (answer : Result Bool Fault) (cost : ℕ) → IsReady text verified → fits value (shape_view verified.shape) ≡ true → IsDone verified.code value verified.budget answer cost
     → said (shape_view verified.shape) text value ≡ Some answer
 run_says text verified value answer cost is fit done =
-    let same : answer ≡ answer_of (mean value None is.tree) = one_answer verified.code value verified.budget cost answer (answer_of (mean value None is.tree)) done (is.means value fit) in
-    rw (is.typed, same) refl
+    let meant = is.means value fit in
+    let same : answer ≡ meant.answer = one_answer verified.code value verified.budget cost answer meant.answer done meant.ending in
+    rw (is.typed, same, meant.meant) refl

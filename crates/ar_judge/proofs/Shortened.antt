@@ -11,8 +11,9 @@ use Rattle.ar_syntax.specs.Tokens.{tokens_of}
 use Rattle.ar_syntax.specs.declared.error.SyntaxError.TheVariants.{TooLong}
 use Rattle.ar_manifest.specs.Shortened.{shortened, spaces}
 use Rattle.ar_judge.proofs.Trees.{tree_by_parser}
-use Rattle.ar_judge.specs.Built.{Condition, IsBuilt}
-use Rattle.ar_judge.specs.Condition.{IsRefused, text_typed}
+use Rattle.ar_judge.specs.Built.{IsBuilt}
+use Rattle.ar_judge.specs.Headline.{Condition}
+use Rattle.ar_judge.specs.Condition.{IsRefused, typed_text}
 use Rattle.ar_judge.specs.Verdict.{AreBuilt, IsJudge, Judge, RefusesText, RefusesTexts}
 use Rattle.ar_judge.specs.declared.error.BuildCause.{BuildCause}
 use Rattle.ar_judge.specs.declared.error.BuildCause.TheVariants.{Grammar, Kinds, Compiler, Verifier, OutOfMemory}
@@ -50,9 +51,9 @@ shortens text = by_test (nat_le (length text) most_text_bytes) refl
     by_test false long = gives_way (grind (arith, nat_tests, long)) (rw (long, length-spaces (most_text_bytes + 1)) (omega arith))
 
 -- it has the same tree, or the same refusal
-same_typed : (shape : Shape) (text : List ℕ) → text_typed shape (shortened text) ≡ text_typed shape text
+same_typed : (shape : Shape) (text : List ℕ) → typed_text shape (shortened text) ≡ typed_text shape text
 same_typed shape text = elim (shortens text) [
-  | stays same ↦ ap (text_typed shape) same
+  | stays same ↦ ap (typed_text shape) same
   | gives_way long longer ↦ rw (long_parse text long, long_parse (shortened text) longer) refl
 ]
 

@@ -1,5 +1,6 @@
--- What building a condition answers, and the causes of its parts as it answers them.
-use Rattle.std.specs.Prelude.{ℕ, List, Result, Ok, Err}
+-- What building a condition returns, and the causes of its parts as it returns them.
+use Rattle.std.specs.Prelude.{Result, Ok, Err}
+use Rattle.ar_value.specs.Terms.{Text}
 use Rattle.ar_value.specs.Shape.{Shape}
 use Rattle.ar_syntax.specs.declared.error.SyntaxError.{SyntaxError}
 use Rattle.ar_syntax.specs.declared.error.SyntaxError.TheVariants as syntax
@@ -11,15 +12,16 @@ use Rattle.ar_safety.specs.declared.error.Cause.{Cause}
 use Rattle.ar_safety.specs.declared.error.Cause.TheVariants as causes
 use Rattle.ar_judge.specs.declared.error.BuildCause.{BuildCause}
 use Rattle.ar_judge.specs.declared.error.BuildCause.TheVariants.{Grammar, Kinds, Compiler, Verifier, OutOfMemory}
-use Rattle.ar_judge.specs.Built.{Condition, IsBuilt}
+use Rattle.ar_judge.specs.Built.{IsBuilt}
+use Rattle.ar_judge.specs.Headline.{Condition}
 use Rattle.ar_judge.specs.Condition.{IsRefused}
 
 -- what a text is built to, or why it isn't
-abbrev pub BuildsTo : Shape → List ℕ → Result Condition BuildCause → Type 0
+abbrev pub BuildsTo : Shape → Text → Result Condition BuildCause → Type 0
 BuildsTo shape text (Ok condition) = IsBuilt shape text condition
 BuildsTo shape text (Err cause) = IsRefused shape text cause
 
--- ---- causes, as they are answered
+-- ---- causes, as they are returned
 
 abbrev pub of_syntax : SyntaxError → BuildCause
 of_syntax syntax.OutOfMemory = OutOfMemory

@@ -1,24 +1,18 @@
--- Conditions that can be run, and what a text is built to under the shape of the measured value.
-use Rattle.std.specs.Prelude.{◌≡◌, ◌≤◌, ℕ, List}
+-- What a text is built to under the shape of the measured value.
+use Rattle.std.specs.Prelude.{◌≡◌, ◌≤◌}
+use Rattle.ar_value.specs.Terms.{Text}
 use Rattle.ar_value.specs.Shape.{Shape}
 use Rattle.ar_value.specs.View.{shape_view}
 use Rattle.ar_value.specs.Limits.{most_code_entries}
 use Rattle.ar_tree.specs.Typed.{Typed}
 use Rattle.ar_compile.specs.Compiled.{compiled}
 use Rattle.ar_compile.specs.Length.{length_of}
-use Rattle.ar_safety.specs.Verdict.{IsVerified, Verified}
+use Rattle.ar_safety.specs.Verdict.{IsVerified}
+use Rattle.ar_judge.specs.Headline.{Condition}
 use Rattle.ar_judge.specs.Text.{HasTree}
 
--- a condition that can be run: its text, and its verified code
-pub record Condition : Type 0 where
-  pub text : List ℕ
-  pub verified : Verified
-
-abbrev pub condition_with : List ℕ → Verified → Condition
-condition_with text verified = record { text = text; verified = verified }
-
 -- this is the condition of a text where `result` has a shape: the verifier accepts the code of its typed tree
-pub record IsBuilt (shape : Shape) (text : List ℕ) (condition : Condition) : Type 0 where
+pub record IsBuilt (shape : Shape) (text : Text) (condition : Condition) : Type 0 where
   pub text_is : condition.text ≡ text
   pub shape_is : shape_view condition.verified.shape ≡ shape
   pub tree : Typed

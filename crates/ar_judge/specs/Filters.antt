@@ -1,5 +1,6 @@
 -- Which conditions have a `filter`: a call that gathers items.
-use Rattle.std.specs.Prelude.{◌≡◌, Bool, false, ◌||◌, List, ℕ, Ok}
+use Rattle.std.specs.Prelude.{◌≡◌, Bool, false, ◌||◌, Ok}
+use Rattle.ar_value.specs.Terms.{Text}
 use Rattle.ar_value.specs.Shape.{Shape}
 use Rattle.ar_value.specs.Value.{Value}
 use Rattle.ar_value.specs.Predicates.{gathers}
@@ -7,8 +8,8 @@ use Rattle.ar_machine.specs.Memory.{keeps_items}
 use Rattle.ar_tree.specs.Typed.{Typed, Typeds}
 use Rattle.ar_tree.specs.Typed as typed
 use Rattle.ar_machine.specs.Filter.{BeginsNoFilter}
-use Rattle.ar_judge.specs.Built.{Condition}
-use Rattle.ar_judge.specs.Condition.{text_typed}
+use Rattle.ar_judge.specs.Headline.{Condition}
+use Rattle.ar_judge.specs.Condition.{typed_text}
 
 abbrev mutual
   pub has_filter : Typed → Bool
@@ -22,12 +23,14 @@ abbrev mutual
   has_filter (typed.either left right) = has_filter left || has_filter right
   has_filter (typed.choice condition met unmet) = has_filter condition || (has_filter met || has_filter unmet)
   has_filter (typed.listed scalar items) = have_filter items
-  has_filter (typed.predicate predicate list body) = keeps_items (gathers predicate) || (has_filter list || has_filter body)
+  has_filter (typed.predicate predicate list body) =
+      keeps_items (gathers predicate) || (has_filter list || has_filter body)
 
   pub have_filter : Typeds → Bool
   have_filter typed.none = false
   have_filter (typed.more first others) = has_filter first || have_filter others
 
 -- where a text's typed tree has no `filter`, no run of its condition's code begins one
-abbrev pub FiltersAsWritten : Shape → (text : List ℕ) → Condition → Type 0
-FiltersAsWritten shape text condition = (tree : Typed) → text_typed shape text ≡ Ok tree → has_filter tree ≡ false → (value : Value) → BeginsNoFilter condition.verified.code value
+abbrev pub FiltersAsWritten : Shape → (text : Text) → Condition → Type 0
+FiltersAsWritten shape text condition = (tree : Typed) → typed_text shape text ≡ Ok tree → has_filter tree ≡ false
+    → (value : Value) → BeginsNoFilter condition.verified.code value

@@ -1,10 +1,10 @@
 pub mod Private
 pub mod Text
+pub mod Headline
 pub mod Built
 pub mod Condition
 pub mod Building
 pub mod Verdict
-pub mod Judging
-pub mod Headline
 pub mod JudgeHeadline
+pub mod Judging
 pub mod Filters

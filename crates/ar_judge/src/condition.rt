@@ -26,7 +26,7 @@ use std::marker::Model;
 use std::mem;
 
 /// A condition's text with its verified code. Contracts see it as the `Condition` of
-/// `specs/Built`.
+/// `specs/Headline`.
 #[derive(Drop)]
 pub struct Condition {
     text: Text,
@@ -36,7 +36,7 @@ pub struct Condition {
 impl Model for Condition {
     ghost use Rattle.std.specs.Coded.{codes};
     ghost use Rattle.ar_value.specs.contracts.shape.Shape as shape_row;
-    ghost use Rattle.ar_judge.specs.Built.{Condition as Parts, condition_with};
+    ghost use Rattle.ar_judge.specs.Headline.{Condition as Parts, condition_with};
     ghost use Rattle.ar_judge.specs.Private.Readiness.{IsReady};
 
     ghost Value = { Parts };
@@ -56,7 +56,7 @@ impl Condition {
     /// The first fault of its grammar, of its kinds, or of its code.
     pub fn build(alloc: Global, text: &str, shape: SharedShape) -> Result<Condition, BuildCause>
         ensures built { BuildsTo (shape_view shape) text.now result }
-        // On each value of the shape its code ends within its budget, is never stuck, and answers what the
+        // On each value of the shape its code ends within its budget, is never stuck, and returns what the
         // text means.
         ensures headline { IfOk result (HeadlineHolds (shape_view shape) text.now) }
     {
@@ -77,8 +77,13 @@ impl Condition {
         self.text.as_str()
     }
 
+    /// Its verified code.
+    #[tactic(auto, using(crate::proofs::Ready::ready_holds))]
     pub fn verified(&self) -> &Verified
-        ensures { result.now ≡ self.now.verified }
+        ensures verified { result.now ≡ self.now.verified }
+        // On each value of the shape its code ends within its budget, is never stuck, and answers what the
+        // text means.
+        ensures headline { HeadlineHolds (shape_view self.now.verified.shape) self.now.text self.now }
     {
         &self.verified
     }

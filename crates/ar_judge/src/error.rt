@@ -7,7 +7,7 @@ use ar_syntax::SyntaxError;
 use std::alloc::AllocError;
 use thiserror::Error;
 
-/// Why a text is no condition that can be run, in the order in which it is looked at. It is told
+/// Why a text is no condition that can be run, in the order of the checks. It is reported
 /// after the name of the condition.
 #[derive(Clone, Copy, Debug, Error)]
 pub enum BuildCause {

@@ -1,11 +1,12 @@
 //! The conditions of a metric.
 
-ghost use Rattle.std.specs.Prelude.{◌≡◌, IfOk, IfSome, IsOk, None, Some, option_and_then, option_map};
+ghost use Rattle.std.specs.Prelude.{◌≡◌, IfOk, IfSome, IsOk, None, Some, option_map};
 ghost use Rattle.ar_value.specs.View.{shape_view, value_view};
 ghost use Rattle.ar_judge.specs.JudgeHeadline.{BuildsJudge};
-ghost use Rattle.ar_judge.specs.Judging.{FitsEach, BeginsNoFilterIfThere, Suits, TakesNoMemory, own_condition};
-ghost use Rattle.ar_judge.specs.Verdict.{AreBuilt, said_of, sample_view, verdict, verdict_by};
+ghost use Rattle.ar_judge.specs.Judging.{FitsEach, BeginsNoFilterIfThere, Suits, TakesNoMemory, condition_as};
+ghost use Rattle.ar_judge.specs.Verdict.{AreBuilt, said_of, said_where, sample_view, verdict, verdict_by};
 ghost use Rattle.ar_judge.specs.Private.Building.{BuildsEach, failure_refused, success_refused};
+ghost use Rattle.ar_judge.specs.Private.Readiness.{said_view};
 
 use crate::condition::Condition;
 use crate::error::{BuildCause, BuildError};
@@ -95,7 +96,7 @@ impl Judge {
 
     /// One of its conditions, where it is there.
     pub fn condition(&self, which: Which) -> Option<&SharedCondition>
-        ensures { option_map (λ condition. condition.now) result ≡ own_condition which self.now }
+        ensures { option_map (λ condition. condition.now) result ≡ condition_as which self.now }
     {
         match which {
             Which::Success => self.success.as_ref(),
@@ -128,7 +129,7 @@ impl Judge {
     pub fn judge(&self, alloc: Global, sample: &Sample) -> Result<Verdict, AllocError>
         requires { Suits self.now (sample_view sample.now) }
         ensures exact { IfOk result (λ found. found ≡ verdict self.now (sample_view sample.now)) }
-        // Where no run of a condition begins a loop of a `filter` over items, out of memory is never answered.
+        // Where no run of a condition begins a loop of a `filter` over items, out of memory is never returned.
         ensures without_memory { TakesNoMemory self.now (sample_view sample.now) → IsOk result }
     {
         match sample {
@@ -216,7 +217,7 @@ fn said(
     value: &Value,
 ) -> Result<Option<Answer>, AllocError>
     requires { FitsEach (value_view value.now) condition.now }
-    ensures said { IfOk result (λ said. said ≡ option_and_then (said_of (value_view value.now)) condition.now) }
+    ensures said { IfOk result (λ said. said_view said ≡ said_where (said_of (value_view value.now)) condition.now) }
     ensures without_memory { BeginsNoFilterIfThere (value_view value.now) condition.now → IsOk result }
 {
     match condition {
@@ -227,7 +228,7 @@ fn said(
 
 /// The verdict by what the two conditions say, where they are there.
 fn verdict_by(success: Option<Answer>, failure: Option<Answer>) -> Verdict
-    ensures { result ≡ verdict_by success failure }
+    ensures { result ≡ verdict_by (said_view success) (said_view failure) }
 {
     match (success, failure) {
         (Some(Err(fault)), _) => Verdict::Error(Cause::Success(fault)),

@@ -1,27 +1,37 @@
 //! The first half of the headline, that the parser says what the grammar says, and which conditions are
-//! judged whatever memory is left. A law is the contract of a function that does nothing.
+//! judged whatever memory is left. A law is the contract of a function that changes nothing.
 
 ghost use Rattle.std.specs.Prelude.{◌≡◌, ◌↔◌, ℕ, Bool, List, Option, Result, Some};
 ghost use Rattle.ar_value.specs.Shape.{Shape};
 ghost use Rattle.ar_value.specs.Value.{Value};
+ghost use Rattle.ar_value.specs.View.{shape_view};
 ghost use Rattle.ar_value.specs.declared.fault.Fault.{Fault};
-ghost use Rattle.ar_judge.specs.Built.{Condition, IsBuilt};
+ghost use Rattle.ar_judge.specs.Built.{IsBuilt};
 ghost use Rattle.ar_judge.specs.Condition.{said};
 ghost use Rattle.ar_judge.specs.Filters.{FiltersAsWritten};
-ghost use Rattle.ar_judge.specs.Headline.{HeadlineHolds};
+ghost use Rattle.ar_judge.specs.Headline.{Condition, HeadlineHolds};
 ghost use Rattle.ar_judge.specs.JudgeHeadline.{JudgeHeadlineHolds};
 ghost use Rattle.ar_judge.specs.Text.{TextSays};
 ghost use Rattle.ar_judge.specs.Verdict.{IsJudge, Judge};
 
+use crate::condition::Condition;
+
 /// A condition that the verifier accepts, run on any measurement of its declared shape, ends within
 /// its budget, never meets a missing or ill-kinded operand or a jump outside its code, and gives the
-/// verdict or named fault of its expression's definition.
-pub fn headline()
+/// verdict or named fault of its expression's definition. Only `Condition::build` makes conditions.
+pub fn headline(condition: &Condition)
+    ensures { HeadlineHolds (shape_view condition.now.verified.shape) condition.now.text condition.now }
+{
+    let _verified = condition.verified();
+}
+
+/// The same of all that a text may be built to.
+pub fn built_headline()
     ensures { (shape : Shape) (text : List ℕ) (condition : Condition)
         → IsBuilt shape text condition → HeadlineHolds shape text condition }
 {}
 
-/// The verdict of a metric's measured value is by what its conditions' code answers.
+/// The verdict of a metric's measured value is by what its conditions' code returns.
 pub fn judge_headline()
     ensures { (shape : Shape) (success failure : Option (List ℕ)) (judge : Judge)
         → IsJudge shape success failure judge → JudgeHeadlineHolds shape success failure judge }

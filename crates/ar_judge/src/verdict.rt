@@ -3,7 +3,7 @@
 use ar_json::value_reading::ShapeFault;
 use ar_value::fault::Fault;
 
-/// What a measurement comes to.
+/// The result of a measurement.
 #[derive(Clone, Copy)]
 pub enum Verdict {
     Successful,

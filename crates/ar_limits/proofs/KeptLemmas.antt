@@ -1,4 +1,4 @@
--- The code's steps on the metrics that it keeps are the steps of where the run stands.
+-- The code's steps on the metrics that it keeps are the steps of the run's state.
 use Rattle.std.proofs.Common.{◌≡◌, ◌≢◌, ℕ, ◌+◌, ◌-◌, ◌<◌, ◌≤◌, Bool, true, false, cond, not, ◌&&◌, Some, None, List, [], ◌∷◌, map, length, refl, ap, ◌∙◌, sym, arith, get_or, inl, inr, ◌⊎◌}
 use Rattle.std.proofs.Math.ListN.{set}
 use Rattle.std.proofs.lemmas.List.{map-set, set-get_or, get_or-map, length-map, length-set, get_or-set_same, get_or-set_other}
@@ -250,7 +250,7 @@ left_count metrics p incomplete i metric m left marked = at_phase (is_complete (
   at_phase true more is = omega (arith, marked.consistent.incomplete_is)
   at_phase false more is = omega (arith, marked.consistent.incomplete_is)
 
--- the run goes on
+-- the run continues
 pub takes_mark_on : (metrics : List Metric) (p : Phase) (incomplete i : ℕ) (metric : Metric) (m : Mark) (left : ℕ)
     → IsMarked metrics p incomplete i metric m left
     → is_unsuccessful (for_run (with_mark_added metric m)) ≡ false → left ≢ 0

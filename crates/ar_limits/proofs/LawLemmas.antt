@@ -80,7 +80,7 @@ run_phase_stays limits events more complete = same_outcome limits events (events
 
 -- ---- Late events
 
--- a step that answers Late changes nothing
+-- a step that returns Late changes nothing
 late_step : (s : Standing) (e : Event) → answer s e ≡ effect.Late → next s e ≡ s
 unfolding next answer
 late_step s e h = at (comes_late s e) (closing_now s e) h where

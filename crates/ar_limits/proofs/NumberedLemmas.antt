@@ -39,13 +39,13 @@ pub numbered_same : {A B : Type 0} (f g : ℕ × A → B) (xs : List A)
     → map g (enumerate_from 0 xs) ≡ map f (enumerate_from 0 xs)
 numbered_same f g xs h = same_from f g 0 xs (λ i x e. rw (zero-add i) (h i x e))
 
--- where they differ at one item alone, the lists do so at its place alone
+-- where they differ at one item alone, the lists do so at its index alone
 pub numbered_set : {A B : Type 0} (f g : ℕ × A → B) (xs : List A) (i : ℕ) (x : A) → slice_get xs i ≡ Some x
     → ((j : ℕ) (y : A) → slice_get xs j ≡ Some y → j ≢ i → g (j, y) ≡ f (j, y))
     → map g (enumerate_from 0 xs) ≡ set (map f (enumerate_from 0 xs)) i (g (i, x))
 numbered_set f g xs i x e h = rw (set_from f g 0 xs i x e (λ j y at other. rw (zero-add j) (h j y at other)), zero-add i) refl
 
--- the item at a place
+-- the item at an index
 pub numbered_get : {A B : Type 0} (f : ℕ × A → B) (xs : List A) (i : ℕ) (x : A) → slice_get xs i ≡ Some x
     → slice_get (map f (enumerate_from 0 xs)) i ≡ Some (f (i, x))
 numbered_get f xs i x e = rw (get_from f 0 xs i x e, zero-add i) refl
@@ -64,7 +64,7 @@ plain_from f g n (x ∷ xs) h =
     let rest = plain_from f g (n + 1) xs (λ i y e. let moved : n + 1 + i ≡ n + suc i = omega arith in rw moved (h (suc i) y e)) in
     rw (first, rest) refl
 
--- a function that does not look at the numbers
+-- a function that does not use the numbers
 pub numbered_plain : {A B : Type 0} (f : ℕ × A → B) (g : A → B) (xs : List A)
     → ((i : ℕ) (x : A) → slice_get xs i ≡ Some x → f (i, x) ≡ g x) → map f (enumerate_from 0 xs) ≡ map g xs
 numbered_plain f g xs h = plain_from f g 0 xs (λ i x e. rw (zero-add i) (h i x e))

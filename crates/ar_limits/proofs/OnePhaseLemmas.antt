@@ -1,4 +1,4 @@
--- A run has at most one phase, whichever reason to close is looked at first.
+-- A run has at most one phase, whichever reason to close is checked first.
 use Rattle.std.proofs.Common.{◌≡◌, ◌≢◌, ℕ, ◌+◌, ◌<◌, ◌≤◌, zero, suc, Bool, true, false, cond, ◌&&◌, ◌||◌, Option, Some, None, is_some, List, [], ◌∷◌, ◌++◌, map, find, length, take, refl, ap, ◌∙◌, sym, arith, inl, inr, IfSome, get_or, add-one, subst}
 use Rattle.std.specs.Prelude.{slice_get}
 use Rattle.std.specs.List.{list_any, list_all, enumerate_from}

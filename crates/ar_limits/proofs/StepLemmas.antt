@@ -23,7 +23,7 @@ use Rattle.ar_limits.proofs.MetricLemmas.{counts_of-push, decision-complete, dec
 use Rattle.ar_limits.proofs.NumberedLemmas.{numbered_same, numbered_set, numbered_get}
 use Rattle.ar_limits.proofs.RunLemmas.{marks_of-push_other, marks_of-push_mark, mark_of-own, mark_of-other, phases_by_marks-push_stop, phases_by_marks-push_mark, phases_by_marks-get, closing-push, closing_prefix-push, is_complete-run_phase, run_phase-push_closed, run_phase-push_open, run_phase-open, metric_phases-open, metric_phases-closed, timely-push_late, timely-push_applied}
 
--- where a run stands after these events, with any number of them
+-- the state of a run after these events, with any number of them
 abbrev pub standing_after : List Limits → List Event → ℕ → Standing
 standing_after limits events handed = record { limits = limits; phases = metric_phases limits events; counts = metric_counts limits events; phase = run_phase limits events; handed = handed }
 
@@ -41,7 +41,7 @@ pub phase_of_marks-push_complete : (l : Limits) (marks : List Mark) (m : Mark)
 unfolding phase_of_marks
 phase_of_marks-push_complete l marks m h = phase_by-push_complete (decision l) marks m (decision-complete l) h
 
--- an open one goes by all of its marks
+-- an open one is decided by all of its marks
 pub phase_of_marks-push_open : (l : Limits) (marks : List Mark) (m : Mark)
     → is_complete (phase_of_marks l marks) ≡ false
     → phase_of_marks l (marks ++ m ∷ []) ≡ phase_by_counts l (with_mark (counts_of marks) m)
@@ -168,7 +168,7 @@ agrees_late : (limits : List Limits) (events : List Event) (e : Event) (handed :
 unfolding next answer effect_of
 agrees_late limits events e handed comes late same = record { stands = rw comes same; answers = rw (comes, late) refl }
 
--- a closed run stands where it stood
+-- a closed run keeps its state
 pub stands_closed : (limits : List Limits) (events prefix : List Event) (e : Event) (handed : ℕ)
     → closing_prefix limits events ≡ Some prefix
     → standing_after limits events handed ≡ standing_after limits (events ++ e ∷ []) handed
@@ -190,7 +190,7 @@ agrees_closed limits events prefix e handed found =
     agrees_late limits events e handed (comes_late-closed limits events e handed (is_complete-run_phase limits events ∙ ap is_some found)) (is_late-closed limits events prefix e found)
     (stands_closed limits events prefix e handed found)
 
--- where the run stands after an event that isn't late, before it is closed
+-- the state of the run after an event that isn't late, before it is closed
 abbrev marked_after : List Limits → List Event → Event → ℕ → Standing
 marked_after limits events e handed = record {
   limits = limits;

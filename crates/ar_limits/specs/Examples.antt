@@ -37,10 +37,16 @@ outcome limits events = record {
 
 -- ---- Limits, marks and counts
 
--- the failures, inconclusive marks and errors in direct succession that are allowed, and the count
+-- the failures, inconclusive marks and consecutive errors that are allowed, and the count
 abbrev limits_of : ℕ → ℕ → ℕ → Option ℕ → Limits
 limits_of failure inconclusive consecutive_error count =
-    record { failure = failure; inconclusive = inconclusive; consecutive_error = consecutive_error; count = count; dry = false }
+    record {
+      failure = failure;
+      inconclusive = inconclusive;
+      consecutive_error = consecutive_error;
+      count = count;
+      dry = false;
+    }
 
 -- the same of a metric that decides nothing
 abbrev dry : Limits → Limits
@@ -59,7 +65,13 @@ error = event.Mark 0 mark.Error
 -- successful, failed and inconclusive marks, errors, and errors at the end
 abbrev counted : ℕ → ℕ → ℕ → ℕ → ℕ → Counts
 counted successful failed inconclusive error succession =
-    record { successful = successful; failed = failed; inconclusive = inconclusive; error = error; succession = succession }
+    record {
+      successful = successful;
+      failed = failed;
+      inconclusive = inconclusive;
+      error = error;
+      succession = succession;
+    }
 
 -- ---- The runs
 
@@ -95,7 +107,7 @@ past_the_limit_the_run_fails : outcome (limits_of 1 0 4 (Some 5) ∷ []) (failur
 unfolding outcome
 past_the_limit_the_run_fails = refl
 
--- four errors are allowed in direct succession
+-- four consecutive errors are allowed
 a_success_ends_a_succession_of_errors : outcome (limits_of 0 0 4 None ∷ [])
     (error ∷ error ∷ error ∷ error ∷ success ∷ error ∷ error ∷ error ∷ error ∷ [])
     ≡ record {
@@ -212,8 +224,9 @@ a_dry_failure_completes_the_last : outcome (dry (limits_of 0 0 4 (Some 1)) ∷ d
 unfolding outcome
 a_dry_failure_completes_the_last = refl
 
--- a failure beside a dry error closes, and the open dry metric becomes Successful
-another_failure_closes_beside_a_dry_error : outcome (dry (limits_of 0 0 0 None) ∷ limits_of 0 0 4 None ∷ dry (limits_of 0 0 4 None) ∷ [])
+-- a failure next to a dry error closes, and the open dry metric becomes Successful
+another_failure_closes_beside_a_dry_error : outcome
+    (dry (limits_of 0 0 0 None) ∷ limits_of 0 0 4 None ∷ dry (limits_of 0 0 4 None) ∷ [])
     (error ∷ event.Mark 1 mark.Failed ∷ [])
     ≡ record {
       effects = effect.Applied ∷ effect.Closed phase.Failed ∷ [];

@@ -105,7 +105,8 @@ DryMarksDecideNothing = (limits : List Limits) (events events' : List Event)
 
 -- a mark of a dry metric closes a run only as Successful, where it completes the last metric
 abbrev pub DryMarksCloseWithSuccess : Type 0
-DryMarksCloseWithSuccess = (limits : List Limits) (events : List Event) (number : ℕ) (own : Limits) (mark : Mark) (reached : Phase)
+DryMarksCloseWithSuccess =
+    (limits : List Limits) (events : List Event) (number : ℕ) (own : Limits) (mark : Mark) (reached : Phase)
     → HasPositiveCounts limits → slice_get limits number ≡ Some own → own.dry ≡ true
     → effect_of limits events (event.Mark number mark) ≡ effect.Closed reached
     → (reached ≡ phase.Successful) × AllLeaveToSucceed limits (events ++ event.Mark number mark ∷ [])

@@ -57,7 +57,7 @@ reaches None measured = false
 -- ---- The decision
 
 -- what marks with these counts decide, in this order: too many failures, too many inconclusive marks, too many
--- errors in direct succession, and last the effective count
+-- consecutive errors, and last the effective count
 abbrev pub decided_by : Limits → Counts → Option Phase
 decided_by limits counts =
     if nat_lt limits.failure counts.failed then Some phase.Failed

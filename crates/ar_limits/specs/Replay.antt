@@ -12,7 +12,7 @@ use Rattle.ar_limits.specs.Run.{run_phase, metric_phases, metric_counts, effect_
 abbrev pub most_events : ℕ
 most_events = 100000
 
--- where a run stands: what its `RunState` shows
+-- the state of a run: what its `RunState` shows
 pub record Standing : Type 0 where
   -- of each metric
   pub limits : List Limits
@@ -23,7 +23,7 @@ pub record Standing : Type 0 where
   -- the events so far, late ones included
   pub handed : ℕ
 
--- these events, in this order and under these limits, lead to where the run stands
+-- these events, in this order and under these limits, lead to the run's state
 pub record Replays (limits : List Limits) (events : List Event) (state : Standing) : Type 0 where
   pub limits_are : state.limits ≡ limits
   pub phases_are : state.phases ≡ metric_phases limits events
@@ -36,18 +36,18 @@ abbrev pub ForEachReplay : Standing → (List Limits → List Event → Type 0) 
 ForEachReplay state P =
     (limits : List Limits) (events : List Event) → Replays limits events state → P limits events
 
--- an event that is a mark is one of the first so many metrics
+-- an event that is a mark is one of the first n metrics
 abbrev pub IsOfMetricBelow : ℕ → Event → Type 0
 IsOfMetricBelow metrics (event.Mark number mark) = number < metrics
 IsOfMetricBelow metrics event.Stop = Unit {0}
 
--- a run took one event more and told this effect
+-- a run took one event more and reported this effect
 pub record TakesEvent (event : Event) (told : Effect) (before after : Standing) : Type 0 where
-  -- each list of events that led to where it stood leads, with this event at its end, to where it stands
+  -- each list of events that led to its old state leads, with this event at its end, to its new one
   pub replays : ForEachReplay before (λ limits events. Replays limits (events ++ event ∷ []) after)
   -- the effect is that of this event after each such list
   pub effect : ForEachReplay before (λ limits events. told ≡ effect_of limits events event)
   -- whichever events came before, the limits stay
   pub limits : after.limits ≡ before.limits
-  -- and the number of events goes up by one
+  -- and the number of events rises by one
   pub handed : after.handed ≡ before.handed + 1

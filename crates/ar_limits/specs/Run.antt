@@ -1,4 +1,4 @@
--- How a run of several metrics comes to its phase: a definition by the prefixes of its events.
+-- How a run of several metrics gets its phase: a definition by the prefixes of its events.
 --
 -- A run is an AnalysisRun of Argo Rollouts (documentation, page "Analysis & Progressive Delivery"): it ends with
 -- the first metric that isn't dry and completes without success, with the last one that completes, or when it is

@@ -23,7 +23,7 @@ pub enum Event {
 /// What an event did to its run.
 #[derive(Clone, Copy, Debug)]
 pub enum Effect {
-    /// It counts, and the run goes on.
+    /// It counts, and the run continues.
     Applied,
     /// It closed the run, with this phase.
     Closed(Phase),

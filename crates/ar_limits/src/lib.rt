@@ -5,9 +5,9 @@
 //! metric, and what each event did, just as the definition of that list of events says:
 //! `specs/Metric.antt` and `specs/Run.antt`, by prefixes of the list and counts over them.
 //! `Replays` of `specs/Replay.antt` ties a state to the lists that lead to it: `new` ensures it
-//! for the empty list, `apply` for the list with one event more, and each reader answers for any
+//! for the empty list, `apply` for the list with one event more, and each reader's result holds for any
 //! such list. Making a state may fail out of memory. After that nothing takes memory, and
-//! every call answers.
+//! every call returns.
 //!
 //! A dry metric is counted as any other, and decides nothing: `phase_for_run` of `specs/Run.antt` says what
 //! its phase counts as.

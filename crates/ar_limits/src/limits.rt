@@ -13,7 +13,7 @@ pub struct Limits {
     pub failure: u32,
     /// How many measurements may be inconclusive: one more, and the metric is Inconclusive.
     pub inconclusive: u32,
-    /// How many errors may come in direct succession: one more, and the metric is Error.
+    /// How many consecutive errors are allowed: one more, and the metric is Error.
     pub consecutive_error: u32,
     /// How many measurements that aren't errors complete the metric, 1 or more; `None` where it has
     /// no end.

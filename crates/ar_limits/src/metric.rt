@@ -31,7 +31,7 @@ impl Metric {
         }
     }
 
-    /// Counts one mark more, and goes by the new counts.
+    /// Counts one mark more, and decides by the new counts.
     pub(crate) fn add(&mut self, mark: Mark)
         requires { AreAtMost MOST_EVENTS self.old.counts }
         ensures { self.new ≡ with_mark_added self.old mark }

@@ -7,11 +7,11 @@ pub enum Phase {
     Pending,
     /// It isn't complete.
     Running,
-    /// Complete, and the release may go on.
+    /// Complete, and the release may continue.
     Successful,
     /// Complete, with more failed measurements than `Limits::failure`.
     Failed,
-    /// Complete, with more errors in direct succession than `Limits::consecutive_error`.
+    /// Complete, with more consecutive errors than `Limits::consecutive_error`.
     Error,
     /// Complete, with more inconclusive measurements than `Limits::inconclusive`.
     Inconclusive,

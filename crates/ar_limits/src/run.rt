@@ -16,7 +16,7 @@ use std::marker::Model;
 /// How many events one run takes at most, late ones included.
 pub const MOST_EVENTS: u64 = 100_000;
 
-/// Where a run stands after the events that it was handed.
+/// The state of a run after the events that it was handed.
 #[derive(Drop)]
 pub struct RunState {
     progress: Progress,
@@ -38,7 +38,7 @@ impl Model for RunState {
 
 impl RunState {
     /// A run of metrics with these limits, one for each, without events. Each `count` that is there
-    /// must be 1 or more, as `Limits::have_positive_counts` tells. Out of memory is the only fault.
+    /// must be 1 or more, as `Limits::have_positive_counts` reports. Out of memory is the only fault.
     pub fn new(alloc: Global, limits: &[Limits]) -> Result<Self, AllocError>
         requires { HasPositiveCounts limits.now }
         ensures { IfOk result (λ state. Replays limits.now [] state) }
@@ -49,9 +49,9 @@ impl RunState {
         })
     }
 
-    /// Takes one event more, of a metric that is there, and tells what it did. A run takes
-    /// `MOST_EVENTS` events at most. No memory is taken, and only the event that closes the run goes
-    /// over its metrics.
+    /// Takes one event more, of a metric that is there, and returns what it did. A run takes
+    /// `MOST_EVENTS` events at most. No memory is taken, and only the event that closes the run
+    /// iterates over its metrics.
     pub fn apply(&mut self, event: Event) -> Effect
         requires room { self.old.handed < most_events }
         requires metric { IsOfMetricBelow (length self.old.limits) event }

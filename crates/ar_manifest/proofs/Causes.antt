@@ -164,7 +164,7 @@ module _ (arguments : TemplateArguments) (own : RunArguments) where
         explained_next unbound refused i (bound_limit arguments own i metric.limits.consecutive_error) _ (limit_explained arguments own i unbound refused metric.limits.consecutive_error (text_there 5 _ refl) (limit_there 3 ConsecutiveError refl)) (λ error.
         explained_next unbound refused i (effective_count i metric.has_interval count) _ (count_explained arguments own i unbound refused metric.has_interval count) (λ effective. tt)))))))
 
-  -- a refusal of metrics, of which the first is metric n, is one of the metric at a place j
+  -- a refusal of metrics, of which the first is metric n, is one of the metric at an index j
   abbrev IsOfOne : ℕ → List Metric → ManifestError → Type 0
   IsOfOne n metrics refusal =
       (j : ℕ) × (i : ℕ) × (i ≡ n + j)

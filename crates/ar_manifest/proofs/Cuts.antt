@@ -1,4 +1,4 @@
--- Where a sign stands in a text.
+-- Where a sign is in a text.
 use Rattle.std.proofs.Common.{◌≡◌, ◌≢◌, ◌<◌, ◌≤◌, ◌+◌, ℕ, zero, suc, Bool, true, false, true≢false, List, [], ◌∷◌, ◌++◌, length, take, drop, refl, sym, ◌∙◌, ap, arith, Option, Some, None, Bor}
 use Rattle.std.specs.Prelude.{nat_eq, if◌then◌else◌, MatchOption, option_map, codes}
 use Rattle.std.specs.List.{starts_with}
@@ -9,7 +9,7 @@ use Rattle.std.proofs.lemmas.Slice.Eq.{starts_is}
 use Rattle.ar_manifest.specs.Binding.{argument_name}
 use Rattle.ar_manifest.specs.Cut.{CutsAtFirst, Lacks, cut_at}
 
--- a sign stands at the front of a text
+-- a sign is at the front of a text
 front_is : (sign text behind : List ℕ) → text ≡ sign ++ behind → starts_with nat_eq text sign ≡ true
 front_is sign text behind = (starts_is Decides-eqb text sign _ refl).1 behind
 
@@ -26,7 +26,7 @@ module _ (sign : List ℕ) (some : 0 < length sign) where
   not_empty : (behind : List ℕ) → [] ≢ sign ++ behind
   not_empty behind e = let longer = ap length e in absurd (omega (arith, longer, length-append sign behind))
 
-  -- the text is cut at the first place of the sign
+  -- the text is cut at the first occurrence of the sign
   pub cut_at_first : (text : List ℕ) (i : ℕ) (behind : List ℕ) → ((k : ℕ) → k < i → LacksTextAt sign text k) → drop i text ≡ sign ++ behind → cut_at sign text ≡ Some (take i text, behind)
   unfolding cut_at
   cut_at_first [] zero behind lacks at = absurd (not_empty behind at)
@@ -49,7 +49,7 @@ module _ (sign : List ℕ) (some : 0 < length sign) where
       rw (none, later) refl
 
 module _ (sign : List ℕ) where
-  -- a cut text is its parts round the sign, and no earlier place has the sign
+  -- a cut text is its parts round the sign, and no earlier offset has the sign
   cut_at_by_front : (byte : ℕ) (text : List ℕ) (test : Bool) (rest : Option (List ℕ × List ℕ)) (cut : List ℕ × List ℕ)
       → starts_with nat_eq (byte ∷ text) sign ≡ test
       → (if test then Some ([], drop (length sign) (byte ∷ text)) else option_map (λ later. (byte ∷ later.0, later.1)) rest) ≡ Some cut
@@ -107,7 +107,7 @@ module _ (sign : List ℕ) (some : 0 < length sign) where
   Lacks-cut_at [] none = empty_lacks
   Lacks-cut_at (byte ∷ text) none = lacks_by_front sign byte text (starts_with nat_eq (byte ∷ text) sign) (cut_at sign text) refl none (Lacks-cut_at text)
 
-  -- a text that has the sign at a place is its parts round it
+  -- a text that has the sign at an offset is its parts round it
   split_at : (text : List ℕ) (k : ℕ) (behind : List ℕ) → drop k text ≡ sign ++ behind → text ≡ take k text ++ (sign ++ behind)
   split_at text k behind at = sym (take-append-drop k text) ∙ ap (λ rest. take k text ++ rest) at
 
@@ -122,7 +122,7 @@ module _ (sign : List ℕ) (some : 0 < length sign) where
       (λ k below later at. let earlier = cuts.first (take k text) later (split_at text k later at) in omega (arith, earlier, length-take k text)) at
       ∙ ap (λ (found : List ℕ). Some (found, behind)) front
 
--- what `split_once` answers
+-- what `split_once` returns
 pub split_once_cuts : (sign text : List ℕ) (result : Option (Bor (List ℕ) × Bor (List ℕ))) → 0 < length sign
     → MatchOption result (FindsText sign text None) (λ cut. SplitsAroundMatch (FindsText sign) text cut.0.now cut.1.now)
     → option_map (λ (cut : Bor (List ℕ) × Bor (List ℕ)). (cut.0.now, cut.1.now)) result ≡ cut_at sign text
@@ -131,7 +131,7 @@ split_once_cuts sign text (Some cut) some found =
     let at = cut_at_first sign some text found.0 (drop found.1 text) found.2.0 found.2.1.split in
     rw (found.3, found.4) (sym at)
 
--- what `strip_prefix` answers
+-- what `strip_prefix` returns
 pub strip_prefix_names : (text : List ℕ) (result : Option (Bor (List ℕ)))
     → MatchOption result (FindsTextPrefix (codes "args.") text None) (λ name. StripsPrefix (FindsTextPrefix (codes "args.")) text name.now)
     → option_map (λ (name : Bor (List ℕ)). name.now) result ≡ argument_name text

@@ -1,4 +1,4 @@
--- Names of metrics, as they stand in a document.
+-- Names of metrics, as they are in a document.
 use Rattle.std.proofs.Common.{◌≡◌, Bool, List, [], ◌∷◌, map, refl}
 use Rattle.std.specs.List.{list_any}
 

@@ -51,7 +51,7 @@ module _ {V : Type 0} where
     pub value_there : (index : ℕ) (entry : List ℕ × V) → Option.Some index ≡ index_of name entries → entry ≡ get_or entries index entry → Option.Some entry.1 ≡ value_of name entries
     value_there index entry is there = ap (λ entry. Option.Some entry.1) there ∙ sym ((found_by (Some index) is).1 entry)
 
-    -- another value goes there
+    -- another value is put there
     pub value_changed : (index : ℕ) (value : V) (d : List ℕ × V) → Option.Some index ≡ index_of name entries → with_value entries name value ≡ set entries index ((get_or entries index d).0, value)
     value_changed index value d is = (found_by (Some index) is).2 value d
 
@@ -65,7 +65,7 @@ module _ {V : Type 0} where
       same (first ∷ rest) zero = refl
       same (first ∷ rest) (suc index) = ap (λ later. if bytes_eq name first.0 then Some 0 else option_map suc later) (same rest index)
 
-  -- a new name goes last
+  -- a new name is put last
   pub with_new_value : (arguments : List (List ℕ × V)) (name : List ℕ) (value : V) → value_of name arguments ≡ Option.None → with_value arguments name value ≡ arguments ++ (name, value) ∷ []
   with_new_value [] name value none = refl
   with_new_value (first ∷ rest) name value none = by_first (bytes_eq name first.0) refl (with_new_value rest name value)

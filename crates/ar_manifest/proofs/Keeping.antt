@@ -43,7 +43,7 @@ limit_of_within i text = by_test (nat_le (length text) 10) refl
     by_test true short = refl
     by_test false long = sym (long_limit i text long)
 
--- what is answered is what is defined
+-- what is returned is what is defined
 pub gives_same : {A : Type 0} (result answer : Result A ManifestError) → result ≡ answer → Gives is_memory (λ x. x) result answer
 gives_same (Ok x) answer same = sym same
 gives_same (Err refusal) answer same = refuses_same (is_memory refusal) refusal answer (sym same)

@@ -1,4 +1,4 @@
--- Which refusals are defined where: none is out of memory, and those of a document as a whole are found before its parts are looked at.
+-- Which refusals are defined where: none is out of memory; those of a whole document precede the check of its parts.
 use Rattle.std.proofs.Common.{◌≡◌, ◌≢◌, ℕ, zero, suc, Bool, true, false, List, [], ◌∷◌, ◌++◌, length, Option, Some, None, Result, Ok, Err, ap, cond}
 use Rattle.std.specs.Prelude.{◌↔◌, ◌&&◌, codes, option_and_then, is_none, nat_le, nat_lt, not}
 use Rattle.std.specs.List.{list_any}
@@ -14,7 +14,7 @@ use Rattle.ar_manifest.specs.Cut.{Parts, whole, unclosed, reference, parts_of}
 use Rattle.ar_json.specs.Members.{list_of, member, member_of_member, text_member, text_or, unless_empty}
 use Rattle.ar_manifest.specs.DryRun.{dry_name, dry_names, names_metric, with_dry_run}
 use Rattle.ar_manifest.specs.Private.Early.{first_counted}
-use Rattle.ar_manifest.specs.Template.{TemplateArguments, argument_of, arguments_of, counted, counted_metrics, has_text_or, head_of, is_kind, is_named, is_text, limit_or, metric_limits, metric_of, named_metric, new_name, template_name, template_of}
+use Rattle.ar_manifest.specs.Template.{TemplateArguments, argument_of, arguments_of, metrics_counted, counted_metrics, has_text_or, head_of, is_kind, is_named, is_text, limit_or, metric_limits, metric_of, named_metric, new_name, template_name, template_of}
 use Rattle.ar_manifest.specs.declared.error.ManifestError.{ManifestError}
 use Rattle.ar_manifest.specs.declared.error.ManifestError.TheVariants.{WrongVersion, WrongKind, NameMissing, BadArgs, NoMetrics, TooManyMetrics, MetricNameMissing, DoubleMetric, BadField, Unsupported, BadDryRun, UnknownDryRun, UnknownArg, NoValue, BadLimit, IntervalMissing, OutOfMemory}
 use Rattle.ar_manifest.specs.declared.template.Limit.{Limit}
@@ -136,7 +136,7 @@ dry_names_judge metrics (Some d) =
 dry_run_judges : (found : Option Data) (metrics : List Metric) → Judges (with_dry_run found metrics)
 dry_run_judges found metrics = judges_then (dry_names metrics found) _ (dry_names_judge metrics found) (λ names. tt)
 
--- what stands at `spec.args` and `spec.metrics`
+-- what is at `spec.args` and `spec.metrics`
 abbrev spec_arguments : Data → Option Data
 spec_arguments d = member_of_member (codes "spec") (codes "args") d
 
@@ -173,7 +173,7 @@ module _ (refusal : ManifestError) (other : IsOfPart refusal → ⊥) where
     by_head (Ok name) e = by_arguments name (arguments_of (spec_arguments d)) (arguments_judge (spec_arguments d)) e
     by_head (Err fault) e = let same : fault ≡ refusal = cc in ap (λ refused. Err refused) same
 
-    -- what no part is refused as is found before any is looked at
+    -- what no part is refused as is found before any is examined
     early : template_of d ≡ Err refusal → first_counted d ≡ Err refusal
     unfolding template_of
     early e = by_head (head_of d) e
@@ -187,7 +187,7 @@ IsOfCount refusal = ⊥
 counted_is : (found : Option Data) (refusal : ManifestError) → (IsOfCount refusal → ⊥) → counted_metrics found ≢ Err refusal
 counted_is found refusal other e = by_list (option_and_then list_of found) e
   where
-    by_list : (list : Option (List Data)) → (there_or NoMetrics list >>= counted) ≡ Err refusal → ⊥
+    by_list : (list : Option (List Data)) → (there_or NoMetrics list >>= metrics_counted) ≡ Err refusal → ⊥
     by_list None e = let same : refusal ≡ NoMetrics = cc in other (rw same tt)
     by_list (Some []) e = let same : refusal ≡ NoMetrics = cc in other (rw same tt)
     by_list (Some (d ∷ ds)) e = by_test (nat_lt most_metrics (length (d ∷ ds))) e

@@ -5,7 +5,7 @@ use Rattle.ar_value.proofs.Steps as steps
 use Rattle.ar_manifest.specs.Refusals.{is_memory}
 use Rattle.ar_manifest.specs.declared.error.ManifestError.{ManifestError}
 
--- the refusal that is defined may be answered
+-- the refusal that is defined may be returned
 pub refuses_same : {A : Type 0} (refusal : ManifestError) (answer : Result A ManifestError) → answer ≡ Err refusal → Unless (is_memory refusal) (answer ≡ Err refusal)
 refuses_same refusal = steps.refuses_same (is_memory refusal) refusal
 

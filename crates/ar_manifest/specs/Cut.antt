@@ -1,56 +1,59 @@
 -- Cutting a text at its braces: at the first `{{` and the next `}}` after it, and so on with the rest.
-use Rattle.std.specs.Prelude.{◌≡◌, ◌≢◌, ◌≤◌, ℕ, zero, suc, nat_eq, if◌then◌else◌, List, [], ◌∷◌, ◌++◌, length, drop, codes, Option, Some, None, option_map}
+use Rattle.std.specs.Prelude.{◌≡◌, ◌≢◌, ◌≤◌, ℕ, zero, suc, nat_eq, if◌then◌else◌, [], ◌∷◌, ◌++◌, length, drop, codes, Option, Some, None, option_map}
 use Rattle.std.specs.List.{starts_with}
+use Rattle.ar_value.specs.Terms.{Text}
 
 -- the parts of a text
 pub data Parts : Type 0 where
   -- a text without `{{`
-  whole : List ℕ → Parts
+  whole : Text → Parts
   -- what comes before a `{{` that no `}}` follows
-  unclosed : List ℕ → Parts
+  unclosed : Text → Parts
   -- what comes before `{{`, what between it and `}}`, and the parts of the rest
-  reference : List ℕ → List ℕ → Parts → Parts
+  reference : Text → Text → Parts → Parts
 
 -- ---- as a relation
 
--- a sign stands nowhere in a text
-abbrev pub Lacks : List ℕ → List ℕ → Type 0
-Lacks sign text = (before behind : List ℕ) → text ≢ before ++ (sign ++ behind)
+-- a sign is nowhere in a text
+abbrev pub Lacks : Text → Text → Type 0
+Lacks sign text = (before behind : Text) → text ≢ before ++ (sign ++ behind)
 
--- what comes before the first place of a sign in a text, and what after it
-pub record CutsAtFirst (sign text before behind : List ℕ) : Type 0 where
+-- what comes before the first occurrence of a sign in a text, and what after it
+pub record CutsAtFirst (sign text before behind : Text) : Type 0 where
   pub parts : text ≡ before ++ (sign ++ behind)
-  pub first : (earlier later : List ℕ) → text ≡ earlier ++ (sign ++ later) → length before ≤ length earlier
+  pub first : (earlier later : Text) → text ≡ earlier ++ (sign ++ later) → length before ≤ length earlier
 
 -- the parts are those of the text
-abbrev pub AreParts : List ℕ → Parts → Type 0
+abbrev pub AreParts : Text → Parts → Type 0
 AreParts text (whole all) = (all ≡ text) × Lacks (codes "{{") text
-AreParts text (unclosed before) = (behind : List ℕ) × CutsAtFirst (codes "{{") text before behind × Lacks (codes "}}") behind
+AreParts text (unclosed before) =
+    (behind : Text) × CutsAtFirst (codes "{{") text before behind × Lacks (codes "}}") behind
 AreParts text (reference before between parts) =
-    (behind : List ℕ) × (after : List ℕ) × CutsAtFirst (codes "{{") text before behind × CutsAtFirst (codes "}}") behind between after × AreParts after parts
+    (behind : Text) × (after : Text) × CutsAtFirst (codes "{{") text before behind
+    × CutsAtFirst (codes "}}") behind between after × AreParts after parts
 
 -- ---- computed
 
--- what comes before the first place of a sign, and what after it, if it stands anywhere
-unfoldable pub cut_at : List ℕ → List ℕ → Option (List ℕ × List ℕ)
+-- what comes before the first occurrence of a sign, and what after it, if there is one
+unfoldable pub cut_at : Text → Text → Option (Text × Text)
 cut_at sign [] = None
 cut_at sign (byte ∷ text) =
     if starts_with nat_eq (byte ∷ text) sign then Some ([], drop (length sign) (byte ∷ text))
     else option_map (λ cut. (byte ∷ cut.0, cut.1)) (cut_at sign text)
 
-abbrev pub closed_parts : (List ℕ → Parts) → List ℕ → Option (List ℕ × List ℕ) → Parts
+abbrev pub closed_parts : (Text → Parts) → Text → Option (Text × Text) → Parts
 closed_parts parts before None = unclosed before
 closed_parts parts before (Some cut) = reference before cut.0 (parts cut.1)
 
-abbrev pub opened_parts : (List ℕ → Parts) → List ℕ → Option (List ℕ × List ℕ) → Parts
+abbrev pub opened_parts : (Text → Parts) → Text → Option (Text × Text) → Parts
 opened_parts parts text None = whole text
 opened_parts parts text (Some cut) = closed_parts parts cut.0 (cut_at (codes "}}") cut.1)
 
 -- the parts of a text that is cut at most n times
-unfoldable pub parts_within : ℕ → List ℕ → Parts
+unfoldable pub parts_within : ℕ → Text → Parts
 parts_within zero text = whole text
 parts_within (suc cuts) text = opened_parts (parts_within cuts) text (cut_at (codes "{{") text)
 
 -- the parts of a text, which can't be cut more often than it has bytes
-unfoldable pub parts_of : List ℕ → Parts
+unfoldable pub parts_of : Text → Parts
 parts_of text = parts_within (length text) text

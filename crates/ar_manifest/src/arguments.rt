@@ -74,7 +74,7 @@ impl<V> Arguments<V> {
         self.len() == 0
     }
 
-    /// Gives the name a value, in the place of the one that it has, or else after all others.
+    /// Gives the name a value, in place of the one that it has, or else after all others.
     pub fn insert(&mut self, alloc: Global, name: &str, value: V) -> Result<(), AllocError>
     where
         V: Drop,

@@ -56,7 +56,7 @@ fn most_kept(shortens: bool) -> Option<usize>
     }
 }
 
-/// A bound text as a condition. An empty one counts as missing, and spaces take the place of one that had
+/// A bound text as a condition. An empty one counts as missing, and spaces replace one that had
 /// too many bytes.
 #[tactic(auto, unfolding(crate::specs::Private::Within::condition_within))]
 fn condition_within(alloc: Global, bound: Option<Text>) -> Result<Option<Text>, AllocError>

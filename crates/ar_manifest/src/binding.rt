@@ -1,4 +1,4 @@
-//! Binding the arguments of a text: each `{{args.name}}` gives way to the argument's value.
+//! Binding the arguments of a text: each `{{args.name}}` is replaced by the argument's value.
 
 ghost use Rattle.std.specs.Prelude.{◌≡◌, ◌<◌, ◌++◌, IfOk, false, is_ok, length, option_map};
 ghost use Rattle.ar_value.specs.Answer.{Gives};
@@ -25,7 +25,7 @@ pub(crate) struct Scope<'a> {
     pub(crate) shortens: bool,
 }
 
-/// What comes before the first place of a sign, and what after it.
+/// What comes before the first occurrence of a sign, and what after it.
 pub(crate) fn cut_at<'a>(text: &'a str, sign: &str) -> Option<(&'a str, &'a str)>
     requires { 0 < length sign.now }
     ensures { option_map (λ cut. (cut.0.now, cut.1.now)) result ≡ cut_at sign.now text.now }
@@ -45,7 +45,7 @@ fn without_trailing_spaces(text: &str) -> &str
     text.trim_end_matches(' ')
 }
 
-/// What stands in braces, without the spaces next to them.
+/// What is in braces, without the spaces next to them.
 pub(crate) fn trimmed(between: &str) -> &str
     ensures { result.now ≡ trimmed between.now }
 {
@@ -87,7 +87,7 @@ fn joined(kept: Option<Text>, piece: &str, most: Option<usize>) -> Result<Option
 }
 
 impl Scope<'_> {
-    /// The value of what stands in braces.
+    /// The value of what is in braces.
     #[tactic(auto, unfolding(crate::specs::Binding::referred_value))]
     fn value(&self, between: &str) -> Result<&str, ManifestError>
         ensures { Gives (λ _. false) (λ value. value.now) result

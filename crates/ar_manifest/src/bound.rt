@@ -15,7 +15,7 @@ pub struct BoundMetric {
     pub failure_limit: u32,
     /// How many measurements may be inconclusive.
     pub inconclusive_limit: u32,
-    /// How many errors may come in direct succession.
+    /// How many consecutive errors are allowed.
     pub consecutive_error_limit: u32,
     /// How many measurements complete the metric; `None` where it has no end.
     pub count: Option<u32>,

@@ -15,10 +15,10 @@ use ar_json::members::{list_of, text_member};
 use serde_json::Value as Json;
 use std::alloc::Global;
 
-/// The name that stands for all metrics.
+/// The name that means all metrics.
 const ALL: &str = ".*";
 
-/// Whether a name is the metric's, or stands for all.
+/// Whether a name is the metric's, or means all.
 fn names_metric(name: &str, metric: &Metric) -> bool
     ensures { result ≡ names_metric name.now metric.now }
 {

@@ -37,9 +37,9 @@ pub enum ManifestError {
     BadDryRun(usize),
     /// The item of `spec.dryRun` names no metric.
     UnknownDryRun(usize),
-    /// In a text of the metric, `{{` stands without a `}}` after it.
+    /// In a text of the metric, `{{` has no `}}` after it.
     OpenBraces(usize),
-    /// In a text of the metric, what stands in braces names no argument of the template.
+    /// In a text of the metric, what is in braces names no argument of the template.
     UnknownArg(usize),
     /// A text of the metric names an argument that neither the run nor the template gives a value.
     NoValue(usize),

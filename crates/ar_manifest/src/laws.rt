@@ -33,7 +33,7 @@ pub fn one_reference_gives_way()
         → bound_text arguments own i text ≡ Ok (before ++ (value ++ after)) }
 {}
 
-/// A run's own value of an argument goes before the template's.
+/// A run's own value of an argument takes precedence over the template's.
 pub fn own_value_goes_first()
     ensures { (arguments : TemplateArguments) (own : RunArguments) (i : ℕ) (between name value : List ℕ)
         → argument_name (trimmed between) ≡ Some name → value_of name arguments ≢ None → value_of name own ≡ Some value

@@ -1,15 +1,15 @@
 //! AnalysisTemplates and ClusterAnalysisTemplates of Argo Rollouts, as `kubectl get analysistemplate
 //! NAME -o json` prints them: read from JSON, and their arguments bound.
 //!
-//! [`Template::read`] takes each template as it stands, with all fields that say nothing of how
+//! [`Template::read`] takes each template as it is, with all fields that say nothing of how
 //! measurements are judged, and names the first fault of one that it refuses. [`Template::bind`]
 //! puts a run's arguments in, and gives each metric's conditions, limits, effective count, and whether it is dry.
 //! [`Template::bind_shortened`] does so without making a condition whole that is too long.
-//! Where binding is refused, [`Template::unbound_reference`] and [`Template::refused_limit`] tell for what.
+//! Where binding is refused, [`Template::unbound_reference`] and [`Template::refused_limit`] say for what.
 //!
 //! What is proved: a document is read as the template that `specs/Template` defines, and bound as
-//! `specs/Bound` defines, or it is refused by the one name that stands first in the stated order.
-//! Only a refused allocation can keep a call from its answer, and no fault that is found before memory is
+//! `specs/Bound` defines, or it is refused by the one name that comes first in the stated order.
+//! Only a refused allocation can keep a call from its result, and no fault that is found before memory is
 //! taken is reported as out of memory. The names and the meaning of fields are
 //! those of Argo Rollouts' documentation, page "Analysis & Progressive Delivery", and of the
 //! AnalysisTemplate spec.

@@ -323,7 +323,7 @@ fn lists_nothing(found: Option<&Json>) -> bool
     }
 }
 
-/// The name of a template, looked at after its version and kind.
+/// The name of a template, checked after its version and kind.
 fn head(json: &Json) -> Result<&str, ManifestError>
     ensures { Gives (λ _. false) (λ name. name.now) result (head_of (view json.now)) }
 {

@@ -20,7 +20,7 @@ use serde_json::Value as Json;
 use std::alloc::{AllocError, Global};
 use std::marker::Model;
 
-/// A limit as a template has it, in which arguments may stand.
+/// A limit as a template has it, which may contain arguments.
 #[derive(Drop)]
 pub enum Limit {
     /// A whole JSON number without a sign.
@@ -112,7 +112,7 @@ impl Template {
     /// and `TooManyMetrics`; then, metric by metric, of `MetricNameMissing`, `DoubleMetric`,
     /// `BadField` and `Unsupported`; then, item by item of `spec.dryRun`, of `BadDryRun` and
     /// `UnknownDryRun`.
-    /// `OutOfMemory` where a growth was refused: never in place of the first three, nor of
+    /// `OutOfMemory` where a growth was refused: never instead of the first three, nor of
     /// `NoMetrics` and `TooManyMetrics` where there are no arguments.
     pub fn read(alloc: Global, json: &Json) -> Result<Template, ManifestError>
         ensures { ReadsTo (view json.now) result }
@@ -121,8 +121,8 @@ impl Template {
     }
 
     /// The template with its arguments bound: in both conditions and the four limits of each
-    /// metric, `{{args.name}}` gives way to the argument's value. Spaces next to the braces are
-    /// dropped, and a value isn't searched again. A run's own argument goes before the template's;
+    /// metric, `{{args.name}}` is replaced by the argument's value. Spaces next to the braces are
+    /// dropped, and a value isn't searched again. A run's own argument takes precedence over the template's;
     /// one that `spec.args` doesn't name is ignored.
     ///
     /// A limit is a whole JSON number, or a text of one to ten digits, from 0 to 1,000,000,000.
@@ -134,7 +134,7 @@ impl Template {
     /// Metric by metric, over success condition, failure condition, `count`, `failureLimit`,
     /// `inconclusiveLimit` and `consecutiveErrorLimit`, the first in each from left to right:
     /// `OpenBraces`, `UnknownArg` or `NoValue`, and for a limit then `BadLimit`; last
-    /// `IntervalMissing`. `OutOfMemory` where a growth was refused: never in place of a refusal of
+    /// `IntervalMissing`. `OutOfMemory` where a growth was refused: never instead of a refusal of
     /// the first metric, as `BadLimit` of a number, that no text is bound before.
     pub fn bind(&self, alloc: Global, args: &Args) -> Result<Bound, ManifestError>
         ensures exact { Gives is_memory (λ bound. bound) result (bound_of self.now args.now) }
@@ -158,7 +158,7 @@ impl Template {
     }
 
     /// The first reference in the texts of a metric that has no value, without its braces: neither the
-    /// run's arguments nor the template's give one. The texts are gone through in the order of `bind`,
+    /// run's arguments nor the template's give one. The texts are searched in the order of `bind`,
     /// each from left to right. Where `bind` refuses the metric by `UnknownArg` or `NoValue`, this
     /// is what it refuses. It takes no memory.
     pub fn unbound_reference(&self, args: &Args, metric: usize) -> Option<&str>

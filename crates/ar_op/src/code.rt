@@ -8,7 +8,7 @@ use std::fmt;
 use std::marker::Model;
 
 /// Operations, and the texts and names that they speak of by number: at most 4,096 of each, of at
-/// most 4,096 bytes, and each number lies inside its table. Contracts see it as the `Code` of
+/// most 4,096 bytes, and each number is inside its table. Contracts see it as the `Code` of
 /// `specs/Code`.
 #[derive(Drop)]
 pub struct Code {
@@ -41,7 +41,7 @@ impl Code {
 
     pub fn ops(&self) -> &[Op]
         ensures ops { result.now ≡ self.now.ops }
-        // Code keeps its limits, and each number lies inside its table.
+        // Code keeps its limits, and each number is inside its table.
         ensures code { IsCode self.now }
     {
         &self.ops

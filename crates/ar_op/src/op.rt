@@ -21,20 +21,20 @@ pub enum Source {
     Item,
 }
 
-/// When a jump goes to its place, and what it does with the boolean on top.
+/// When a jump is taken, and what it does with the boolean on top.
 #[derive(Clone, Copy)]
 pub enum Jump {
     /// Where `false` is on top, which stays; else on without it.
     And,
     /// Where `true` is on top, which stays; else on without it.
     Or,
-    /// Takes a boolean, and goes there where it is false.
+    /// Takes a boolean, and jumps where it is false.
     Branch,
     Always,
 }
 
 /// An operation. It takes its operands from the top of the stack, the right one being the last that
-/// was pushed, and gives one operand, unless it says something else. A place is the number of an
+/// was pushed, and gives one operand, unless it says something else. An index is the number of an
 /// operation in its code, from 0.
 #[derive(Clone, Copy)]
 pub enum Op {
@@ -45,12 +45,12 @@ pub enum Op {
     Field(u32),
     Unary(UnaryOperator),
     Binary(BinaryOperator),
-    /// Goes to a place, or on.
+    /// Jumps to an index, or continues.
     Jump(Jump, u32),
     /// Takes a list and begins a loop at its first item. Where there is none it gives the answer and
-    /// goes past the loop's step, whose place it names.
+    /// continues after the loop's step, whose index it names.
     Enter(Predicate, u32),
-    /// Takes a boolean, and goes on with the next item after the loop's begin, whose place it
+    /// Takes a boolean, and continues with the next item after the loop's begin, whose index it
     /// names, or ends the loop and gives the answer.
     Step(Predicate, u32),
     /// Takes a boolean, which is the answer.
@@ -58,7 +58,7 @@ pub enum Op {
 }
 
 impl Op {
-    /// How many operands it takes or looks at.
+    /// How many operands it takes or examines.
     pub fn takes(self) -> usize
         ensures { result ≡ takes self }
     {

@@ -70,7 +70,7 @@ first_there number items = let all = first_number number number items in let own
 pub first_mark : (number : ℕ) (items : List Item) → times_queued number (End ∷ items) ≡ times_queued number items
 first_mark number items = let all = sum_by-cons (times_of number) End items in omega arith
 
--- numbers that are there are below one, where all that stand there are
+-- numbers that are there are below one, where all that are there are
 pub all_below : (upto : ℕ) (items : List Item) → ((number : ℕ) → 0 < times_queued number items → number < upto) → AllByRecursion (λ number. number < upto) (numbers_of_items items)
 all_below upto [] below = tt
 all_below upto (Number number ∷ items) below = (below number (first_there number items), all_below upto items (λ other there. below other (let all = first_number other number items in omega arith)))

@@ -14,7 +14,7 @@ use Rattle.ar_bundle.proofs.HistoryLemmas.{times_by}
 use Rattle.ar_queue.proofs.Items.{all_below, behind_mark, below_next, below_of, first_mark, first_number, first_there, last_mark, last_number, marks_first, marks_push, none_queued, not_below, numbers_mark, numbers_push, rise_push, times_by_test}
 use Rattle.ar_queue.proofs.Sums.{all_marked_by, all_out_by, all_put_by, all_taken_by, feeds_none, feeds_one, is_live, is_spent, swap, within}
 
--- ---- how often a number stands among those taken
+-- ---- how often a number is among those taken
 
 pub times_both : (number : ℕ) (first second : List ℕ) → times_in number (first ++ second) ≡ times_in number first + times_in number second
 times_both number [] second = omega arith
@@ -324,7 +324,7 @@ joins events at v other u feeds is_on no_feeder is_live_too items views is there
     let live = is.live in
     let most = is.marks in
     let few = is.put in
-    -- the feeder's pass stands beside the one that is joined, so one is out
+    -- the feeder's pass is next to the one that is joined, so one is out
     let kept = still_there changed at other w away spent (put_there views at v w there) in
     let own_live = within (λ view. view.live) last at w kept in
     let all_out = all_out_by views at v there is.feeder feeds is.alone in

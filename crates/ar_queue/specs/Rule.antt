@@ -1,6 +1,6 @@
--- The rule of the queue from which workers take the numbers of a bundle. One pass feeds it: it puts the numbers in their
--- order, then an end mark for each worker. It splits off a pass for each worker, and joins these again. What a pass has done
--- is its view.
+-- The rule of the queue from which workers take the numbers of a bundle. One pass feeds it: it puts the numbers in
+-- their order, then an end mark for each worker. It splits off a pass for each worker, and joins these again. What a
+-- pass has done is its view.
 use Rattle.std.specs.Prelude.{◌≡◌, ◌<◌, ◌≤◌, ◌+◌, ◌-◌, ◌==◌, ◌++◌, ℕ, suc, if◌then◌else◌, List, [], ◌∷◌}
 use Rattle.std.specs.List.{sum_by}
 use Rattle.ar_bundle.specs.Lawful.{Rise, times_in}
@@ -8,15 +8,16 @@ use Rattle.ar_queue.specs.declared.queue.Item.{Item}
 use Rattle.ar_queue.specs.declared.queue.Item.TheVariants.{Number, End}
 use Rattle.ar_queue.specs.declared.queue.View.{View}
 use Rattle.ar_queue.specs.Numbers.{once_below}
+use Rattle.ar_bundle.specs.Event.{EventNumber}
 
 -- ---- what the queue holds
 
--- how often a number stands in it
-abbrev pub times_of : (number : ℕ) → Item → ℕ
+-- how often a number is in it
+abbrev pub times_of : (number : EventNumber) → Item → ℕ
 times_of number (Number own) = if own == number then 1 else 0
 times_of number End = 0
 
-abbrev pub times_queued : (number : ℕ) → List Item → ℕ
+abbrev pub times_queued : (number : EventNumber) → List Item → ℕ
 times_queued number items = sum_by (times_of number) items
 
 abbrev pub marks_of_item : Item → ℕ
@@ -31,7 +32,7 @@ numbers_of_items [] = []
 numbers_of_items (Number number ∷ items) = number ∷ numbers_of_items items
 numbers_of_items (End ∷ items) = numbers_of_items items
 
--- end marks stand after all numbers
+-- end marks come after all numbers
 abbrev pub MarksLast : List Item → Type 0
 MarksLast [] = Unit {0}
 MarksLast (Number number ∷ items) = MarksLast items
@@ -45,7 +46,7 @@ total f views = sum_by f views
 abbrev pub fed_by_others : View → ℕ
 fed_by_others view = if view.feeds == 0 then view.put + (view.marks + view.out) else 0
 
-abbrev pub times_in_spent : (number : ℕ) → View → ℕ
+abbrev pub times_in_spent : (number : EventNumber) → View → ℕ
 times_in_spent number view = if view.live == 0 then times_in number view.taken else 0
 
 pub record IsQueue (events : ℕ) (items : List Item) (views : List View) : Type 0 where
@@ -54,9 +55,11 @@ pub record IsQueue (events : ℕ) (items : List Item) (views : List View) : Type
   pub alone : total fed_by_others views ≡ 0
   -- as many passes aren't spent as were split off and not joined, and the feeder; one that is spent has no number
   pub live : total (λ view. view.live) views ≡ total (λ view. view.out) views + 1
-  pub spent : (number : ℕ) → total (times_in_spent number) views ≡ 0
-  -- each number that was put stands just once in the queue or with a pass
-  pub once : (number : ℕ) → total (λ view. times_in number view.taken) views + times_queued number items ≡ once_below number (total (λ view. view.put) views)
+  pub spent : (number : EventNumber) → total (times_in_spent number) views ≡ 0
+  -- each number that was put is just once in the queue or with a pass
+  pub once : (number : EventNumber)
+      → total (λ view. times_in number view.taken) views + times_queued number items
+      ≡ once_below number (total (λ view. view.put) views)
   pub put : total (λ view. view.put) views ≤ events
   pub rising : Rise (numbers_of_items items)
   -- end marks come after the last number
@@ -64,7 +67,8 @@ pub record IsQueue (events : ℕ) (items : List Item) (views : List View) : Type
   pub marks : marks_queued items ≤ total (λ view. view.marks) views
   pub all_put : 0 < total (λ view. view.marks) views → total (λ view. view.put) views ≡ events
   -- a pass has met an end mark only where all numbers were put, and none is left
-  pub ended : 0 < total (λ view. view.ended) views → (total (λ view. view.put) views ≡ events) × (numbers_of_items items ≡ [])
+  pub ended : 0 < total (λ view. view.ended) views
+      → (total (λ view. view.put) views ≡ events) × (numbers_of_items items ≡ [])
 
 -- ---- the kinds of step; one that finds the queue empty or full changes nothing
 
@@ -78,8 +82,8 @@ CanPut events view (Number number) = (view.feeds ≡ 1) × (view.marks ≡ 0) ×
 CanPut events view End = (view.feeds ≡ 1) × (view.put ≡ events)
 
 abbrev pub after_put : View → Item → View
-after_put view (Number number) = record { feeds = view.feeds; live = view.live; put = suc view.put; marks = view.marks; out = view.out; ended = view.ended; taken = view.taken }
-after_put view End = record { feeds = view.feeds; live = view.live; put = view.put; marks = suc view.marks; out = view.out; ended = view.ended; taken = view.taken }
+after_put view (Number number) = record view { put = suc view.put }
+after_put view End = record view { marks = suc view.marks }
 
 -- a worker's pass that has met no end mark takes a number, or meets one
 pub record CanTake (view : View) : Type 0 where
@@ -88,8 +92,8 @@ pub record CanTake (view : View) : Type 0 where
   pub ended : view.ended ≡ 0
 
 abbrev pub after_take : View → Item → View
-after_take view (Number number) = record { feeds = view.feeds; live = view.live; put = view.put; marks = view.marks; out = view.out; ended = view.ended; taken = view.taken ++ number ∷ [] }
-after_take view End = record { feeds = view.feeds; live = view.live; put = view.put; marks = view.marks; out = view.out; ended = 1; taken = view.taken }
+after_take view (Number number) = record view { taken = view.taken ++ number ∷ [] }
+after_take view End = record view { ended = 1 }
 
 abbrev pub IsTaken : (events : ℕ) → Item → Type 0
 IsTaken events (Number number) = number < events
@@ -97,14 +101,15 @@ IsTaken events End = Unit {0}
 
 -- the feeder splits off a pass for a worker
 abbrev pub split_off : View → View
-split_off view = record { feeds = view.feeds; live = view.live; put = view.put; marks = view.marks; out = suc view.out; ended = view.ended; taken = view.taken }
+split_off view = record view { out = suc view.out }
 
 abbrev pub worker : View
 worker = record { feeds = 0; live = 1; put = 0; marks = 0; out = 0; ended = 0; taken = [] }
 
 -- the feeder joins a worker's pass, which is spent then
 abbrev pub after_join : View → View → View
-after_join view other = record { feeds = view.feeds; live = view.live; put = view.put; marks = view.marks; out = view.out - 1; ended = view.ended + other.ended; taken = view.taken ++ other.taken }
+after_join view other =
+    record view { out = view.out - 1; ended = view.ended + other.ended; taken = view.taken ++ other.taken }
 
 abbrev pub spent : View
 spent = record { feeds = 0; live = 0; put = 0; marks = 0; out = 0; ended = 0; taken = [] }

@@ -5,6 +5,7 @@ use Rattle.atomic_table.specs.Seated.{TableId}
 use Rattle.crossbeam_queue.specs.Passes.{view}
 use Rattle.ar_queue.specs.declared.queue.View.{View}
 use Rattle.ar_queue.specs.declared.side_by_side.Gathered.{Gathered}
+use Rattle.ar_bundle.specs.Event.{EventNumber}
 
 -- a worker's pass that has taken some numbers, before it has met an end mark and after that
 abbrev pub working : (taken : List ℕ) → View
@@ -14,7 +15,7 @@ abbrev pub at_end : (taken : List ℕ) → View
 at_end taken = record { feeds = 0; live = 1; put = 0; marks = 0; out = 0; ended = 1; taken = taken }
 
 -- one number more is named, once more
-abbrev pub IsNamed : (number : ℕ) → (before after : List ℕ) → Type 0
+abbrev pub IsNamed : (number : EventNumber) → (before after : List ℕ) → Type 0
 IsNamed number before after = (other : ℕ) → times_in other after ≡ times_in other before + times_in other (number ∷ [])
 
 -- just the numbers that were taken are named, each as often
@@ -28,24 +29,24 @@ all_named numbers (desk ∷ desks) = numbers desk ++ all_named numbers desks
 
 -- ---- the feeder
 
--- the feeder's pass that has put so many numbers and end marks, has split off so many passes, and has joined none
+-- the feeder's pass that has put `put` numbers and `marks` end marks, has split off `out` passes, and joined none
 abbrev pub feeding : (put marks out : ℕ) → View
 feeding put marks out = record { feeds = 1; live = 1; put = put; marks = marks; out = out; ended = 0; taken = [] }
 
--- the feeder's pass, with so many passes out and so many joined
+-- the feeder's pass, with `out` passes out and `joined` joined
 pub record IsFeeder (view : View) (out joined : ℕ) : Type 0 where
   pub feeds : view.feeds ≡ 1
   pub live : view.live ≡ 1
   pub has_out : view.out ≡ out
   pub has_joined : view.ended ≡ joined
 
--- what workers brought back: the feeder's pass, with no pass out and one joined for each worker, and a desk from each of them, at
--- which just the numbers that the pass took are named
+-- what workers brought back: the feeder's pass, with no pass out and one joined for each worker, and a desk from each
+-- of them, at which just the numbers that the pass took are named
 pub record AreGathered {Desk : Type 0} (numbers : Desk → List ℕ) (workers : ℕ) (gathered : Gathered Desk) : Type 0 where
   pub joined : IsFeeder (view gathered.pass) 0 workers
   pub named : AreNamed (view gathered.pass).taken (all_named numbers gathered.desks.items)
   pub desks : length gathered.desks.items ≡ workers
 
--- a caller that takes `Brand` says which queue it means; this stands where none does
+-- a caller that takes `Brand` says which queue it means; this applies where none does
 abbrev pub no_queue : TableId
 no_queue = record { words = 0; slots = 0; views_name = 0; atom = 0; block = 0; offset = 0; slot_names = [] }

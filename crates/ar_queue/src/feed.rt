@@ -10,7 +10,7 @@ use ar_bundle::BundleName;
 use crossbeam_queue::Pass;
 use std::sync::Wait;
 
-/// Puts the numbers of the bundle in their order, then an end mark for each of so many workers.
+/// Puts the numbers of the bundle in their order, then an end mark for each of n workers.
 pub(crate) fn feed<M: BundleName, R: Wait>(
     rt: &R,
     queue: &Queue<M>,
@@ -47,7 +47,7 @@ fn put_numbers<M: BundleName, R: Wait>(
     }
 }
 
-/// Puts so many end marks after all numbers.
+/// Puts n end marks after all numbers.
 #[tactic(auto, using(crate::proofs::Feeding::can_mark, crate::proofs::Feeding::next_mark))]
 fn put_marks<M: BundleName, R: Wait>(
     rt: &R,

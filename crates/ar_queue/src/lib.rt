@@ -11,7 +11,7 @@
 //! workers do by a [`Gate`].
 //!
 //! - [`queue`]: the queue, its rule, and the kinds of step; [`passes`]: what passes do; `waiting`: how the
-//!   feeder waits for a place
+//!   feeder waits for a free slot
 //! - `side_by_side`: starting, feeding and joining workers; `worker`: what one worker does; `feed`: numbers
 //!   and end marks; `desk`: what a worker does with a number; `gate`: gates
 #![tactic(auto)]

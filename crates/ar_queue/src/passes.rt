@@ -12,10 +12,10 @@ use std::alloc::{AllocError, Global};
 use std::sync::Wait;
 use std::thread;
 
-/// How many items a queue has places for.
+/// How many slots a queue has.
 pub const PLACES: usize = 64;
 
-/// A queue of [`PLACES`] places, with the pass that feeds it.
+/// A queue of [`PLACES`] slots, with the pass that feeds it.
 ///
 /// # Errors
 ///
@@ -28,7 +28,7 @@ pub fn open<M: BundleName>(alloc: Global) -> Result<(Queue<M>, Pass<Item, View>)
     Queue::<M>::ruled(alloc, PLACES)
 }
 
-/// Puts an item at the queue's end, once there is a place for it.
+/// Puts an item at the queue's end, once there is a free slot.
 pub fn put<M: BundleName, R: Wait>(
     rt: &R,
     queue: &Queue<M>,

@@ -8,7 +8,7 @@ use crossbeam_queue::protocol::{Join, Lesson, Outcome, Protocol, Split};
 use std::collections::LinkedList;
 use std::marker::PhantomData;
 
-/// What stands in the queue.
+/// What is in the queue.
 #[derive(Clone, Copy)]
 pub enum Item {
     /// A number of the bundle.

@@ -1,4 +1,4 @@
-//! How the feeder waits for a place.
+//! How the feeder waits for a free slot.
 
 use crossbeam_utils::Backoff;
 use std::sync::Wait;
@@ -12,13 +12,13 @@ const PATIENCE: u32 = 100;
 const SLEEP_NANOS: u32 = 50_000;
 
 /// The feeder's waiting for workers: it spins at first, then yields, then sleeps, so that it doesn't hold
-/// a processor that a worker wants. Workers that find the queue empty don't sleep: the next number comes
+/// a processor that a worker needs. Workers that find the queue empty don't sleep: the next number comes
 /// sooner than they would wake.
 #[derive(Drop)]
 pub(crate) struct Waiting {
     backoff: Backoff,
     turns: u32,
-    /// No thread changes it, so that waiting for a change of it is a sleep. `thread::sleep` wants a clock.
+    /// No thread changes it, so that waiting for a change of it is a sleep. `thread::sleep` requires a clock.
     unchanged: AtomicU64,
 }
 
@@ -31,7 +31,7 @@ impl Waiting {
         }
     }
 
-    /// One turn of it.
+    /// One round of it.
     pub(crate) fn turn<R: Wait>(&mut self, rt: &R) {
         if self.turns < PATIENCE {
             self.turns += 1;

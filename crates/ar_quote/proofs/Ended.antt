@@ -10,7 +10,7 @@ use lib.Utf8.{encodes}
 use Rattle.ar_quote.specs.Shown.{code_escape, escaped, moves, name_end, quoted}
 use Rattle.ar_quote.proofs.Still.{code_below}
 
--- the character that a letter after a backslash stands for
+-- the character that a letter after a backslash represents
 abbrev meant : (letter : ℕ) → ℕ
 meant letter = if letter == 34 then 34 else (if letter == 92 then 92 else (if letter == 110 then 10 else (if letter == 114 then 13 else 9)))
 

@@ -1,11 +1,11 @@
--- Bytes of tokens, one after another, and places in a text.
+-- Bytes of tokens, one after another, and offsets in a text.
 use Rattle.std.proofs.Common.{◌≡◌, ◌<◌, ◌≤◌, ℕ, suc, ◌+◌, Bool, true, false, List, ◌∷◌, length, drop, refl, sym, ◌∙◌, ap, add-one, drop-cons, arith}
 use Rattle.std.specs.Prelude.{slice_index_or, take, Some, None}
 use Rattle.std.specs.List.{prefix_len}
 use Rattle.std.specs.Str.{IsCharBoundary}
 use Rattle.std.proofs.lemmas.Bool.Decides.{nat_tests}
 use Rattle.std.proofs.Math.ListN.{drop_of_length-le}
-use Rattle.ar_quote.specs.Tokens.{cut, is_place, is_plain, literal_length}
+use Rattle.ar_quote.specs.Tokens.{halves_at, is_place, is_plain, literal_length}
 
 left_at : {A : Type 0} (xs : List A) (place : ℕ) (x : A) → place < length xs → x ≡ slice_index_or xs place x → drop place xs ≡ x ∷ drop (suc place) xs
 left_at xs place x within is = drop-cons xs place x within ∙ ap (λ first. first ∷ drop (suc place) xs) (sym is)
@@ -61,7 +61,7 @@ no_letter quote escaped bytes place total within past so_far =
     let none : literal_length quote escaped (drop place bytes) ≡ 0 = ap (literal_length quote escaped) (drop_of_length-le bytes past) in
     omega arith
 
--- ---- places
+-- ---- offsets
 
 is_boundary : (place : ℕ) (text : List ℕ) → is_place place text ≡ true → IsCharBoundary text place
 is_boundary place text is = grind (arith, nat_tests)
@@ -69,14 +69,14 @@ is_boundary place text is = grind (arith, nat_tests)
 no_boundary : (place : ℕ) (text : List ℕ) → is_place place text ≡ false → ¬ (IsCharBoundary text place)
 no_boundary place text is boundary = grind (arith, nat_tests)
 
-pub cuts : (place : ℕ) (text : List ℕ) → IsCharBoundary text place → cut place text ≡ Some (take place text, drop place text)
+pub cuts : (place : ℕ) (text : List ℕ) → IsCharBoundary text place → halves_at place text ≡ Some (take place text, drop place text)
 cuts place text boundary = by (is_place place text) refl where
-  by : (test : Bool) → is_place place text ≡ test → cut place text ≡ Some (take place text, drop place text)
+  by : (test : Bool) → is_place place text ≡ test → halves_at place text ≡ Some (take place text, drop place text)
   by true is = rw is refl
   by false is = absurd (no_boundary place text is boundary)
 
-pub cuts_not : (place : ℕ) (text : List ℕ) → ¬ (IsCharBoundary text place) → cut place text ≡ None
+pub cuts_not : (place : ℕ) (text : List ℕ) → ¬ (IsCharBoundary text place) → halves_at place text ≡ None
 cuts_not place text inside = by (is_place place text) refl where
-  by : (test : Bool) → is_place place text ≡ test → cut place text ≡ None
+  by : (test : Bool) → is_place place text ≡ test → halves_at place text ≡ None
   by true is = absurd (inside (is_boundary place text is))
   by false is = rw is refl

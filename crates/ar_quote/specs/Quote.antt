@@ -12,7 +12,9 @@ abbrev pub most_around : ℕ
 most_around = 40
 
 abbrev pub shown_before : (characters : List ℕ) → List ℕ
-shown_before characters = (if nat_lt most_around (length characters) then codes "..\"" else codes "\"") ++ flat_map escaped (drop (length characters - most_around) characters)
+shown_before characters =
+    (if nat_lt most_around (length characters) then codes "..\"" else codes "\"")
+    ++ flat_map escaped (drop (length characters - most_around) characters)
 
 abbrev pub shown_first : (characters : List ℕ) → List ℕ
 shown_first characters = flat_map escaped (take most_around characters)
@@ -25,4 +27,8 @@ quote_end characters = if nat_lt most_around (length characters) then codes "\".
 
 -- a condition as a JSON string, with marks round a token
 unfoldable pub quoted_round : TokenAt → List ℕ
-quoted_round found = shown_before (chars found.before) ++ (encode_utf8 0xAB ++ (shown_first (chars found.token) ++ (token_end (chars found.token) ++ (encode_utf8 0xBB ++ (shown_first (chars found.after) ++ quote_end (chars found.after))))))
+quoted_round found =
+    shown_before (chars found.before)
+    ++ (encode_utf8 0xAB ++ (shown_first (chars found.token)
+    ++ (token_end (chars found.token)
+    ++ (encode_utf8 0xBB ++ (shown_first (chars found.after) ++ quote_end (chars found.after))))))

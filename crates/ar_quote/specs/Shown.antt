@@ -1,4 +1,5 @@
--- How names of a document are shown, so that each stays in its line, ends where it seems to end, and leaves room for more.
+-- How names of a document are shown, so that each stays in its line, ends where it seems to end, and leaves room for
+-- more.
 use Rattle.std.specs.Prelude.{ℕ, ◌/◌, ◌%◌, ◌==◌, nat_lt, Bool, ◌||◌, if◌then◌else◌, List, [], ◌∷◌, ◌++◌, codes, flat_map, length, take}
 use Rattle.std.specs.Char.{digit_char, encode_utf8, is_control}
 use Rattle.std.specs.Int.{is_in_range}
@@ -8,7 +9,9 @@ use Rattle.std.specs.Str.{chars}
 
 -- separators of lines, marks of direction, and characters without width
 abbrev pub is_mark : (character : ℕ) → Bool
-is_mark character = character == 0x061C || (is_in_range 0x200B 0x200F character || (is_in_range 0x2028 0x202E character || (is_in_range 0x2060 0x2069 character || character == 0xFEFF)))
+is_mark character =
+    character == 0x061C || (is_in_range 0x200B 0x200F character
+    || (is_in_range 0x2028 0x202E character || (is_in_range 0x2060 0x2069 character || character == 0xFEFF)))
 
 -- a terminal may do something else at the character than show it after the one before
 abbrev pub moves : (character : ℕ) → Bool
@@ -39,7 +42,7 @@ escaped character =
 abbrev pub most_characters : ℕ
 most_characters = 64
 
--- the end of a name, which tells whether it goes on
+-- the end of a name, which shows whether it continues
 abbrev pub name_end : (characters : List ℕ) → List ℕ
 name_end characters = if nat_lt most_characters (length characters) then codes "\".." else codes "\""
 

@@ -1,5 +1,5 @@
--- The token at a byte of a condition (docs/LANGUAGE.md), as far as it is marked in a quote: a word, a number, a text literal, a
--- sign, a point with the name after it, or else one character. The end of the text has none.
+-- The token at a byte of a condition (docs/LANGUAGE.md), as far as it is marked in a quote: a word, a number, a text
+-- literal, a sign, a point with the name after it, or else one character. The end of the text has none.
 use Rattle.std.specs.Prelude.{ℕ, suc, Bool, false, not, ◌&&◌, ◌||◌, ◌==◌, nat_lt, if◌then◌else◌, List, [], ◌∷◌, drop, length, slice_index, take, Option, Some, None, option_and_then, option_map}
 use Rattle.std.specs.Char.{is_ascii_alphanumeric, is_ascii_digit}
 use Rattle.std.specs.Int.{is_in_range}
@@ -18,28 +18,30 @@ is_of_number byte = is_of_word byte || byte == 46
 abbrev pub is_inner : (byte : ℕ) → Bool
 is_inner byte = is_in_range 0x80 0xBF byte
 
-abbrev pub is_quote : (byte : ℕ) → Bool
-is_quote byte = byte == 34 || byte == 39
+abbrev pub is_quotation_mark : (byte : ℕ) → Bool
+is_quotation_mark byte = byte == 34 || byte == 39
 
 -- `==`, `!=`, `<=`, `>=`, `&&`, `||` and `/*`
 abbrev pub is_pair : (first : ℕ) → (rest : List ℕ) → Bool
 is_pair first [] = false
 is_pair first (second ∷ rest) =
-    second == 61 && is_in_range 60 62 first || second == 61 && first == 33 || second == first && (first == 38 || first == 124) || first == 47 && second == 42
+    second == 61 && is_in_range 60 62 first || second == 61 && first == 33
+    || second == first && (first == 38 || first == 124) || first == 47 && second == 42
 
 -- the byte is this sign, and no backslash escapes it
 abbrev pub is_plain : (escaped : Bool) → (byte sign : ℕ) → Bool
 is_plain escaped byte sign = not escaped && byte == sign
 
--- how many bytes of a text literal stand after its first quote, up to the next that no backslash escapes
+-- how many bytes of a text literal come after its first quote, up to the next that no backslash escapes
 unfoldable pub literal_length : (quote : ℕ) → (escaped : Bool) → List ℕ → ℕ
 literal_length quote escaped [] = 0
-literal_length quote escaped (byte ∷ bytes) = if is_plain escaped byte quote then 1 else suc (literal_length quote (is_plain escaped byte 92) bytes)
+literal_length quote escaped (byte ∷ bytes) =
+    if is_plain escaped byte quote then 1 else suc (literal_length quote (is_plain escaped byte 92) bytes)
 
--- how many bytes of the token stand after its first
+-- how many bytes of the token come after its first
 abbrev pub others : (first : ℕ) → (rest : List ℕ) → ℕ
 others first rest =
-    if is_quote first then literal_length first false rest
+    if is_quotation_mark first then literal_length first false rest
     else (if is_ascii_digit first then prefix_len is_of_number rest
     else (if is_of_word first || first == 46 then prefix_len is_of_word rest
     else (if is_pair first rest then 1
@@ -50,14 +52,14 @@ abbrev pub token_length : (text : List ℕ) → ℕ
 token_length [] = 0
 token_length (first ∷ rest) = suc (others first rest)
 
--- ---- places
+-- ---- offsets
 
--- no character lies on both sides of a place
+-- no character is on both sides of `place`
 abbrev pub is_place : (place : ℕ) → (text : List ℕ) → Bool
 is_place place text = place == length text || nat_lt place (length text) && not (is_inner (slice_index text place))
 
-abbrev pub cut : (place : ℕ) → (text : List ℕ) → Option (List ℕ × List ℕ)
-cut place text = if is_place place text then Some (take place text, drop place text) else None
+abbrev pub halves_at : (place : ℕ) → (text : List ℕ) → Option (List ℕ × List ℕ)
+halves_at place text = if is_place place text then Some (take place text, drop place text) else None
 
 -- the token at a byte of a text, with what comes before it and what after it
 pub record TokenAt : Type 0 where
@@ -69,4 +71,6 @@ abbrev pub found : (before token after : List ℕ) → TokenAt
 found before token after = record { before = before; token = token; after = after }
 
 unfoldable pub token_at : (place : ℕ) → (text : List ℕ) → Option TokenAt
-token_at place text = option_and_then (λ parts. option_map (λ rest. found parts.0 rest.0 rest.1) (cut (token_length parts.1) parts.1)) (cut place text)
+token_at place text =
+    option_and_then (λ parts. option_map (λ rest. found parts.0 rest.0 rest.1) (halves_at (token_length parts.1)
+    parts.1)) (halves_at place text)

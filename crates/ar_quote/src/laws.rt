@@ -10,7 +10,7 @@ pub fn names_stay_in_their_line()
     ensures { (name : List ℕ) → IsUtf8 name → All (λ character. moves character ≡ false) (chars (quoted name)) }
 {}
 
-/// A name that is shown whole ends where it seems to end: whatever stands after it, no other name and
+/// A name that is shown whole ends where it seems to end: whatever comes after it, no other name and
 /// nothing else is shown so.
 #[tactic(auto, using(crate::proofs::Ended::names_end))]
 pub fn names_end_where_they_seem_to()

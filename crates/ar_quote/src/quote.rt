@@ -48,7 +48,7 @@ fn push_last(out: &mut String, text: &str) -> Result<(), AllocError>
     }
 }
 
-/// What tells that a token goes on.
+/// What shows that a token continues.
 fn token_end(token: &str) -> &'static str
     ensures { result.now ≡ token_end (chars token.now) }
 {

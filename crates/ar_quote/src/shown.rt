@@ -79,7 +79,7 @@ pub(crate) fn character_count(name: &str) -> usize
     name.chars().count()
 }
 
-/// The end of a name, which tells whether it goes on.
+/// The end of a name, which shows whether it continues.
 fn name_end(name: &str) -> &'static str
     ensures { result.now ≡ name_end (chars name.now) }
 {

@@ -3,7 +3,7 @@
 ghost use Rattle.std.specs.Prelude.{◌≡◌, ◌≤◌, false, length, option_map};
 ghost use Rattle.std.specs.List.{prefix_len};
 ghost use Rattle.ar_quote.specs.Private.Runs.{goes_on};
-ghost use Rattle.ar_quote.specs.Tokens.{cut, found, is_inner, is_of_number, is_of_word, is_pair, is_plain, is_quote, literal_length, others, token_at, token_length};
+ghost use Rattle.ar_quote.specs.Tokens.{halves_at, found, is_inner, is_of_number, is_of_word, is_pair, is_plain, is_quotation_mark, literal_length, others, token_at, token_length};
 
 // ---- tokens
 
@@ -27,12 +27,12 @@ fn is_inner(byte: u8) -> bool
 }
 
 fn is_quote(byte: u8) -> bool
-    ensures { result ≡ is_quote byte }
+    ensures { result ≡ is_quotation_mark byte }
 {
     byte == b'"' || byte == b'\''
 }
 
-/// What bytes a token may go on with.
+/// What bytes a token may continue with.
 #[derive(Clone, Copy)]
 enum Run {
     Word,
@@ -51,7 +51,7 @@ fn goes_on(run: Run, byte: u8) -> bool
     }
 }
 
-/// How many of the first bytes a token may go on with.
+/// How many of the first bytes a token may continue with.
 #[tactic(auto, using(crate::proofs::TokenBytes::next_byte, crate::proofs::TokenBytes::other_byte, crate::proofs::TokenBytes::no_byte))]
 fn run_length(run: Run, bytes: &[u8]) -> usize
     ensures exact { result ≡ prefix_len (goes_on run) bytes.now }
@@ -72,7 +72,7 @@ fn is_plain(escaped: bool, byte: u8, sign: u8) -> bool
     !escaped && byte == sign
 }
 
-/// How many bytes of a text literal stand after its first quote.
+/// How many bytes of a text literal come after its first quote.
 #[tactic(auto, using(crate::proofs::TokenBytes::next_letter, crate::proofs::TokenBytes::last_letter, crate::proofs::TokenBytes::no_letter))]
 fn literal_length(quote: u8, bytes: &[u8]) -> usize
     ensures exact { result ≡ literal_length quote false bytes.now }
@@ -103,7 +103,7 @@ fn is_pair(first: u8, rest: &[u8]) -> bool
     }
 }
 
-/// How many bytes of a token stand after its first.
+/// How many bytes of a token come after its first.
 fn others(first: u8, rest: &[u8]) -> usize
     ensures exact { result ≡ others first rest.now }
     ensures bound { result ≤ length rest.now }
@@ -131,7 +131,7 @@ fn token_length(text: &str) -> usize
     }
 }
 
-// ---- places
+// ---- offsets
 
 /// A token of a condition, with what comes before it and what after it.
 #[derive(Clone, Copy)]
@@ -141,10 +141,10 @@ pub struct TokenAt<'t> {
     pub after: &'t str,
 }
 
-/// The text on both sides of a place.
+/// The text on both sides of an offset.
 #[tactic(auto, using(crate::proofs::TokenBytes::cuts, crate::proofs::TokenBytes::cuts_not))]
 fn cut(text: &str, place: usize) -> Option<(&str, &str)>
-    ensures { option_map (λ parts. (parts.0.now, parts.1.now)) result ≡ cut place text.now }
+    ensures { option_map (λ parts. (parts.0.now, parts.1.now)) result ≡ halves_at place text.now }
 {
     text.split_at_checked(place)
 }

@@ -20,7 +20,7 @@ use Rattle.ar_bundle.specs.declared.history.Entry.{Entry}
 use Rattle.ar_report.specs.Private.Entries.{AreFound, entry_lines}
 use Rattle.ar_report.specs.Report.{event_line, event_lines, finding_text, found_text, metric_line, metric_lines, run_line, run_text}
 
--- what is left of a list that has an element at a place
+-- what is left of a list that has an element at an index
 pub rest_at : {A : Type 0} (xs : List A) (place : ℕ) (x : A) → slice_get xs place ≡ Some x → drop place xs ≡ x ∷ drop (suc place) xs
 rest_at [] place x there = absurd cc
 rest_at (first ∷ rest) zero x there = let same : first ≡ x = cc in ap (λ x. x ∷ rest) same
@@ -88,7 +88,7 @@ lines_of bundle (entry ∷ entries) = ap (λ lines. event_line bundle entry.numb
 
 -- ---- a run
 
--- its lines are those of where it stands and of its entries
+-- its lines are those of its state and of its entries
 pub run_is : (bundle : Bundle) (run : RunPart) (entries : List Entry) (state : Standing) (before lined counted all : List ℕ) → Replays run.limits (events_of bundle (numbers_of entries)) state → map (λ (entry : Entry). entry.effect) entries ≡ effects run.limits (events_of bundle (numbers_of entries))
     → lined ≡ before ++ run_line run state.phase → counted ≡ lined ++ metric_lines bundle.metrics run.limits state.phases state.counts → all ≡ counted ++ entry_lines bundle entries → all ≡ before ++ run_text bundle run (numbers_of entries)
 run_is bundle run entries state before lined counted all replays are line metrics events =

@@ -4,7 +4,7 @@ use Rattle.std.specs.Prelude.{slice_index_or}
 use Rattle.std.proofs.lemmas.List.{append_assoc}
 use Rattle.std.proofs.lemmas.Option.{slice_get_read}
 use Rattle.ar_judge.specs.Verdict.{Judge}
-use Rattle.ar_safety.specs.Verdict.{Verified}
+use Rattle.ar_safety.specs.Bounds.{Verified}
 use Rattle.ar_bundle.specs.Sound.{IsRun, JudgesEach}
 use Rattle.ar_bundle.specs.declared.bundle.MetricPart.{MetricPart}
 use Rattle.ar_bundle.specs.declared.bundle.RunPart.{RunPart}

@@ -1,5 +1,6 @@
 -- Names of phases, verdicts and effects, as reports print them.
-use Rattle.std.specs.Prelude.{ℕ, List, codes, ◌++◌}
+use Rattle.std.specs.Prelude.{codes, ◌++◌, ◌≡◌, refl}
+use Rattle.ar_value.specs.Terms.{Text}
 use Rattle.ar_value.specs.Fault.{fault_name}
 use Rattle.ar_json.specs.declared.value_reading.ShapeFault.{ShapeFault}
 use Rattle.ar_json.specs.declared.value_reading.ShapeFault.TheVariants.{WrongKind, FloatNumber, NotFinite, BadDecimal, OutOfRange, ListTooLong, MissingField, OutOfMemory}
@@ -11,8 +12,9 @@ use Rattle.ar_judge.specs.declared.verdict.Cause.{Cause}
 use Rattle.ar_judge.specs.declared.verdict.Cause.TheVariants as causes
 use Rattle.ar_judge.specs.declared.verdict.Verdict.{Verdict}
 use Rattle.ar_judge.specs.declared.verdict.Verdict.TheVariants as verdicts
+use Rattle.ar_value.specs.declared.fault.Fault.TheVariants.{DivisionByZero}
 
-abbrev pub phase_name : Phase → List ℕ
+abbrev pub phase_name : Phase → Text
 phase_name phases.Pending = codes "Pending"
 phase_name phases.Running = codes "Running"
 phase_name phases.Successful = codes "Successful"
@@ -21,7 +23,7 @@ phase_name phases.Error = codes "Error"
 phase_name phases.Inconclusive = codes "Inconclusive"
 
 -- a bundle has no misfit that is out of memory, so that no report prints the last name
-abbrev pub misfit_name : ShapeFault → List ℕ
+abbrev pub misfit_name : ShapeFault → Text
 misfit_name WrongKind = codes "WrongKind"
 misfit_name FloatNumber = codes "FloatNumber"
 misfit_name NotFinite = codes "NotFinite"
@@ -31,19 +33,27 @@ misfit_name ListTooLong = codes "ListTooLong"
 misfit_name MissingField = codes "MissingField"
 misfit_name OutOfMemory = codes "OutOfMemory"
 
-abbrev pub cause_text : Cause → List ℕ
+abbrev pub cause_text : Cause → Text
 cause_text causes.Provider = codes "provider"
 cause_text (causes.Shape fault) = codes "shape " ++ misfit_name fault
 cause_text (causes.Success fault) = codes "success " ++ fault_name fault
 cause_text (causes.Failure fault) = codes "failure " ++ fault_name fault
 
-abbrev pub verdict_text : Verdict → List ℕ
+abbrev pub verdict_text : Verdict → Text
 verdict_text verdicts.Successful = codes "Successful"
 verdict_text verdicts.Failed = codes "Failed"
 verdict_text verdicts.Inconclusive = codes "Inconclusive"
 verdict_text (verdicts.Error cause) = codes "Error " ++ cause_text cause
 
-abbrev pub effect_text : Effect → List ℕ
+abbrev pub effect_text : Effect → Text
 effect_text effects.Applied = codes "applied"
 effect_text (effects.Closed phase) = codes "closed " ++ phase_name phase
 effect_text effects.Late = codes "late"
+
+-- ---- worked rows
+
+closed_as_failed : effect_text (effects.Closed phases.Failed) ≡ codes "closed Failed"
+closed_as_failed = refl
+
+faulty_condition : verdict_text (verdicts.Error (causes.Success DivisionByZero)) ≡ codes "Error success DivisionByZero"
+faulty_condition = refl

@@ -2,7 +2,7 @@
 //!
 //! [`report`] prints the histories of a bundle's runs: the phase of each run, the phase and counts of
 //! each metric and whether it is dry, and each event with its verdict and effect. The text is the function of the
-//! histories' numbers that `specs/Report` defines, whatever order these are in. [`run_phases`] answers
+//! histories' numbers that `specs/Report` defines, whatever order these are in. [`run_phases`] returns
 //! the phases of the runs. [`check_text`] prints the bounds of each condition, and [`list_text`] its
 //! code (`specs/Check`).
 //!

@@ -37,7 +37,7 @@ fn misfit_name(fault: ShapeFault) -> &'static str
     }
 }
 
-/// Writes a verdict after what stands in a text.
+/// Writes a verdict after what is in a text.
 pub fn put_verdict(out: &mut String, verdict: Verdict) -> Result<(), AllocError>
     ensures { OnOk result (string_bytes out.new ≡ string_bytes out.old ++ verdict_text verdict) }
 {

@@ -88,7 +88,7 @@ fn name_at(metrics: &[MetricPart], metric: usize) -> &str
     }
 }
 
-/// What came of an entry: its metric and verdict, or that it is a stop.
+/// The result of an entry: its metric and verdict, or that it is a stop.
 fn put_finding(
     out: &mut String,
     metrics: &[MetricPart],
@@ -147,7 +147,7 @@ fn put_run_line(out: &mut String, run: &RunPart, phase: Phase) -> Result<(), All
     out.push_str("\n")
 }
 
-/// The lines of a run's metrics, as it stands.
+/// The lines of a run's metrics, as the run is.
 #[tactic(auto, using(crate::proofs::Lines::next_metric, crate::proofs::Lines::no_metric))]
 fn put_metrics(
     out: &mut String,
@@ -184,7 +184,7 @@ fn put_events(out: &mut String, bundle: &Bundle, entries: &[Entry]) -> Result<()
     Ok(())
 }
 
-/// Where a run stands after its entries.
+/// The state of a run after its entries.
 #[tactic(auto, using(crate::proofs::Lines::is_found, crate::proofs::Replaying::next_entry, crate::proofs::Replaying::no_entry_left, crate::proofs::Replaying::of_metric, crate::proofs::Replaying::room_left))]
 fn replayed(
     alloc: Global,

@@ -1,4 +1,4 @@
--- What arrives at a place has room for each of the operands that were sent there.
+-- What arrives at an index has room for each of the operands that were sent there.
 use Rattle.std.proofs.Common.{◌≡◌, ℕ, suc, Bool, true, false, List, [], ◌∷◌, ◌++◌, length, Option, Some, None, option_map, IfSome, Result, Ok, Err, refl, ap, ◌∙◌, arith}
 use Rattle.std.specs.Prelude.{◌||◌, ◌==◌, if◌then◌else◌, option_and_then}
 use Rattle.std.specs.List.{AllByRecursion}
@@ -6,7 +6,7 @@ use Rattle.std.proofs.lemmas.Bool.Decides.{nat_tests}
 use Rattle.ar_value.specs.Kind.{Kind, fits_kind, merge}
 use Rattle.ar_value.specs.Value.{Value}
 use Rattle.ar_value.proofs.Merges.{merge_has_both}
-use Rattle.ar_safety.specs.Arrivals.{Operands, Sent, arrived, joined, merged, of_loops, sent_to}
+use Rattle.ar_safety.specs.Arrivals.{Operands, Sent, arrived, merged_all, merged, of_loops, sent_to}
 use Rattle.ar_safety.specs.declared.error.Reason.{Reason}
 use Rattle.ar_safety.proofs.Effects.{Fit}
 
@@ -88,7 +88,7 @@ joined_next before next others had (Some kinds) is joins =
     ((λ vs fit. joins.0.0 vs (each.0 vs fit), each.2 ∙ joins.0.1, joins.0.2), (λ vs fit. joins.0.0 vs (each.1 vs fit), joins.1))
 joined_next before next others had None is joins = absurd joins
 
-joined_room : (so_far : Result Operands Reason) (others : List Operands) (had : Operands) → joined so_far others ≡ Ok had → Joins so_far others had
+joined_room : (so_far : Result Operands Reason) (others : List Operands) (had : Operands) → merged_all so_far others ≡ Ok had → Joins so_far others had
 joined_room (Ok before) [] had is = let same : before ≡ had = cc in rw same ((λ vs fit. fit, refl, refl), tt)
 joined_room (Err reason) [] had is = absurd cc
 joined_room (Ok before) (next ∷ others) had is =
@@ -110,9 +110,9 @@ arrives (first ∷ others) had is =
     let joins = joined_room (Ok first) others had is in
     record { first = first; others = others; are = refl; room = (joins.0.0, joins.1); many = joins.0.1; loops = joins.0.2 }
 
--- ---- what is sent to a place
+-- ---- what is sent to an index
 
--- of all that is sent, what is sent to a place
+-- of all that is sent, what is sent to `place`
 one_to : (P : Operands → Type 0) (place : ℕ) (one : Sent) (others : List Sent) (is_there : Bool) → (one.target == place) ≡ is_there
     → AllByRecursion P (if is_there then one.operands ∷ sent_to place others else sent_to place others)
     → (AllByRecursion P (sent_to place others) → AllByRecursion (λ one. one.target ≡ place → P one.operands) others)
@@ -137,7 +137,7 @@ none_to : (place : ℕ) (one : Sent) (others : List Sent) (is_there : Bool) → 
 none_to place one others true is away rest = absurd (away (grind (arith, nat_tests)))
 none_to place one others false is away rest = rest
 
--- nothing is sent to a place, where all is sent elsewhere
+-- nothing is sent to `place`, where all is sent elsewhere
 pub elsewhere : (place : ℕ) (sents : List Sent) → AllByRecursion (λ one. one.target ≡ place → ⊥) sents → sent_to place sents ≡ []
 elsewhere place [] all = refl
 elsewhere place (one ∷ others) all = none_to place one others (one.target == place) refl all.0 (elsewhere place others all.1)

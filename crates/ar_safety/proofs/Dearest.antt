@@ -1,4 +1,4 @@
--- From each place of code in which the verifier found nothing there is a most expensive way forward.
+-- From each index of code in which the verifier found nothing there is a most expensive way forward.
 use Rattle.std.proofs.Common.{◌≡◌, ◌<◌, ◌≤◌, ℕ, zero, suc, ◌+◌, ◌*◌, List, length, Some, refl, sym, subst, inl, inr, arith}
 use Rattle.std.specs.Prelude.{◌⊎◌}
 use Rattle.std.proofs.lemmas.Bool.Decides.{leb_tells}
@@ -169,7 +169,7 @@ module _ (code : Code) (shape : Shape) (sents : List Sent) (is : Clean code shap
       let op = nth_there code.ops place below in
       dear_by place op.0 op.1 (λ other ahead inside. dear_from left other (omega arith) inside)
 
-  -- what is due from a place: what the most expensive way costs
+  -- what is due from `place`: what the most expensive way costs
   dear_at : (place : ℕ) → (cost : ℕ) × (place < length code.ops → IsDearest code.ops sents place cost)
   dear_at place = elim (leb_tells (length code.ops) place) [
     | inl w ↦ (0, λ below. absurd (omega (arith, w.1, below)))
@@ -211,7 +211,7 @@ module _ (code : Code) (shape : Shape) (sents : List Sent) (is : Clean code shap
         (loops there (due_is (suc place) (not_last code shape sents is place (Enter predicate step) there tt)).way (due_is (suc step) (not_last code shape sents is step (Step predicate place) pair.1 tt)).way);
   }
 
-  -- the budget is what is due from the first place
+  -- the budget is what is due from the first index
   pub budget_is_due : (budget : ℕ) → 0 < length code.ops → IsBudget code.ops sents budget → due 0 ≡ budget
   budget_is_due budget some is_budget =
       let first = due_is 0 some in

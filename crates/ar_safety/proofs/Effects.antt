@@ -1,12 +1,12 @@
--- Operations that go on to the next place do with operands of the kinds that they take what is said of kinds: they leave
--- operands of the kinds that they give, or meet a fault, and never touch what lies below.
+-- Operations that continue at the next index do with operands of the kinds that they take what is said of kinds: they
+-- leave operands of the kinds that they give, or meet a fault, and never touch what is below.
 use Rattle.std.proofs.Common.{◌≡◌, ◌<◌, ◌≤◌, ℕ, zero, suc, ◌+◌, ℤ, Bool, true, false, nat_le, List, [], ◌∷◌, ◌++◌, length, Option, Some, None, option_map, IfSome, Result, Ok, Err, refl, ap, arith}
 use Rattle.std.specs.Prelude.{◌&&◌, ◌||◌, if◌then◌else◌, option_and_then}
 use Rattle.std.proofs.lemmas.Bool.Decides.{nat_tests}
 use Rattle.ar_value.specs.Answer.{◌>>=◌}
 use Rattle.ar_value.specs.Arithmetic.{decimal_of_whole, decimal_product, difference, negation, product, quotient, remainder, sum}
 use Rattle.ar_value.specs.Fits.{all_items, fits}
-use Rattle.ar_value.specs.Kind.{Kind, nil, shaped, fits_kind, merge, plain}
+use Rattle.ar_value.specs.Kind.{Kind, nil, shaped, fits_kind, merge, plain, scalar_shape, truth_kind}
 use Rattle.ar_value.specs.Operators.{Failure, Meaning, faulted, ill_kinded}
 use Rattle.ar_value.specs.Operators as operators
 use Rattle.ar_value.specs.Shape.{Shape, shape_named}
@@ -39,7 +39,7 @@ use Rattle.ar_op.specs.declared.op.Op.{Op}
 use Rattle.ar_op.specs.declared.op.Op.TheVariants.{Push, MakeList, Field, Unary, Binary}
 use Rattle.ar_op.specs.declared.op.Source.{Source}
 use Rattle.ar_op.specs.declared.op.Source.TheVariants as sources
-use Rattle.ar_safety.specs.Effects.{decimal_kind, decimal_shape, decimals_kind, default_kind, effect, equal_kind, family_in, family_of, field_kind, is_compared, is_family, is_number, is_scalar, item_kind, length_kind, list_made, member_kind, needed_kind, of_one_family, on_one, on_two, opposite_kind, order_kind, quotient_kind, negative_kind, pushed_kind, scalar_shape, text_test_kind, truth, unary_kind, binary_kind, where_taken, wholes_kind}
+use Rattle.ar_safety.specs.Effects.{decimal_kind, decimal_shape, decimals_kind, default_kind, kinds_left, equal_kind, family_in, family_of, field_kind, is_compared, is_family, is_number, is_scalar_kind, item_kind, length_kind, list_kind_left, member_kind, needed_kind, are_one_family, on_one_kind, on_two_kinds, opposite_kind, order_kind, quotient_kind, negative_kind, pushed_kind, text_test_kind, unary_kind, binary_kind, where_taken, wholes_kind}
 use Rattle.ar_safety.proofs.Values.{Means, MeansKind, both, both_hold, decimal_or_fault, field_means, index_means, on_bool, on_decimal, on_list, on_text, on_whole, whole_or_fault, IsThere}
 
 -- what an operation gives of one operand, and of two, is of the kind that is said
@@ -57,7 +57,7 @@ taken false kind m h = tt
 -- ---- scalars
 
 -- a value of a kind of scalars
-scalar_fits : (scalar : Scalar) (kind : Kind) (v : Value) → is_scalar scalar kind ≡ true → fits_kind v kind ≡ true → fits v (scalar_shape scalar) ≡ true
+scalar_fits : (scalar : Scalar) (kind : Kind) (v : Value) → is_scalar_kind scalar kind ≡ true → fits_kind v kind ≡ true → fits v (scalar_shape scalar) ≡ true
 scalar_fits scalars.Bool (shaped shapes.bool) v is fit = fit
 scalar_fits scalars.Whole (shaped shapes.whole) v is fit = fit
 scalar_fits scalars.Decimal (shaped shapes.decimal) v is fit = fit
@@ -66,8 +66,8 @@ scalar_fits scalar kind v is fit = absurd cc
 
 opposite_sound : OneSound opposite_kind operators.opposite
 opposite_sound kind v fit =
-    taken (is_scalar scalars.Bool kind) truth (operators.opposite v)
-    (λ is. on_bool (λ v. MeansKind truth (operators.opposite v)) (λ b. refl) v (scalar_fits scalars.Bool kind v is fit))
+    taken (is_scalar_kind scalars.Bool kind) truth_kind (operators.opposite v)
+    (λ is. on_bool (λ v. MeansKind truth_kind (operators.opposite v)) (λ b. refl) v (scalar_fits scalars.Bool kind v is fit))
 
 two_wholes : (P : Value → Value → Type 0) → ((x y : ℤ) → P (values.whole x) (values.whole y)) → (v w : Value) → fits v shapes.whole ≡ true → fits w shapes.whole ≡ true → P v w
 two_wholes P each v w fit also = on_whole (λ v. P v w) (λ x. on_whole (λ w. P (values.whole x) w) (λ y. each x y) w also) v fit
@@ -90,15 +90,15 @@ of_decimals on_decimals.Divide x y = decimal_or_fault (quotient x y)
 
 wholes_sound : (operator : Arithmetic) → TwoSound (wholes_kind operator) (operators.wholes operator)
 wholes_sound operator left right v w fit also =
-    taken (is_scalar scalars.Whole left && is_scalar scalars.Whole right) (quotient_kind operator) (operators.wholes operator v w)
-    (λ is. let each = both_hold (is_scalar scalars.Whole left) (is_scalar scalars.Whole right) is in
+    taken (is_scalar_kind scalars.Whole left && is_scalar_kind scalars.Whole right) (quotient_kind operator) (operators.wholes operator v w)
+    (λ is. let each = both_hold (is_scalar_kind scalars.Whole left) (is_scalar_kind scalars.Whole right) is in
     two_wholes (λ v w. MeansKind (quotient_kind operator) (operators.wholes operator v w)) (λ x y. of_wholes operator x y) v w
     (scalar_fits scalars.Whole left v each.0 fit) (scalar_fits scalars.Whole right w each.1 also))
 
 decimals_sound : (operator : DecimalArithmetic) → TwoSound decimals_kind (operators.decimals operator)
 decimals_sound operator left right v w fit also =
-    taken (is_scalar scalars.Decimal left && is_scalar scalars.Decimal right) (shaped shapes.decimal) (operators.decimals operator v w)
-    (λ is. let each = both_hold (is_scalar scalars.Decimal left) (is_scalar scalars.Decimal right) is in
+    taken (is_scalar_kind scalars.Decimal left && is_scalar_kind scalars.Decimal right) (shaped shapes.decimal) (operators.decimals operator v w)
+    (λ is. let each = both_hold (is_scalar_kind scalars.Decimal left) (is_scalar_kind scalars.Decimal right) is in
     two_decimals (λ v w. MeansKind (shaped shapes.decimal) (operators.decimals operator v w)) (λ x y. of_decimals operator x y) v w
     (scalar_fits scalars.Decimal left v each.0 fit) (scalar_fits scalars.Decimal right w each.1 also))
 
@@ -107,9 +107,9 @@ two_texts P each v w fit also = on_text (λ v. P v w) (λ x. on_text (λ w. P (v
 
 text_test_sound : (test : TextTest) → TwoSound text_test_kind (operators.text_test test)
 text_test_sound test left right v w fit also =
-    taken (is_scalar scalars.Text left && is_scalar scalars.Text right) truth (operators.text_test test v w)
-    (λ is. let each = both_hold (is_scalar scalars.Text left) (is_scalar scalars.Text right) is in
-    two_texts (λ v w. MeansKind truth (operators.text_test test v w)) (λ x y. refl) v w
+    taken (is_scalar_kind scalars.Text left && is_scalar_kind scalars.Text right) truth_kind (operators.text_test test v w)
+    (λ is. let each = both_hold (is_scalar_kind scalars.Text left) (is_scalar_kind scalars.Text right) is in
+    two_texts (λ v w. MeansKind truth_kind (operators.text_test test v w)) (λ x y. refl) v w
     (scalar_fits scalars.Text left v each.0 fit) (scalar_fits scalars.Text right w each.1 also))
 
 negative_sound : (of : Numbers) → OneSound (negative_kind of) (operators.negative of)
@@ -126,19 +126,19 @@ on_number P of_whole of_decimal (shaped shapes.decimal) v is fit = on_decimal P 
 on_number P of_whole of_decimal kind v is fit = absurd cc
 
 compares : (numbers : Compared) (way : Order) (left right : Kind) (v w : Value) → is_compared numbers left ≡ true → is_compared numbers right ≡ true → fits_kind v left ≡ true → fits_kind w right ≡ true
-    → MeansKind truth (operators.compare numbers way v w)
+    → MeansKind truth_kind (operators.compare numbers way v w)
 compares compared.Wholes way left right v w is beside fit also =
-    two_wholes (λ v w. MeansKind truth (operators.compare compared.Wholes way v w)) (λ x y. refl) v w (scalar_fits scalars.Whole left v is fit) (scalar_fits scalars.Whole right w beside also)
+    two_wholes (λ v w. MeansKind truth_kind (operators.compare compared.Wholes way v w)) (λ x y. refl) v w (scalar_fits scalars.Whole left v is fit) (scalar_fits scalars.Whole right w beside also)
 compares compared.Decimals way left right v w is beside fit also =
-    two_decimals (λ v w. MeansKind truth (operators.compare compared.Decimals way v w)) (λ x y. refl) v w (scalar_fits scalars.Decimal left v is fit) (scalar_fits scalars.Decimal right w beside also)
+    two_decimals (λ v w. MeansKind truth_kind (operators.compare compared.Decimals way v w)) (λ x y. refl) v w (scalar_fits scalars.Decimal left v is fit) (scalar_fits scalars.Decimal right w beside also)
 compares compared.Mixed way left right v w is beside fit also =
-    on_number (λ v. MeansKind truth (operators.compare compared.Mixed way v w))
-    (λ x. on_number (λ w. MeansKind truth (operators.compare compared.Mixed way (values.whole x) w)) (λ y. refl) (λ y. refl) right w beside also)
-    (λ x. on_number (λ w. MeansKind truth (operators.compare compared.Mixed way (values.decimal x) w)) (λ y. refl) (λ y. refl) right w beside also) left v is fit
+    on_number (λ v. MeansKind truth_kind (operators.compare compared.Mixed way v w))
+    (λ x. on_number (λ w. MeansKind truth_kind (operators.compare compared.Mixed way (values.whole x) w)) (λ y. refl) (λ y. refl) right w beside also)
+    (λ x. on_number (λ w. MeansKind truth_kind (operators.compare compared.Mixed way (values.decimal x) w)) (λ y. refl) (λ y. refl) right w beside also) left v is fit
 
 compare_sound : (numbers : Compared) (way : Order) → TwoSound (order_kind numbers) (operators.compare numbers way)
 compare_sound numbers way left right v w fit also =
-    taken (is_compared numbers left && is_compared numbers right) truth (operators.compare numbers way v w)
+    taken (is_compared numbers left && is_compared numbers right) truth_kind (operators.compare numbers way v w)
     (λ is. let each = both_hold (is_compared numbers left) (is_compared numbers right) is in compares numbers way left right v w each.0 each.1 fit also)
 
 -- ---- families
@@ -169,13 +169,13 @@ all_in_family family shape (values.item v items) is fit =
     let parts = both_hold (fits v shape) (all_items (λ v. fits v shape) items) fit in
     both (operators.is_in_family family v) (operators.are_in_family family items) (in_family family shape v is parts.0) (all_in_family family shape items is parts.1)
 
-kinded_means : (is_kinded : Bool) (b : Bool) → is_kinded ≡ true → MeansKind truth (operators.where_kinded is_kinded (values.bool b))
+kinded_means : (is_kinded : Bool) (b : Bool) → is_kinded ≡ true → MeansKind truth_kind (operators.where_kinded is_kinded (values.bool b))
 kinded_means true b h = refl
 kinded_means false b h = absurd cc
 
 equal_sound : (family : Family) → TwoSound (equal_kind family) (operators.equal family)
 equal_sound family left right v w fit also =
-    taken (is_family family (family_in left) && is_family family (family_in right)) truth (operators.equal family v w)
+    taken (is_family family (family_in left) && is_family family (family_in right)) truth_kind (operators.equal family v w)
     (λ is. let each = both_hold (is_family family (family_in left)) (is_family family (family_in right)) is in
     kinded_means (operators.is_in_family family v && operators.is_in_family family w) (operators.same v w)
     (both (operators.is_in_family family v) (operators.is_in_family family w) (kind_in_family family left v each.0 fit) (kind_in_family family right w each.1 also)))
@@ -200,7 +200,7 @@ is_itself families.Number = refl
 is_itself families.Text = refl
 
 -- a value and items, where their families are one
-one_family : (of beside : Option Family) (kind : Kind) (shape : Shape) (v : Value) (items : Items) → family_in kind ≡ of → family_of (plain shape) ≡ beside → of_one_family of beside ≡ true → fits_kind v kind ≡ true
+one_family : (of beside : Option Family) (kind : Kind) (shape : Shape) (v : Value) (items : Items) → family_in kind ≡ of → family_of (plain shape) ≡ beside → are_one_family of beside ≡ true → fits_kind v kind ≡ true
     → all_items (λ v. fits v shape) items ≡ true → operators.of_one_family v items ≡ true
 one_family (Some family) beside kind shape v items is also one fit all =
     family_is_one family v items
@@ -209,8 +209,8 @@ one_family None beside kind shape v items is also one fit all = absurd cc
 
 member_sound : TwoSound member_kind operators.is_among
 member_sound kind (shaped (shapes.list shape max)) v w fit also =
-    taken (of_one_family (family_in kind) (family_of (plain shape))) truth (operators.is_among v w)
-    (λ one. on_list (λ w. MeansKind truth (operators.is_among v w)) shape max
+    taken (are_one_family (family_in kind) (family_of (plain shape))) truth_kind (operators.is_among v w)
+    (λ one. on_list (λ w. MeansKind truth_kind (operators.is_among v w)) shape max
     (λ items short all. kinded_means (operators.of_one_family v items) (operators.has_item v items) (one_family (family_in kind) (family_of (plain shape)) kind shape v items refl refl one fit all)) w also)
 member_sound kind other v w fit also = tt
 
@@ -231,7 +231,7 @@ needed_sound : OneSound needed_kind operators.not_nil
 needed_sound (shaped shape) v fit = needed shape v fit
 needed_sound nil v fit = tt
 
-some_truth : OneSound (λ kind. Some truth) (λ v. Ok (values.bool (operators.is_nil v)))
+some_truth : OneSound (λ kind. Some truth_kind) (λ v. Ok (values.bool (operators.is_nil v)))
 some_truth kind v fit = refl
 
 turned : (v : Value) → fits v shapes.whole ≡ true → MeansKind (shaped shapes.decimal) (operators.to_decimal v)
@@ -319,13 +319,13 @@ item_sound : TwoSound item_kind operators.index_in
 item_sound (shaped (shapes.list shape max)) (shaped shapes.whole) v w fit also = index_means shape max v w fit also
 item_sound left right v w fit also = tt
 
-length_sound : OneSound length_kind operators.length_of
-length_sound (shaped (shapes.list shape max)) v fit = on_list (λ v. MeansKind (shaped shapes.whole) (operators.length_of v)) shape max (λ items short all. refl) v fit
+length_sound : OneSound length_kind operators.length_meaning
+length_sound (shaped (shapes.list shape max)) v fit = on_list (λ v. MeansKind (shaped shapes.whole) (operators.length_meaning v)) shape max (λ items short all. refl) v fit
 length_sound kind v fit = tt
 
 -- ---- operators by their families
 
-pub unary_sound : (operator : UnaryOperator) → OneSound (unary_kind operator) (operators.one operator)
+pub unary_sound : (operator : UnaryOperator) → OneSound (unary_kind operator) (operators.unary_meaning operator)
 unary_sound unary.Len = length_sound
 unary_sound unary.Need = needed_sound
 unary_sound unary.IsNil = some_truth
@@ -333,7 +333,7 @@ unary_sound unary.ToDecimal = decimal_sound
 unary_sound unary.Not = opposite_sound
 unary_sound (unary.Negate of) = negative_sound of
 
-pub binary_sound : (operator : BinaryOperator) → TwoSound (binary_kind operator) (operators.two operator)
+pub binary_sound : (operator : BinaryOperator) → TwoSound (binary_kind operator) (operators.binary_meaning operator)
 binary_sound binary.Index = item_sound
 binary_sound binary.Default = default_sound
 binary_sound binary.IsIn = member_sound
@@ -374,13 +374,13 @@ module _ (base : List Value) where
   given None m top kinds means fit = tt
 
   of_one : (give : Kind → Option Kind) (act : Value → Meaning) (top : List Value) (kinds : List Kind) → OneSound give act → Fit top kinds
-      → IfSome (on_one give kinds) (λ kinds. Leaves kinds (machine.on_one act (top ++ base)))
+      → IfSome (on_one_kind give kinds) (λ kinds. Leaves kinds (machine.on_one act (top ++ base)))
   of_one give act (v ∷ top) (kind ∷ kinds) sound fit = given (give kind) (act v) top kinds (sound kind v fit.0) fit.1
   of_one give act [] (kind ∷ kinds) sound fit = absurd fit
   of_one give act top [] sound fit = tt
 
   of_two : (give : Kind → Kind → Option Kind) (act : Value → Value → Meaning) (top : List Value) (kinds : List Kind) → TwoSound give act → Fit top kinds
-      → IfSome (on_two give kinds) (λ kinds. Leaves kinds (machine.on_two act (top ++ base)))
+      → IfSome (on_two_kinds give kinds) (λ kinds. Leaves kinds (machine.on_two act (top ++ base)))
   of_two give act (w ∷ v ∷ top) (right ∷ left ∷ kinds) sound fit = given (give left right) (act v w) top kinds (sound left right v w fit.1.0 fit.0) fit.1.1
   of_two give act (w ∷ []) (right ∷ left ∷ kinds) sound fit = absurd fit.1
   of_two give act [] (right ∷ left ∷ kinds) sound fit = absurd fit
@@ -389,7 +389,7 @@ module _ (base : List Value) where
 
   -- ---- list literals
 
-  scalar_of_kind : (scalar : Scalar) (kind : Kind) (v : Value) → is_scalar scalar kind ≡ true → fits_kind v kind ≡ true → machine.is_scalar scalar v ≡ true
+  scalar_of_kind : (scalar : Scalar) (kind : Kind) (v : Value) → is_scalar_kind scalar kind ≡ true → fits_kind v kind ≡ true → machine.is_scalar scalar v ≡ true
   scalar_of_kind scalars.Bool kind v is fit = on_bool (λ v. machine.is_scalar scalars.Bool v ≡ true) (λ b. refl) v (scalar_fits scalars.Bool kind v is fit)
   scalar_of_kind scalars.Whole kind v is fit = on_whole (λ v. machine.is_scalar scalars.Whole v ≡ true) (λ w. refl) v (scalar_fits scalars.Whole kind v is fit)
   scalar_of_kind scalars.Decimal kind v is fit = on_decimal (λ v. machine.is_scalar scalars.Decimal v ≡ true) (λ d. refl) v (scalar_fits scalars.Decimal kind v is fit)
@@ -402,14 +402,14 @@ module _ (base : List Value) where
   tested true given false m h sound = let no : false ≡ true = h refl in absurd cc
   tested false given is m h sound = tt
 
-  -- so many scalars in front of items that fit
+  -- n scalars in front of items that fit
   made : (scalar : Scalar) (max n : ℕ) (items : Items) (top : List Value) (kinds : List Kind) → n + count items ≤ max → all_items (λ v. fits v (scalar_shape scalar)) items ≡ true → Fit top kinds
-      → IfSome (list_made scalar max n kinds) (λ kinds. Leaves kinds (machine.list_made scalar n items (top ++ base)))
+      → IfSome (list_kind_left scalar max n kinds) (λ kinds. Leaves kinds (machine.list_made scalar n items (top ++ base)))
   made scalar max zero items top kinds few all fit =
       pushed (values.list items) (shaped (shapes.list (scalar_shape scalar) max)) top kinds
       (both (nat_le (count items) max) (all_items (λ v. fits v (scalar_shape scalar)) items) (grind (arith, nat_tests)) all) fit
   made scalar max (suc n) items (v ∷ top) (kind ∷ kinds) few all fit =
-      tested (is_scalar scalar kind) (list_made scalar max n kinds) (machine.is_scalar scalar v) (machine.list_made scalar n (values.item v items) (top ++ base)) (λ is. scalar_of_kind scalar kind v is fit.0)
+      tested (is_scalar_kind scalar kind) (list_kind_left scalar max n kinds) (machine.is_scalar scalar v) (machine.list_made scalar n (values.item v items) (top ++ base)) (λ is. scalar_of_kind scalar kind v is fit.0)
       (λ is. made scalar max n (values.item v items) top kinds (omega arith)
       (both (fits v (scalar_shape scalar)) (all_items (λ v. fits v (scalar_shape scalar)) items) (scalar_fits scalar kind v is fit.0) all) fit.1)
   made scalar max (suc n) items [] (kind ∷ kinds) few all fit = absurd fit
@@ -428,7 +428,7 @@ module _ (base : List Value) where
   item_pushed None v there = tt
 
   field_taken : (name : Option (List ℕ)) (top : List Value) (kinds : List Kind) → Fit top kinds
-      → IfSome (option_and_then (λ name. on_one (field_kind name) kinds) name) (λ kinds. Leaves kinds (operators.there ill_kinded name >>= λ name. machine.on_one (operators.field_in name) (top ++ base)))
+      → IfSome (option_and_then (λ name. on_one_kind (field_kind name) kinds) name) (λ kinds. Leaves kinds (operators.there ill_kinded name >>= λ name. machine.on_one (operators.field_in name) (top ++ base)))
   field_taken (Some name) top kinds fit = of_one (field_kind name) (operators.field_in name) top kinds (field_sound name) fit
   field_taken None top kinds fit = tt
 
@@ -443,10 +443,10 @@ module _ (base : List Value) where
     source_sound sources.Item inside = item_pushed of item there
 
     pub effect_sound : (op : Op) → Inside (length code.texts) (length code.names) op
-        → (top : List Value) (kinds : List Kind) → Fit top kinds → IfSome (effect code shape of op kinds) (λ kinds. Leaves kinds (machine.effect code result item op (top ++ base)))
+        → (top : List Value) (kinds : List Kind) → Fit top kinds → IfSome (kinds_left code shape of op kinds) (λ kinds. Leaves kinds (machine.effect code result item op (top ++ base)))
     effect_sound (Push source) inside top kinds fit = given (pushed_kind shape of source) (machine.pushed code result item source) top kinds (source_sound source inside) fit
     effect_sound (MakeList scalar count) inside top kinds fit = made scalar count count values.no_items top kinds (omega arith) refl fit
     effect_sound (Field number) inside top kinds fit = field_taken (nth code.names number) top kinds fit
-    effect_sound (Unary operator) inside top kinds fit = of_one (unary_kind operator) (operators.one operator) top kinds (unary_sound operator) fit
-    effect_sound (Binary operator) inside top kinds fit = of_two (binary_kind operator) (operators.two operator) top kinds (binary_sound operator) fit
+    effect_sound (Unary operator) inside top kinds fit = of_one (unary_kind operator) (operators.unary_meaning operator) top kinds (unary_sound operator) fit
+    effect_sound (Binary operator) inside top kinds fit = of_two (binary_kind operator) (operators.binary_meaning operator) top kinds (binary_sound operator) fit
     effect_sound op inside top kinds fit = tt

@@ -1,5 +1,5 @@
--- Passes that found nothing, and what the passes 2 and 3 say of loops: which loops hold a place, how that changes from a place
--- to the next one and along a jump.
+-- Passes that found nothing, and what the passes 2 and 3 say of loops: which loops hold an index, how that changes from
+-- an index to the next one and along a jump.
 use Rattle.std.proofs.Common.{◌≡◌, ℕ, zero, suc, ◌+◌, ◌<◌, ◌≤◌, Bool, true, false, ◌&&◌, List, [], ◌∷◌, length, Option, Some, None, Result, Ok, refl, sym, ap, subst, ◌∙◌, inl, inr, arith}
 use Rattle.std.specs.Prelude.{nat_le, nat_lt, ◌==◌}
 use Rattle.std.proofs.lemmas.Bool.{eqb-true, leb-true, ltb-true, le-leb, lt-leb}
@@ -12,7 +12,7 @@ use Rattle.ar_op.specs.Machine.{begins_loop, nth}
 use Rattle.ar_op.specs.declared.op.Op.{Op}
 use Rattle.ar_op.specs.declared.op.Op.TheVariants.{Jump, Enter, Step}
 use Rattle.ar_safety.specs.Budget.{JumpsTo}
-use Rattle.ar_safety.specs.Places.{Pass, all_pass, ends_loop, forward, found, held, holding, in_innermost, inside, names_well, nests_well, or_else, reaches, same_loops, stays, unless}
+use Rattle.ar_safety.specs.Places.{Pass, all_pass, ends_loop, forward, fault_or, loops_around, loops_among, in_innermost, inside_code, names_well, nests_well, or_else, loop_reaches, same_loops, stays, unless}
 use Rattle.ar_safety.specs.declared.error.Cause.{Cause}
 use Rattle.ar_safety.specs.declared.error.Reason.{Reason}
 
@@ -51,7 +51,7 @@ no_reason false reason h = absurd cc
 
 -- ---- a pass that found nothing found nothing at each operation, and back
 
-pub found_nothing : (place : ℕ) (fault : Option Reason) (later : Result (Unit {0}) Cause) → found place fault later ≡ Ok tt → (fault ≡ None) × (later ≡ Ok tt)
+pub found_nothing : (place : ℕ) (fault : Option Reason) (later : Result (Unit {0}) Cause) → fault_or place fault later ≡ Ok tt → (fault ≡ None) × (later ≡ Ok tt)
 found_nothing place None later h = (refl, h)
 found_nothing place (Some reason) later h = absurd cc
 
@@ -92,7 +92,7 @@ stands_below (first ∷ ops) (suc n) op there = let others = stands_below ops n 
 
 pub is_ahead : (ops : List Op) (place named : ℕ) → forward ops place named ≡ None → (place < named) × (named < length ops)
 is_ahead ops place named h =
-    let parts = none_of_both (inside ops named) (unless (nat_lt place named) _) h in
+    let parts = none_of_both (inside_code ops named) (unless (nat_lt place named) _) h in
     (ltb-true place named (no_reason (nat_lt place named) _ parts.1), ltb-true named (length ops) (no_reason (nat_lt named (length ops)) _ parts.0))
 
 the_step : (predicate : Predicate) (enter : ℕ) (op : Option Op) → ends_loop predicate enter op ≡ true → op ≡ Some (Step predicate enter)
@@ -111,12 +111,12 @@ the_enter predicate step (Some (Enter of place)) h =
     cc
 the_enter predicate step op h = absurd cc
 
--- the Enter of a loop that reaches a place
-pub reaching : (op : Option Op) (place : ℕ) → reaches op place ≡ true → (predicate : Predicate) × (step : ℕ) × (op ≡ Some (Enter predicate step)) × (place ≤ step)
+-- the Enter of a loop that reaches `place`
+pub reaching : (op : Option Op) (place : ℕ) → loop_reaches op place ≡ true → (predicate : Predicate) × (step : ℕ) × (op ≡ Some (Enter predicate step)) × (place ≤ step)
 reaching (Some (Enter predicate step)) place h = (predicate, step, refl, leb-true place step h)
 reaching op place h = absurd cc
 
-pub reaches_less : (op : Option Op) (place before : ℕ) → before ≤ place → reaches op place ≡ true → reaches op before ≡ true
+pub reaches_less : (op : Option Op) (place before : ℕ) → before ≤ place → loop_reaches op place ≡ true → loop_reaches op before ≡ true
 reaches_less op place before less h =
     let r = reaching op place h in
     let is = r.2 in
@@ -129,21 +129,21 @@ IsNoLoop (Enter predicate step) = ⊥
 IsNoLoop (Step predicate enter) = ⊥
 IsNoLoop op = Unit {0}
 
--- ---- which loops hold a place
+-- ---- which loops hold an index
 
 module _ (ops : List Op) where
-  pub holding_alike : (place other : ℕ) (k : ℕ) → ((enter : ℕ) → enter < k → reaches (nth ops enter) place ≡ reaches (nth ops enter) other) → holding ops place k ≡ holding ops other k
+  pub holding_alike : (place other : ℕ) (k : ℕ) → ((enter : ℕ) → enter < k → loop_reaches (nth ops enter) place ≡ loop_reaches (nth ops enter) other) → loops_among ops place k ≡ loops_among ops other k
   holding_alike place other zero same = refl
   holding_alike place other (suc k) same =
-      let here : reaches (nth ops k) place ≡ reaches (nth ops k) other = same k (omega arith) in
-      let others : holding ops place k ≡ holding ops other k = holding_alike place other k (λ enter below. same enter (omega arith)) in
+      let here : loop_reaches (nth ops k) place ≡ loop_reaches (nth ops k) other = same k (omega arith) in
+      let others : loops_among ops place k ≡ loops_among ops other k = holding_alike place other k (λ enter below. same enter (omega arith)) in
       rw (here, others) refl
 
-  none_behind : (place from k : ℕ) → from ≤ k → ((enter : ℕ) → from ≤ enter → enter < k → reaches (nth ops enter) place ≡ false) → holding ops place k ≡ holding ops place from
+  none_behind : (place from k : ℕ) → from ≤ k → ((enter : ℕ) → from ≤ enter → enter < k → loop_reaches (nth ops enter) place ≡ false) → loops_among ops place k ≡ loops_among ops place from
   none_behind place from zero le none = let same : from ≡ 0 = omega arith in rw same refl
   none_behind place from (suc k) le none =
       elim (leb_tells from k) [
-        | inl w ↦ let here : reaches (nth ops k) place ≡ false = none k w.1 (omega arith) in
+        | inl w ↦ let here : loop_reaches (nth ops k) place ≡ false = none k w.1 (omega arith) in
             rw here (none_behind place from k w.1 (λ enter behind below. none enter behind (omega arith)))
         | inr w ↦ let same : from ≡ suc k = omega (arith, w.1) in rw same refl
       ]
@@ -160,14 +160,14 @@ module _ (ops : List Op) (paired : (place : ℕ) (op : Op) → nth ops place ≡
 
   pub step_pairs : (predicate : Predicate) (step enter : ℕ) → nth ops step ≡ Some (Step predicate enter) → (enter < step) × (nth ops enter ≡ Some (Enter predicate step))
   step_pairs predicate step enter there =
-      let parts = none_of_both (inside ops enter) (unless (nat_lt enter step && begins_loop predicate step (nth ops enter)) _) (paired step (Step predicate enter) there) in
+      let parts = none_of_both (inside_code ops enter) (unless (nat_lt enter step && begins_loop predicate step (nth ops enter)) _) (paired step (Step predicate enter) there) in
       let tests = both (nat_lt enter step) (begins_loop predicate step (nth ops enter)) (no_reason (nat_lt enter step && begins_loop predicate step (nth ops enter)) _ parts.1) in
       (ltb-true enter step tests.0, the_enter predicate step (nth ops enter) tests.1)
 
-  -- after a place stands who held it, but for the loop that ends there
-  pub held_further : (place enter : ℕ) → ((predicate : Predicate) → nth ops place ≡ Some (Step predicate enter) → ⊥) → reaches (nth ops enter) (suc place) ≡ reaches (nth ops enter) place
+  -- after `place` are the loops that held it, except the one that ends there
+  pub held_further : (place enter : ℕ) → ((predicate : Predicate) → nth ops place ≡ Some (Step predicate enter) → ⊥) → loop_reaches (nth ops enter) (suc place) ≡ loop_reaches (nth ops enter) place
   held_further place enter no_end =
-      alike (reaches (nth ops enter) (suc place)) (reaches (nth ops enter) place)
+      alike (loop_reaches (nth ops enter) (suc place)) (loop_reaches (nth ops enter) place)
       (λ h. reaches_less (nth ops enter) (suc place) place (omega arith) h)
       (λ h.
       let r = reaching (nth ops enter) place h in
@@ -176,83 +176,83 @@ module _ (ops : List Op) (paired : (place : ℕ) (op : Op) → nth ops place ≡
       let not_there : place ≡ r.1 → ⊥ = λ same. no_end r.0 (ap (nth ops) same ∙ (enter_pairs r.0 enter r.1 r.2).1) in
       rw is (le-leb (suc place) r.1 (omega arith)))
 
-  no_enter : (op : Op) (place : ℕ) → IsNoLoop op → reaches (Some op) place ≡ false
+  no_enter : (op : Op) (place : ℕ) → IsNoLoop op → loop_reaches (Some op) place ≡ false
   no_enter (Enter predicate step) place plain = absurd plain
   no_enter op place plain = refl
 
   -- an operation that is no Enter and no Step leaves the loops as they are
-  pub stays_around : (place : ℕ) (op : Op) → nth ops place ≡ Some op → IsNoLoop op → held ops (suc place) ≡ held ops place
+  pub stays_around : (place : ℕ) (op : Op) → nth ops place ≡ Some op → IsNoLoop op → loops_around ops (suc place) ≡ loops_around ops place
   stays_around place op there plain =
-      let none : reaches (nth ops place) (suc place) ≡ false = rw there (no_enter op (suc place) plain) in
-      let same : holding ops (suc place) place ≡ holding ops place place =
+      let none : loop_reaches (nth ops place) (suc place) ≡ false = rw there (no_enter op (suc place) plain) in
+      let same : loops_among ops (suc place) place ≡ loops_among ops place place =
       holding_alike ops (suc place) place place (λ enter below. held_further place enter (λ predicate is. let step : op ≡ Step predicate enter = cc in subst IsNoLoop step plain)) in
       rw none same
 
   -- a loop begins after its Enter
-  pub begins : (predicate : Predicate) (enter step : ℕ) → nth ops enter ≡ Some (Enter predicate step) → held ops (suc enter) ≡ enter ∷ held ops enter
+  pub begins : (predicate : Predicate) (enter step : ℕ) → nth ops enter ≡ Some (Enter predicate step) → loops_around ops (suc enter) ≡ enter ∷ loops_around ops enter
   begins predicate enter step there =
       let pair = enter_pairs predicate enter step there in
       let ahead = pair.0 in
-      let itself : reaches (nth ops enter) (suc enter) ≡ true = rw there (le-leb (suc enter) step (omega arith)) in
-      let same : holding ops (suc enter) enter ≡ holding ops enter enter =
+      let itself : loop_reaches (nth ops enter) (suc enter) ≡ true = rw there (le-leb (suc enter) step (omega arith)) in
+      let same : loops_among ops (suc enter) enter ≡ loops_among ops enter enter =
       holding_alike ops (suc enter) enter enter (λ other below. held_further enter other (λ other_predicate is. absurd cc)) in
       rw (itself, same) refl
 
-  -- ---- where pass 3 found nothing at the first places
+  -- ---- where pass 3 found nothing at the first indexes
 
-  -- whoever holds a place reaches what the innermost holder reaches, if that is so of the places before
+  -- whoever holds `place` reaches what the innermost holder reaches, if that is so of the indexes before
   pub inner_first : (place step : ℕ)
-      → ((inner : ℕ) → inner < place → (predicate : Predicate) (end : ℕ) → nth ops inner ≡ Some (Enter predicate end) → (outer : ℕ) → outer < inner → reaches (nth ops outer) inner ≡ true → reaches (nth ops outer) end ≡ true)
-      → (k : ℕ) → k ≤ place → in_innermost ops (holding ops place k) step ≡ true → (outer : ℕ) → outer < k → reaches (nth ops outer) place ≡ true → reaches (nth ops outer) step ≡ true
+      → ((inner : ℕ) → inner < place → (predicate : Predicate) (end : ℕ) → nth ops inner ≡ Some (Enter predicate end) → (outer : ℕ) → outer < inner → loop_reaches (nth ops outer) inner ≡ true → loop_reaches (nth ops outer) end ≡ true)
+      → (k : ℕ) → k ≤ place → in_innermost ops (loops_among ops place k) step ≡ true → (outer : ℕ) → outer < k → loop_reaches (nth ops outer) place ≡ true → loop_reaches (nth ops outer) step ≡ true
   inner_first place step nested zero le inside_it outer below holds = absurd (omega arith)
   inner_first place step nested (suc k) le inside_it outer below holds =
-      let further : (in_innermost ops (holding ops place k) step ≡ true → outer < k → reaches (nth ops outer) step ≡ true) = λ inside_others less. inner_first place step nested k (omega arith) inside_others outer less holds in
-      by_test (reaches (nth ops k) place) refl further
+      let further : (in_innermost ops (loops_among ops place k) step ≡ true → outer < k → loop_reaches (nth ops outer) step ≡ true) = λ inside_others less. inner_first place step nested k (omega arith) inside_others outer less holds in
+      by_test (loop_reaches (nth ops k) place) refl further
     where
-      by_test : (test : Bool) → reaches (nth ops k) place ≡ test → (in_innermost ops (holding ops place k) step ≡ true → outer < k → reaches (nth ops outer) step ≡ true) → reaches (nth ops outer) step ≡ true
+      by_test : (test : Bool) → loop_reaches (nth ops k) place ≡ test → (in_innermost ops (loops_among ops place k) step ≡ true → outer < k → loop_reaches (nth ops outer) step ≡ true) → loop_reaches (nth ops outer) step ≡ true
       by_test true is further =
-          let ends_inside : reaches (nth ops k) step ≡ true = rw is at inside_it in
+          let ends_inside : loop_reaches (nth ops k) step ≡ true = rw is at inside_it in
           let inner = reaching (nth ops k) step ends_inside in
           let far = inner.3 in
           elim (leb_tells k outer) [
-            | inl w ↦ let same : k ≡ outer = omega (arith, w.1) in subst (λ enter. reaches (nth ops enter) step ≡ true) same ends_inside
+            | inl w ↦ let same : k ≡ outer = omega (arith, w.1) in subst (λ enter. loop_reaches (nth ops enter) step ≡ true) same ends_inside
             | inr w ↦
-                let holds_inner : reaches (nth ops outer) k ≡ true = reaches_less (nth ops outer) place k (omega arith) holds in
-                let holds_end : reaches (nth ops outer) inner.1 ≡ true = nested k (omega arith) inner.0 inner.1 inner.2 outer w.1 holds_inner in
+                let holds_inner : loop_reaches (nth ops outer) k ≡ true = reaches_less (nth ops outer) place k (omega arith) holds in
+                let holds_end : loop_reaches (nth ops outer) inner.1 ≡ true = nested k (omega arith) inner.0 inner.1 inner.2 outer w.1 holds_inner in
                 reaches_less (nth ops outer) inner.1 step far holds_end
           ]
       by_test false is further =
-          let others : in_innermost ops (holding ops place k) step ≡ true = rw is at inside_it in
+          let others : in_innermost ops (loops_among ops place k) step ≡ true = rw is at inside_it in
           elim (leb_tells k outer) [
-            | inl w ↦ let same : k ≡ outer = omega (arith, w.1) in absurd (let clash : reaches (nth ops k) place ≡ true = subst (λ enter. reaches (nth ops enter) place ≡ true) (sym same) holds in cc)
+            | inl w ↦ let same : k ≡ outer = omega (arith, w.1) in absurd (let clash : loop_reaches (nth ops k) place ≡ true = subst (λ enter. loop_reaches (nth ops enter) place ≡ true) (sym same) holds in cc)
             | inr w ↦ further others w.1
           ]
 
-  -- what follows wants that of Enters alone
+  -- what follows requires that of Enters alone
   module _ (n : ℕ) (nested : (enter step : ℕ) (predicate : Predicate) → enter < n → nth ops enter ≡ Some (Enter predicate step) → nests_well ops enter (Enter predicate step) ≡ None) where
-    inside_innermost : (predicate : Predicate) (enter step : ℕ) → enter < n → nth ops enter ≡ Some (Enter predicate step) → in_innermost ops (held ops enter) step ≡ true
+    inside_innermost : (predicate : Predicate) (enter step : ℕ) → enter < n → nth ops enter ≡ Some (Enter predicate step) → in_innermost ops (loops_around ops enter) step ≡ true
     inside_innermost predicate enter step before there =
-        let parts = none_of_both (unless (nat_le (length (held ops (suc enter))) most_loops) _) (unless (in_innermost ops (held ops enter) step) _) (nested enter step predicate before there) in
-        no_reason (in_innermost ops (held ops enter) step) _ parts.1
+        let parts = none_of_both (unless (nat_le (length (loops_around ops (suc enter))) most_loops) _) (unless (in_innermost ops (loops_around ops enter) step) _) (nested enter step predicate before there) in
+        no_reason (in_innermost ops (loops_around ops enter) step) _ parts.1
 
-    lies_within_by : (fuel enter : ℕ) → enter < fuel → enter < n → (predicate : Predicate) (step : ℕ) → nth ops enter ≡ Some (Enter predicate step) → (outer : ℕ) → outer < enter → reaches (nth ops outer) enter ≡ true → reaches (nth ops outer) step ≡ true
+    lies_within_by : (fuel enter : ℕ) → enter < fuel → enter < n → (predicate : Predicate) (step : ℕ) → nth ops enter ≡ Some (Enter predicate step) → (outer : ℕ) → outer < enter → loop_reaches (nth ops outer) enter ≡ true → loop_reaches (nth ops outer) step ≡ true
     lies_within_by zero enter fueled before predicate step there = absurd (omega arith)
     lies_within_by (suc fuel) enter fueled before predicate step there =
         inner_first enter step (λ inner less other_predicate end is. lies_within_by fuel inner (omega arith) (omega arith) other_predicate end is) enter (omega arith) (inside_innermost predicate enter step before there)
 
     -- a loop that holds an Enter holds its Step too
-    pub lies_within : (predicate : Predicate) (enter step : ℕ) → enter < n → nth ops enter ≡ Some (Enter predicate step) → (outer : ℕ) → outer < enter → reaches (nth ops outer) enter ≡ true → reaches (nth ops outer) step ≡ true
+    pub lies_within : (predicate : Predicate) (enter step : ℕ) → enter < n → nth ops enter ≡ Some (Enter predicate step) → (outer : ℕ) → outer < enter → loop_reaches (nth ops outer) enter ≡ true → loop_reaches (nth ops outer) step ≡ true
     lies_within predicate enter step before there = lies_within_by (suc enter) enter (omega arith) before predicate step there
 
     -- at a Step, no loop that began after its Enter is still open, and those around are the same as at the Enter
-    none_inside : (predicate : Predicate) (enter step : ℕ) → nth ops step ≡ Some (Step predicate enter) → step ≤ n → (inner : ℕ) → suc enter ≤ inner → inner < step → reaches (nth ops inner) step ≡ false
-    none_inside predicate enter step there le inner behind below = not_true (reaches (nth ops inner) step) (λ h.
+    none_inside : (predicate : Predicate) (enter step : ℕ) → nth ops step ≡ Some (Step predicate enter) → step ≤ n → (inner : ℕ) → suc enter ≤ inner → inner < step → loop_reaches (nth ops inner) step ≡ false
+    none_inside predicate enter step there le inner behind below = not_true (loop_reaches (nth ops inner) step) (λ h.
         let itself = step_pairs predicate step enter there in
         let r = reaching (nth ops inner) step h in
         let far = r.3 in
         let other = enter_pairs r.0 inner r.1 r.2 in
-        let outer_holds : reaches (nth ops enter) inner ≡ true = rw itself.1 (le-leb inner step (omega arith)) in
-        let outer_ends : reaches (nth ops enter) r.1 ≡ true = lies_within r.0 inner r.1 (omega arith) r.2 enter (omega arith) outer_holds in
+        let outer_holds : loop_reaches (nth ops enter) inner ≡ true = rw itself.1 (le-leb inner step (omega arith)) in
+        let outer_ends : loop_reaches (nth ops enter) r.1 ≡ true = lies_within r.0 inner r.1 (omega arith) r.2 enter (omega arith) outer_holds in
         let bound : nat_le r.1 step ≡ true = rw itself.1 at outer_ends in
         let not_later : r.1 ≤ step = leb-true r.1 step bound in
         let same : r.1 ≡ step = omega arith in
@@ -260,50 +260,50 @@ module _ (ops : List Op) (paired : (place : ℕ) (op : Op) → nth ops place ≡
         let same_enter : inner ≡ enter = cc in
         omega arith)
 
-    same_around : (predicate : Predicate) (enter step : ℕ) → nth ops step ≡ Some (Step predicate enter) → step ≤ n → (outer : ℕ) → outer < enter → reaches (nth ops outer) step ≡ reaches (nth ops outer) enter
+    same_around : (predicate : Predicate) (enter step : ℕ) → nth ops step ≡ Some (Step predicate enter) → step ≤ n → (outer : ℕ) → outer < enter → loop_reaches (nth ops outer) step ≡ loop_reaches (nth ops outer) enter
     same_around predicate enter step there le outer below =
         let itself = step_pairs predicate step enter there in
         let ahead = itself.0 in
-        alike (reaches (nth ops outer) step) (reaches (nth ops outer) enter)
+        alike (loop_reaches (nth ops outer) step) (loop_reaches (nth ops outer) enter)
         (λ h. reaches_less (nth ops outer) step enter (omega arith) h)
         (λ h. lies_within predicate enter step (omega arith) itself.1 outer below h)
 
     -- the innermost loop at a Step is the Step's own
-    pub innermost_at_step : (predicate : Predicate) (step enter : ℕ) → nth ops step ≡ Some (Step predicate enter) → step ≤ n → held ops step ≡ enter ∷ held ops enter
+    pub innermost_at_step : (predicate : Predicate) (step enter : ℕ) → nth ops step ≡ Some (Step predicate enter) → step ≤ n → loops_around ops step ≡ enter ∷ loops_around ops enter
     innermost_at_step predicate step enter there le =
         let itself = step_pairs predicate step enter there in
         let ahead = itself.0 in
-        let down : holding ops step step ≡ holding ops step (suc enter) = none_behind ops step (suc enter) step (omega arith) (none_inside predicate enter step there le) in
-        let own : reaches (nth ops enter) step ≡ true = rw itself.1 (le-leb step step (omega arith)) in
-        let around : holding ops step enter ≡ holding ops enter enter = holding_alike ops step enter enter (same_around predicate enter step there le) in
+        let down : loops_among ops step step ≡ loops_among ops step (suc enter) = none_behind ops step (suc enter) step (omega arith) (none_inside predicate enter step there le) in
+        let own : loop_reaches (nth ops enter) step ≡ true = rw itself.1 (le-leb step step (omega arith)) in
+        let around : loops_among ops step enter ≡ loops_among ops enter enter = holding_alike ops step enter enter (same_around predicate enter step there le) in
         rw (down, own, around) refl
 
     -- after a Step its loop has ended
-    pub behind_step : (predicate : Predicate) (step enter : ℕ) → nth ops step ≡ Some (Step predicate enter) → step ≤ n → held ops (suc step) ≡ held ops enter
+    pub behind_step : (predicate : Predicate) (step enter : ℕ) → nth ops step ≡ Some (Step predicate enter) → step ≤ n → loops_around ops (suc step) ≡ loops_around ops enter
     behind_step predicate step enter there le =
         let itself = step_pairs predicate step enter there in
         let ahead = itself.0 in
-        let other : (outer : ℕ) → (outer ≡ enter → ⊥) → reaches (nth ops outer) (suc step) ≡ reaches (nth ops outer) step = λ outer differs. held_further step outer (λ family is. differs (let same : outer ≡ enter = cc in same)) in
-        let not_step : reaches (nth ops step) (suc step) ≡ false = rw there refl in
-        let own : reaches (nth ops enter) (suc step) ≡ false = rw itself.1 (lt-leb (suc step) step (omega arith)) in
-        let down : holding ops (suc step) step ≡ holding ops (suc step) (suc enter) =
+        let other : (outer : ℕ) → (outer ≡ enter → ⊥) → loop_reaches (nth ops outer) (suc step) ≡ loop_reaches (nth ops outer) step = λ outer differs. held_further step outer (λ family is. differs (let same : outer ≡ enter = cc in same)) in
+        let not_step : loop_reaches (nth ops step) (suc step) ≡ false = rw there refl in
+        let own : loop_reaches (nth ops enter) (suc step) ≡ false = rw itself.1 (lt-leb (suc step) step (omega arith)) in
+        let down : loops_among ops (suc step) step ≡ loops_among ops (suc step) (suc enter) =
         none_behind ops (suc step) (suc enter) step (omega arith) (λ inner behind below. other inner (λ same. omega arith) ∙ none_inside predicate enter step there le inner behind below) in
-        let around : holding ops (suc step) enter ≡ holding ops enter enter =
+        let around : loops_among ops (suc step) enter ≡ loops_among ops enter enter =
         holding_alike ops (suc step) enter enter (λ outer below. other outer (λ same. omega arith) ∙ same_around predicate enter step there le outer below) in
         rw (not_step, down, own, around) refl
 
-    pub behind_enter : (predicate : Predicate) (enter step : ℕ) → nth ops enter ≡ Some (Enter predicate step) → step ≤ n → (held ops (suc step) ≡ held ops enter) × (nth ops step ≡ Some (Step predicate enter))
+    pub behind_enter : (predicate : Predicate) (enter step : ℕ) → nth ops enter ≡ Some (Enter predicate step) → step ≤ n → (loops_around ops (suc step) ≡ loops_around ops enter) × (nth ops step ≡ Some (Step predicate enter))
     behind_enter predicate enter step there le =
         let pair = enter_pairs predicate enter step there in
         (behind_step predicate step enter pair.1 le, pair.1)
 
-  -- a jump goes forward, to a place inside that the same loops hold
-  stays_by : (place target named : ℕ) → named ≡ target → forward ops place named ≡ None → stays ops place named ≡ None → (place < target) × (target < length ops) × (held ops place ≡ held ops target)
+  -- a jump is forward, to an index inside that the same loops hold
+  stays_by : (place target named : ℕ) → named ≡ target → forward ops place named ≡ None → stays ops place named ≡ None → (place < target) × (target < length ops) × (loops_around ops place ≡ loops_around ops target)
   stays_by place target named is ahead stay =
       let bounds = is_ahead ops place named ahead in
-      let same : held ops place ≡ held ops named = the_same_loops (held ops place) (held ops named) (no_reason (same_loops (held ops place) (held ops named)) _ stay) in
-      subst (λ p. (place < p) × (p < length ops) × (held ops place ≡ held ops p)) is (bounds.0, bounds.1, same)
+      let same : loops_around ops place ≡ loops_around ops named = the_same_loops (loops_around ops place) (loops_around ops named) (no_reason (same_loops (loops_around ops place) (loops_around ops named)) _ stay) in
+      subst (λ p. (place < p) × (p < length ops) × (loops_around ops place ≡ loops_around ops p)) is (bounds.0, bounds.1, same)
 
-  pub same_target : (place target : ℕ) (op : Op) → JumpsTo op target → nth ops place ≡ Some op → nests_well ops place op ≡ None → (place < target) × (target < length ops) × (held ops place ≡ held ops target)
+  pub same_target : (place target : ℕ) (op : Op) → JumpsTo op target → nth ops place ≡ Some op → nests_well ops place op ≡ None → (place < target) × (target < length ops) × (loops_around ops place ≡ loops_around ops target)
   same_target place target (Jump jump named) jumps there nested = stays_by place target named jumps (paired place (Jump jump named) there) nested
   same_target place target op jumps there nested = absurd jumps

@@ -9,8 +9,9 @@ use Rattle.ar_op.specs.Machine.{nth}
 use Rattle.ar_op.specs.declared.op.Op.{Op}
 use Rattle.ar_safety.specs.Arrivals.{Sent, arrived, at_place, deepest, sends, sent, sent_on, sent_to}
 use Rattle.ar_safety.specs.Budget.{IsBudget, Way}
-use Rattle.ar_safety.specs.Places.{Pass, all_pass, found, has_ops, is_return, names_well, nests_well, places_pass}
-use Rattle.ar_safety.specs.Verdict.{IsFault, IsTooDear, IsVerified, greatest_budget, passed}
+use Rattle.ar_safety.specs.Places.{Pass, all_pass, fault_or, has_ops, is_return, names_well, nests_well, places_pass}
+use Rattle.ar_safety.specs.Verdict.{IsFault, IsTooDear, IsVerified, passed}
+use Rattle.ar_safety.specs.Bounds.{greatest_budget}
 use Rattle.ar_safety.specs.declared.error.Cause.{Cause}
 use Rattle.ar_safety.specs.declared.error.Cause.TheVariants.{Fault, OutOfMemory}
 use Rattle.ar_safety.specs.declared.error.Reason.{Reason}
@@ -31,7 +32,7 @@ ops_free : (ops : List Op) → IsFree (has_ops ops)
 ops_free [] = λ same. cc
 ops_free (op ∷ ops) = λ same. cc
 
-found_free : (place : ℕ) (fault : Option Reason) (later : Result (Unit {0}) Cause) → IsFree later → IsFree (found place fault later)
+found_free : (place : ℕ) (fault : Option Reason) (later : Result (Unit {0}) Cause) → IsFree later → IsFree (fault_or place fault later)
 found_free place None later free = free
 found_free place (Some reason) later free = λ same. cc
 

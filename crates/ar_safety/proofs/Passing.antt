@@ -1,11 +1,11 @@
--- What the verifier's passes say of each operation, told of the place where it stands.
+-- What the verifier's passes say of each operation, by the index where it is.
 use Rattle.std.proofs.Common.{◌≡◌, ◌<◌, ◌≤◌, ℕ, zero, suc, ◌+◌, Bool, true, false, nat_le, List, [], ◌∷◌, ◌++◌, Option, Some, None, Result, Ok, Err, refl, sym, ap, ◌∙◌, arith}
 use Rattle.std.specs.Prelude.{if◌then◌else◌}
 use Rattle.std.specs.List.{AllByRecursion}
 use Rattle.std.proofs.lemmas.Bool.Decides.{nat_tests}
 use Rattle.std.proofs.lemmas.List.{append_assoc, append-nil}
 use Rattle.ar_value.specs.Answer.{◌>>=◌}
-use Rattle.ar_value.specs.Kind.{Kind, shaped}
+use Rattle.ar_value.specs.Kind.{Kind, shaped, truth_kind}
 use Rattle.ar_value.specs.Shape.{Shape, list}
 use Rattle.ar_value.specs.Shape as shapes
 use Rattle.ar_value.specs.declared.operator.Predicate.{Predicate}
@@ -15,8 +15,8 @@ use Rattle.ar_op.specs.Machine.{nth}
 use Rattle.ar_op.specs.declared.op.Op.{Op}
 use Rattle.ar_op.specs.declared.op.Jump.TheVariants as jumps
 use Rattle.ar_op.specs.declared.op.Op.TheVariants.{Jump, Enter, Step, Return}
-use Rattle.ar_safety.specs.Arrivals.{Around, Operands, Sent, answer_kind, arrival, arrived, at_place, deepest, ended, entered, item_of, lacks, on_truth, passed_on, sends, sent, sent_on, sent_to, to_next, where_shallow}
-use Rattle.ar_safety.specs.Effects.{effect, truth}
+use Rattle.ar_safety.specs.Arrivals.{Around, Operands, Sent, answer_kind, arrival, arrived, at_place, deepest, loop_ended, loop_entered, innermost_shape, lacks, on_truth_kind, passed_on, sends, sent, sent_on, sent_to, to_next, where_shallow}
+use Rattle.ar_safety.specs.Effects.{kinds_left}
 use Rattle.ar_safety.specs.Places.{all_pass, ends_loop, forward, names_well, unless}
 use Rattle.ar_safety.specs.declared.error.Reason.{Reason}
 use Rattle.ar_safety.specs.declared.error.Reason.TheVariants.{MissingOperand, UnpairedLoop}
@@ -46,10 +46,10 @@ shallow false sents more e h = absurd cc
 -- a boolean on top
 pub record OnTruth (kinds : List Kind) (next : List Kind → Result (List Sent) Reason) (more : List Sent) : Type 0 where
   pub taken : List Kind
-  pub are : kinds ≡ truth ∷ taken
+  pub are : kinds ≡ truth_kind ∷ taken
   pub sent : next taken ≡ Ok more
 
-pub on_top : (kinds : List Kind) (next : List Kind → Result (List Sent) Reason) (more : List Sent) → on_truth kinds next ≡ Ok more → OnTruth kinds next more
+pub on_top : (kinds : List Kind) (next : List Kind → Result (List Sent) Reason) (more : List Sent) → on_truth_kind kinds next ≡ Ok more → OnTruth kinds next more
 on_top (shaped shapes.bool ∷ kinds) next more h = record { taken = kinds; are = refl; sent = h }
 on_top kinds next more h = absurd cc
 
@@ -70,11 +70,11 @@ pub record Entered (predicate : Predicate) (place step : ℕ) (kinds : List Kind
   pub are : kinds ≡ shaped (list item most) ∷ below
   pub sent : more ≡ sent (suc place) [] (record { item = item; most = most; below = below } ∷ loops) ∷ sent (suc step) (answer_kind predicate item most ∷ below) loops ∷ []
 
-pub enters : (predicate : Predicate) (place step : ℕ) (kinds : List Kind) (loops : List Around) (more : List Sent) → entered predicate place step kinds loops ≡ Ok more → Entered predicate place step kinds loops more
+pub enters : (predicate : Predicate) (place step : ℕ) (kinds : List Kind) (loops : List Around) (more : List Sent) → loop_entered predicate place step kinds loops ≡ Ok more → Entered predicate place step kinds loops more
 enters predicate place step (shaped (shapes.list item most) ∷ below) loops more h = record { item = item; most = most; below = below; are = refl; sent = cc }
 enters predicate place step kinds loops more h = absurd cc
 
--- a loop of which nothing but the boolean lies above the floor
+-- a loop of which nothing but the boolean is above the floor
 pub record Ended (predicate : Predicate) (place : ℕ) (kinds : List Kind) (loops : List Around) (more : List Sent) : Type 0 where
   pub loop : Around
   pub outer : List Around
@@ -82,12 +82,12 @@ pub record Ended (predicate : Predicate) (place : ℕ) (kinds : List Kind) (loop
   pub are : loops ≡ loop ∷ outer
   pub sent : more ≡ sent (suc place) (answer_kind predicate loop.item loop.most ∷ loop.below) outer ∷ []
 
-pub ends : (predicate : Predicate) (place : ℕ) (kinds : List Kind) (loops : List Around) (more : List Sent) → ended predicate place kinds loops ≡ Ok more → Ended predicate place kinds loops more
+pub ends : (predicate : Predicate) (place : ℕ) (kinds : List Kind) (loops : List Around) (more : List Sent) → loop_ended predicate place kinds loops ≡ Ok more → Ended predicate place kinds loops more
 ends predicate place [] (loop ∷ outer) more h = record { loop = loop; outer = outer; none = refl; are = refl; sent = cc }
 ends predicate place [] [] more h = absurd cc
 ends predicate place (kind ∷ kinds) loops more h = absurd cc
 
--- ---- operations send on alone to places further on
+-- ---- operations send on only to indexes further on
 
 abbrev pub Ahead : ℕ → Sent → Type 0
 Ahead place one = place < one.target
@@ -140,23 +140,23 @@ module _ (code : Code) (shape : Shape) where
         let enter = enters predicate place step kinds loops more h in
         rw enter.sent (omega arith, (omega arith, tt))
     passed_ahead place (Step predicate enter) kinds loops more well h =
-        let top = on_top kinds (λ taken. ended predicate place taken loops) more h in
+        let top = on_top kinds (λ taken. loop_ended predicate place taken loops) more h in
         let end = ends predicate place top.taken loops more top.sent in
         rw end.sent (omega arith, tt)
     passed_ahead place Return kinds loops more well h =
         let top = on_top kinds (λ taken. Ok []) more h in
         rw (sym (same_sent [] more top.sent)) tt
-    passed_ahead place op kinds loops more well h = next_ahead place loops (effect code shape (item_of loops) op kinds) more h
+    passed_ahead place op kinds loops more well h = next_ahead place loops (kinds_left code shape (innermost_shape loops) op kinds) more h
 
     -- ---- all operations, one after the other
 
-    -- all that is sent from a place on is after what was sent before, and goes further on
+    -- all that is sent from an index on is after what was sent before, and is sent further on
     pub record Later (place : ℕ) (before final : List Sent) : Type 0 where
       pub later : List Sent
       pub are : final ≡ before ++ later
       pub ahead : AllByRecursion (Ahead place) later
 
-    -- what arrives at a place, what is sent on from there, and all that is sent
+    -- what arrives at `place`, what is sent on from there, and all that is sent
     pub record Passed (final : List Sent) (place : ℕ) (op : Op) : Type 0 where
       pub had : Operands
       pub more : List Sent
@@ -197,7 +197,7 @@ module _ (code : Code) (shape : Shape) where
     arrives_still place before later final had h ahead are =
         ap (λ final. arrival place final) are ∙ ap arrived (sent_to_both place before later ∙ ap (λ later. sent_to place before ++ later) (elsewhere place later (all_more (Ahead place) (λ one. one.target ≡ place → ⊥) later (λ one h same. omega arith) ahead)) ∙ append-nil (sent_to place before)) ∙ h
 
-    -- each operation, by how many stand between
+    -- each operation, by how many are between
     pub passed_at : (place : ℕ) (rest : List Op) (before final : List Sent) → all_pass (names_well ops) place rest ≡ Ok tt → sent_on code shape place rest before ≡ Ok final
         → (n : ℕ) (op : Op) → nth rest n ≡ Some op → Passed final (n + place) op
     passed_at place [] before final well h n op there = absurd cc

@@ -1,4 +1,4 @@
--- Code in which the passes 1 to 5 found nothing, place by place: what arrives there, and that what is sent on arrives.
+-- Code in which the passes 1 to 5 found nothing, index by index: what arrives there, and that what is sent on arrives.
 use Rattle.std.proofs.Common.{◌≡◌, ◌<◌, ◌≤◌, ℕ, zero, suc, ◌+◌, ◌-◌, Bool, true, false, List, [], ◌∷◌, ◌++◌, length, map, Option, Some, None, Result, Ok, Err, refl, sym, ap, subst, inl, inr, ◌∙◌, arith}
 use Rattle.std.specs.Prelude.{if◌then◌else◌}
 use Rattle.std.specs.List.{AllByRecursion}
@@ -12,10 +12,10 @@ use Rattle.ar_op.specs.Machine.{nth}
 use Rattle.ar_op.specs.declared.op.Op.{Op}
 use Rattle.ar_op.specs.declared.op.Jump.TheVariants.{And, Or, Branch, Always}
 use Rattle.ar_op.specs.declared.op.Op.TheVariants.{Jump, Enter, Step, Return}
-use Rattle.ar_safety.specs.Arrivals.{Around, Operands, Sent, all_sent, answer_kind, arrival, arrived, ended, item_of, operands, passed_on, sent, sent_to, to_next}
+use Rattle.ar_safety.specs.Arrivals.{Around, Operands, Sent, all_sent, answer_kind, arrival, arrived, loop_ended, innermost_shape, operands, passed_on, sent, sent_to, to_next}
 use Rattle.ar_safety.specs.Budget.{JumpsTo}
-use Rattle.ar_safety.specs.Effects.{effect}
-use Rattle.ar_safety.specs.Places.{all_pass, has_ops, held, is_return, names_well, nests_well, places_pass}
+use Rattle.ar_safety.specs.Effects.{kinds_left}
+use Rattle.ar_safety.specs.Places.{all_pass, has_ops, loops_around, is_return, names_well, nests_well, places_pass}
 use Rattle.ar_safety.specs.Verdict.{passed}
 use Rattle.ar_safety.specs.declared.error.Cause.{Cause}
 use Rattle.ar_safety.specs.declared.error.Reason.{Reason}
@@ -47,7 +47,7 @@ clean code shape sents h =
     let third = bound (all_pass (nests_well code.ops) 0 code.ops) _ all.0 second.2 in
     record { paired = second.1; nested = third.1; returns = ends_well (is_return (nth code.ops (length code.ops - 1))) _ third.2; all = all.2 }
 
--- ---- loops around a place
+-- ---- loops around an index
 
 -- the loop over the list on top
 abbrev pub over_list : List Kind → Around
@@ -98,12 +98,12 @@ module _ (code : Code) (shape : Shape) (sents : List Sent) (is : Clean code shap
       let here : Passed code shape code.ops sents (place + 0) op = passed_at code shape code.ops 0 code.ops (sent 0 [] [] ∷ []) sents is.paired is.all place op there in
       let start : place + 0 ≡ place = omega arith in rw start at here
 
-  -- the loops around a place, by what arrives at their Enters
+  -- the loops around an index, by what arrives at their Enters
   abbrev pub around : (enter : ℕ) → Around
   around enter = loop_over (arrival enter sents)
 
   abbrev pub loops_at : (place : ℕ) → List Around
-  loops_at place = map around (held code.ops place)
+  loops_at place = map around (loops_around code.ops place)
 
   no_end : (place : ℕ) (op : Op) → At place op → GoesFurther op → length code.ops ≤ suc place → ⊥
   no_end place op there further past =
@@ -113,16 +113,16 @@ module _ (code : Code) (shape : Shape) (sents : List Sent) (is : Clean code shap
       let return_there : is_return (Some op) ≡ true = rw there at returns in
       no_return op return_there further
 
-  -- after an operation that is no Return stands another one
+  -- after an operation that is no Return comes another one
   pub not_last : (place : ℕ) (op : Op) → At place op → GoesFurther op → suc place < length code.ops
   not_last place op there further = elim (leb_tells (length code.ops) (suc place)) [
     | inl w ↦ absurd (no_end place op there further w.1)
     | inr w ↦ w.1
   ]
 
-  -- ---- what is sent goes to places inside, in the loops that are around them
+  -- ---- what is sent reaches indexes inside, in the loops that are around them
 
-  -- inside the code, and in the loops around the place
+  -- inside the code, and in the loops around the index
   abbrev pub WellSent : Sent → Type 0
   WellSent one = (one.target < length code.ops) × (one.operands.loops ≡ loops_at one.target)
 
@@ -148,13 +148,13 @@ module _ (code : Code) (shape : Shape) (sents : List Sent) (is : Clean code shap
   nested_below : (n enter step : ℕ) (predicate : Predicate) → enter < n → At enter (Enter predicate step) → nests_well code.ops enter (Enter predicate step) ≡ None
   nested_below n enter step predicate below there = nests enter (Enter predicate step) there
 
-  pub jumps_well : (place target : ℕ) (op : Op) → JumpsTo op target → At place op → (place < target) × (target < length code.ops) × (held code.ops place ≡ held code.ops target)
+  pub jumps_well : (place target : ℕ) (op : Op) → JumpsTo op target → At place op → (place < target) × (target < length code.ops) × (loops_around code.ops place ≡ loops_around code.ops target)
   jumps_well place target op jumps there = same_target code.ops pairs place target op jumps there (nests place op there)
 
-  pub around_next : (place : ℕ) (op : Op) → At place op → IsNoLoop op → held code.ops (suc place) ≡ held code.ops place
+  pub around_next : (place : ℕ) (op : Op) → At place op → IsNoLoop op → loops_around code.ops (suc place) ≡ loops_around code.ops place
   around_next place op there plain = stays_around code.ops pairs place op there plain
 
-  pub around_body : (place step : ℕ) (predicate : Predicate) → At place (Enter predicate step) → held code.ops (suc place) ≡ place ∷ held code.ops place
+  pub around_body : (place step : ℕ) (predicate : Predicate) → At place (Enter predicate step) → loops_around code.ops (suc place) ≡ place ∷ loops_around code.ops place
   around_body place step predicate there = begins code.ops pairs predicate place step there
 
   pub the_step : (place step : ℕ) (predicate : Predicate) → At place (Enter predicate step) → (place < step) × At step (Step predicate place)
@@ -163,17 +163,17 @@ module _ (code : Code) (shape : Shape) (sents : List Sent) (is : Clean code shap
   pub the_enter : (place enter : ℕ) (predicate : Predicate) → At place (Step predicate enter) → (enter < place) × At enter (Enter predicate place)
   the_enter place enter predicate there = step_pairs code.ops pairs predicate place enter there
 
-  pub around_step : (place enter : ℕ) (predicate : Predicate) → At place (Step predicate enter) → (held code.ops place ≡ enter ∷ held code.ops enter) × (held code.ops (suc place) ≡ held code.ops enter)
+  pub around_step : (place enter : ℕ) (predicate : Predicate) → At place (Step predicate enter) → (loops_around code.ops place ≡ enter ∷ loops_around code.ops enter) × (loops_around code.ops (suc place) ≡ loops_around code.ops enter)
   around_step place enter predicate there =
       (innermost_at_step code.ops pairs place (nested_below place) predicate place enter there (omega arith), behind_step code.ops pairs place (nested_below place) predicate place enter there (omega arith))
 
-  pub around_behind : (place step : ℕ) (predicate : Predicate) → At place (Enter predicate step) → held code.ops (suc step) ≡ held code.ops place
+  pub around_behind : (place step : ℕ) (predicate : Predicate) → At place (Enter predicate step) → loops_around code.ops (suc step) ≡ loops_around code.ops place
   around_behind place step predicate there = (around_step step place predicate (the_step place step predicate there).1).1
 
-  well_sent : (target : ℕ) (kinds : List Kind) (loops : List Around) (place : ℕ) → target < length code.ops → loops ≡ loops_at place → held code.ops place ≡ held code.ops target → WellSent (sent target kinds loops)
+  well_sent : (target : ℕ) (kinds : List Kind) (loops : List Around) (place : ℕ) → target < length code.ops → loops ≡ loops_at place → loops_around code.ops place ≡ loops_around code.ops target → WellSent (sent target kinds loops)
   well_sent target kinds loops place inside here same = (inside, here ∙ ap (map around) same)
 
-  -- to the next place
+  -- to the next index
   next_well : (place : ℕ) (op : Op) (kinds : List Kind) (loops : List Around) → At place op → IsNoLoop op → GoesFurther op → loops ≡ loops_at place → WellSent (sent (suc place) kinds loops)
   next_well place op kinds loops there plain further here = well_sent (suc place) kinds loops place (not_last place op there further) here (sym (around_next place op there plain))
 
@@ -209,14 +209,14 @@ module _ (code : Code) (shape : Shape) (sents : List Sent) (is : Clean code shap
       rw enter.sent
       ((not_last place (Enter predicate step) there tt, body), (well_sent (suc step) (answer_kind predicate enter.item enter.most ∷ enter.below) loops place behind here (sym (around_behind place step predicate there)), tt))
   passed_well place (Step predicate enter) kinds loops more there came here h =
-      let top = on_top kinds (λ taken. ended predicate place taken loops) more h in
+      let top = on_top kinds (λ taken. loop_ended predicate place taken loops) more h in
       let end = ends predicate place top.taken loops more top.sent in
       let own = around_step place enter predicate there in
-      let both : (end.loop ∷ end.outer) ≡ map around (enter ∷ held code.ops enter) = sym end.are ∙ here ∙ ap (map around) own.0 in
+      let both : (end.loop ∷ end.outer) ≡ map around (enter ∷ loops_around code.ops enter) = sym end.are ∙ here ∙ ap (map around) own.0 in
       let outer : end.outer ≡ loops_at enter = same_tail end.loop (around enter) end.outer (loops_at enter) both in
       rw end.sent (well_sent (suc place) (answer_kind predicate end.loop.item end.loop.most ∷ end.loop.below) end.outer enter (not_last place (Step predicate enter) there tt) outer (sym own.1), tt)
   passed_well place Return kinds loops more there came here h = let top = on_top kinds (λ taken. Ok []) more h in rw (sym (same_sent code shape [] more top.sent)) tt
-  passed_well place op kinds loops more there came here h = falls_well place op (effect code shape (item_of loops) op kinds) loops more there tt tt here h
+  passed_well place op kinds loops more there came here h = falls_well place op (kinds_left code shape (innermost_shape loops) op kinds) loops more there tt tt here h
 
   first_well : AllByRecursion WellSent (sent 0 [] [] ∷ [])
   first_well = ((first_inside, refl), tt)
@@ -229,7 +229,7 @@ module _ (code : Code) (shape : Shape) (sents : List Sent) (is : Clean code shap
 
   -- ---- what is sent arrives
 
-  -- at a place inside the code, where something arrives that has room for it
+  -- at an index inside the code, where something arrives that has room for it
   pub record Comes (one : Sent) : Type 0 where
     pub next : Op
     pub there : At one.target next

@@ -12,7 +12,7 @@ use Rattle.ar_op.specs.Machine.{Loop, Next, State, after, begin, ends, follow, g
 use Rattle.ar_op.specs.declared.op.Op.{Op}
 use Rattle.ar_safety.specs.Arrivals.{Around, Operands, Sent, deepest, height, sent, sent_to}
 use Rattle.ar_safety.specs.Arrivals as arrivals
-use Rattle.ar_safety.specs.Places.{held}
+use Rattle.ar_safety.specs.Places.{loops_around}
 use Rattle.ar_safety.specs.Safety.{IsSafe}
 use Rattle.ar_safety.proofs.Arriving.{all_more, arrives, of_place}
 use Rattle.ar_safety.proofs.Effects.{fit_length}
@@ -55,7 +55,7 @@ module _ (code : Code) (shape : Shape) (sents : List Sent) (is : Clean code shap
   ends_from zero s good few = let some = some_due s good in absurd (omega arith)
   ends_from (suc k) s good few = ends_by k s few (ends_from k) (step code value s) (sound.steps code shape sents is tables value fit_value due prices s good)
 
-  -- ---- what comes after so many steps
+  -- ---- what comes after n steps
 
   abbrev Safe : Next → Type 0
   Safe (goes t) = Good t
@@ -73,7 +73,7 @@ module _ (code : Code) (shape : Shape) (sents : List Sent) (is : Clean code shap
 
   -- ---- how many operands there are
 
-  base_length : (loops : List Loop) (enters : List ℕ) (base : List Value) → sound.InLoops code shape sents is tables value fit_value due prices loops enters base → length base ≡ arrivals.floor (map (reached.around code shape sents is) enters)
+  base_length : (loops : List Loop) (enters : List ℕ) (base : List Value) → sound.InLoops code shape sents is tables value fit_value due prices loops enters base → length base ≡ arrivals.floor_height (map (reached.around code shape sents is) enters)
   base_length [] [] base none = ap length none
   base_length (loop ∷ outer) (enter ∷ enters) base h =
       let lower = base_length outer enters h.0 h.2 in
@@ -84,14 +84,14 @@ module _ (code : Code) (shape : Shape) (sents : List Sent) (is : Clean code shap
   base_length [] (enter ∷ enters) base h = absurd h
   base_length (loop ∷ outer) [] base h = absurd h
 
-  -- what arrives at a place is no more than what is sent
+  -- what arrives at `place` is no more than what is sent
   arrival_below : (place : ℕ) (op : Op) (there : nth code.ops place ≡ Some op) → height (reached.here code shape sents is place op there).had ≤ deepest sents
   arrival_below place op there =
       let h = reached.here code shape sents is place op there in
       let came = arrives (sent_to place sents) h.had h.arrives in
       let below = of_place (λ one. height one ≤ deepest sents) place sents (all_more (λ one. height one.operands ≤ deepest sents) (λ one. one.target ≡ place → height one.operands ≤ deepest sents) sents (λ one low there. low) (all_below sents)) in
       let first : height came.first ≤ deepest sents = (subst (AllByRecursion (λ one. height one ≤ deepest sents)) came.are below).0 in
-      let floors : arrivals.floor came.first.loops ≡ arrivals.floor h.had.loops = ap arrivals.floor came.loops in
+      let floors : arrivals.floor_height came.first.loops ≡ arrivals.floor_height h.had.loops = ap arrivals.floor_height came.loops in
       let many = came.many in
       omega arith
 
@@ -99,8 +99,8 @@ module _ (code : Code) (shape : Shape) (sents : List Sent) (is : Clean code shap
   operands_below s good =
       let h = reached.here code shape sents is s.place good.op good.there in
       let tops = fit_length good.top h.had.kinds good.fit in
-      let bases = base_length s.loops (held code.ops s.place) good.base good.loops in
-      let floors : arrivals.floor h.had.loops ≡ arrivals.floor (map (reached.around code shape sents is) (held code.ops s.place)) = ap arrivals.floor h.loops in
+      let bases = base_length s.loops (loops_around code.ops s.place) good.base good.loops in
+      let floors : arrivals.floor_height h.had.loops ≡ arrivals.floor_height (map (reached.around code shape sents is) (loops_around code.ops s.place)) = ap arrivals.floor_height h.loops in
       let both = length_both good.top good.base in
       let all = ap length good.are in
       let below = arrival_below s.place good.op good.there in
@@ -114,7 +114,7 @@ module _ (code : Code) (shape : Shape) (sents : List Sent) (is : Clean code shap
 
   loops_below : (s : State) → Good s → length s.loops ≤ most_loops
   loops_below s good =
-      let many = as_many_loops s.loops (held code.ops s.place) good.base good.loops in
+      let many = as_many_loops s.loops (loops_around code.ops s.place) good.base good.loops in
       let few = few_held code.ops (reached.pairs code shape sents is) (reached.nests code shape sents is) s.place in
       omega arith
 

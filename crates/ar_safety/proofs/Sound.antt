@@ -7,7 +7,7 @@ use Rattle.std.proofs.lemmas.Bool.{leb-true}
 use Rattle.std.proofs.lemmas.Bool.Decides.{nat_tests}
 use Rattle.std.proofs.Math.Nat.{mul-le-mul_right, suc-mul}
 use Rattle.ar_value.specs.Fits.{all_items, fits}
-use Rattle.ar_value.specs.Kind.{Kind, shaped, fits_kind}
+use Rattle.ar_value.specs.Kind.{Kind, shaped, fits_kind, truth_kind}
 use Rattle.ar_value.specs.Operators.{Failure, faulted, ill_kinded}
 use Rattle.ar_value.specs.Predicates.{is_same}
 use Rattle.ar_value.proofs.Predicates.{itself as same_as_itself}
@@ -18,17 +18,17 @@ use Rattle.ar_value.specs.Value as values
 use Rattle.ar_value.specs.declared.operator.Predicate.{Predicate}
 use Rattle.ar_value.specs.declared.operator.Predicate.TheVariants as predicates
 use Rattle.ar_op.specs.Code.{Code, Inside}
-use Rattle.ar_op.specs.Machine.{Loop, Next, State, answer_of, begins_loop, cost_of, decided, ends, entered, falls, found_by, goes, here, left, looked_at, next_item, nth, paid, performed, step, stepped, stuck, takes, to}
+use Rattle.ar_op.specs.Machine.{Loop, Next, State, loop_answer, begins_loop, cost_of, decided, ends, entered, falls, found_by, goes, here, left, looked_at, next_item, nth, paid, performed, step, stepped, stuck, takes, to}
 use Rattle.ar_op.specs.Machine as machine
 use Rattle.ar_op.specs.declared.op.Op.{Op}
 use Rattle.ar_op.specs.declared.op.Jump.TheVariants.{And, Or, Branch, Always}
 use Rattle.ar_op.specs.declared.op.Op.TheVariants.{Push, Binary, Jump, Enter, Step, Return}
 use Rattle.ar_op.specs.declared.op.Source.TheVariants as sources
 use Rattle.ar_value.specs.declared.operator.BinaryOperator.TheVariants as binary
-use Rattle.ar_safety.specs.Arrivals.{Around, Operands, Sent, answer_kind, arrival, ended, item_of, lacks, operands, passed_on, sent, to_next}
+use Rattle.ar_safety.specs.Arrivals.{Around, Operands, Sent, answer_kind, arrival, loop_ended, innermost_shape, lacks, operands, passed_on, sent, to_next}
 use Rattle.ar_safety.specs.Budget.{GoesOn, JumpsTo, most_at, most_items, most_on_top, price}
-use Rattle.ar_safety.specs.Effects.{effect, member_kind, on_two, truth}
-use Rattle.ar_safety.specs.Places.{held, same_loops}
+use Rattle.ar_safety.specs.Effects.{kinds_left, member_kind, on_two_kinds}
+use Rattle.ar_safety.specs.Places.{loops_around, same_loops}
 use Rattle.ar_safety.specs.declared.error.Reason.TheVariants.{CrossesLoop}
 use Rattle.ar_safety.proofs.Effects.{Fit, Leaves, effect_sound, fit_length}
 use Rattle.ar_safety.proofs.Nesting.{IsNoLoop, no_reason}
@@ -47,8 +47,8 @@ count_found : (found : List Value) → count (items_of found) ≡ length found
 count_found [] = refl
 count_found (v ∷ found) = ap suc (count_found found)
 
--- what a loop answers of the items that were found is of its kind
-answer_fits : (predicate : Predicate) (shape : Shape) (most : ℕ) (found : List Value) → all_items (λ v. fits v shape) (items_of found) ≡ true → length found ≤ most → fits_kind (answer_of predicate found) (answer_kind predicate shape most) ≡ true
+-- what a loop returns on the items that were found is of its kind
+answer_fits : (predicate : Predicate) (shape : Shape) (most : ℕ) (found : List Value) → all_items (λ v. fits v shape) (items_of found) ≡ true → length found ≤ most → fits_kind (loop_answer predicate found) (answer_kind predicate shape most) ≡ true
 answer_fits predicates.All shape most found all few = refl
 answer_fits predicates.Any shape most found all few = refl
 answer_fits predicates.None shape most found all few = refl
@@ -83,7 +83,7 @@ one_more (first ∷ found) v = ap suc (one_more found v)
 itself : (n : ℕ) → (n == n) ≡ true
 itself n = grind (arith, nat_tests)
 
--- the items that were found once one more was looked at
+-- the items that were found once one more was examined
 found_more : (holds : Bool) (loop : Loop) (shape : Shape) → all_items (λ v. fits v shape) (items_of loop.found) ≡ true → fits loop.here shape ≡ true
     → (all_items (λ v. fits v shape) (items_of (found_by holds loop)) ≡ true) × (length (found_by holds loop) ≤ suc (length loop.found))
 found_more true loop shape all fit = (all_found shape loop.found loop.here all fit, rw (one_more loop.found loop.here) (omega arith))
@@ -116,14 +116,14 @@ has_operands op had h = grind (arith, nat_tests)
 
 -- ---- what is still to pay
 
--- for each place what is to pay from there at most, by what is to pay from the places that a run may go to
+-- for each index what is to pay from there at most, by what is to pay from the indexes that a run may reach
 pub record Prices (ops : List Op) (sents : List Sent) (due : ℕ → ℕ) : Type 0 where
   pub some : (place : ℕ) (op : Op) → nth ops place ≡ Some op → 1 ≤ due place
   pub next : (place : ℕ) (op : Op) → nth ops place ≡ Some op → GoesOn op → price op (most_at ops sents place) + due (suc place) ≤ due place
   pub jump : (place target : ℕ) (op : Op) → nth ops place ≡ Some op → JumpsTo op target → suc (due target) ≤ due place
   pub loop : (place step : ℕ) (predicate : Predicate) → nth ops place ≡ Some (Enter predicate step) → suc (most_at ops sents place * due (suc place) + due (suc step)) ≤ due place
 
--- where an Enter's Step stands
+-- where an Enter's Step is
 abbrev pub step_of : Option Op → ℕ
 step_of (Some (Enter predicate step)) = step
 step_of op = 0
@@ -141,9 +141,9 @@ module _ (code : Code) (shape : Shape) (sents : List Sent) (is : Clean code shap
   waiting [] = 0
   waiting (loop ∷ outer) = count loop.rest * due (suc loop.enter) + due (suc (step_of (nth code.ops loop.enter))) + waiting outer
 
-  -- ---- states that a run comes to
+  -- ---- states that a run reaches
 
-  -- a loop that has begun, by its Enter: what lies below its floor, and below that of the loop around it
+  -- a loop that has begun, by its Enter: what is below its floor, and below that of the loop around it
   pub record InLoop (loop : Loop) (enter : ℕ) (base lower : List Value) : Type 0 where
     pub of : loop.enter ≡ enter
     pub here : fits loop.here (around enter).item ≡ true
@@ -161,7 +161,7 @@ module _ (code : Code) (shape : Shape) (sents : List Sent) (is : Clean code shap
   InLoops [] (enter ∷ enters) base = ⊥
   InLoops (loop ∷ outer) [] base = ⊥
 
-  -- operands of the kinds that arrive above the floor, and loops that have begun around the place
+  -- operands of the kinds that arrive above the floor, and loops that have begun around the index
   pub record Good (s : State) : Type 0 where
     pub op : Op
     pub there : At s.place op
@@ -169,7 +169,7 @@ module _ (code : Code) (shape : Shape) (sents : List Sent) (is : Clean code shap
     pub base : List Value
     pub are : s.operands ≡ top ++ base
     pub fit : Fit top (reached.here code shape sents is s.place op there).had.kinds
-    pub loops : InLoops s.loops (held code.ops s.place) base
+    pub loops : InLoops s.loops (loops_around code.ops s.place) base
 
   floor_is : (loops : List Loop) (enters : List ℕ) (base : List Value) → InLoops loops enters base → machine.floor loops ≡ length base
   floor_is [] [] base none = ap length (sym none)
@@ -177,8 +177,8 @@ module _ (code : Code) (shape : Shape) (sents : List Sent) (is : Clean code shap
   floor_is [] (enter ∷ enters) base h = absurd h
   floor_is (loop ∷ outer) [] base h = absurd h
 
-  -- the item at hand fits
-  item_is : (loops : List Loop) (enters : List ℕ) (base : List Value) → InLoops loops enters base → IsThere (item_of (map around enters)) (here loops)
+  -- the current item fits
+  item_is : (loops : List Loop) (enters : List ℕ) (base : List Value) → InLoops loops enters base → IsThere (innermost_shape (map around enters)) (here loops)
   item_is [] [] base none = tt
   item_is (loop ∷ outer) (enter ∷ enters) base h = h.1.here
   item_is [] (enter ∷ enters) base h = absurd h
@@ -196,14 +196,14 @@ module _ (code : Code) (shape : Shape) (sents : List Sent) (is : Clean code shap
   one_arrival place had other h k = cc
 
   -- what is sent is a state of a run, once it comes
-  pub comes_good : (one : Sent) → Comes code shape sents is one → (top base : List Value) (loops : List Loop) (cost : ℕ) → Fit top one.operands.kinds → InLoops loops (held code.ops one.target) base
+  pub comes_good : (one : Sent) → Comes code shape sents is one → (top base : List Value) (loops : List Loop) (cost : ℕ) → Fit top one.operands.kinds → InLoops loops (loops_around code.ops one.target) base
       → Good (at one.target (top ++ base) loops cost)
   comes_good one come top base loops cost fit around_it =
       let place = reached.here code shape sents is one.target come.next come.there in
       let alike : come.had ≡ place.had = one_arrival one.target come.had place.had come.arrives place.arrives in
       record { op = come.next; there = come.there; top = top; base = base; are = refl; fit = subst (λ had. Fit top had.kinds) alike (come.room top fit); loops = around_it }
 
-  goes_to : (one : Sent) → Comes code shape sents is one → (place : ℕ) (top base : List Value) (loops : List Loop) (cost total : ℕ) → Fit top one.operands.kinds → InLoops loops (held code.ops one.target) base
+  goes_to : (one : Sent) → Comes code shape sents is one → (place : ℕ) (top base : List Value) (loops : List Loop) (cost total : ℕ) → Fit top one.operands.kinds → InLoops loops (loops_around code.ops one.target) base
       → suc cost ≤ total → total + due one.target ≤ cost + due place → Leads place loops cost (goes (at one.target (top ++ base) loops total))
   goes_to one come place top base loops cost total fit around_it more enough = (comes_good one come top base loops total fit around_it, more, omega arith)
 
@@ -217,7 +217,7 @@ module _ (code : Code) (shape : Shape) (sents : List Sent) (is : Clean code shap
   either_place false one other place loops cost operands h k = k
 
   -- a boolean on top leads on
-  truth_leads : (next : Bool → List Value → Next) (at_place place : ℕ) (loops : List Loop) (cost : ℕ) (top base : List Value) (taken : List Kind) → Fit top (truth ∷ taken)
+  truth_leads : (next : Bool → List Value → Next) (at_place place : ℕ) (loops : List Loop) (cost : ℕ) (top base : List Value) (taken : List Kind) → Fit top (truth_kind ∷ taken)
       → ((holds : Bool) (others : List Value) → Fit others taken → Leads place loops cost (next holds (others ++ base))) → Leads place loops cost (machine.on_truth at_place (top ++ base) next)
   truth_leads next at_place place loops cost (v ∷ others) base taken fit each =
       on_bool (λ v. Leads place loops cost (machine.on_truth at_place (v ∷ (others ++ base)) next)) (λ holds. each holds others fit.1) v fit.0
@@ -229,8 +229,8 @@ module _ (code : Code) (shape : Shape) (sents : List Sent) (is : Clean code shap
   one_comes : (first : Sent) (more : List Sent) → Answers code shape (Ok (first ∷ [])) more → AllByRecursion (Comes code shape sents is) more → Comes code shape sents is first
   one_comes first more h all = (subst (AllByRecursion (Comes code shape sents is)) (sym (same_sent code shape (first ∷ []) more h)) all).0
 
-  -- what holds of the loops around a place holds where the same are around
-  same_around : (place target : ℕ) (loops : List Loop) (base : List Value) → held code.ops place ≡ held code.ops target → InLoops loops (held code.ops place) base → InLoops loops (held code.ops target) base
+  -- what holds of the loops around `place` holds where the same are around
+  same_around : (place target : ℕ) (loops : List Loop) (base : List Value) → loops_around code.ops place ≡ loops_around code.ops target → InLoops loops (loops_around code.ops place) base → InLoops loops (loops_around code.ops target) base
   same_around place target loops base same h = subst (λ enters. InLoops loops enters base) same h
 
   abbrev Here_at : (place : ℕ) (op : Op) → At place op → Here code shape sents is place op
@@ -239,7 +239,7 @@ module _ (code : Code) (shape : Shape) (sents : List Sent) (is : Clean code shap
   -- ---- jumps
 
   abbrev Steps : (place : ℕ) (op : Op) → At place op → Type 0
-  Steps place op there = (top base : List Value) (loops : List Loop) (cost : ℕ) → Fit top (Here_at place op there).had.kinds → InLoops loops (held code.ops place) base
+  Steps place op there = (top base : List Value) (loops : List Loop) (cost : ℕ) → Fit top (Here_at place op there).had.kinds → InLoops loops (loops_around code.ops place) base
       → Leads place loops cost (performed code value op (at place (top ++ base) loops (cost + 1)))
 
   and_leads : (place target : ℕ) (there : At place (Jump And target)) → Steps place (Jump And target) there
@@ -268,7 +268,7 @@ module _ (code : Code) (shape : Shape) (sents : List Sent) (is : Clean code shap
       (goes_to (sent target h.had.kinds h.had.loops) come.0 place top base loops cost (cost + 1) fit (same_around place target loops base jump.2 around_it) (omega arith) (omega arith))
       (goes_to (sent (suc place) on.taken h.had.loops) come.1 place others base loops cost (cost + 1) fits (same_around place (suc place) loops base (sym (around_next code shape sents is place (Jump Or target) there tt)) around_it) (omega arith) (omega arith)))
 
-  -- to one of two places, with the same operands
+  -- to one of two indexes, with the same operands
   branch_leads : (place target : ℕ) (there : At place (Jump Branch target)) → Steps place (Jump Branch target) there
   branch_leads place target there top base loops cost fit around_it =
       let h = Here_at place (Jump Branch target) there in
@@ -290,13 +290,13 @@ module _ (code : Code) (shape : Shape) (sents : List Sent) (is : Clean code shap
       let far : suc (due target) ≤ due place = prices.jump place target (Jump Always target) there refl in
       goes_to (sent target h.had.kinds h.had.loops) come place top base loops cost (cost + 1) fit (same_around place target loops base jump.2 around_it) (omega arith) (omega arith)
 
-  -- ---- operations that go on to the next place
+  -- ---- operations that continue at the next index
 
   where_some : {A : Type 0} (o : Option A) (P : Type 0) → P → IfSome o (λ x. P)
   where_some (Some x) P p = p
   where_some None P p = tt
 
-  cost_of_member : (top base : List Value) (kinds : List Kind) → Fit top kinds → IfSome (on_two member_kind kinds) (λ given. cost_of (Binary binary.IsIn) (top ++ base) ≤ price (Binary binary.IsIn) (most_on_top kinds))
+  cost_of_member : (top base : List Value) (kinds : List Kind) → Fit top kinds → IfSome (on_two_kinds member_kind kinds) (λ given. cost_of (Binary binary.IsIn) (top ++ base) ≤ price (Binary binary.IsIn) (most_on_top kinds))
   cost_of_member (v ∷ top) base (shaped (shapes.list shape most) ∷ left ∷ kinds) fit =
       where_some (option_map (λ given. given ∷ kinds) (member_kind left (shaped (shapes.list shape most)))) (cost_of (Binary binary.IsIn) (v ∷ (top ++ base)) ≤ suc most)
       (on_list (λ v. cost_of (Binary binary.IsIn) (v ∷ (top ++ base)) ≤ suc most) shape most (λ items short all. grind (arith, nat_tests)) v fit.0)
@@ -305,14 +305,14 @@ module _ (code : Code) (shape : Shape) (sents : List Sent) (is : Clean code shap
   cost_of_member top base (kind ∷ []) fit = tt
   cost_of_member top base [] fit = tt
 
-  -- an operation that goes on costs at most what is said of it
-  cost_is_paid : (of : Option Shape) (op : Op) (top base : List Value) (kinds : List Kind) → Fit top kinds → IfSome (effect code shape of op kinds) (λ given. cost_of op (top ++ base) ≤ price op (most_on_top kinds))
+  -- an operation that continues costs at most what is said of it
+  cost_is_paid : (of : Option Shape) (op : Op) (top base : List Value) (kinds : List Kind) → Fit top kinds → IfSome (kinds_left code shape of op kinds) (λ given. cost_of op (top ++ base) ≤ price op (most_on_top kinds))
   cost_is_paid of (Binary binary.IsIn) top base kinds fit = cost_of_member top base kinds fit
-  cost_is_paid of op top base kinds fit = where_some (effect code shape of op kinds) (1 ≤ 1) (omega arith)
+  cost_is_paid of op top base kinds fit = where_some (kinds_left code shape of op kinds) (1 ≤ 1) (omega arith)
 
   -- where an operation gives operands, or meets a fault
   falls_on : (place : ℕ) (op : Op) → At place op → GoesOn op → IsNoLoop op → (kinds : List Kind) (loops_before : List Around) → Comes code shape sents is (sent (suc place) kinds loops_before)
-      → (base operands : List Value) (loops : List Loop) (cost more : ℕ) (m : Result (List Value) Failure) → Leaves base kinds m → InLoops loops (held code.ops place) base
+      → (base operands : List Value) (loops : List Loop) (cost more : ℕ) (m : Result (List Value) Failure) → Leaves base kinds m → InLoops loops (loops_around code.ops place) base
       → 1 ≤ more → more + due (suc place) ≤ due place → Leads place loops cost (falls (at place operands loops (cost + more)) m)
   falls_on place op there on plain kinds loops_before come base operands loops cost more (Ok given) leaves around_it some enough =
       subst (λ given. Leads place loops cost (goes (at (suc place) given loops (cost + more)))) (sym leaves.1)
@@ -325,7 +325,7 @@ module _ (code : Code) (shape : Shape) (sents : List Sent) (is : Clean code shap
   some_cost (Binary binary.IsIn) operands = omega arith
   some_cost op operands = omega arith
 
-  -- what is due at a place, by what arrives there
+  -- what is due at `place`, by what arrives there
   due_here : (place : ℕ) (op : Op) (there : At place op) → GoesOn op → price op (most_on_top (Here_at place op there).had.kinds) + due (suc place) ≤ due place
   due_here place op there on =
       let h = Here_at place op there in
@@ -333,17 +333,17 @@ module _ (code : Code) (shape : Shape) (sents : List Sent) (is : Clean code shap
       let most : most_at code.ops sents place ≡ most_on_top h.had.kinds = ap most_items h.arrives in
       rw most at next
 
-  given_leads : (place : ℕ) (op : Op) (there : At place op) → GoesOn op → IsNoLoop op → (top base : List Value) (loops : List Loop) (cost : ℕ) → Fit top (Here_at place op there).had.kinds → InLoops loops (held code.ops place) base
-      → passed_on code shape place op (Here_at place op there).had.kinds (Here_at place op there).had.loops ≡ to_next place (Here_at place op there).had.loops (effect code shape (item_of (Here_at place op there).had.loops) op (Here_at place op there).had.kinds)
+  given_leads : (place : ℕ) (op : Op) (there : At place op) → GoesOn op → IsNoLoop op → (top base : List Value) (loops : List Loop) (cost : ℕ) → Fit top (Here_at place op there).had.kinds → InLoops loops (loops_around code.ops place) base
+      → passed_on code shape place op (Here_at place op there).had.kinds (Here_at place op there).had.loops ≡ to_next place (Here_at place op there).had.loops (kinds_left code shape (innermost_shape (Here_at place op there).had.loops) op (Here_at place op there).had.kinds)
       → Leads place loops cost (falls (at place (top ++ base) loops (cost + cost_of op (top ++ base))) (machine.effect code value (here loops) op (top ++ base)))
   given_leads place op there on plain top base loops cost fit around_it is_next =
       let h = Here_at place op there in
-      let next = passing.goes_next place h.had.loops (effect code shape (item_of h.had.loops) op h.had.kinds) h.more (sym is_next ∙ h.sends.passed) in
+      let next = passing.goes_next place h.had.loops (kinds_left code shape (innermost_shape h.had.loops) op h.had.kinds) h.more (sym is_next ∙ h.sends.passed) in
       let come = one_comes (sent (suc place) next.kinds h.had.loops) h.more (ap Ok (sym next.sent)) h.come in
-      let item_there : IsThere (item_of h.had.loops) (here loops) = subst (λ arounds. IsThere (item_of arounds) (here loops)) (sym h.loops) (item_is loops (held code.ops place) base around_it) in
-      let sound = effect_sound base code value shape fit_value (here loops) (item_of h.had.loops) item_there op (tables place op there) top h.had.kinds fit in
+      let item_there : IsThere (innermost_shape h.had.loops) (here loops) = subst (λ arounds. IsThere (innermost_shape arounds) (here loops)) (sym h.loops) (item_is loops (loops_around code.ops place) base around_it) in
+      let sound = effect_sound base code value shape fit_value (here loops) (innermost_shape h.had.loops) item_there op (tables place op there) top h.had.kinds fit in
       let leaves : Leaves base next.kinds (machine.effect code value (here loops) op (top ++ base)) = subst (λ given. IfSome given (λ kinds. Leaves base kinds (machine.effect code value (here loops) op (top ++ base)))) next.are sound in
-      let cheap : cost_of op (top ++ base) ≤ price op (most_on_top h.had.kinds) = subst (λ given. IfSome given (λ kinds. cost_of op (top ++ base) ≤ price op (most_on_top h.had.kinds))) next.are (cost_is_paid (item_of h.had.loops) op top base h.had.kinds fit) in
+      let cheap : cost_of op (top ++ base) ≤ price op (most_on_top h.had.kinds) = subst (λ given. IfSome given (λ kinds. cost_of op (top ++ base) ≤ price op (most_on_top h.had.kinds))) next.are (cost_is_paid (innermost_shape h.had.loops) op top base h.had.kinds fit) in
       let some = some_cost op (top ++ base) in
       let enough = due_here place op there on in
       falls_on place op there on plain next.kinds h.had.loops come base (top ++ base) loops cost (cost_of op (top ++ base)) (machine.effect code value (here loops) op (top ++ base)) leaves around_it some (omega arith)
@@ -363,11 +363,11 @@ module _ (code : Code) (shape : Shape) (sents : List Sent) (is : Clean code shap
   list_entered : (place step : ℕ) (predicate : Predicate) → At place (Enter predicate step) → (shape_of : Shape) (most : ℕ) (below : List Kind) → around place ≡ record { item = shape_of; most = most; below = below }
       → most_at code.ops sents place ≡ most → (loops_before : List Around) → Comes code shape sents is (sent (suc place) [] (record { item = shape_of; most = most; below = below } ∷ loops_before))
       → Comes code shape sents is (sent (suc step) (answer_kind predicate shape_of most ∷ below) loops_before) → (items : Items) → nat_le (count items) most ≡ true → all_items (λ v. fits v shape_of) items ≡ true
-      → (operands others base : List Value) (loops : List Loop) (cost : ℕ) → Fit others below → InLoops loops (held code.ops place) base
+      → (operands others base : List Value) (loops : List Loop) (cost : ℕ) → Fit others below → InLoops loops (loops_around code.ops place) base
       → Leads place loops cost (entered predicate step (values.list items ∷ (others ++ base)) (at place operands loops (cost + 1)))
   list_entered place step predicate there shape_of most below over most_there loops_before body behind no_items short all operands others base loops cost fit around_it =
       let price_of = prices.loop place step predicate there in
-      goes_to (sent (suc step) (answer_kind predicate shape_of most ∷ below) loops_before) behind place (answer_of predicate [] ∷ others) base loops cost (cost + 1) (answer_fits predicate shape_of most [] refl (omega arith), fit)
+      goes_to (sent (suc step) (answer_kind predicate shape_of most ∷ below) loops_before) behind place (loop_answer predicate [] ∷ others) base loops cost (cost + 1) (answer_fits predicate shape_of most [] refl (omega arith), fit)
       (same_around place (suc step) loops base (sym (around_behind code shape sents is place step predicate there)) around_it) (omega arith) (omega arith)
   list_entered place step predicate there shape_of most below over most_there loops_before body behind (item first rest) short all operands others base loops cost fit around_it =
       let price_of : suc (most * due (suc place) + due (suc step)) ≤ due place = rw most_there at (prices.loop place step predicate there) in
@@ -406,24 +406,24 @@ module _ (code : Code) (shape : Shape) (sents : List Sent) (is : Clean code shap
       let enter = passing.enters predicate place step h.had.kinds h.had.loops h.more h.sends.passed in
       absurd (subst (λ kinds. Fit [] kinds) enter.are fit)
 
-  -- at a Step, on with the next item, or after the loop: both places come, with the loops around them
+  -- at a Step, on with the next item, or after the loop: both indexes come, with the loops around them
   record AtStep (place enter : ℕ) (predicate : Predicate) (loop : Loop) (outer : List Loop) (base lower : List Value) : Type 0 where
     the_enter : At enter (Enter predicate place)
     in_loop : InLoop loop enter base lower
-    around_it : InLoops outer (held code.ops enter) lower
+    around_it : InLoops outer (loops_around code.ops enter) lower
     some : 1 ≤ due place
     behind_loops : List Around
     behind : Comes code shape sents is (sent (suc place) (answer_kind predicate (around enter).item (around enter).most ∷ (around enter).below) behind_loops)
-    held_behind : held code.ops (suc place) ≡ held code.ops enter
+    held_behind : loops_around code.ops (suc place) ≡ loops_around code.ops enter
     body_loops : List Around
     body : Comes code shape sents is (sent (suc enter) [] body_loops)
-    held_body : held code.ops (suc enter) ≡ enter ∷ held code.ops enter
+    held_body : loops_around code.ops (suc enter) ≡ enter ∷ loops_around code.ops enter
 
   module _ (place enter : ℕ) (predicate : Predicate) (loop : Loop) (outer : List Loop) (base lower : List Value) (s : AtStep place enter predicate loop outer base lower) where
     due_loop : ℕ
     due_loop = count loop.rest * due (suc enter) + due (suc place) + waiting outer
 
-    -- what is due once the loop is to go on
+    -- what is due once the loop is to continue
     waiting_is : (items : ℕ) → items * due (suc loop.enter) + due (suc (step_of (nth code.ops loop.enter))) + waiting outer ≡ items * due (suc enter) + due (suc place) + waiting outer
     waiting_is items = rw (s.in_loop.of, s.the_enter) refl
 
@@ -440,7 +440,7 @@ module _ (code : Code) (shape : Shape) (sents : List Sent) (is : Clean code shap
         → Leads place (loop ∷ outer) cost (next_item predicate loop found rest outer base (at place operands loops (cost + 1)))
     next_leads found all_fit grown no_items is_rest operands loops cost =
         let few : length loop.found + suc (count loop.rest) ≤ (around enter).most = s.in_loop.few in
-        left_leads (answer_of predicate found) operands loops cost (answer_fits predicate (around enter).item (around enter).most found all_fit (omega arith))
+        left_leads (loop_answer predicate found) operands loops cost (answer_fits predicate (around enter).item (around enter).most found all_fit (omega arith))
     next_leads found all_fit grown (item next others) is_rest operands loops cost =
         let some = s.some in
         let few : length loop.found + suc (suc (count others)) ≤ (around enter).most = subst (λ rest. length loop.found + suc (count rest) ≤ (around enter).most) is_rest s.in_loop.few in
@@ -477,15 +477,15 @@ module _ (code : Code) (shape : Shape) (sents : List Sent) (is : Clean code shap
     begins_it = both (loop.enter == enter) (begins_loop predicate place (nth code.ops enter)) (rw s.in_loop.of (itself enter)) (rw s.the_enter (both (is_same predicate predicate) (place == place) (same_as_itself predicate) (itself place)))
 
   -- what comes after a Step, and at the begin of its loop's body
-  at_step : (place enter : ℕ) (predicate : Predicate) (there : At place (Step predicate enter)) (loop : Loop) (outer : List Loop) (base lower : List Value) → InLoop loop enter base lower → InLoops outer (held code.ops enter) lower
-      → (taken : List Kind) → ended predicate place taken (Here_at place (Step predicate enter) there).had.loops ≡ Ok (Here_at place (Step predicate enter) there).more → AtStep place enter predicate loop outer base lower
+  at_step : (place enter : ℕ) (predicate : Predicate) (there : At place (Step predicate enter)) (loop : Loop) (outer : List Loop) (base lower : List Value) → InLoop loop enter base lower → InLoops outer (loops_around code.ops enter) lower
+      → (taken : List Kind) → loop_ended predicate place taken (Here_at place (Step predicate enter) there).had.loops ≡ Ok (Here_at place (Step predicate enter) there).more → AtStep place enter predicate loop outer base lower
   at_step place enter predicate there loop outer base lower in_loop around_it taken h_ended =
       let h = Here_at place (Step predicate enter) there in
       let own = around_step code shape sents is place enter predicate there in
       let pair = the_enter code shape sents is place enter predicate there in
       let end = passing.ends predicate place taken h.had.loops h.more h_ended in
-      let loops_are : (end.loop ∷ end.outer) ≡ map around (enter ∷ held code.ops enter) = sym end.are ∙ h.loops ∙ ap (map around) own.0 in
-      let loop_is : end.loop ≡ around enter = same_head end.loop (around enter) end.outer (map around (held code.ops enter)) loops_are in
+      let loops_are : (end.loop ∷ end.outer) ≡ map around (enter ∷ loops_around code.ops enter) = sym end.are ∙ h.loops ∙ ap (map around) own.0 in
+      let loop_is : end.loop ≡ around enter = same_head end.loop (around enter) end.outer (map around (loops_around code.ops enter)) loops_are in
       let begun = Here_at enter (Enter predicate place) pair.1 in
       let entered_is = passing.enters predicate enter place begun.had.kinds begun.had.loops begun.more begun.sends.passed in
       let body = two_come _ _ begun.more (ap Ok (sym entered_is.sent)) begun.come in
@@ -504,11 +504,11 @@ module _ (code : Code) (shape : Shape) (sents : List Sent) (is : Clean code shap
       }
 
   step_on : (place enter : ℕ) (predicate : Predicate) (there : At place (Step predicate enter)) (top base : List Value) (loops : List Loop) (cost : ℕ) → Fit top (Here_at place (Step predicate enter) there).had.kinds
-      → InLoops loops (enter ∷ held code.ops enter) base → Leads place loops cost (stepped code predicate enter loops (at place (top ++ base) loops (cost + 1)))
+      → InLoops loops (enter ∷ loops_around code.ops enter) base → Leads place loops cost (stepped code predicate enter loops (at place (top ++ base) loops (cost + 1)))
   step_on place enter predicate there top base [] cost fit around_it = absurd around_it
   step_on place enter predicate there top base (loop ∷ outer) cost fit around_it =
       let h = Here_at place (Step predicate enter) there in
-      let on = passing.on_top h.had.kinds (λ taken. ended predicate place taken h.had.loops) h.more h.sends.passed in
+      let on = passing.on_top h.had.kinds (λ taken. loop_ended predicate place taken h.had.loops) h.more h.sends.passed in
       let s = at_step place enter predicate there loop outer base around_it.0 around_it.1 around_it.2 on.taken on.sent in
       let end = passing.ends predicate place on.taken h.had.loops h.more on.sent in
       rw (begins_it place enter predicate loop outer base around_it.0 s)
@@ -531,13 +531,13 @@ module _ (code : Code) (shape : Shape) (sents : List Sent) (is : Clean code shap
 
   return_leads : (place : ℕ) (there : At place Return) → Steps place Return there
   return_leads place there top base loops cost fit around_it =
-      let none : held code.ops place ≡ [] = no_loops (held code.ops place) (no_reason (same_loops (held code.ops place) []) CrossesLoop (reached.nests code shape sents is place Return there)) in
+      let none : loops_around code.ops place ≡ [] = no_loops (loops_around code.ops place) (no_reason (same_loops (loops_around code.ops place) []) CrossesLoop (reached.nests code shape sents is place Return there)) in
       return_on place there top base loops cost fit (subst (λ enters. InLoops loops enters base) none around_it)
 
   -- ---- each operation
 
   abbrev StepsBy : (place : ℕ) (op : Op) → At place op → Type 0
-  StepsBy place op there = (top base : List Value) (loops : List Loop) (cost : ℕ) → Fit top (Here_at place op there).had.kinds → InLoops loops (held code.ops place) base
+  StepsBy place op there = (top base : List Value) (loops : List Loop) (cost : ℕ) → Fit top (Here_at place op there).had.kinds → InLoops loops (loops_around code.ops place) base
       → Leads place loops cost (performed code value op (paid op (at place (top ++ base) loops cost)))
 
   performs : (place : ℕ) (op : Op) (there : At place op) → StepsBy place op there
@@ -550,21 +550,21 @@ module _ (code : Code) (shape : Shape) (sents : List Sent) (is : Clean code shap
   performs place Return there = return_leads place there
   performs place op there = λ top base loops cost fit around_it. given_leads place op there tt tt top base loops cost fit around_it refl
 
-  has_room : (place : ℕ) (op : Op) (there : At place op) (top base : List Value) (loops : List Loop) → Fit top (Here_at place op there).had.kinds → InLoops loops (held code.ops place) base
+  has_room : (place : ℕ) (op : Op) (there : At place op) (top base : List Value) (loops : List Loop) → Fit top (Here_at place op there).had.kinds → InLoops loops (loops_around code.ops place) base
       → nat_le (machine.floor loops + takes op) (length (top ++ base)) ≡ true
   has_room place op there top base loops fit around_it =
       let h = Here_at place op there in
       let takes_few = has_operands op h.had h.sends.enough in
       let tops = fit_length top h.had.kinds fit in
-      let floors = floor_is loops (held code.ops place) base around_it in
+      let floors = floor_is loops (loops_around code.ops place) base around_it in
       let all = length_both top base in
       enough (machine.floor loops + takes op) (length (top ++ base)) (omega arith)
 
-  step_from : (place : ℕ) (op : Op) (there : At place op) (top base : List Value) (loops : List Loop) (cost : ℕ) → Fit top (Here_at place op there).had.kinds → InLoops loops (held code.ops place) base
+  step_from : (place : ℕ) (op : Op) (there : At place op) (top base : List Value) (loops : List Loop) (cost : ℕ) → Fit top (Here_at place op there).had.kinds → InLoops loops (loops_around code.ops place) base
       → Leads place loops cost (step code value (at place (top ++ base) loops cost))
   unfolding step
   step_from place op there top base loops cost fit around_it = rw (there, has_room place op there top base loops fit around_it) (performs place op there top base loops cost fit around_it)
 
-  -- a step from a state that a run comes to
+  -- a step from a state that a run reaches
   pub steps : (s : State) → Good s → Leads s.place s.loops s.cost (step code value s)
   steps s good = subst (λ operands. Leads s.place s.loops s.cost (step code value (at s.place operands s.loops s.cost))) (sym good.are) (step_from s.place good.op good.there good.top good.base s.loops s.cost good.fit good.loops)

@@ -102,14 +102,14 @@ field_means name wanted shape v is fit =
 -- ---- lists
 
 -- an item by its number fits, where there is one
-nth_fits : (shape : Shape) (items : Items) (n : ℕ) → all_items (λ v. fits v shape) items ≡ true → MeansKind (shaped shape) (operators.there (operators.faulted IndexOutOfRange) (operators.nth items n))
+nth_fits : (shape : Shape) (items : Items) (n : ℕ) → all_items (λ v. fits v shape) items ≡ true → MeansKind (shaped shape) (operators.there (operators.faulted IndexOutOfRange) (operators.nth_item items n))
 nth_fits shape values.no_items n h = tt
 nth_fits shape (values.item v items) zero h = (both_hold (fits v shape) (all_items (λ v. fits v shape) items) h).0
 nth_fits shape (values.item v items) (suc n) h = nth_fits shape items n (both_hold (fits v shape) (all_items (λ v. fits v shape) items) h).1
 
 -- likewise counted from the end
 from_end : (shape : Shape) (items : Items) (n : ℕ) (within : Bool) → all_items (λ v. fits v shape) items ≡ true
-    → MeansKind (shaped shape) (operators.there (operators.faulted IndexOutOfRange) (if within then operators.nth items (count items - suc n) else None))
+    → MeansKind (shaped shape) (operators.there (operators.faulted IndexOutOfRange) (if within then operators.nth_item items (count items - suc n) else None))
 from_end shape items n true h = nth_fits shape items (count items - suc n) h
 from_end shape items n false h = tt
 
@@ -127,11 +127,11 @@ index_means shape max v i fit whole =
 -- ---- numbers
 
 -- what arithmetic gives is a whole, or a fault
-pub whole_or_fault : (r : Result ℤ Fault) → MeansKind (shaped shapes.whole) (operators.whole_of r)
+pub whole_or_fault : (r : Result ℤ Fault) → MeansKind (shaped shapes.whole) (operators.whole_meaning r)
 whole_or_fault (Ok z) = refl
 whole_or_fault (Err fault) = tt
 
 -- likewise a decimal
-pub decimal_or_fault : (r : Result ℤ Fault) → MeansKind (shaped shapes.decimal) (operators.decimal_of r)
+pub decimal_or_fault : (r : Result ℤ Fault) → MeansKind (shaped shapes.decimal) (operators.decimal_meaning r)
 decimal_or_fault (Ok z) = refl
 decimal_or_fault (Err fault) = tt

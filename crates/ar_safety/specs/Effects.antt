@@ -1,7 +1,8 @@
--- What operations that go on to the next place take and give, by the kinds of their operands. The kind Nil is that of the
--- literal alone: no operation but IsNil and Default takes it.
+-- What operations that continue at the next index take and give, by the kinds of their operands. The kind Nil is that
+-- of the literal alone: no operation but IsNil and Default takes it.
 use Rattle.std.specs.Prelude.{ℕ, zero, suc, Bool, true, false, ◌&&◌, if◌then◌else◌, List, [], ◌∷◌, Option, Some, None, option_map, option_and_then}
-use Rattle.ar_value.specs.Kind.{Kind, nil, shaped, merge, plain}
+use Rattle.ar_value.specs.Terms.{Text}
+use Rattle.ar_value.specs.Kind.{Kind, nil, shaped, merge, plain, scalar_shape, truth_kind}
 use Rattle.ar_value.specs.Shape.{Shape, bool, whole, decimal, text, list, object, optional, shape_named}
 use Rattle.ar_value.specs.declared.operator.Arithmetic.{Arithmetic}
 use Rattle.ar_value.specs.declared.operator.Arithmetic.TheVariants.{Divide}
@@ -20,20 +21,11 @@ use Rattle.ar_value.specs.declared.operator.UnaryOperator.TheVariants as unary
 use Rattle.ar_op.specs.Code.{Code}
 use Rattle.ar_op.specs.Machine.{nth}
 use Rattle.ar_op.specs.declared.op.Op.{Op}
-use Rattle.ar_op.specs.declared.op.Op.TheVariants.{Push, MakeList, Field, Unary, Binary}
+use Rattle.ar_op.specs.declared.op.Op.TheVariants.{Push, MakeList, Field, Unary, Binary, Jump, Enter, Step, Return}
 use Rattle.ar_op.specs.declared.op.Source.{Source}
 use Rattle.ar_op.specs.declared.op.Source.TheVariants as sources
 
 -- ---- scalars
-
-abbrev pub truth : Kind
-truth = shaped bool
-
-abbrev pub scalar_shape : Scalar → Shape
-scalar_shape scalars.Bool = bool
-scalar_shape scalars.Whole = whole
-scalar_shape scalars.Decimal = decimal
-scalar_shape scalars.Text = text
 
 abbrev pub family_of : Shape → Option Family
 family_of bool = Some families.Truth
@@ -53,23 +45,23 @@ is_family families.Number (Some families.Number) = true
 is_family families.Text (Some families.Text) = true
 is_family family other = false
 
-abbrev pub of_one_family : Option Family → Option Family → Bool
-of_one_family None other = false
-of_one_family (Some family) other = is_family family other
+abbrev pub are_one_family : Option Family → Option Family → Bool
+are_one_family None other = false
+are_one_family (Some family) other = is_family family other
 
 -- ---- what operations give; nothing where they take other kinds
 
 abbrev pub where_taken : Bool → Kind → Option Kind
 where_taken is_taken kind = if is_taken then Some kind else None
 
-abbrev pub is_scalar : Scalar → Kind → Bool
-is_scalar scalars.Bool (shaped bool) = true
-is_scalar scalars.Whole (shaped whole) = true
-is_scalar scalars.Decimal (shaped decimal) = true
-is_scalar scalars.Text (shaped text) = true
-is_scalar scalar kind = false
+abbrev pub is_scalar_kind : Scalar → Kind → Bool
+is_scalar_kind scalars.Bool (shaped bool) = true
+is_scalar_kind scalars.Whole (shaped whole) = true
+is_scalar_kind scalars.Decimal (shaped decimal) = true
+is_scalar_kind scalars.Text (shaped text) = true
+is_scalar_kind scalar kind = false
 
-abbrev pub field_kind : List ℕ → Kind → Option Kind
+abbrev pub field_kind : Text → Kind → Option Kind
 field_kind name (shaped (object fields)) = option_map shaped (shape_named name fields)
 field_kind name kind = None
 
@@ -85,7 +77,7 @@ abbrev pub needed_kind : Kind → Option Kind
 needed_kind (shaped shape) = Some (shaped (plain shape))
 needed_kind nil = None
 
--- the kind of what isn't nil, or of what stands for it
+-- the kind of what isn't nil, or of what replaces it
 abbrev pub default_kind : (operand other : Kind) → Option Kind
 default_kind nil other = Some other
 default_kind (shaped shape) other = merge (shaped (plain shape)) other
@@ -101,24 +93,27 @@ decimal_kind (shaped shape) = option_map shaped (decimal_shape shape)
 decimal_kind nil = None
 
 abbrev pub member_kind : (operand list : Kind) → Option Kind
-member_kind operand (shaped (list shape max)) = where_taken (of_one_family (family_in operand) (family_of (plain shape))) truth
+member_kind operand (shaped (list shape max)) =
+    where_taken (are_one_family (family_in operand) (family_of (plain shape))) truth_kind
 member_kind operand kind = None
 
 abbrev pub opposite_kind : Kind → Option Kind
-opposite_kind kind = where_taken (is_scalar scalars.Bool kind) truth
+opposite_kind kind = where_taken (is_scalar_kind scalars.Bool kind) truth_kind
 
 abbrev pub quotient_kind : Arithmetic → Kind
 quotient_kind Divide = shaped decimal
 quotient_kind operator = shaped whole
 
 abbrev pub wholes_kind : Arithmetic → (left right : Kind) → Option Kind
-wholes_kind operator left right = where_taken (is_scalar scalars.Whole left && is_scalar scalars.Whole right) (quotient_kind operator)
+wholes_kind operator left right =
+    where_taken (is_scalar_kind scalars.Whole left && is_scalar_kind scalars.Whole right) (quotient_kind operator)
 
 abbrev pub decimals_kind : (left right : Kind) → Option Kind
-decimals_kind left right = where_taken (is_scalar scalars.Decimal left && is_scalar scalars.Decimal right) (shaped decimal)
+decimals_kind left right =
+    where_taken (is_scalar_kind scalars.Decimal left && is_scalar_kind scalars.Decimal right) (shaped decimal)
 
 abbrev pub same_kind : Scalar → Kind → Option Kind
-same_kind scalar kind = where_taken (is_scalar scalar kind) kind
+same_kind scalar kind = where_taken (is_scalar_kind scalar kind) kind
 
 abbrev pub negative_kind : Numbers → Kind → Option Kind
 negative_kind numbers.Wholes = same_kind scalars.Whole
@@ -130,25 +125,27 @@ is_number (shaped decimal) = true
 is_number kind = false
 
 abbrev pub is_compared : Compared → Kind → Bool
-is_compared WholesOnly kind = is_scalar scalars.Whole kind
-is_compared DecimalsOnly kind = is_scalar scalars.Decimal kind
+is_compared WholesOnly kind = is_scalar_kind scalars.Whole kind
+is_compared DecimalsOnly kind = is_scalar_kind scalars.Decimal kind
 is_compared Mixed kind = is_number kind
 
 abbrev pub order_kind : Compared → (left right : Kind) → Option Kind
-order_kind numbers left right = where_taken (is_compared numbers left && is_compared numbers right) truth
+order_kind numbers left right = where_taken (is_compared numbers left && is_compared numbers right) truth_kind
 
 abbrev pub equal_kind : Family → (left right : Kind) → Option Kind
-equal_kind family left right = where_taken (is_family family (family_in left) && is_family family (family_in right)) truth
+equal_kind family left right =
+    where_taken (is_family family (family_in left) && is_family family (family_in right)) truth_kind
 
 abbrev pub text_test_kind : (left right : Kind) → Option Kind
-text_test_kind left right = where_taken (is_scalar scalars.Text left && is_scalar scalars.Text right) truth
+text_test_kind left right =
+    where_taken (is_scalar_kind scalars.Text left && is_scalar_kind scalars.Text right) truth_kind
 
 -- ---- operators by their families
 
 abbrev pub unary_kind : UnaryOperator → Kind → Option Kind
 unary_kind unary.Len = length_kind
 unary_kind unary.Need = needed_kind
-unary_kind unary.IsNil = λ kind. Some truth
+unary_kind unary.IsNil = λ kind. Some truth_kind
 unary_kind unary.ToDecimal = decimal_kind
 unary_kind unary.Not = opposite_kind
 unary_kind (unary.Negate of) = negative_kind of
@@ -165,23 +162,24 @@ binary_kind (binary.TextTest test) = text_test_kind
 
 -- ---- operands from the top; the right one is on top of the left one
 
-abbrev pub on_one : (Kind → Option Kind) → List Kind → Option (List Kind)
-on_one give (kind ∷ kinds) = option_map (λ given. given ∷ kinds) (give kind)
-on_one give [] = None
+abbrev pub on_one_kind : (Kind → Option Kind) → List Kind → Option (List Kind)
+on_one_kind give (kind ∷ kinds) = option_map (λ given. given ∷ kinds) (give kind)
+on_one_kind give [] = None
 
-abbrev pub on_two : (Kind → Kind → Option Kind) → List Kind → Option (List Kind)
-on_two give (right ∷ left ∷ kinds) = option_map (λ given. given ∷ kinds) (give left right)
-on_two give kinds = None
+abbrev pub on_two_kinds : (Kind → Kind → Option Kind) → List Kind → Option (List Kind)
+on_two_kinds give (right ∷ left ∷ kinds) = option_map (λ given. given ∷ kinds) (give left right)
+on_two_kinds give kinds = None
 
--- so many scalars of a kind from the top, as a list
-abbrev pub list_made : Scalar → (max : ℕ) → ℕ → List Kind → Option (List Kind)
-list_made scalar max zero kinds = Some (shaped (list (scalar_shape scalar) max) ∷ kinds)
-list_made scalar max (suc n) (kind ∷ kinds) = if is_scalar scalar kind then list_made scalar max n kinds else None
-list_made scalar max (suc n) [] = None
+-- n scalars of a kind from the top, as a list
+abbrev pub list_kind_left : Scalar → (max : ℕ) → ℕ → List Kind → Option (List Kind)
+list_kind_left scalar max zero kinds = Some (shaped (list (scalar_shape scalar) max) ∷ kinds)
+list_kind_left scalar max (suc n) (kind ∷ kinds) =
+    if is_scalar_kind scalar kind then list_kind_left scalar max n kinds else None
+list_kind_left scalar max (suc n) [] = None
 
 -- what is pushed, where `result` has a shape, and so has the innermost item of a loop
 abbrev pub pushed_kind : Shape → Option Shape → Source → Option Kind
-pushed_kind result here (sources.Bool holds) = Some truth
+pushed_kind result here (sources.Bool holds) = Some truth_kind
 pushed_kind result here (sources.Whole value) = Some (shaped whole)
 pushed_kind result here (sources.Decimal millionths) = Some (shaped decimal)
 pushed_kind result here (sources.Text number) = Some (shaped text)
@@ -190,14 +188,18 @@ pushed_kind result here sources.Result = Some (shaped result)
 pushed_kind result here sources.Item = option_map shaped here
 
 -- the field of a record, by the number of its name
-abbrev pub field_by : Code → ℕ → List Kind → Option (List Kind)
-field_by code number kinds = option_and_then (λ name. on_one (field_kind name) kinds) (nth code.names number)
+abbrev pub field_kind_left : Code → ℕ → List Kind → Option (List Kind)
+field_kind_left code number kinds =
+    option_and_then (λ name. on_one_kind (field_kind name) kinds) (nth code.names number)
 
 -- what an operation leaves
-abbrev pub effect : Code → Shape → Option Shape → Op → List Kind → Option (List Kind)
-effect code result here (Push source) kinds = option_map (λ kind. kind ∷ kinds) (pushed_kind result here source)
-effect code result here (MakeList scalar count) kinds = list_made scalar count count kinds
-effect code result here (Field number) kinds = field_by code number kinds
-effect code result here (Unary operator) kinds = on_one (unary_kind operator) kinds
-effect code result here (Binary operator) kinds = on_two (binary_kind operator) kinds
-effect code result here op kinds = None
+abbrev pub kinds_left : Code → Shape → Option Shape → Op → List Kind → Option (List Kind)
+kinds_left code result here (Push source) kinds = option_map (λ kind. kind ∷ kinds) (pushed_kind result here source)
+kinds_left code result here (MakeList scalar count) kinds = list_kind_left scalar count count kinds
+kinds_left code result here (Field number) kinds = field_kind_left code number kinds
+kinds_left code result here (Unary operator) kinds = on_one_kind (unary_kind operator) kinds
+kinds_left code result here (Binary operator) kinds = on_two_kinds (binary_kind operator) kinds
+kinds_left code result here (Jump jump place) kinds = None
+kinds_left code result here (Enter predicate step) kinds = None
+kinds_left code result here (Step predicate enter) kinds = None
+kinds_left code result here Return kinds = None

@@ -1,10 +1,11 @@
 -- Which code the verifier accepts for a shape of the measured value, and for what it refuses other code.
 use Rattle.std.specs.Prelude.{◌≡◌, ◌<◌, ◌≤◌, ◌⊎◌, ℕ, List, Result, Ok, Err}
+use Rattle.ar_value.specs.Terms.{Index}
 use Rattle.ar_value.specs.Answer.{◌>>=◌}
 use Rattle.ar_value.specs.Shape.{Shape}
-use Rattle.ar_value.specs.declared.shape.Shape.{Shape as Declared}
 use Rattle.ar_op.specs.Code.{Code}
 use Rattle.ar_safety.specs.Arrivals.{Sent, all_sent, deepest}
+use Rattle.ar_safety.specs.Bounds.{greatest_budget}
 use Rattle.ar_safety.specs.Budget.{IsBudget, Way}
 use Rattle.ar_safety.specs.Places.{places_pass}
 use Rattle.ar_safety.specs.declared.error.Cause.{Cause}
@@ -16,10 +17,7 @@ use Rattle.ar_safety.specs.declared.error.Reason.TheVariants.{BudgetTooLarge}
 abbrev pub passed : Code → Shape → Result (List Sent) Cause
 passed code shape = places_pass code.ops >>= λ _. all_sent code shape
 
-abbrev pub greatest_budget : ℕ
-greatest_budget = 1000000000
-
--- the verifier accepts the code: it has no fault, costs at most the budget, and has at most so many operands
+-- the verifier accepts the code: it has no fault, costs at most the budget, and has at most `depth` operands
 pub record IsVerified (code : Code) (shape : Shape) (budget depth : ℕ) : Type 0 where
   pub sents : List Sent
   pub passes : passed code shape ≡ Ok sents
@@ -27,17 +25,7 @@ pub record IsVerified (code : Code) (shape : Shape) (budget depth : ℕ) : Type 
   pub payable : budget ≤ greatest_budget
   pub deepest : depth ≡ deepest sents
 
--- code that the verifier accepts for a shape, with these bounds
-pub record Verified : Type 0 where
-  pub code : Code
-  pub shape : Declared
-  pub budget : ℕ
-  pub depth : ℕ
-
-abbrev pub verified_of : Code → Declared → (budget depth : ℕ) → Verified
-verified_of code shape budget depth = record { code = code; shape = shape; budget = budget; depth = depth }
-
--- a way from the first place costs too much
+-- a way from the first index costs too much
 pub record IsTooDear (code : Code) (shape : Shape) : Type 0 where
   pub sents : List Sent
   pub passes : passed code shape ≡ Ok sents
@@ -46,8 +34,9 @@ pub record IsTooDear (code : Code) (shape : Shape) : Type 0 where
   pub too_dear : greatest_budget < cost
 
 -- the first fault of code: of the passes 1 to 5, or else its budget
-abbrev pub IsFault : Code → Shape → (place : ℕ) → Reason → Type 0
-IsFault code shape place reason = (passed code shape ≡ Err (Fault place reason)) ⊎ ((place ≡ 0) × (reason ≡ BudgetTooLarge) × IsTooDear code shape)
+abbrev pub IsFault : Code → Shape → (place : Index) → Reason → Type 0
+IsFault code shape place reason =
+    (passed code shape ≡ Err (Fault place reason)) ⊎ ((place ≡ 0) × (reason ≡ BudgetTooLarge) × IsTooDear code shape)
 
 -- a cause for which code is refused: a fault of it, or out of memory
 abbrev pub IsCause : Code → Shape → Cause → Type 0

@@ -5,13 +5,13 @@ use std::alloc::AllocError;
 use std::fmt;
 use thiserror::Error;
 
-/// What is wrong with code, at one of its places.
+/// What is wrong with code, at one of its operations.
 #[derive(Clone, Copy, Debug, Error)]
 pub enum Reason {
     Empty,
-    /// The operation names a place after the last one.
+    /// The operation names an index after the last one.
     JumpOutside,
-    /// A jump or an Enter names its own place, or one before it.
+    /// A jump or an Enter names its own index, or one before it.
     Backward,
     /// An Enter whose Step isn't where it says, or the other way round.
     UnpairedLoop,
@@ -20,7 +20,7 @@ pub enum Reason {
     CrossesLoop,
     NoReturn,
     Unreachable,
-    /// What arrives here from several places differs in number, or has no kind in common.
+    /// What arrives here from several operations differs in number, or has no kind in common.
     BadMerge,
     /// An operand isn't there above the floor of the innermost loop, or no item.
     MissingOperand,
@@ -66,7 +66,7 @@ impl fmt::Display for Reason {
 /// Why code isn't accepted: its first fault, or out of memory.
 #[derive(Clone, Copy, Debug, Error)]
 pub enum Cause {
-    /// The fault stands at an operation of the code, counted from 0.
+    /// The fault is at an operation of the code, counted from 0.
     #[error("operation {place}: {reason}")]
     Fault { place: usize, reason: Reason },
     #[error("OutOfMemory: the memory for the check of the code was refused")]

@@ -5,7 +5,8 @@ ghost use Rattle.ar_value.specs.View.{shape_view};
 ghost use Rattle.ar_value.specs.Limits.{most_operands};
 ghost use Rattle.ar_op.specs.Code.{IsCode};
 ghost use Rattle.ar_safety.specs.Safety.{RunsSafely};
-ghost use Rattle.ar_safety.specs.Verdict.{greatest_budget, verified_of, IsVerified};
+ghost use Rattle.ar_safety.specs.Verdict.{IsVerified};
+ghost use Rattle.ar_safety.specs.Bounds.{greatest_budget, verified_of};
 
 use ar_op::code::Code;
 use ar_value::shape::Shape;
@@ -16,7 +17,7 @@ use std::marker::Model;
 pub const GREATEST_BUDGET: u64 = 1_000_000_000;
 
 /// Code that was verified for a shape of the measured value, with what a run may cost at most and
-/// how many operands it may have. Contracts see it as the `Verified` of `specs/Verdict`.
+/// how many operands it may have. Contracts see it as the `Verified` of `specs/Bounds`.
 #[derive(Drop)]
 pub struct Verified {
     code: Code,
@@ -30,7 +31,8 @@ impl Model for Verified {
     ghost use Rattle.ar_value.specs.contracts.shape.Shape as shape_row;
     ghost use Rattle.ar_value.specs.View.{shape_view};
     ghost use Rattle.ar_op.specs.Code.{IsCode};
-    ghost use Rattle.ar_safety.specs.Verdict.{IsVerified, Verified as Parts, verified_of};
+    ghost use Rattle.ar_safety.specs.Verdict.{IsVerified};
+    ghost use Rattle.ar_safety.specs.Bounds.{Verified as Parts, verified_of};
 
     ghost Value = { Parts };
 

@@ -8,7 +8,7 @@ use Rattle.ar_syntax.specs.declared.climb.Reach.{Reach}
 use Rattle.ar_syntax.specs.declared.climb.Reach.TheVariants.{Level, Ender}
 use Rattle.ar_syntax.specs.declared.machine.Frame as rust
 
--- the newest frame stands last in memory
+-- the newest frame is last in memory
 pub frames_of-push : (stack : List rust.Frame) (frame : rust.Frame) → frames_of (stack ++ frame ∷ []) ≡ frame_of frame ∷ frames_of stack
 frames_of-push [] frame = refl
 frames_of-push (older ∷ stack) frame = ap (λ (frames : List Frame). frames ++ frame_of older ∷ []) (frames_of-push stack frame)
@@ -17,13 +17,13 @@ pub length-frames_of : (stack : List rust.Frame) → length (frames_of stack) �
 length-frames_of [] = refl
 length-frames_of (frame ∷ stack) = omega (arith, length-append (frames_of stack) (frame_of frame ∷ []), length-frames_of stack)
 
--- a frame that ends gives way to what it wanted
+-- a frame that ends is replaced by what it expected
 climbed-ended : (level : ℕ) (frame : Frame) (stack : List Frame) (tree : Expression) → ends_below level frame ≡ true → climbed level (frame ∷ stack) tree ≡ climbed level stack (closed_by frame tree)
 climbed-ended level (RightOf at operator first) stack tree ends = rw ends refl
 climbed-ended level (Prefixed at operator) stack tree ends = refl
 climbed-ended level frame stack tree ends = absurd cc
 
--- where none ends, the operand stands
+-- where none ends, the operand stays
 climbed-stays : (level : ℕ) (stack : List Frame) (tree : Expression) → top_ends (Level level) stack ≡ false → climbed level stack tree ≡ Have stack tree
 climbed-stays level [] tree stays = refl
 climbed-stays level (RightOf at operator first ∷ stack) tree stays = rw stays refl

@@ -2,10 +2,10 @@
 use Rattle.std.proofs.Common.{◌≡◌, ◌≢◌, ℕ, zero, suc, ◌+◌, ◌-◌, ◌≤◌, Bool, true, false, List, [], ◌∷◌, ◌++◌, length, refl, sym, ◌∙◌, ap, subst, arith, Option, Some, None}
 use Rattle.std.specs.Prelude.{pred}
 use Rattle.ar_tree.specs.Expression.{Expression, FieldAt, IndexAt, LiteralAt, UnaryAt, BinaryAt, ChoiceAt, ListAt, expressions}
-use Rattle.ar_syntax.specs.Grammar.{Arguments, ArgumentsBehind, Further, Items, ItemsBehind, Phrase, Primary, Rules, Selections, may_continue, may_open, most_openers, takes_all, takes_more, ternary}
+use Rattle.ar_syntax.specs.Grammar.{Arguments, ArgumentsBehind, Further, ListItems, ItemsBehind, Phrase, Primary, Rules, Selections, may_continue, may_open, most_openers, takes_all, takes_more, ternary}
 use Rattle.ar_syntax.specs.Grammar as grammar
-use Rattle.ar_syntax.specs.Machine.{Frame, ParserState, RightOf, Prefixed, Yes, No, Grouped, Listed, Indexed, Argued, Body, Braced, Want, Have, WantName, WantIndex, HaveText, WantIn, WantGroup, WantArgument, HaveArgument, inside, openers_left, wanted}
-use Rattle.ar_syntax.specs.Roles.{Call, Ends, Comma, Colon, EndGroup, EndBracket, EndBrace, called, follows, is_body, is_group, is_in, looseness, token_name, begins_as, token_text}
+use Rattle.ar_syntax.specs.Machine.{Frame, ParserState, RightOf, Prefixed, Yes, No, Grouped, Listed, Indexed, Argued, Body, Braced, Want, Have, WantName, WantIndex, HaveText, WantIn, WantGroup, WantArgument, HaveArgument, in_call, openers_left, wanted}
+use Rattle.ar_syntax.specs.Roles.{Call, Ends, Comma, Colon, EndGroup, EndBracket, EndBrace, called, follows, is_body, is_group, is_in, looseness, field_name_of, begun_by, literal_text}
 use Rattle.ar_syntax.specs.declared.token.Token.{Token}
 use Rattle.ar_syntax.specs.declared.token.Sign.TheVariants as signs
 use Rattle.ar_syntax.specs.declared.token.Word.TheVariants as words
@@ -42,12 +42,12 @@ digit = token_of (kinds.Whole (pos 0))
 abbrev zero_leaf : Expression
 zero_leaf = LiteralAt 0 (literals.Whole (pos 0))
 
-digit-starts : (b : Bool) → begins_as b digit ≡ Leaf zero_leaf
-unfolding begins_as digit token_of
+digit-starts : (b : Bool) → begun_by b digit ≡ Leaf zero_leaf
+unfolding begun_by digit token_of
 digit-starts b = refl
 
-no_text : token_text digit ≡ None
-unfolding token_text digit token_of
+no_text : literal_text digit ≡ None
+unfolding literal_text digit token_of
 no_text = refl
 
 comma : Token
@@ -102,8 +102,8 @@ in_word-is = refl
 unfoldable pub name : Token
 name = token_of (kinds.Name [])
 
-pub name-is : token_name name ≡ Some []
-unfolding token_name name token_of
+pub name-is : field_name_of name ≡ Some []
+unfolding field_name_of name token_of
 name-is = refl
 
 module _ (rules : Rules) where
@@ -120,15 +120,15 @@ module _ (rules : Rules) where
   complete-had : (stack : List Frame) → Completes stack → (tree : Expression) → (final : Expression) × (tokens : List Token) × Had rules stack (After rules final stack) tree tokens
   complete-had stack completes tree =
       let end = completes tree in
-      (end.0, end.1, (tree, end.1, grammar.nothing_more, rise-stay rules (wanted stack) 0 (inside stack) (openers_left stack) (After rules end.0 stack) tree end.1 end.2))
+      (end.0, end.1, (tree, end.1, grammar.nothing_more, rise-stay rules (wanted stack) 0 (in_call stack) (openers_left stack) (After rules end.0 stack) tree end.1 end.2))
 
   -- one argument more
-  digit-argument : (stack : List Frame) (function : Call) (so_far arguments : List Expression) (mid rest : List Token) → ArgumentsBehind rules (inside stack) (pred (openers_left stack)) function (so_far ++ zero_leaf ∷ []) mid arguments rest
-      → Arguments rules (inside stack) (pred (openers_left stack)) function so_far (digit ∷ mid) arguments rest
+  digit-argument : (stack : List Frame) (function : Call) (so_far arguments : List Expression) (mid rest : List Token) → ArgumentsBehind rules (in_call stack) (pred (openers_left stack)) function (so_far ++ zero_leaf ∷ []) mid arguments rest
+      → Arguments rules (in_call stack) (pred (openers_left stack)) function so_far (digit ∷ mid) arguments rest
   digit-argument stack function so_far arguments mid rest behind = chosen (is_body function (length so_far)) refl
     where
-      chosen : (body : Bool) → is_body function (length so_far) ≡ body → Arguments rules (inside stack) (pred (openers_left stack)) function so_far (digit ∷ mid) arguments rest
-      chosen false is = grammar.argument is (digit-phrase ternary (inside stack) (pred (openers_left stack)) mid).1 behind
+      chosen : (body : Bool) → is_body function (length so_far) ≡ body → Arguments rules (in_call stack) (pred (openers_left stack)) function so_far (digit ∷ mid) arguments rest
+      chosen false is = grammar.argument is (digit-phrase ternary (in_call stack) (pred (openers_left stack)) mid).1 behind
       chosen true is = grammar.body is (digit-phrase ternary true (pred (openers_left stack)) mid).1 behind
 
   module _ (stack : List Frame) (completes : Completes stack) (at : ℕ) (function : Call) where
@@ -137,7 +137,7 @@ module _ (rules : Rules) where
         let had = complete-had stack completes (called at function so_far) in
         (had.0, group_end ∷ had.1, (so_far, had.1, grammar.last_argument group_end-follows all, had.2))
 
-    -- so many further arguments are enough
+    -- n further arguments are enough
     some-arguments : (k : ℕ) (so_far : List Expression) → arity function ≤ length so_far + k → Fits rules function so_far → (final : Expression) × (tokens : List Token) × Argument rules stack at function so_far (After rules final stack) tokens
     some-arguments k so_far enough (inl all) = all-arguments so_far all
     some-arguments zero so_far enough (inr more) = all-arguments so_far (full (length so_far) (arity function) rules.any_count (omega (arith, enough)) more)
@@ -157,13 +157,13 @@ module _ (rules : Rules) where
   complete [] is tree = (tree, [], (refl, refl))
   complete (RightOf at operator first ∷ stack) is tree =
       let end = complete stack is (BinaryAt at operator first tree) in
-      (end.0, end.1, rise-stay rules (wanted stack - looseness operator) (looseness operator) (inside stack) (openers_left stack) (After rules end.0 stack) (BinaryAt at operator first tree) end.1 end.2)
+      (end.0, end.1, rise-stay rules (wanted stack - looseness operator) (looseness operator) (in_call stack) (openers_left stack) (After rules end.0 stack) (BinaryAt at operator first tree) end.1 end.2)
   complete (Prefixed at operator ∷ stack) is tree =
       let end = complete stack is (UnaryAt at operator tree) in
-      (end.0, end.1, rise-stay rules (wanted stack) 0 (inside stack) (openers_left stack) (After rules end.0 stack) (UnaryAt at operator tree) end.1 end.2)
+      (end.0, end.1, rise-stay rules (wanted stack) 0 (in_call stack) (openers_left stack) (After rules end.0 stack) (UnaryAt at operator tree) end.1 end.2)
   complete (Yes at condition ∷ stack) is tree =
       let end = complete stack is (ChoiceAt at condition tree zero_leaf) in
-      (end.0, colon ∷ digit ∷ end.1, (colon-follows, (zero_leaf, end.1, (digit-phrase ternary (inside stack) (pred (openers_left stack)) end.1).1, end.2)))
+      (end.0, colon ∷ digit ∷ end.1, (colon-follows, (zero_leaf, end.1, (digit-phrase ternary (in_call stack) (pred (openers_left stack)) end.1).1, end.2)))
   complete (No at condition met ∷ stack) is tree = complete stack is (ChoiceAt at condition met tree)
   complete (Grouped ∷ stack) is tree =
       let had = complete-had stack (complete stack is) tree in
@@ -183,7 +183,7 @@ module _ (rules : Rules) where
   complete-want : (stack : List Frame) → IsCounted rules stack → (final : Expression) × (tokens : List Token) × Wanted rules final stack (digit ∷ tokens)
   complete-want stack is =
       let end = complete stack is zero_leaf in
-      (end.0, end.1, (zero_leaf, end.1, (digit-phrase (wanted stack) (inside stack) (openers_left stack) end.1).1, end.2))
+      (end.0, end.1, (zero_leaf, end.1, (digit-phrase (wanted stack) (in_call stack) (openers_left stack) end.1).1, end.2))
 
   complete-argument : (stack : List Frame) (at : ℕ) (function : Call) (so_far : List Expression) → IsCounted rules stack → takes_more rules function (length so_far) ≡ true → (final : Expression) × (tokens : List Token) × Called rules final stack at function so_far tokens
   complete-argument stack at function so_far is more =

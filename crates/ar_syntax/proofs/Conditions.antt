@@ -4,7 +4,7 @@ use Rattle.ar_tree.specs.Expression.{Expression}
 use Rattle.ar_syntax.specs.Machine.{ParserState}
 use Rattle.ar_syntax.specs.declared.token.Token.{Token}
 use Rattle.std.specs.Prelude.{nat_le}
-use Rattle.ar_syntax.specs.Machine.{step}
+use Rattle.ar_syntax.specs.Machine.{parser_step}
 use Rattle.ar_syntax.specs.Machine.{finished, start_state, step_from}
 use Rattle.std.specs.Prelude.{nat_le}
 use Rattle.std.proofs.Common.{append_assoc}
@@ -113,9 +113,9 @@ module _ (end : ℕ) where
 
   walked : (tokens before : List Token) (state : ParserState) → reached strict before ≡ Some state → IsWalked end (before ++ tokens) (walk end state tokens)
   walked [] before state there = subst (λ (all : List Token). IsWalked end all (walk end state [])) (sym (append-nil before)) (walked-end before state there (finished state) refl)
-  walked (c ∷ tokens) before state there = stepped-by (step strict state c) refl (λ next is. subst (λ (all : List Token). IsWalked end all (walk end next tokens)) (append_assoc before (c ∷ []) tokens) (walked tokens (before ++ c ∷ []) next (run-append strict (Some start_state) before (c ∷ []) ∙ ap (λ (s : Option ParserState). step_from strict s c) there ∙ is)))
+  walked (c ∷ tokens) before state there = stepped-by (parser_step strict state c) refl (λ next is. subst (λ (all : List Token). IsWalked end all (walk end next tokens)) (append_assoc before (c ∷ []) tokens) (walked tokens (before ++ c ∷ []) next (run-append strict (Some start_state) before (c ∷ []) ∙ ap (λ (s : Option ParserState). step_from strict s c) there ∙ is)))
     where
-      stepped-by : (next : Option ParserState) → step strict state c ≡ next → ((s : ParserState) → step strict state c ≡ Some s → IsWalked end (before ++ c ∷ tokens) (walk end s tokens)) → IsWalked end (before ++ c ∷ tokens) (state_after state c next >>= λ next. walk end next tokens)
+      stepped-by : (next : Option ParserState) → parser_step strict state c ≡ next → ((s : ParserState) → parser_step strict state c ≡ Some s → IsWalked end (before ++ c ∷ tokens) (walk end s tokens)) → IsWalked end (before ++ c ∷ tokens) (state_after state c next >>= λ next. walk end next tokens)
       stepped-by (Some next) is go = go next is
       stepped-by None is go =
           has_refusal (fault_of state c) (refusal.at_token before c tokens refl (BeginsBy-reached strict before state there) (λ begins. let taken = begins-accepts strict before state there c begins in let stops = ap accepts is in absurd cc) (is-refused before state there c)) refl

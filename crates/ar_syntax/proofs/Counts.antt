@@ -3,13 +3,13 @@ use Rattle.std.proofs.Common.{◌≡◌, ℕ, suc, Bool, true, false, List, [], 
 use Rattle.std.specs.Prelude.{pred}
 use Rattle.ar_tree.specs.Expression.{Expression, LiteralAt, UnaryAt, BinaryAt, ChoiceAt}
 use Rattle.ar_syntax.specs.Grammar.{Rules, may_continue, may_open, takes_all, takes_more}
-use Rattle.ar_syntax.specs.Machine.{Frame, ParserState, RightOf, Prefixed, Yes, No, Grouped, Listed, Indexed, Argued, Body, Braced, Want, Have, WantName, WantIndex, HaveText, WantIn, WantGroup, WantArgument, HaveArgument, inside, openers_left}
-use Rattle.ar_syntax.specs.Roles.{Call, Ender, Follow, Start, Ends, Comma, Colon, EndGroup, EndBracket, EndBrace, Operator, NotOf, Choose, Select, Open, NoFollow, follows, is_body, is_brace, is_group, is_in, looseness, token_name, begins_as, token_text}
+use Rattle.ar_syntax.specs.Machine.{Frame, ParserState, RightOf, Prefixed, Yes, No, Grouped, Listed, Indexed, Argued, Body, Braced, Want, Have, WantName, WantIndex, HaveText, WantIn, WantGroup, WantArgument, HaveArgument, in_call, openers_left}
+use Rattle.ar_syntax.specs.Roles.{Call, Ender, Follow, Start, Ends, Comma, Colon, EndGroup, EndBracket, EndBrace, Operator, NotOf, Choose, Select, Open, NoFollow, follows, is_body, is_brace, is_group, is_in, looseness, field_name_of, begun_by, literal_text}
 use Rattle.ar_syntax.specs.declared.token.Token.{Token}
 use Rattle.ar_tree.specs.declared.tree.Binary.{Binary}
 use Rattle.ar_tree.specs.declared.tree.Literal.TheVariants.{Text}
 use Rattle.std.specs.Prelude.{nat_le}
-use Rattle.ar_syntax.specs.Machine.{argue, begin, choose, climbed, close_braced, close_empty, close_text, end_with, follow, negate, open_index, operate, select, step, unwound, when}
+use Rattle.ar_syntax.specs.Machine.{argue, begun_with, choose, climbed, close_braced, close_empty, close_text, end_with, followed_by, negate, open_index, operate, select, parser_step, unwound, when}
 use Rattle.ar_syntax.specs.Roles.{Len, IsNil, Default, Over, Leaf, Prefix, Group, Bracket, Calls, ItemPoint, NoStart}
 use Rattle.ar_syntax.specs.Machine.{whole}
 use Rattle.std.specs.Prelude.{nat_eq, nat_lt, nat_le, ◌||◌, ◌⊎◌}
@@ -18,6 +18,7 @@ use Rattle.std.proofs.lemmas.Bool.{eqb-true}
 use Rattle.std.proofs.lemmas.Bool.Decides.{nat_tests}
 use Rattle.ar_syntax.specs.Roles.{arity}
 use Rattle.ar_syntax.proofs.Passes.{either}
+use Rattle.ar_syntax.proofs.Starts.{start_by}
 
 -- one argument more than fits below the count leaves some that fit, or is the last
 next_fits-chosen : (n a : ℕ) (any same : Bool) → nat_eq (suc n) a ≡ same → (nat_lt n a || any) ≡ true → ((nat_eq (suc n) a || any) ≡ true) ⊎ ((nat_lt (suc n) a || any) ≡ true)
@@ -83,7 +84,7 @@ module _ (rules : Rules) where
   counts-more true state is = is refl
   counts-more false state is = tt
 
-  counts-begin : (stack : List Frame) (at : ℕ) (s : Start) → IsCounted stack → IsCountedFrom (begin rules stack at s)
+  counts-begin : (stack : List Frame) (at : ℕ) (s : Start) → IsCounted stack → IsCountedFrom (begun_with rules stack at s)
   counts-begin stack at (Leaf tree) is = is
   counts-begin stack at (Prefix operator) is = counts-when (may_open rules (openers_left stack)) _ is
   counts-begin stack at Group is = counts-when (may_open rules (openers_left stack)) _ is
@@ -145,7 +146,7 @@ module _ (rules : Rules) where
   counts-end (Braced at function so_far ∷ stack) tree EndBrace is = (body_last function so_far tree is.1, is.2)
   counts-end (Braced at function so_far ∷ stack) tree ender is = tt
 
-  counts-follow : (stack : List Frame) (tree : Expression) (at : ℕ) (r : Follow) → IsCounted stack → IsCountedFrom (follow rules stack tree at r)
+  counts-follow : (stack : List Frame) (tree : Expression) (at : ℕ) (r : Follow) → IsCounted stack → IsCountedFrom (followed_by rules stack tree at r)
   counts-follow stack tree at (Operator operator) is = counts-operate at operator (climbed (looseness operator) stack tree) (counts-climbed (looseness operator) stack tree is)
   counts-follow stack tree at NotOf is = counts-negate at (climbed 2 stack tree) (counts-climbed 2 stack tree is)
   counts-follow stack tree at Choose is = counts-choose at (climbed 5 stack tree) (counts-climbed 5 stack tree is)
@@ -160,15 +161,15 @@ module _ (rules : Rules) where
 
   counts-open : (stack : List Frame) (at : ℕ) (whole : Expression) (c : Token) (text : Option (List ℕ)) → IsCounted stack → IsCountedFrom (open_index rules stack at whole c text)
   counts-open stack at whole c (Some text) is = is
-  counts-open stack at whole c None is = counts-begin (Indexed at whole ∷ stack) c.span.start (begins_as (inside stack) c) is
+  counts-open stack at whole c None is = counts-begin (Indexed at whole ∷ stack) c.span.start (begun_by (in_call stack) c) is
 
   counts-close_text : (stack : List Frame) (at : ℕ) (whole : Expression) (text_at : ℕ) (text : List ℕ) (c : Token) (r : Follow) → IsCounted stack → IsCountedFrom (close_text rules stack at whole text_at text c r)
   counts-close_text stack at whole text_at text c (Ends EndBracket) is = is
   counts-close_text stack at whole text_at text c r is = counts-follow (Indexed at whole ∷ stack) (LiteralAt text_at (Text text)) c.span.start (follows c) is
 
-  counts-argue : (stack : List Frame) (at : ℕ) (function : Call) (so_far : List Expression) (c : Token) (body brace : Bool) → is_body function (length so_far) ≡ body → (takes_more rules function (length so_far) ≡ true) × IsCounted stack → IsCountedFrom (argue rules stack at function so_far c body brace)
-  counts-argue stack at function so_far c false brace b is = counts-begin (Argued at function so_far ∷ stack) c.span.start (begins_as (inside stack) c) is
-  counts-argue stack at function so_far c true false b is = counts-begin (Body at function so_far ∷ stack) c.span.start (begins_as true c) is
+  counts-argue : (stack : List Frame) (at : ℕ) (function : Call) (so_far : List Expression) (c : Token) (body brace : Bool) → is_body function (length so_far) ≡ body → (takes_more rules function (length so_far) ≡ true) × IsCounted stack → IsCountedFrom (argue rules stack at function so_far c (start_by body brace))
+  counts-argue stack at function so_far c false brace b is = counts-begin (Argued at function so_far ∷ stack) c.span.start (begun_by (in_call stack) c) is
+  counts-argue stack at function so_far c true false b is = counts-begin (Body at function so_far ∷ stack) c.span.start (begun_by true c) is
   counts-argue stack at function so_far c true true b is = counts-when (may_open rules (pred (openers_left stack))) _ (is.0, b, is.1)
 
   counts-close_empty : (stack : List Frame) (at : ℕ) (function : Call) (c : Token) (so_far : List Expression) (r : Follow) → (takes_more rules function (length so_far) ≡ true) × IsCounted stack → IsCountedFrom (close_empty rules stack at function c so_far r)
@@ -180,12 +181,12 @@ module _ (rules : Rules) where
   counts-close_braced stack at function arguments (Ends Comma) is = counts-more (takes_more rules function (length arguments)) _ (λ more. (more, is))
   counts-close_braced stack at function arguments r is = tt
 
-  pub counts : (state : ParserState) (c : Token) → IsCountedState state → IsCountedFrom (step rules state c)
-  unfolding step
-  counts (Want stack) c is = counts-begin stack c.span.start (begins_as (inside stack) c) is
+  pub counts : (state : ParserState) (c : Token) → IsCountedState state → IsCountedFrom (parser_step rules state c)
+  unfolding parser_step
+  counts (Want stack) c is = counts-begin stack c.span.start (begun_by (in_call stack) c) is
   counts (Have stack tree) c is = counts-follow stack tree c.span.start (follows c) is
-  counts (WantName stack at whole) c is = counts-select stack at whole (token_name c) is
-  counts (WantIndex stack at whole) c is = counts-open stack at whole c (token_text c) is
+  counts (WantName stack at whole) c is = counts-select stack at whole (field_name_of c) is
+  counts (WantIndex stack at whole) c is = counts-open stack at whole c (literal_text c) is
   counts (HaveText stack at whole text_at text) c is = counts-close_text stack at whole text_at text c (follows c) is
   counts (WantIn stack at first) c is = counts-when (is_in c) _ is
   counts (WantGroup stack at function) c is = counts-when (is_group c) _ (takes_one function, is)

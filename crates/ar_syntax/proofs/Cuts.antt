@@ -19,7 +19,7 @@ use Rattle.ar_syntax.specs.declared.scanner.Piece.TheVariants.{Gap, Found}
 use Rattle.ar_syntax.proofs.Fronts.{bind_ok}
 use Rattle.ar_syntax.proofs.Pieces.{IsFront, IsFront-front_of, IsFrontGap, IsFrontGap-front_of}
 
--- the tokens are those of the text between two places
+-- the tokens are those of the text between two offsets
 pub record AreCut (text : List ℕ) (start end : ℕ) (tokens : List Token) : Type 0 where
   pub in_order : AreTokensInOrder start end tokens
   pub spelled : AllByRecursion (IsSpelled text) tokens
@@ -100,7 +100,7 @@ AreCut-from_tokens_of text tokens e = AreCut-chosen text (ltb most_text_bytes (l
 abbrev items_of : Vec Token → List Token
 items_of tokens = tokens.items
 
--- what `tokens` answers by its exact clause
+-- what `tokens` returns by its exact clause
 module _ (text : List ℕ) where
   pub in_order : (answer : Result (Vec Token) SyntaxError) → Gives is_syntax_memory items_of answer (tokens_of text) → IfOk answer (λ tokens. AreTokensInOrder 0 (length text) tokens.items)
   in_order (Ok tokens) gives = (AreCut-from_tokens_of text tokens.items gives).in_order

@@ -1,4 +1,4 @@
--- Trees of at most so many levels.
+-- Trees of at most n levels.
 use Rattle.std.proofs.Common.{◌≡◌, ℕ, zero, suc, ◌+◌, ◌-◌, ◌<◌, ◌≤◌, max, true, false, nat_le, List, [], ◌∷◌, length, map, drop, refl, sym, ◌∙◌, ap, arith, drop-cons, add-one}
 use Rattle.std.proofs.lemmas.Bool.Decides.{nat_tests}
 use Rattle.std.specs.Prelude.{◌&&◌, slice_index_or}

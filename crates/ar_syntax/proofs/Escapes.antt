@@ -1,4 +1,4 @@
--- What a text in UTF-8 stands for is in UTF-8.
+-- What a text in UTF-8 represents is in UTF-8.
 use Rattle.std.proofs.Common.{◌≡◌, ℕ, zero, suc, ◌+◌, ◌≤◌, ◌<◌, Bool, true, false, List, [], ◌∷◌, ◌++◌, length, get_or, refl, sym, ◌∙◌, ap, subst, arith, ◌==◌, Option, Some, None, Ok, inl, inr}
 use Rattle.std.specs.Prelude.{◌||◌}
 use Rattle.std.specs.Str.{IsAscii, IsUtf8}
@@ -22,7 +22,7 @@ high_first byte bytes high = high 0 (omega arith)
 high_others : (byte : ℕ) (bytes : List ℕ) → AreHigh (byte ∷ bytes) → AreHigh bytes
 high_others byte bytes high i below = high (suc i) (omega arith)
 
--- they stand for themselves
+-- they represent themselves
 high_stand : (before : ℕ) (front rest value : List ℕ) → AreHigh front → unescaped before false (front ++ rest) ≡ Ok value
     → (place : ℕ) × (behind : List ℕ) × (unescaped place false rest ≡ Ok behind) × (value ≡ front ++ behind)
 high_stand before [] rest value high e = (before, value, e, refl)
@@ -78,7 +78,7 @@ IsUtf8-byte byte bytes small utf8 = IsUtf8-append (byte ∷ []) bytes (IsUtf8-fr
     one zero = small
     one (suc i) = omega arith
 
--- what a character with text after it stands for, where the text after it stands for UTF-8
+-- what a character with text after it represents, where the text after it represents UTF-8
 module _ (bytes : List ℕ) (behind-utf8 : (place : ℕ) (escaped : Bool) (value : List ℕ) → unescaped place escaped bytes ≡ Ok value → IsUtf8 value) where
   with_byte-utf8 : (place byte : ℕ) (value : List ℕ) → byte < 128 → with_byte byte (unescaped place false bytes) ≡ Ok value → IsUtf8 value
   with_byte-utf8 place byte value small e =

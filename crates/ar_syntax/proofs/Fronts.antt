@@ -1,4 +1,4 @@
--- What stands at the front of bytes.
+-- What is at the front of bytes.
 use Rattle.std.proofs.Common.{◌≡◌, ℕ, ◌+◌, ◌≤◌, ◌<◌, Bool, true, false, cond, List, [], ◌∷◌, ◌++◌, length, take, drop, refl, sym, ◌∙◌, ap, arith, append_assoc, nat_eq, ◌==◌, Option, Some, None, Result, Ok, Err, length-append, take-append-drop, ◌⊎◌, inl, inr}
 use Rattle.std.specs.Prelude.{find, take_while, ◌&&◌, ◌||◌, not, slice_index}
 use Rattle.std.specs.List.{starts_with, list_all}
@@ -181,7 +181,7 @@ no_digit_there Binary = refl
 no_digit_there Octal = refl
 no_digit_there Hexadecimal = refl
 
--- a prefix stands in front of a digit of its base
+-- a prefix comes before a digit of its base
 pub record IsPrefixed (base : Base) (bytes : List ℕ) : Type 0 where
   pub front : bytes ≡ prefix base ++ drop 2 bytes
   pub some : 0 < length (base_digits base bytes)

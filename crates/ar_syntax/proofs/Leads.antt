@@ -3,8 +3,8 @@ use Rattle.std.proofs.Common.{◌≡◌, ℕ, zero, suc, ◌-◌, Bool, true, Li
 use Rattle.std.specs.Prelude.{pred}
 use Rattle.ar_tree.specs.Expression.{Expression, FieldAt, IndexAt, LiteralAt, UnaryAt, BinaryAt, ChoiceAt, ListAt, expressions}
 use Rattle.ar_syntax.specs.Grammar.{Arguments, ArgumentsBehind, Further, ItemsBehind, Phrase, Rules, Selections, ternary}
-use Rattle.ar_syntax.specs.Machine.{Frame, ParserState, RightOf, Prefixed, Yes, No, Grouped, Listed, Indexed, Argued, Body, Braced, Want, Have, WantName, WantIndex, HaveText, WantIn, WantGroup, WantArgument, HaveArgument, inside, openers_left, wanted}
-use Rattle.ar_syntax.specs.Roles.{Call, Ender, Follow, Ends, Colon, EndGroup, EndBracket, EndBrace, called, follows, is_group, is_in, looseness, token_name, token_text}
+use Rattle.ar_syntax.specs.Machine.{Frame, ParserState, RightOf, Prefixed, Yes, No, Grouped, Listed, Indexed, Argued, Body, Braced, Want, Have, WantName, WantIndex, HaveText, WantIn, WantGroup, WantArgument, HaveArgument, in_call, openers_left, wanted}
+use Rattle.ar_syntax.specs.Roles.{Call, Ender, Follow, Ends, Colon, EndGroup, EndBracket, EndBrace, called, follows, is_group, is_in, looseness, field_name_of, literal_text}
 use Rattle.ar_syntax.specs.declared.token.Token.{Token}
 use Rattle.ar_tree.specs.declared.tree.Binary.TheVariants.{NotIn}
 use Rattle.ar_tree.specs.declared.tree.Literal.TheVariants.{Text}
@@ -14,7 +14,7 @@ abbrev pub Claim : Type 1
 Claim = Expression → List Token → Type 0
 
 module _ (rules : Rules) where
-  -- what follows on so many levels from this one on, and then the claim
+  -- what follows on n levels from this one on, and then the claim
   abbrev pub Rise : ℕ → ℕ → Bool → ℕ → Claim → Claim
   Rise zero d b n K tree tokens = K tree tokens
   Rise (suc k) d b n K tree tokens = (more : Expression) × (rest : List Token) × Further rules d b n tree tokens more rest × Rise k (suc d) b n K more rest
@@ -23,9 +23,9 @@ module _ (rules : Rules) where
   abbrev pub Selected : Bool → ℕ → Claim → Claim
   Selected b n K tree tokens = (more : Expression) × (rest : List Token) × Selections rules b n tree tokens more rest × K more rest
 
-  -- an operand on a stack, of which the claim holds once the newest frame has what it wants
+  -- an operand on a stack, of which the claim holds once the newest frame has what it expects
   abbrev pub Had : List Frame → Claim → Claim
-  Had stack K tree tokens = Selected (inside stack) (openers_left stack) (Rise (wanted stack) 0 (inside stack) (openers_left stack) K) tree tokens
+  Had stack K tree tokens = Selected (in_call stack) (openers_left stack) (Rise (wanted stack) 0 (in_call stack) (openers_left stack) K) tree tokens
 
   -- one token, and then the claim
   abbrev pub Ended : Ender → Claim → Claim
@@ -33,33 +33,33 @@ module _ (rules : Rules) where
   Ended ender K tree (close ∷ behind) = (follows close ≡ Ends ender) × K tree behind
 
   abbrev pub Chosen : List Frame → ℕ → Expression → Claim → Claim
-  Chosen stack at condition K met tokens = (unmet : Expression) × (rest : List Token) × Phrase rules ternary (inside stack) (pred (openers_left stack)) tokens unmet rest × K (ChoiceAt at condition met unmet) rest
+  Chosen stack at condition K met tokens = (unmet : Expression) × (rest : List Token) × Phrase rules ternary (in_call stack) (pred (openers_left stack)) tokens unmet rest × K (ChoiceAt at condition met unmet) rest
 
   abbrev pub Argument : List Frame → ℕ → Call → List Expression → Claim → List Token → Type 0
-  Argument stack at function so_far K tokens = (arguments : List Expression) × (rest : List Token) × ArgumentsBehind rules (inside stack) (pred (openers_left stack)) function so_far tokens arguments rest × Had stack K (called at function arguments) rest
+  Argument stack at function so_far K tokens = (arguments : List Expression) × (rest : List Token) × ArgumentsBehind rules (in_call stack) (pred (openers_left stack)) function so_far tokens arguments rest × Had stack K (called at function arguments) rest
 
-  -- the newest frame has what it wants, and these tokens follow: they lead to the final tree
+  -- the newest frame has what it expects, and these tokens follow: they lead to the final tree
   abbrev pub After : Expression → List Frame → Claim
   After final [] tree tokens = (tree ≡ final) × (tokens ≡ [])
-  After final (RightOf at operator first ∷ stack) tree tokens = Rise (wanted stack - looseness operator) (looseness operator) (inside stack) (openers_left stack) (After final stack) (BinaryAt at operator first tree) tokens
-  After final (Prefixed at operator ∷ stack) tree tokens = Rise (wanted stack) 0 (inside stack) (openers_left stack) (After final stack) (UnaryAt at operator tree) tokens
+  After final (RightOf at operator first ∷ stack) tree tokens = Rise (wanted stack - looseness operator) (looseness operator) (in_call stack) (openers_left stack) (After final stack) (BinaryAt at operator first tree) tokens
+  After final (Prefixed at operator ∷ stack) tree tokens = Rise (wanted stack) 0 (in_call stack) (openers_left stack) (After final stack) (UnaryAt at operator tree) tokens
   After final (Yes at condition ∷ stack) tree tokens = Ended Colon (Chosen stack at condition (After final stack)) tree tokens
   After final (No at condition met ∷ stack) tree tokens = After final stack (ChoiceAt at condition met tree) tokens
   After final (Grouped ∷ stack) tree tokens = Ended EndGroup (Had stack (After final stack)) tree tokens
   After final (Listed at so_far ∷ stack) tree tokens =
-      (items : List Expression) × (rest : List Token) × ItemsBehind rules (inside stack) (pred (openers_left stack)) (so_far ++ tree ∷ []) tokens items rest × Had stack (After final stack) (ListAt at (expressions items)) rest
+      (items : List Expression) × (rest : List Token) × ItemsBehind rules (in_call stack) (pred (openers_left stack)) (so_far ++ tree ∷ []) tokens items rest × Had stack (After final stack) (ListAt at (expressions items)) rest
   After final (Indexed at whole ∷ stack) tree tokens = Ended EndBracket (λ index rest. Had stack (After final stack) (IndexAt at whole index) rest) tree tokens
   After final (Argued at function so_far ∷ stack) tree tokens = Argument stack at function (so_far ++ tree ∷ []) (After final stack) tokens
   After final (Body at function so_far ∷ stack) tree tokens = Argument stack at function (so_far ++ tree ∷ []) (After final stack) tokens
   After final (Braced at function so_far ∷ stack) tree tokens = Ended EndBrace (λ body rest. Argument stack at function (so_far ++ body ∷ []) (After final stack) rest) tree tokens
 
-  -- the newest frame gets what it wants
+  -- the newest frame gets what it expects
   abbrev pub Wanted : Expression → List Frame → List Token → Type 0
-  Wanted final stack tokens = (tree : Expression) × (rest : List Token) × Phrase rules (wanted stack) (inside stack) (openers_left stack) tokens tree rest × After final stack tree rest
+  Wanted final stack tokens = (tree : Expression) × (rest : List Token) × Phrase rules (wanted stack) (in_call stack) (openers_left stack) tokens tree rest × After final stack tree rest
 
   abbrev pub Named : Expression → List Frame → ℕ → Expression → List Token → Type 0
   Named final stack at whole [] = ⊥
-  Named final stack at whole (name ∷ behind) = (word : List ℕ) × (token_name name ≡ Some word) × Had stack (After final stack) (FieldAt at whole word) behind
+  Named final stack at whole (name ∷ behind) = (word : List ℕ) × (field_name_of name ≡ Some word) × Had stack (After final stack) (FieldAt at whole word) behind
 
   abbrev pub TextClosed : Expression → List Frame → ℕ → Expression → ℕ → List ℕ → Token → List Token → Follow → Type 0
   TextClosed final stack at whole text_at text close behind (Ends EndBracket) = Had stack (After final stack) (FieldAt at whole text) behind
@@ -75,7 +75,7 @@ module _ (rules : Rules) where
 
   abbrev pub InBrackets : Expression → List Frame → ℕ → Expression → List Token → Type 0
   InBrackets final stack at whole [] = ⊥
-  InBrackets final stack at whole (token ∷ behind) = Inner final stack at whole token behind (token_text token)
+  InBrackets final stack at whole (token ∷ behind) = Inner final stack at whole token behind (literal_text token)
 
   abbrev pub Negated : Expression → List Frame → ℕ → Expression → List Token → Type 0
   Negated final stack at first [] = ⊥
@@ -83,7 +83,7 @@ module _ (rules : Rules) where
 
   abbrev pub Called : Expression → List Frame → ℕ → Call → List Expression → List Token → Type 0
   Called final stack at function so_far tokens =
-      (arguments : List Expression) × (rest : List Token) × Arguments rules (inside stack) (pred (openers_left stack)) function so_far tokens arguments rest × Had stack (After final stack) (called at function arguments) rest
+      (arguments : List Expression) × (rest : List Token) × Arguments rules (in_call stack) (pred (openers_left stack)) function so_far tokens arguments rest × Had stack (After final stack) (called at function arguments) rest
 
   abbrev pub Opened : Expression → List Frame → ℕ → Call → List Token → Type 0
   Opened final stack at function [] = ⊥

@@ -26,3 +26,4 @@ pub mod Stacks
 pub mod Openers
 pub mod Depths
 mod Words
+pub mod Starts

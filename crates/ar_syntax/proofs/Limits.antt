@@ -5,15 +5,15 @@ use Rattle.std.specs.List.{AllByRecursion}
 use Rattle.std.proofs.lemmas.Bool.{ltb-false, ltb-true}
 use Rattle.std.proofs.lemmas.List.{length-take}
 use Rattle.ar_value.specs.Answer.{Gives}
-use Rattle.ar_tree.specs.Expression.{Expression, count, expressions}
+use Rattle.ar_tree.specs.Expression.{Expression, expression_count, expressions}
 use Rattle.ar_tree.specs.Limits.{AllWrittenInLimits, IsShort, WrittenInLimits}
 use Rattle.ar_tree.specs.Views.{expression_of}
 use Rattle.ar_tree.specs.declared.tree.Tree.{Tree}
-use Rattle.ar_syntax.specs.Grammar.{Arguments, ArgumentsBehind, Further, Items, ItemsBehind, Phrase, Primary, Selections, may_continue}
+use Rattle.ar_syntax.specs.Grammar.{Arguments, ArgumentsBehind, Further, ListItems, ItemsBehind, Phrase, Primary, Selections, may_continue}
 use Rattle.ar_syntax.specs.Grammar as grammar
 use Rattle.ar_syntax.specs.Parse.{parse_of}
 use Rattle.ar_syntax.specs.Condition.{SaysTree, strict}
-use Rattle.ar_syntax.specs.Roles.{Call, Len, IsNil, Default, Over, Start, Leaf, called, kind_name, kind_start, kind_text, token_name, sign_start, begins_as, token_text, word_start}
+use Rattle.ar_syntax.specs.Roles.{Call, Len, IsNil, Default, Over, Start, Leaf, called, kind_name, kind_start, kind_text, field_name_of, sign_start, begun_by, literal_text, word_start}
 use Rattle.ar_syntax.specs.Spelling.{IsSpelled, Spells, is_syntax_memory, text_in_span}
 use Rattle.ar_syntax.specs.Token.{escape_of, letters, predicate_letters, test_letters, unescaped, with_byte, with_escape}
 use Rattle.ar_syntax.specs.Tokens.{tokens_behind, tokens_of}
@@ -34,7 +34,7 @@ use Rattle.ar_value.specs.Limits.{most_literal_items, most_text_bytes}
 use Rattle.ar_syntax.proofs.Cuts.{AreCut-from_tokens_of}
 use Rattle.ar_syntax.proofs.Texts.{SaysTree-from_parse_of}
 
--- ---- what texts stand for
+-- ---- what texts represent
 
 abbrev HasUpTo : ℕ → Result (List ℕ) SyntaxError → Type 0
 HasUpTo most answer = IfOk answer (λ bytes. length bytes ≤ most)
@@ -55,7 +55,7 @@ either_way : (most : ℕ) (test : Bool) (met unmet : Result (List ℕ) SyntaxErr
 either_way most true met unmet h k = h
 either_way most false met unmet h k = k
 
--- an escape has two bytes and stands for one
+-- an escape has two bytes and represents one
 unescaped_few : (before : ℕ) (escaped : Bool) (bytes : List ℕ) → HasUpTo (length bytes) (unescaped before escaped bytes)
 unescaped_few before escaped [] = omega arith
 unescaped_few before true (byte ∷ bytes) = one_escape_more (length bytes) before (escape_of byte) (unescaped (before + 1) false bytes) (unescaped_few (before + 1) false bytes)
@@ -133,16 +133,16 @@ kind_name_short (kinds.Word word) name short is = let same : letters word ≡ na
 kind_name_short (kinds.Name other) name short is = let same : other ≡ name = cc in subst IsShort same short
 kind_name_short kind name short is = absurd cc
 
-name_short : (token : Token) (name : List ℕ) → IsShortKind token.kind → token_name token ≡ Some name → IsShort name
-unfolding token_name
+name_short : (token : Token) (name : List ℕ) → IsShortKind token.kind → field_name_of token ≡ Some name → IsShort name
+unfolding field_name_of
 name_short token name short is = kind_name_short token.kind name short is
 
 kind_text_short : (kind : TokenKind) (text : List ℕ) → IsShortKind kind → kind_text kind ≡ Some text → IsShort text
 kind_text_short (kinds.Text other) text short is = let same : other ≡ text = cc in subst IsShort same short
 kind_text_short kind text short is = absurd cc
 
-text_short : (token : Token) (text : List ℕ) → IsShortKind token.kind → token_text token ≡ Some text → IsShort text
-unfolding token_text
+text_short : (token : Token) (text : List ℕ) → IsShortKind token.kind → literal_text token ≡ Some text → IsShort text
+unfolding literal_text
 text_short token text short is = kind_text_short token.kind text short is
 
 abbrev StartInLimits : Start → Type 0
@@ -166,8 +166,8 @@ kind_in_limits inside at (kinds.Decimal millionths) short = tt
 kind_in_limits inside at (kinds.Text text) short = short
 kind_in_limits inside at (kinds.Sign sign) short = sign_in_limits inside at sign
 
-leaf_in_limits : (inside : Bool) (token : Token) (tree : Expression) → IsShortKind token.kind → begins_as inside token ≡ Leaf tree → WrittenInLimits tree
-unfolding begins_as
+leaf_in_limits : (inside : Bool) (token : Token) (tree : Expression) → IsShortKind token.kind → begun_by inside token ≡ Leaf tree → WrittenInLimits tree
+unfolding begun_by
 leaf_in_limits inside token tree short is = subst StartInLimits is (kind_in_limits inside token.span.start token.kind short)
 
 -- ---- lists and calls
@@ -176,7 +176,7 @@ one_more : (so_far : List Expression) (tree : Expression) → AllWrittenInLimits
 one_more [] tree all one = (one, tt)
 one_more (first ∷ so_far) tree all one = (all.0, one_more so_far tree all.1 one)
 
-as_many : (trees : List Expression) → count (expressions trees) ≡ length trees
+as_many : (trees : List Expression) → expression_count (expressions trees) ≡ length trees
 as_many [] = refl
 as_many (first ∷ others) = ap suc (as_many others)
 
@@ -226,7 +226,7 @@ mutual
       let all = arguments_within arguments tt short.1.1 in
       (called_in_limits token.span.start function trees all.0, all.1)
 
-  items_within : {inside : Bool} {left : ℕ} {so_far trees : List Expression} {tokens rest : List Token} → Items strict inside left so_far tokens trees rest → AllWrittenInLimits (expressions so_far) → length so_far < most_literal_items → AreShort tokens
+  items_within : {inside : Bool} {left : ℕ} {so_far trees : List Expression} {tokens rest : List Token} → ListItems strict inside left so_far tokens trees rest → AllWrittenInLimits (expressions so_far) → length so_far < most_literal_items → AreShort tokens
       → (AllWrittenInLimits (expressions trees) × (length trees ≤ most_literal_items)) × AreShort rest
   items_within (grammar.item {so_far = so_far} {first = tree} phrase behind) all few short =
       let first = phrase_within phrase short in
@@ -257,7 +257,7 @@ says_in_limits text tree says = (phrase_within says.derived (tokens_short text (
 pub parsed_in_limits : (text : List ℕ) (tree : Expression) → parse_of text ≡ Ok tree → WrittenInLimits tree
 parsed_in_limits text tree is = says_in_limits text tree (SaysTree-from_parse_of text tree is)
 
--- what `parse` answers by its exact clause
+-- what `parse` returns by its exact clause
 pub in_limits : (text : List ℕ) (answer : Result Tree SyntaxError) → Gives is_syntax_memory expression_of answer (parse_of text) → IfOk answer (λ tree. WrittenInLimits (expression_of tree))
 in_limits text (Ok tree) gives = says_in_limits text (expression_of tree) (SaysTree-from_parse_of text (expression_of tree) gives)
 in_limits text (Err error) gives = tt

@@ -11,7 +11,7 @@ use Rattle.ar_syntax.specs.Refusal as refusal
 use Rattle.ar_syntax.specs.Parsed.{IsRefusal, token_fault, grammar_fault}
 use Rattle.ar_syntax.specs.Parse.{parse_of}
 use Rattle.ar_syntax.specs.Token.{begins_word, continues_word, escape_of, is_quote, radix, takes_field, text_end, unescaped, with_byte, with_escape}
-use Rattle.ar_syntax.specs.Tokens.{base_digits, base_of, begins_block_comment, begins_line_comment, begins_number, block_comment, comment_end, comment_of, digits_at, number_ended, piece_found, fraction_at, front_of, is_blank, is_coalescing, line_comment, number_in, number_at_front, number_text, sign_at, sign_of, sign_token, text_in, text_at_front, token, token_of, tokens_behind, tokens_of, number_spelled, whole_spelled, with_front, word_at, word_token}
+use Rattle.ar_syntax.specs.Tokens.{base_digits, base_of, begins_block_comment, begins_line_comment, begins_number, block_comment, comment_end, comment_of, digits_at, number_ended, piece_found, fraction_at, front_of, is_blank, is_coalescing, line_comment, number_in, number_at_front, number_text, sign_at, sign_of, sign_token, text_in, text_at_front, token, token_of, tokens_behind, tokens_of, number_token_kind, whole_token_kind, with_front, word_at, word_token}
 use Rattle.ar_syntax.specs.declared.error.SyntaxError.{SyntaxError}
 use Rattle.ar_syntax.specs.declared.error.SyntaxError.TheVariants.{BadCharacter, OutOfMemory}
 use Rattle.ar_syntax.specs.declared.scanner.Piece.{Piece}
@@ -36,10 +36,10 @@ IsDefined-cond : {A : Type 0} (b : Bool) (r s : Result A SyntaxError) → IsDefi
 IsDefined-cond true r s r-is s-is = r-is
 IsDefined-cond false r s r-is s-is = s-is
 
-whole_of-defined : (at magnitude : ℕ) → IsDefined (whole_spelled at magnitude)
+whole_of-defined : (at magnitude : ℕ) → IsDefined (whole_token_kind at magnitude)
 whole_of-defined at magnitude = IsDefined-cond (is_i64 (pos magnitude)) _ _ tt (λ same. absurd cc)
 
-value_of-defined : (at : ℕ) (whole fraction : List ℕ) → IsDefined (number_spelled at whole fraction)
+value_of-defined : (at : ℕ) (whole fraction : List ℕ) → IsDefined (number_token_kind at whole fraction)
 value_of-defined at whole [] = whole_of-defined at (digits_value 10 whole)
 value_of-defined at whole (digit ∷ fraction) =
     IsDefined-cond (nat_lt 6 (length (digit ∷ fraction))) _ _ (λ same. absurd cc)
@@ -50,9 +50,9 @@ ended-defined at len bytes kind = IsDefined-cond (continues_word (slice_index by
 
 number_in-defined : (at : ℕ) (bytes : List ℕ) (base : Option Base) → IsDefined (number_in at bytes base)
 number_in-defined at bytes (Some base) =
-    IsDefined-then (whole_spelled at (digits_value (radix base) (base_digits base bytes))) (number_ended at (2 + length (base_digits base bytes)) bytes) (whole_of-defined at (digits_value (radix base) (base_digits base bytes))) (ended-defined at (2 + length (base_digits base bytes)) bytes)
+    IsDefined-then (whole_token_kind at (digits_value (radix base) (base_digits base bytes))) (number_ended at (2 + length (base_digits base bytes)) bytes) (whole_of-defined at (digits_value (radix base) (base_digits base bytes))) (ended-defined at (2 + length (base_digits base bytes)) bytes)
 number_in-defined at bytes None =
-    IsDefined-then (number_spelled at (digits_at bytes) (fraction_at bytes)) (number_ended at (length (number_text (digits_at bytes) (fraction_at bytes))) bytes) (value_of-defined at (digits_at bytes) (fraction_at bytes)) (ended-defined at (length (number_text (digits_at bytes) (fraction_at bytes))) bytes)
+    IsDefined-then (number_token_kind at (digits_at bytes) (fraction_at bytes)) (number_ended at (length (number_text (digits_at bytes) (fraction_at bytes))) bytes) (value_of-defined at (digits_at bytes) (fraction_at bytes)) (ended-defined at (length (number_text (digits_at bytes) (fraction_at bytes))) bytes)
 
 number_of-defined : (at : ℕ) (bytes : List ℕ) → IsDefined (number_at_front at bytes)
 unfolding number_at_front

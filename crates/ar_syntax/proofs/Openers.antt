@@ -3,7 +3,7 @@ use Rattle.std.proofs.Common.{◌≡◌, ℕ, zero, suc, ◌<◌, ◌≤◌, Boo
 use Rattle.std.proofs.lemmas.Bool.Decides.{nat_tests}
 use Rattle.std.specs.Prelude.{nat_eq, nat_lt, pred}
 use Rattle.ar_syntax.specs.Grammar.{Rules, ends_bracket, may_continue, may_open, takes_all, takes_more}
-use Rattle.ar_syntax.specs.Machine.{Argued, Body, Braced, Frame, Grouped, Have, Indexed, Listed, No, Prefixed, RightOf, ParserState, Yes, argue, close_empty, close_text, end_with, have, step, when, whole}
+use Rattle.ar_syntax.specs.Machine.{Argued, Body, Braced, Frame, Grouped, Have, Indexed, Listed, No, Prefixed, RightOf, ParserState, Yes, argue, close_empty, close_text, end_with, have, parser_step, when, whole}
 use Rattle.ar_syntax.specs.Condition.{at_any_depth, of_any_count, of_any_items, strict}
 use Rattle.ar_syntax.specs.Roles.{Call, Colon, Comma, Default, EndBrace, EndBracket, EndGroup, Ender, Ends, Follow, IsNil, Len, Over, arity, is_body, is_brace}
 use Rattle.ar_syntax.specs.Private.Frames.{unwinds}
@@ -22,6 +22,7 @@ use Rattle.ar_syntax.specs.declared.token.Token.{Token}
 use Rattle.ar_tree.specs.declared.tree.Literal.TheVariants.{Text}
 use Rattle.ar_tree.specs.declared.tree.Tree.{Tree}
 use Rattle.ar_syntax.specs.declared.state.Refusal.TheVariants.{Arguments, Depth, Items, OutOfMemory, Other}
+use Rattle.ar_syntax.proofs.Starts.{start_by}
 
 pub length_of_map : (xs : List Tree) → length (map expression_of xs) ≡ length xs
 length_of_map [] = refl
@@ -124,9 +125,9 @@ empty_call stack at Default token [] (Ends EndGroup) h = (refl, refl)
 empty_call stack at (Over predicate) token [] (Ends EndGroup) h = (refl, refl)
 empty_call stack at function token so_far role h = absurd cc
 
--- else an argument stands there
+-- else an argument is there
 pub argument_begins : (old stack : List Frame) (at : ℕ) (function : Call) (token : Token) (so_far : List Expression) (role : Follow) (r : Result rust.State Refusal) → is_empty_call so_far role ≡ false
-    → Steps (λ rules. argue rules old at function so_far token (is_body function (length so_far)) (is_brace token)) stack r
+    → Steps (λ rules. argue rules old at function so_far token (start_by (is_body function (length so_far)) (is_brace token))) stack r
     → Steps (λ rules. close_empty rules old at function token so_far role) stack r
 argument_begins old stack at function token [] (Ends EndGroup) r h begins = absurd cc
 argument_begins old stack at function token so_far role r h begins = begins
@@ -140,20 +141,20 @@ chosen false false true wants inside token = refl
 chosen false false false wants inside token = refl
 
 -- the name of a fault, by the limit that alone forbids the token
-pub fault_forbidden : (state : ParserState) (token : Token) (refusal : Refusal) (wants inside : Bool) → forbids (λ rules. step rules state token) ≡ refusal → wants ≡ wants_operand state → inside ≡ is_inside state
+pub fault_forbidden : (state : ParserState) (token : Token) (refusal : Refusal) (wants inside : Bool) → forbids (λ rules. parser_step rules state token) ≡ refusal → wants ≡ wants_operand state → inside ≡ is_inside state
     → fault_of state token ≡ fault_by refusal wants inside token
 unfolding fault_of
 fault_forbidden state token refusal wants inside is is_wants is_inside_ =
-    rw (← is, is_wants, is_inside_) (chosen (accepts (step of_any_count state token)) (accepts (step of_any_items state token)) (accepts (step at_any_depth state token)) (wants_operand state) (is_inside state) token)
+    rw (← is, is_wants, is_inside_) (chosen (accepts (parser_step of_any_count state token)) (accepts (parser_step of_any_items state token)) (accepts (parser_step at_any_depth state token)) (wants_operand state) (is_inside state) token)
 
-refused : (state : ParserState) (token : Token) (refusal : Refusal) (wants inside : Bool) → (step strict state token ≡ None) × (forbids (λ rules. step rules state token) ≡ refusal) → wants ≡ wants_operand state → inside ≡ is_inside state
-    → Unless (is_syntax_memory (fault_by refusal wants inside token)) (state_after state token (step strict state token) ≡ Err (fault_by refusal wants inside token))
+refused : (state : ParserState) (token : Token) (refusal : Refusal) (wants inside : Bool) → (parser_step strict state token ≡ None) × (forbids (λ rules. parser_step rules state token) ≡ refusal) → wants ≡ wants_operand state → inside ≡ is_inside state
+    → Unless (is_syntax_memory (fault_by refusal wants inside token)) (state_after state token (parser_step strict state token) ≡ Err (fault_by refusal wants inside token))
 refused state token refusal wants inside h is_wants is_in_predicate =
-    unless_holds (is_syntax_memory (fault_by refusal wants inside token)) (state_after state token (step strict state token) ≡ Err (fault_by refusal wants inside token)) (rw h.0 (ap Err (fault_forbidden state token refusal wants inside h.1 is_wants is_in_predicate)))
+    unless_holds (is_syntax_memory (fault_by refusal wants inside token)) (state_after state token (parser_step strict state token) ≡ Err (fault_by refusal wants inside token)) (rw h.0 (ap Err (fault_forbidden state token refusal wants inside h.1 is_wants is_in_predicate)))
 
 -- a step that is refused is refused by its name
-pub stepped_refused : (state : ParserState) (token : Token) (refusal : Refusal) (wants inside : Bool) (stack : List Frame) → Steps (λ rules. step rules state token) stack (Err refusal) → wants ≡ wants_operand state → inside ≡ is_inside state
-    → Unless (is_syntax_memory (fault_by refusal wants inside token)) (state_after state token (step strict state token) ≡ Err (fault_by refusal wants inside token))
+pub stepped_refused : (state : ParserState) (token : Token) (refusal : Refusal) (wants inside : Bool) (stack : List Frame) → Steps (λ rules. parser_step rules state token) stack (Err refusal) → wants ≡ wants_operand state → inside ≡ is_inside state
+    → Unless (is_syntax_memory (fault_by refusal wants inside token)) (state_after state token (parser_step strict state token) ≡ Err (fault_by refusal wants inside token))
 stepped_refused state token OutOfMemory wants inside stack h is_wants is_in_predicate = tt
 stepped_refused state token Arguments wants inside stack h is_wants is_in_predicate = refused state token Arguments wants inside h is_wants is_in_predicate
 stepped_refused state token Items wants inside stack h is_wants is_in_predicate = refused state token Items wants inside h is_wants is_in_predicate

@@ -2,9 +2,9 @@
 use Rattle.std.proofs.Common.{◌≡◌, ◌≢◌, ℕ, zero, suc, ◌+◌, ◌-◌, ◌<◌, ◌≤◌, Bool, true, false, List, [], ◌∷◌, ◌++◌, refl, sym, ◌∙◌, ap, subst, arith, Option, Some, None}
 use Rattle.std.specs.Prelude.{pred}
 use Rattle.ar_tree.specs.Expression.{Expression, UnaryAt, BinaryAt, ChoiceAt}
-use Rattle.ar_syntax.specs.Grammar.{Arguments, ArgumentsBehind, Further, Items, ItemsBehind, Phrase, Primary, Rules, Selections, may_continue, may_open, most_openers, takes_all, takes_more, ternary}
+use Rattle.ar_syntax.specs.Grammar.{Arguments, ArgumentsBehind, Further, ListItems, ItemsBehind, Phrase, Primary, Rules, Selections, may_continue, may_open, most_openers, takes_all, takes_more, ternary}
 use Rattle.ar_syntax.specs.Grammar as grammar
-use Rattle.ar_syntax.specs.Machine.{Frame, ParserState, RightOf, Prefixed, Yes, No, Grouped, Listed, Indexed, Argued, Body, Braced, Have, inside, openers_left, wanted}
+use Rattle.ar_syntax.specs.Machine.{Frame, ParserState, RightOf, Prefixed, Yes, No, Grouped, Listed, Indexed, Argued, Body, Braced, Have, in_call, openers_left, wanted}
 use Rattle.ar_syntax.specs.Roles.{Call, Ender, Follow, Ends, Comma, Colon, EndGroup, EndBracket, EndBrace, Operator, NotOf, Choose, Select, Open, follows, looseness}
 use Rattle.ar_syntax.specs.declared.token.Token.{Token}
 use Rattle.ar_tree.specs.declared.tree.Binary.{Binary}
@@ -22,7 +22,7 @@ level_of NotOf = Some 2
 level_of Choose = Some 5
 level_of role = None
 
--- a stack as the machine makes it: an operator's right side stands within a phrase of a looser level
+-- a stack as the machine makes it: an operator's right side is within a phrase of a looser level
 abbrev pub IsStack : List Frame → Type 0
 IsStack [] = Unit {0}
 IsStack (RightOf at operator first ∷ stack) = (looseness operator < wanted stack) × IsStack stack
@@ -161,26 +161,26 @@ module _ (rules : Rules) where
   arguments-end b n function so_far arguments c tokens rest (grammar.last_argument role all) = (EndGroup, role)
   arguments-end b n function so_far arguments c tokens rest (grammar.comma_argument role more behind) = (Comma, role)
 
-  -- a token that ends nothing in brackets, of a level below the wanted one or of none
+  -- a token that ends nothing in brackets, of a level below the expected one or of none
   pub stuck : (final : Expression) (stack : List Frame) (tree : Expression) (c : Token) (tokens : List Token) → IsStack stack → ((ender : Ender) → follows c ≢ Ends ender)
       → ((j : ℕ) → level_of (follows c) ≡ Some j → j < wanted stack) → ¬ After rules final stack tree (c ∷ tokens)
   stuck final [] tree c tokens is no_end loose after = absurd (cc (after.1))
   stuck final (RightOf at operator first ∷ stack) tree c tokens is no_end loose after =
       stuck final stack (BinaryAt at operator first tree) c tokens is.1 no_end (λ j level. omega (arith, loose j level, is.0))
-      (rise-pass (wanted stack - looseness operator) (looseness operator) (inside stack) (openers_left stack) (After rules final stack) (BinaryAt at operator first tree) c tokens (λ j above below level. absurd (omega (arith, loose j level))) after)
+      (rise-pass (wanted stack - looseness operator) (looseness operator) (in_call stack) (openers_left stack) (After rules final stack) (BinaryAt at operator first tree) c tokens (λ j above below level. absurd (omega (arith, loose j level))) after)
   stuck final (Prefixed at operator ∷ stack) tree c tokens is no_end loose after =
       stuck final stack (UnaryAt at operator tree) c tokens is no_end (λ j level. absurd (omega (arith, loose j level)))
-      (rise-pass (wanted stack) 0 (inside stack) (openers_left stack) (After rules final stack) (UnaryAt at operator tree) c tokens (λ j above below level. absurd (omega (arith, loose j level))) after)
+      (rise-pass (wanted stack) 0 (in_call stack) (openers_left stack) (After rules final stack) (UnaryAt at operator tree) c tokens (λ j above below level. absurd (omega (arith, loose j level))) after)
   stuck final (Yes at condition ∷ stack) tree c tokens is no_end loose after = absurd (no_end Colon after.0)
   stuck final (No at condition met ∷ stack) tree c tokens is no_end loose after = stuck final stack (ChoiceAt at condition met tree) c tokens is.1 no_end (λ j level. omega (arith, loose j level, is.0)) after
   stuck final (Grouped ∷ stack) tree c tokens is no_end loose after = absurd (no_end EndGroup after.0)
   stuck final (Listed at so_far ∷ stack) tree c tokens is no_end loose after =
-      let end = items-end (inside stack) (pred (openers_left stack)) (so_far ++ tree ∷ []) after.0 c tokens after.1 after.2 in absurd (no_end end.0 end.1)
+      let end = items-end (in_call stack) (pred (openers_left stack)) (so_far ++ tree ∷ []) after.0 c tokens after.1 after.2 in absurd (no_end end.0 end.1)
   stuck final (Indexed at whole ∷ stack) tree c tokens is no_end loose after = absurd (no_end EndBracket after.0)
   stuck final (Argued at function so_far ∷ stack) tree c tokens is no_end loose after =
-      let end = arguments-end (inside stack) (pred (openers_left stack)) function (so_far ++ tree ∷ []) after.0 c tokens after.1 after.2 in absurd (no_end end.0 end.1)
+      let end = arguments-end (in_call stack) (pred (openers_left stack)) function (so_far ++ tree ∷ []) after.0 c tokens after.1 after.2 in absurd (no_end end.0 end.1)
   stuck final (Body at function so_far ∷ stack) tree c tokens is no_end loose after =
-      let end = arguments-end (inside stack) (pred (openers_left stack)) function (so_far ++ tree ∷ []) after.0 c tokens after.1 after.2 in absurd (no_end end.0 end.1)
+      let end = arguments-end (in_call stack) (pred (openers_left stack)) function (so_far ++ tree ∷ []) after.0 c tokens after.1 after.2 in absurd (no_end end.0 end.1)
   stuck final (Braced at function so_far ∷ stack) tree c tokens is no_end loose after = absurd (no_end EndBrace after.0)
 
   -- ---- from one level to a looser one, at an operator of that level
@@ -205,32 +205,32 @@ module _ (rules : Rules) where
   rise-back (suc s) d zero w l b n K tree tokens e f looser rise = absurd (omega (arith, e, f, looser))
   rise-back (suc s) d (suc k) w l b n K tree tokens e f looser rise = (tree, tokens, grammar.nothing, rise-back s (suc d) k w l b n K tree tokens (omega (arith, e)) (omega (arith, f)) looser rise)
 
-  -- where the phrases of tighter levels ended, an operand stands at that level
+  -- where the phrases of tighter levels ended, an operand is at that level
   abbrev pub Ready : Expression → ℕ → List Token → ParserState → Type 0
-  Ready final l tokens (Have stack tree) = (l < wanted stack) × IsStack stack × Rise rules (wanted stack - l) l (inside stack) (openers_left stack) (After rules final stack) tree tokens
+  Ready final l tokens (Have stack tree) = (l < wanted stack) × IsStack stack × Rise rules (wanted stack - l) l (in_call stack) (openers_left stack) (After rules final stack) tree tokens
   Ready final l tokens state = ⊥
 
   module _ (final : Expression) (l : ℕ) (low : l < 6) (c : Token) (tokens : List Token) (level : level_of (follows c) ≡ Some l) where
     stay-to : (stack : List Frame) (tree : Expression) (k d : ℕ) → l < wanted stack → d + k ≡ wanted stack → d ≤ l → IsStack stack
-        → Rise rules k d (inside stack) (openers_left stack) (After rules final stack) tree (c ∷ tokens) → Ready final l (c ∷ tokens) (Have stack tree)
-    stay-to stack tree k d looser e tight is rise = (looser, is, rise-skip (l - d) d k (wanted stack) l (inside stack) (openers_left stack) (After rules final stack) tree c tokens (omega (arith, tight)) e looser level rise)
+        → Rise rules k d (in_call stack) (openers_left stack) (After rules final stack) tree (c ∷ tokens) → Ready final l (c ∷ tokens) (Have stack tree)
+    stay-to stack tree k d looser e tight is rise = (looser, is, rise-skip (l - d) d k (wanted stack) l (in_call stack) (openers_left stack) (After rules final stack) tree c tokens (omega (arith, tight)) e looser level rise)
 
     stay-from : (stack : List Frame) (tree : Expression) (k d : ℕ) → l < wanted stack → d + k ≡ wanted stack → d ≤ l
-        → Ready final l (c ∷ tokens) (Have stack tree) → Rise rules k d (inside stack) (openers_left stack) (After rules final stack) tree (c ∷ tokens)
-    stay-from stack tree k d looser e tight ready = rise-back (l - d) d k (wanted stack) l (inside stack) (openers_left stack) (After rules final stack) tree (c ∷ tokens) (omega (arith, tight)) e looser ready.2
+        → Ready final l (c ∷ tokens) (Have stack tree) → Rise rules k d (in_call stack) (openers_left stack) (After rules final stack) tree (c ∷ tokens)
+    stay-from stack tree k d looser e tight ready = rise-back (l - d) d k (wanted stack) l (in_call stack) (openers_left stack) (After rules final stack) tree (c ∷ tokens) (omega (arith, tight)) e looser ready.2
 
     pub climb-to : (stack : List Frame) (tree : Expression) (k d : ℕ) → d + k ≡ wanted stack → d ≤ l → IsStack stack
-        → Rise rules k d (inside stack) (openers_left stack) (After rules final stack) tree (c ∷ tokens) → Ready final l (c ∷ tokens) (climbed l stack tree)
+        → Rise rules k d (in_call stack) (openers_left stack) (After rules final stack) tree (c ∷ tokens) → Ready final l (c ∷ tokens) (climbed l stack tree)
     climb-to (RightOf at operator first ∷ stack) tree k d e tight is rise =
         either (Ready final l (c ∷ tokens)) (nat_le (looseness operator) l) (climbed l stack (BinaryAt at operator first tree)) (Have (RightOf at operator first ∷ stack) tree)
         (λ is_tight.
         let under : looseness operator ≤ l = leb-true (looseness operator) l is_tight in
         climb-to stack (BinaryAt at operator first tree) (wanted stack - looseness operator) (looseness operator) (omega (arith, is.0)) under is.1
-        (rise-pass k d (inside stack) (openers_left stack) (After rules final (RightOf at operator first ∷ stack)) tree c tokens (λ j above below other. let same : l ≡ j = cc in absurd (omega (arith, e, under))) rise))
+        (rise-pass k d (in_call stack) (openers_left stack) (After rules final (RightOf at operator first ∷ stack)) tree c tokens (λ j above below other. let same : l ≡ j = cc in absurd (omega (arith, e, under))) rise))
         (λ is_loose. stay-to (RightOf at operator first ∷ stack) tree k d (leb-false (looseness operator) l is_loose) e tight is rise)
     climb-to (Prefixed at operator ∷ stack) tree k d e tight is rise =
         climb-to stack (UnaryAt at operator tree) (wanted stack) 0 (omega arith) (omega arith) is
-        (rise-pass k d (inside stack) (pred (openers_left stack)) (After rules final (Prefixed at operator ∷ stack)) tree c tokens (λ j above below other. absurd (omega (arith, e))) rise)
+        (rise-pass k d (in_call stack) (pred (openers_left stack)) (After rules final (Prefixed at operator ∷ stack)) tree c tokens (λ j above below other. absurd (omega (arith, e))) rise)
     climb-to [] tree k d e tight is rise = stay-to [] tree k d low e tight is rise
     climb-to (Yes at condition ∷ stack) tree k d e tight is rise = stay-to (Yes at condition ∷ stack) tree k d low e tight is rise
     climb-to (No at condition met ∷ stack) tree k d e tight is rise = stay-to (No at condition met ∷ stack) tree k d low e tight is rise
@@ -242,18 +242,18 @@ module _ (rules : Rules) where
     climb-to (Braced at function so_far ∷ stack) tree k d e tight is rise = stay-to (Braced at function so_far ∷ stack) tree k d low e tight is rise
 
     pub climb-from : (stack : List Frame) (tree : Expression) (k d : ℕ) → d + k ≡ wanted stack → d ≤ l → IsStack stack
-        → Ready final l (c ∷ tokens) (climbed l stack tree) → Rise rules k d (inside stack) (openers_left stack) (After rules final stack) tree (c ∷ tokens)
+        → Ready final l (c ∷ tokens) (climbed l stack tree) → Rise rules k d (in_call stack) (openers_left stack) (After rules final stack) tree (c ∷ tokens)
     climb-from (RightOf at operator first ∷ stack) tree k d e tight is ready =
-        either-from (Ready final l (c ∷ tokens)) (Rise rules k d (inside stack) (openers_left stack) (After rules final (RightOf at operator first ∷ stack)) tree (c ∷ tokens)) (nat_le (looseness operator) l)
+        either-from (Ready final l (c ∷ tokens)) (Rise rules k d (in_call stack) (openers_left stack) (After rules final (RightOf at operator first ∷ stack)) tree (c ∷ tokens)) (nat_le (looseness operator) l)
         (climbed l stack (BinaryAt at operator first tree)) (Have (RightOf at operator first ∷ stack) tree)
         (λ is_tight ready.
         let under : looseness operator ≤ l = leb-true (looseness operator) l is_tight in
-        rise-stay k d (inside stack) (openers_left stack) (After rules final (RightOf at operator first ∷ stack)) tree (c ∷ tokens)
+        rise-stay k d (in_call stack) (openers_left stack) (After rules final (RightOf at operator first ∷ stack)) tree (c ∷ tokens)
         (climb-from stack (BinaryAt at operator first tree) (wanted stack - looseness operator) (looseness operator) (omega (arith, is.0)) under is.1 ready))
         (λ is_loose ready. stay-from (RightOf at operator first ∷ stack) tree k d (leb-false (looseness operator) l is_loose) e tight ready)
         ready
     climb-from (Prefixed at operator ∷ stack) tree k d e tight is ready =
-        rise-stay k d (inside stack) (pred (openers_left stack)) (After rules final (Prefixed at operator ∷ stack)) tree (c ∷ tokens) (climb-from stack (UnaryAt at operator tree) (wanted stack) 0 (omega arith) (omega arith) is ready)
+        rise-stay k d (in_call stack) (pred (openers_left stack)) (After rules final (Prefixed at operator ∷ stack)) tree (c ∷ tokens) (climb-from stack (UnaryAt at operator tree) (wanted stack) 0 (omega arith) (omega arith) is ready)
     climb-from [] tree k d e tight is ready = stay-from [] tree k d low e tight ready
     climb-from (Yes at condition ∷ stack) tree k d e tight is ready = stay-from (Yes at condition ∷ stack) tree k d low e tight ready
     climb-from (No at condition met ∷ stack) tree k d e tight is ready = stay-from (No at condition met ∷ stack) tree k d low e tight ready

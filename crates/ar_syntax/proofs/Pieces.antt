@@ -13,7 +13,7 @@ use Rattle.ar_value.specs.Answer.{◌>>=◌}
 use Rattle.ar_syntax.specs.Spelling.{BeginsWithGap, Spells, SpellsText, SpellsWhole, prefix}
 use Rattle.ar_syntax.specs.Token.{begins_word, continues_word, comparison_sign, is_digit_in, is_quote, letters, word_or_name, named_words, radix, spelling, text_end, unescaped, word_of}
 use Rattle.ar_syntax.specs.Spelling as spelled
-use Rattle.ar_syntax.specs.Tokens.{all_signs, base_digits, base_named, base_of, begins_block_comment, begins_line_comment, begins_number, block_comment, comment_end, comment_of, digits_at, digits_behind_point, fraction_at, front_of, in_line, is_blank, is_coalescing, line_comment, number_at_front, number_ended, number_in, number_spelled, number_text, piece_found, plain_number, prefixed_number, sign_at, sign_of, sign_token, text_at_front, text_in, token, token_of, whole_spelled, with_digit, word_at, word_token}
+use Rattle.ar_syntax.specs.Tokens.{all_signs, base_digits, base_named, base_of, begins_block_comment, begins_line_comment, begins_number, block_comment, comment_end, comment_of, digits_at, digits_behind_point, fraction_at, front_of, in_line, is_blank, is_coalescing, line_comment, number_at_front, number_ended, number_in, number_token_kind, number_text, piece_found, plain_number, prefixed_number, sign_at, sign_of, sign_token, text_at_front, text_in, token, token_of, whole_token_kind, with_digit, word_at, word_token}
 use Rattle.ar_syntax.specs.declared.error.SyntaxError.TheVariants.{BadCharacter, LiteralTooFine, NumberTooLarge}
 use Rattle.ar_syntax.specs.declared.scanner.Piece.{Piece}
 use Rattle.ar_syntax.specs.declared.scanner.Piece.TheVariants.{Gap, Found}
@@ -29,7 +29,7 @@ use Rattle.ar_syntax.specs.declared.token.Word.{Word}
 use Rattle.std.proofs.lemmas.Slice.Eq.{bytes_eq-Decides}
 use Rattle.ar_syntax.proofs.Fronts.{IsPrefixed-base_of, both_pass, bind_ok, chosen, length-front, list_all-digits_behind_point, list_all-take_while, number-some, number_front, number_text-some, passes-from_find, prefixed_front, prefixed_len, sign_at_front, take_while-front, take_while-some, word_at-first, word_at-some}
 
--- a token stands at the front of bytes that begin at a place
+-- a token is at the front of bytes that begin at an offset
 pub record IsFront (at : ℕ) (bytes : List ℕ) (token : Token) : Type 0 where
   pub start : token.span.start ≡ at
   pub some : at < token.span.end
@@ -50,7 +50,7 @@ IsFront-part at bytes front rest kind len are is some spells =
 -- ---- numbers
 
 -- digits spell a whole
-Spells-whole_of : (at magnitude : ℕ) (bytes : List ℕ) (kind : TokenKind) → SpellsWhole bytes magnitude → whole_spelled at magnitude ≡ Ok kind → Spells at bytes kind
+Spells-whole_of : (at magnitude : ℕ) (bytes : List ℕ) (kind : TokenKind) → SpellsWhole bytes magnitude → whole_token_kind at magnitude ≡ Ok kind → Spells at bytes kind
 Spells-whole_of at magnitude bytes kind spells e =
     elim (chosen (is_i64 (pos magnitude)) (Ok (kinds.Whole (pos magnitude))) (Err (NumberTooLarge at)) (Ok kind) e) [
       | inl fits ↦ let same : kinds.Whole (pos magnitude) ≡ kind = cc in subst (Spells at bytes) same (magnitude, spells, refl)
@@ -59,7 +59,7 @@ Spells-whole_of at magnitude bytes kind spells e =
 
 -- the value of a number's digits
 Spells-value_of : (at : ℕ) (whole fraction : List ℕ) (kind : TokenKind) → list_all is_ascii_digit whole ≡ true → list_all is_ascii_digit fraction ≡ true → (fraction ≡ [] → 0 < length whole)
-    → number_spelled at whole fraction ≡ Ok kind → Spells at (number_text whole fraction) kind
+    → number_token_kind at whole fraction ≡ Ok kind → Spells at (number_text whole fraction) kind
 Spells-value_of at whole [] kind w f some e = Spells-whole_of at (digits_value 10 whole) whole kind (spelled.decimal (some refl, w) refl) e
 Spells-value_of at whole (digit ∷ fraction) kind w f some e =
     elim (chosen (nat_lt 6 (length (digit ∷ fraction))) (Err (LiteralTooFine at)) (cond (is_i64 (pos (magnitude_of whole (digit ∷ fraction)))) (Ok (kinds.Decimal (pos (magnitude_of whole (digit ∷ fraction))))) (Err (NumberTooLarge at))) (Ok kind) e) [
@@ -85,7 +85,7 @@ IsFront-plain : (at : ℕ) (field : Bool) (bytes : List ℕ) (found : Token) →
 IsFront-plain at field bytes found begins e =
     let whole = digits_at bytes in
     let fraction = fraction_at bytes in
-    let value = bind_ok (number_spelled at whole fraction) (number_ended at (length (number_text whole fraction)) bytes) found e in
+    let value = bind_ok (number_token_kind at whole fraction) (number_ended at (length (number_text whole fraction)) bytes) found e in
     let spells = Spells-value_of at whole fraction value.0 (list_all-take_while is_ascii_digit bytes) (list_all-digits_behind_point (drop (length whole) bytes)) (number-some field bytes begins) value.1 in
     let front = number_front bytes in
     IsFront-ended at (length (number_text whole fraction)) bytes (number_text whole fraction) front.0 value.0 found front.1 refl (number_text-some whole fraction (number-some field bytes begins)) spells value.2
@@ -94,7 +94,7 @@ IsFront-prefixed : (at : ℕ) (bytes : List ℕ) (base : Base) (found : Token) �
 IsFront-prefixed at bytes base found prefixed e =
     let digits = base_digits base bytes in
     let is = IsPrefixed-base_of base bytes prefixed in
-    let value = bind_ok (whole_spelled at (digits_value (radix base) digits)) (number_ended at (2 + length digits) bytes) found e in
+    let value = bind_ok (whole_token_kind at (digits_value (radix base) digits)) (number_ended at (2 + length digits) bytes) found e in
     let front = prefixed_front base bytes is in
     let spells = Spells-whole_of at (digits_value (radix base) digits) (prefix base ++ digits) value.0 (spelled.prefixed base digits refl is.some (list_all-take_while (is_digit_in base) (drop 2 bytes)) refl) value.1 in
     IsFront-ended at (2 + length digits) bytes (prefix base ++ digits) front.0 value.0 found front.1 (prefixed_len base bytes) (omega arith) spells value.2
@@ -218,7 +218,7 @@ IsFront-token_of at field bytes found e =
       ]
     ]
 
--- a blank or a comment stands at the front
+-- a blank or a comment is at the front
 pub record IsFrontGap (bytes : List ℕ) (len : ℕ) : Type 0 where
   pub some : 0 < len
   pub within : len ≤ length bytes
@@ -262,7 +262,7 @@ no_token_comment : (at : ℕ) (end : Option ℕ) (token : Token) → comment_of 
 no_token_comment at None token e = cc
 no_token_comment at (Some len) token e = cc
 
--- the token that is found at the front stands there
+-- the token that is found at the front is there
 pub IsFront-front_of : (at : ℕ) (field : Bool) (bytes : List ℕ) (token : Token) → front_of at field bytes ≡ Ok (Found token) → IsFront at bytes token
 unfolding front_of
 IsFront-front_of at field bytes token e =

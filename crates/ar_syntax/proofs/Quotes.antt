@@ -1,4 +1,4 @@
--- Where texts and comments end, and what texts stand for.
+-- Where texts and comments end, and what texts represent.
 use Rattle.std.proofs.Common.{◌≡◌, ℕ, ◌+◌, ◌≤◌, ◌<◌, Bool, true, false, cond, List, [], ◌∷◌, ◌++◌, length, drop, get_or, refl, sym, ◌∙◌, ap, append_assoc, add-one, drop-cons, ◌==◌, Option, Some, None, Result, Ok, Err}
 use Rattle.std.specs.Prelude.{◌&&◌}
 use Rattle.std.proofs.Math.ListN.{drop_of_length-le}
@@ -56,9 +56,9 @@ comment_end-none at i star bytes end past e = let none : drop i bytes ≡ [] = d
 
 pub ruleset comment_ends = (comment_end-found, comment_end-next, comment_end-none)
 
--- ---- what texts stand for
+-- ---- what texts represent
 
--- bytes in front of those that others stand for
+-- bytes in front of those that others represent
 abbrev pub with_bytes : List ℕ → Result (List ℕ) SyntaxError → Result (List ℕ) SyntaxError
 with_bytes front answer = answer >>= λ bytes. Ok (front ++ bytes)
 
@@ -71,11 +71,11 @@ module _ (front bytes : List ℕ) (place i : ℕ) (all : Result (List ℕ) Synta
   pub unescaped-slash : (get_or bytes i 0 == 92) ≡ true → with_bytes front (unescaped place false (drop i bytes)) ≡ all → with_bytes front (unescaped (place + 1) true (drop (i + 1) bytes)) ≡ all
   unescaped-slash is e = rw is at (rw (next_byte bytes i below) at e)
 
-  -- another byte stands for itself
+  -- another byte represents itself
   pub unescaped-plain : (front' : List ℕ) → (get_or bytes i 0 == 92) ≡ false → front' ≡ front ++ get_or bytes i 0 ∷ [] → with_bytes front (unescaped place false (drop i bytes)) ≡ all → with_bytes front' (unescaped (place + 1) false (drop (i + 1) bytes)) ≡ all
   unescaped-plain front' is pushed e = rw pushed (sym (with_bytes-push front (get_or bytes i 0) _) ∙ rw is at (rw (next_byte bytes i below) at e))
 
-  -- an escape stands for its byte
+  -- an escape represents its byte
   pub unescaped-escape : (front' : List ℕ) (byte : ℕ) → Some byte ≡ escape_of (get_or bytes i 0) → front' ≡ front ++ byte ∷ [] → with_bytes front (unescaped place true (drop i bytes)) ≡ all → with_bytes front' (unescaped (place + 1) false (drop (i + 1) bytes)) ≡ all
   unescaped-escape front' byte is pushed e = rw pushed (sym (with_bytes-push front byte _) ∙ rw (← is) at (rw (next_byte bytes i below) at e))
 

@@ -1,14 +1,14 @@
--- The place and the name of a fault are those that the definitions give.
+-- The offset and the name of a fault are those that the definitions give.
 use Rattle.std.proofs.Common.{◌≡◌, ◌≢◌, ℕ, Bool, true, false, List, [], ◌∷◌, ◌++◌, length, refl, sym, ◌∙◌, ap, subst, Option, Some, None}
 use Rattle.ar_syntax.specs.Grammar.{Rules}
 use Rattle.ar_syntax.specs.Machine.{ParserState, Want, WantIndex, WantArgument}
-use Rattle.ar_syntax.specs.Roles.{follows, is_body, is_brace, is_group, is_in, token_name, begins_as, token_text}
+use Rattle.ar_syntax.specs.Roles.{follows, is_body, is_brace, is_group, is_in, field_name_of, begun_by, literal_text}
 use Rattle.ar_syntax.specs.declared.token.Token.{Token}
 use Rattle.ar_syntax.specs.declared.token.Sign.TheVariants as signs
 use Rattle.ar_syntax.specs.declared.token.TokenKind.{TokenKind}
 use Rattle.ar_syntax.specs.declared.token.TokenKind.TheVariants as kinds
 use Rattle.std.specs.Prelude.{cond}
-use Rattle.ar_syntax.specs.Machine.{argue, step}
+use Rattle.ar_syntax.specs.Machine.{argue, parser_step}
 use Rattle.ar_syntax.specs.Roles.{kind_follow}
 use Rattle.ar_syntax.specs.Machine.{run, start_state, step_from, whole}
 use Rattle.std.specs.Prelude.{pos}
@@ -31,6 +31,7 @@ use Rattle.ar_syntax.proofs.Completions.{digit}
 use Rattle.ar_syntax.proofs.Counts.{IsCountedFrom, IsCountedState}
 use Rattle.ar_syntax.proofs.Insides.{IsUseless, Out, arrives, hash, hash-is, hash-stops, name-stops, out-step, point-stops, stop-other}
 use Rattle.ar_syntax.proofs.Relaxed.{reached-relaxed}
+use Rattle.ar_syntax.proofs.Starts.{start_by}
 
 pub accepted : (next : Option ParserState) → accepts next ≡ true → (state : ParserState) × (next ≡ Some state)
 accepted (Some state) is = (state, refl)
@@ -43,15 +44,15 @@ accepts-some None some = absurd (some refl)
 -- ---- one token more
 
 module _ (rules : Rules) (before : List Token) (state : ParserState) (there : reached rules before ≡ Some state) where
-  push-run : (c : Token) → reached rules (before ++ c ∷ []) ≡ step rules state c
+  push-run : (c : Token) → reached rules (before ++ c ∷ []) ≡ parser_step rules state c
   push-run c = run-append rules (Some start_state) before (c ∷ []) ∙ ap (λ (s : Option ParserState). step_from rules s c) there
 
-  pub begins-accepts : (c : Token) → BeginsBy rules (before ++ c ∷ []) → accepts (step rules state c) ≡ true
-  begins-accepts c begins = accepts-some (step rules state c) (λ none. reached-BeginsBy rules (before ++ c ∷ []) begins (push-run c ∙ none))
+  pub begins-accepts : (c : Token) → BeginsBy rules (before ++ c ∷ []) → accepts (parser_step rules state c) ≡ true
+  begins-accepts c begins = accepts-some (parser_step rules state c) (λ none. reached-BeginsBy rules (before ++ c ∷ []) begins (push-run c ∙ none))
 
-  accepts-begins : (c : Token) → accepts (step rules state c) ≡ true → BeginsBy rules (before ++ c ∷ [])
+  accepts-begins : (c : Token) → accepts (parser_step rules state c) ≡ true → BeginsBy rules (before ++ c ∷ [])
   accepts-begins c accepts_is =
-      let next = accepted (step rules state c) accepts_is in
+      let next = accepted (parser_step rules state c) accepts_is in
       BeginsBy-reached rules (before ++ c ∷ []) next.0 (push-run c ∙ next.1)
 
 pub none-refused : (next : Option ParserState) → accepts next ≡ false → next ≡ None
@@ -65,10 +66,10 @@ module _ (before : List Token) (state : ParserState) (there : reached strict bef
   is_counted : IsCountedState strict state
   is_counted = subst (IsCountedFrom strict) there (reached-counted strict (Some start_state) before tt)
 
-  -- ---- where an operand is wanted
+  -- ---- where an operand is expected
 
   kind_number-useless : (value : ℤ) (number : Token) → number.kind ≡ kinds.Whole value → IsUseless number
-  unfolding follows token_name is_in is_group
+  unfolding follows field_name_of is_in is_group
   kind_number-useless value number is = record { follow = ap kind_follow is; named = ap kind_name is; in_word = ap kind_is_in is; group = ap kind_is_group is }
 
   wants-from : WantsOperand before → wants_operand state ≡ true
@@ -81,18 +82,18 @@ module _ (before : List Token) (state : ParserState) (there : reached strict bef
           let stops = stop-other strict state wants.0 is (kind_number-useless wants.1 wants.0 wants.2) in
           let e = ap accepts stops in absurd cc
 
-  digit-taken : (state : ParserState) → wants_operand state ≡ true → accepts (step strict state digit) ≡ true
-  unfolding step begins_as token_text follows is_brace digit token_of
+  digit-taken : (state : ParserState) → wants_operand state ≡ true → accepts (parser_step strict state digit) ≡ true
+  unfolding parser_step begun_by literal_text follows is_brace digit token_of
   digit-taken (Want stack) is = refl
   digit-taken (WantIndex stack at whole) is = refl
   digit-taken (WantArgument stack at function []) is = argued (is_body function 0)
     where
-      argued : (body : Bool) → accepts (argue strict stack at function [] digit body false) ≡ true
+      argued : (body : Bool) → accepts (argue strict stack at function [] digit (start_by body false)) ≡ true
       argued true = refl
       argued false = refl
   digit-taken (WantArgument stack at function (first ∷ so_far)) is = argued (is_body function (length (first ∷ so_far)))
     where
-      argued : (body : Bool) → accepts (argue strict stack at function (first ∷ so_far) digit body false) ≡ true
+      argued : (body : Bool) → accepts (argue strict stack at function (first ∷ so_far) digit (start_by body false)) ≡ true
       argued true = refl
       argued false = refl
   digit-taken other is = absurd cc
@@ -108,7 +109,7 @@ module _ (before : List Token) (state : ParserState) (there : reached strict bef
 
   out-run : (tokens : List Token) (first last : ParserState) → has_no_comma tokens ≡ true → run strict (Some first) tokens ≡ Some last → is_inside last ≡ true → is_inside first ≡ true
   out-run [] first last free e is = let same : first ≡ last = cc in ap is_inside same ∙ is
-  out-run (c ∷ tokens) first last free e is = stepped (step strict first c) (out-step strict first c (no_comma-head (is_comma c.kind) (has_no_comma tokens) free)) (λ next f. out-run tokens next last (no_comma-tail (is_comma c.kind) (has_no_comma tokens) free) f is) e
+  out-run (c ∷ tokens) first last free e is = stepped (parser_step strict first c) (out-step strict first c (no_comma-head (is_comma c.kind) (has_no_comma tokens) free)) (λ next f. out-run tokens next last (no_comma-tail (is_comma c.kind) (has_no_comma tokens) free) f is) e
     where
       no_comma-head : (a b : Bool) → (not a && b) ≡ true → a ≡ false
       no_comma-head false b h = refl
@@ -183,9 +184,9 @@ module _ (before : List Token) (state : ParserState) (there : reached strict bef
       other_fault _ _ _ _ _ _ _ _ (accepts-none _ (point-stops c of_any_count state is wanted_is outside)) (accepts-none _ (point-stops c of_any_items state is wanted_is outside)) (accepts-none _ (point-stops c at_any_depth state is wanted_is outside)) (rw (wanted_is, outside, is) refl)
   named-is error (refusal.wrong_count begins) = rw (begins-accepts of_any_count before state (relaxed of_any_count) c begins) refl
   named-is error (refusal.too_many_items counts_not begins) =
-      rw (refuses (accepts (step of_any_count state c)) _ (accepts-begins of_any_count before state (relaxed of_any_count) c) counts_not, begins-accepts of_any_items before state (relaxed of_any_items) c begins) refl
+      rw (refuses (accepts (parser_step of_any_count state c)) _ (accepts-begins of_any_count before state (relaxed of_any_count) c) counts_not, begins-accepts of_any_items before state (relaxed of_any_items) c begins) refl
   named-is error (refusal.too_deep counts_not items_not begins) =
-      rw (refuses (accepts (step of_any_count state c)) _ (accepts-begins of_any_count before state (relaxed of_any_count) c) counts_not, refuses (accepts (step of_any_items state c)) _ (accepts-begins of_any_items before state (relaxed of_any_items) c) items_not, begins-accepts at_any_depth before state (relaxed at_any_depth) c begins) refl
+      rw (refuses (accepts (parser_step of_any_count state c)) _ (accepts-begins of_any_count before state (relaxed of_any_count) c) counts_not, refuses (accepts (parser_step of_any_items state c)) _ (accepts-begins of_any_items before state (relaxed of_any_items) c) items_not, begins-accepts at_any_depth before state (relaxed at_any_depth) c begins) refl
 
   never_unexpected : (at : ℕ) (error : SyntaxError) → IsNamedBehind before c error → error ≢ Unexpected at
   never_unexpected at error (refusal.unknown_name is wants) e = cc
@@ -215,15 +216,15 @@ module _ (before : List Token) (state : ParserState) (there : reached strict bef
   kind-refused (kinds.Sign signs.Point) false within is w i e = unnamed e
   kind-refused kind wants within is w i e = unnamed e
 
-  fault-is : (b1 b2 b3 : Bool) → accepts (step of_any_count state c) ≡ b1 → accepts (step of_any_items state c) ≡ b2 → accepts (step at_any_depth state c) ≡ b3
+  fault-is : (b1 b2 b3 : Bool) → accepts (parser_step of_any_count state c) ≡ b1 → accepts (parser_step of_any_items state c) ≡ b2 → accepts (parser_step at_any_depth state c) ≡ b3
       → fault_of state c ≡ cond b1 (WrongCount c.span.start) (cond b2 (TooManyItems c.span.start) (cond b3 (TooDeep c.span.start) (kind_fault (wants_operand state) (is_inside state) c.kind c.span.start)))
   unfolding fault_of
   fault-is b1 b2 b3 e1 e2 e3 = rw (e1, e2, e3) refl
 
-  not_begun : (rules : Rules) → accepts (step rules state c) ≡ false → ¬ BeginsBy rules (before ++ c ∷ [])
+  not_begun : (rules : Rules) → accepts (parser_step rules state c) ≡ false → ¬ BeginsBy rules (before ++ c ∷ [])
   not_begun rules e begins = let taken = begins-accepts rules before state (relaxed rules) c begins in absurd cc
 
-  refused-by : (b1 b2 b3 : Bool) → accepts (step of_any_count state c) ≡ b1 → accepts (step of_any_items state c) ≡ b2 → accepts (step at_any_depth state c) ≡ b3 → IsRefusedBehind before c (fault_of state c)
+  refused-by : (b1 b2 b3 : Bool) → accepts (parser_step of_any_count state c) ≡ b1 → accepts (parser_step of_any_items state c) ≡ b2 → accepts (parser_step at_any_depth state c) ≡ b3 → IsRefusedBehind before c (fault_of state c)
   refused-by true b2 b3 e1 e2 e3 = subst (IsRefusedBehind before c) (sym (fault-is true b2 b3 e1 e2 e3)) (refusal.named (refusal.wrong_count (accepts-begins of_any_count before state (relaxed of_any_count) c e1)))
   refused-by false true b3 e1 e2 e3 = subst (IsRefusedBehind before c) (sym (fault-is false true b3 e1 e2 e3)) (refusal.named (refusal.too_many_items (not_begun of_any_count e1) (accepts-begins of_any_items before state (relaxed of_any_items) c e2)))
   refused-by false false true e1 e2 e3 =
@@ -234,7 +235,7 @@ module _ (before : List Token) (state : ParserState) (there : reached strict bef
 
   -- the fault has the name that the definitions give
   pub is-refused : IsRefusedBehind before c (fault_of state c)
-  is-refused = refused-by (accepts (step of_any_count state c)) (accepts (step of_any_items state c)) (accepts (step at_any_depth state c)) refl refl refl
+  is-refused = refused-by (accepts (parser_step of_any_count state c)) (accepts (parser_step of_any_items state c)) (accepts (parser_step at_any_depth state c)) refl refl refl
 
   same-unexpected : (error : SyntaxError) → IsRefusedBehind before c error → ((e : SyntaxError) → ¬ IsNamedBehind before c e) → error ≡ Unexpected c.span.start
   same-unexpected error (refusal.named is) none = absurd (none error is)

@@ -3,18 +3,19 @@ use Rattle.std.proofs.Common.{◌≡◌, ℕ, Bool, true, false, List, [], ◌�
 use Rattle.std.specs.Prelude.{pred}
 use Rattle.ar_tree.specs.Expression.{Expression, LiteralAt}
 use Rattle.ar_syntax.specs.Grammar.{Rules, may_continue, may_open, takes_all, takes_more}
-use Rattle.ar_syntax.specs.Machine.{Frame, ParserState, Yes, Grouped, Listed, Indexed, Argued, Body, Braced, Want, Have, WantName, WantIndex, HaveText, WantIn, WantGroup, WantArgument, HaveArgument, inside, openers_left}
-use Rattle.ar_syntax.specs.Roles.{Call, Ender, Follow, Start, Ends, Comma, Colon, EndGroup, EndBracket, EndBrace, Operator, NotOf, Choose, Select, Open, NoFollow, follows, is_body, is_brace, is_group, is_in, looseness, token_name, begins_as, token_text}
+use Rattle.ar_syntax.specs.Machine.{Frame, ParserState, Yes, Grouped, Listed, Indexed, Argued, Body, Braced, Want, Have, WantName, WantIndex, HaveText, WantIn, WantGroup, WantArgument, HaveArgument, in_call, openers_left}
+use Rattle.ar_syntax.specs.Roles.{Call, Ender, Follow, Start, Ends, Comma, Colon, EndGroup, EndBracket, EndBrace, Operator, NotOf, Choose, Select, Open, NoFollow, follows, is_body, is_brace, is_group, is_in, looseness, field_name_of, begun_by, literal_text}
 use Rattle.ar_syntax.specs.declared.token.Token.{Token}
 use Rattle.ar_tree.specs.declared.tree.Binary.{Binary}
 use Rattle.ar_tree.specs.declared.tree.Literal.TheVariants.{Text}
-use Rattle.ar_syntax.specs.Machine.{argue, begin, choose, climbed, close_braced, close_empty, close_text, end_with, follow, negate, open_index, operate, select, step, unwound, when}
+use Rattle.ar_syntax.specs.Machine.{argue, begun_with, choose, climbed, close_braced, close_empty, close_text, end_with, followed_by, negate, open_index, operate, select, parser_step, unwound, when}
 use Rattle.ar_syntax.specs.Roles.{Leaf, Prefix, Group, Bracket, Calls, ItemPoint, NoStart}
 use Rattle.ar_syntax.specs.Machine.{run, start_state, whole}
 use Rattle.std.specs.Prelude.{nat_eq, nat_lt, ◌||◌}
 use Rattle.ar_syntax.specs.Machine.{reached}
 use Rattle.ar_syntax.specs.Roles.{arity}
 use Rattle.ar_syntax.specs.Condition.{strict}
+use Rattle.ar_syntax.proofs.Starts.{start_by}
 
 abbrev pub Includes : Option ParserState → Option ParserState → Type 0
 Includes (Some state) relaxed = relaxed ≡ Some state
@@ -38,7 +39,7 @@ module _ (rules : Rules) where
   includes-more : (function : Call) (n : ℕ) (state : ParserState) → Includes (when strict (takes_more strict function n) state) (when rules (takes_more rules function n) state)
   includes-more function n state = includes-when (takes_more strict function n) (takes_more rules function n) state (or-more (nat_lt n (arity function)) rules.any_count)
 
-  includes-begin : (stack : List Frame) (at : ℕ) (s : Start) → Includes (begin strict stack at s) (begin rules stack at s)
+  includes-begin : (stack : List Frame) (at : ℕ) (s : Start) → Includes (begun_with strict stack at s) (begun_with rules stack at s)
   includes-begin stack at (Leaf tree) = refl
   includes-begin stack at (Prefix operator) = includes-open stack (openers_left stack) _
   includes-begin stack at Group = includes-open stack (openers_left stack) _
@@ -72,7 +73,7 @@ module _ (rules : Rules) where
   includes-choose at (Have stack tree) = includes-open stack (openers_left stack) _
   includes-choose at state = tt
 
-  includes-follow : (stack : List Frame) (tree : Expression) (at : ℕ) (r : Follow) → Includes (follow strict stack tree at r) (follow rules stack tree at r)
+  includes-follow : (stack : List Frame) (tree : Expression) (at : ℕ) (r : Follow) → Includes (followed_by strict stack tree at r) (followed_by rules stack tree at r)
   includes-follow stack tree at (Operator operator) = includes-operate at operator (climbed (looseness operator) stack tree)
   includes-follow stack tree at NotOf = includes-negate at (climbed 2 stack tree)
   includes-follow stack tree at Choose = includes-choose at (climbed 5 stack tree)
@@ -87,15 +88,15 @@ module _ (rules : Rules) where
 
   includes-index : (stack : List Frame) (at : ℕ) (whole : Expression) (c : Token) (text : Option (List ℕ)) → Includes (open_index strict stack at whole c text) (open_index rules stack at whole c text)
   includes-index stack at whole c (Some text) = refl
-  includes-index stack at whole c None = includes-begin (Indexed at whole ∷ stack) c.span.start (begins_as (inside stack) c)
+  includes-index stack at whole c None = includes-begin (Indexed at whole ∷ stack) c.span.start (begun_by (in_call stack) c)
 
   includes-text : (stack : List Frame) (at : ℕ) (whole : Expression) (text_at : ℕ) (text : List ℕ) (c : Token) (r : Follow) → Includes (close_text strict stack at whole text_at text c r) (close_text rules stack at whole text_at text c r)
   includes-text stack at whole text_at text c (Ends EndBracket) = refl
   includes-text stack at whole text_at text c r = includes-follow (Indexed at whole ∷ stack) (LiteralAt text_at (Text text)) c.span.start (follows c)
 
-  includes-argue : (stack : List Frame) (at : ℕ) (function : Call) (so_far : List Expression) (c : Token) (body brace : Bool) → Includes (argue strict stack at function so_far c body brace) (argue rules stack at function so_far c body brace)
-  includes-argue stack at function so_far c false brace = includes-begin (Argued at function so_far ∷ stack) c.span.start (begins_as (inside stack) c)
-  includes-argue stack at function so_far c true false = includes-begin (Body at function so_far ∷ stack) c.span.start (begins_as true c)
+  includes-argue : (stack : List Frame) (at : ℕ) (function : Call) (so_far : List Expression) (c : Token) (body brace : Bool) → Includes (argue strict stack at function so_far c (start_by body brace)) (argue rules stack at function so_far c (start_by body brace))
+  includes-argue stack at function so_far c false brace = includes-begin (Argued at function so_far ∷ stack) c.span.start (begun_by (in_call stack) c)
+  includes-argue stack at function so_far c true false = includes-begin (Body at function so_far ∷ stack) c.span.start (begun_by true c)
   includes-argue stack at function so_far c true true = includes-open stack (pred (openers_left stack)) _
 
   includes-empty : (stack : List Frame) (at : ℕ) (function : Call) (c : Token) (so_far : List Expression) (r : Follow) → Includes (close_empty strict stack at function c so_far r) (close_empty rules stack at function c so_far r)
@@ -107,12 +108,12 @@ module _ (rules : Rules) where
   includes-braced stack at function arguments (Ends Comma) = includes-more function (length arguments) _
   includes-braced stack at function arguments r = tt
 
-  includes-step : (state : ParserState) (c : Token) → Includes (step strict state c) (step rules state c)
-  unfolding step
-  includes-step (Want stack) c = includes-begin stack c.span.start (begins_as (inside stack) c)
+  includes-step : (state : ParserState) (c : Token) → Includes (parser_step strict state c) (parser_step rules state c)
+  unfolding parser_step
+  includes-step (Want stack) c = includes-begin stack c.span.start (begun_by (in_call stack) c)
   includes-step (Have stack tree) c = includes-follow stack tree c.span.start (follows c)
-  includes-step (WantName stack at whole) c = includes-select stack at whole (token_name c)
-  includes-step (WantIndex stack at whole) c = includes-index stack at whole c (token_text c)
+  includes-step (WantName stack at whole) c = includes-select stack at whole (field_name_of c)
+  includes-step (WantIndex stack at whole) c = includes-index stack at whole c (literal_text c)
   includes-step (HaveText stack at whole text_at text) c = includes-text stack at whole text_at text c (follows c)
   includes-step (WantIn stack at first) c = includes-when (is_in c) (is_in c) _ (λ is. is)
   includes-step (WantGroup stack at function) c = includes-when (is_group c) (is_group c) _ (λ is. is)
@@ -125,9 +126,9 @@ module _ (rules : Rules) where
 
   includes-run : (tokens : List Token) (state there : ParserState) → run strict (Some state) tokens ≡ Some there → run rules (Some state) tokens ≡ Some there
   includes-run [] state there e = e
-  includes-run (c ∷ tokens) state there e = stepped (step strict state c) (includes-step state c) (λ next. includes-run tokens next there) e
+  includes-run (c ∷ tokens) state there e = stepped (parser_step strict state c) (includes-step state c) (λ next. includes-run tokens next there) e
     where
-      stepped : (next : Option ParserState) → Includes next (step rules state c) → ((next : ParserState) → run strict (Some next) tokens ≡ Some there → run rules (Some next) tokens ≡ Some there) → run strict next tokens ≡ Some there → run rules (step rules state c) tokens ≡ Some there
+      stepped : (next : Option ParserState) → Includes next (parser_step rules state c) → ((next : ParserState) → run strict (Some next) tokens ≡ Some there → run rules (Some next) tokens ≡ Some there) → run strict next tokens ≡ Some there → run rules (parser_step rules state c) tokens ≡ Some there
       stepped (Some next) included go e = ap (λ (s : Option ParserState). run rules s tokens) included ∙ go next e
       stepped None included go e = absurd (cc (run-none strict tokens))
 

@@ -20,7 +20,7 @@ tokens_behind-skip zero at field bytes = rw add-zero refl
 tokens_behind-skip (suc skip) at field [] = refl
 tokens_behind-skip (suc skip) at field (byte ∷ bytes) = tokens_behind-skip skip (at + 1) field bytes ∙ ap (λ place. tokens_behind 0 place field (drop skip bytes)) (omega arith)
 
--- where bytes are left, what stands at their front decides
+-- where bytes are left, what is at their front decides
 tokens_behind-front : (at : ℕ) (field : Bool) (bytes : List ℕ) → 0 < length bytes
     → tokens_behind 0 at field bytes ≡ (front_of at field bytes >>= λ front. with_front at front (λ skip word. tokens_behind skip (at + 1) word (drop 1 bytes)))
 unfolding tokens_behind

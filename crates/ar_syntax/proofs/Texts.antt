@@ -49,7 +49,7 @@ module _ (text : List ℕ) where
   no_condition : (error : SyntaxError) → parse_of text ≡ Err error → ((tree : Expression) → ¬ SaysTree text tree) × IsRefusal text error
   no_condition error e = (no_tree error e, IsRefusal-from_parse_of error e)
 
-  -- what `parse` answers by its exact clause
+  -- what `parse` returns by its exact clause
   pub says_tree : (answer : Result Tree SyntaxError) → Gives is_syntax_memory expression_of answer (parse_of text) → IfOk answer (λ tree. SaysTree text (expression_of tree))
   says_tree (Ok tree) gives = SaysTree-from_parse_of (expression_of tree) gives
   says_tree (Err error) gives = tt

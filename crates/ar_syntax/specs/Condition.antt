@@ -1,16 +1,21 @@
 -- Which texts are conditions, and the tree that each says; limits of the grammar, all of them and each alone set aside.
-use Rattle.std.specs.Prelude.{◌≡◌, ℕ, ◌+◌, true, false, max, nat_le, List, Ok}
+use Rattle.std.specs.Prelude.{◌≡◌, ℕ, ◌+◌, true, false, max, nat_le, List, Ok, pos, refl}
+use Rattle.ar_value.specs.Terms.{Text}
 use Rattle.ar_tree.specs.Expression.{Expression, Expressions}
 use Rattle.ar_tree.specs.Expression as trees
 use Rattle.ar_syntax.specs.Grammar.{DerivesBy, Rules}
 use Rattle.ar_syntax.specs.Tokens.{tokens_of}
 use Rattle.ar_syntax.specs.declared.token.Token.{Token}
+use Rattle.ar_tree.specs.Expression.{BinaryAt, LiteralAt, ResultAt, UnaryAt}
+use Rattle.ar_tree.specs.declared.tree.Binary.TheVariants.{Add}
+use Rattle.ar_tree.specs.declared.tree.Literal.TheVariants as literals
+use Rattle.ar_tree.specs.declared.tree.Unary.TheVariants.{Minus}
 
 -- all limits of the grammar hold
 abbrev pub strict : Rules
 strict = record { any_depth = false; any_items = false; any_count = false }
 
--- all of the tokens are a condition but for the depth of its tree, which the tree says
+-- all of the tokens are a condition, which the tree says, however deep the tree is
 abbrev pub Derives : List Token → Expression → Type 0
 Derives tokens tree = DerivesBy strict tokens tree
 
@@ -42,7 +47,7 @@ most_depth = 64
 -- ---- texts
 
 -- the text's tokens are a condition, which the tree says
-pub record SaysTree (text : List ℕ) (tree : Expression) : Type 0 where
+pub record SaysTree (text : Text) (tree : Expression) : Type 0 where
   pub tokens : List Token
   pub cut : tokens_of text ≡ Ok tokens
   pub derived : Derives tokens tree
@@ -57,3 +62,11 @@ of_any_items = record { any_depth = false; any_items = true; any_count = false }
 
 abbrev pub of_any_count : Rules
 of_any_count = record { any_depth = false; any_items = false; any_count = true }
+
+-- ---- worked rows
+
+depth_of_a_leaf : depth (ResultAt 0) ≡ 1
+depth_of_a_leaf = refl
+
+depth_of_a_sum : depth (BinaryAt 7 Add (ResultAt 0) (UnaryAt 9 Minus (LiteralAt 10 (literals.Whole (pos 1))))) ≡ 3
+depth_of_a_sum = refl

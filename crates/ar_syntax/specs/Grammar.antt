@@ -3,7 +3,8 @@
 --     tern = or | or "?" tern ":" tern
 --     or   = and { ("or" | "||") and }
 --     and  = cmp { ("and" | "&&") cmp }
---     cmp  = add { ("==" | "!=" | "<" | ">" | "<=" | ">=" | "in" | "not" "in" | "contains" | "startsWith" | "endsWith") add }
+--     cmp  = add { ("==" | "!=" | "<" | ">" | "<=" | ">=" | "in" | "not" "in"
+--                | "contains" | "startsWith" | "endsWith") add }
 --     add  = mul { ("+" | "-") mul }
 --     mul  = una { ("*" | "/" | "%") una }
 --     una  = ("-" | "+" | "!" | "not") una | post
@@ -14,12 +15,13 @@
 --          | ("all" | "any" | "none" | "one" | "count" | "filter") "(" tern "," pred ")"
 --     pred = "{" tern "}" | tern
 --
--- A rule relates the tokens from a phrase's first on, what the phrase says, and the tokens after it, inside a predicate or
--- not, where so many openers may still begin.
+-- A rule relates the tokens from a phrase's first on, what the phrase says, and the tokens after it, inside a predicate
+-- or not, where n openers may still begin.
 use Rattle.std.specs.Prelude.{◌≡◌, ℕ, zero, suc, Bool, true, false, ◌||◌, nat_eq, nat_lt, List, [], ◌∷◌, ◌++◌, length, Option, Some, None, pred}
+use Rattle.ar_value.specs.Terms.{Text}
 use Rattle.ar_value.specs.Limits.{most_literal_items}
 use Rattle.ar_tree.specs.Expression.{Expression, FieldAt, IndexAt, ItemAt, UnaryAt, BinaryAt, ChoiceAt, ListAt, expressions}
-use Rattle.ar_syntax.specs.Roles.{Call, Follow, Ends, Comma, Colon, EndGroup, EndBracket, EndBrace, Operator, NotOf, Choose, Select, Open, Leaf, Prefix, Group, Bracket, Calls, ItemPoint, arity, called, follows, is_body, is_brace, is_group, is_in, looseness, token_name, begins_as, token_text}
+use Rattle.ar_syntax.specs.Roles.{Call, Follow, Ends, Comma, Colon, EndGroup, EndBracket, EndBrace, Operator, NotOf, Choose, Select, Open, Leaf, Prefix, Group, Bracket, Calls, ItemPoint, arity, called, follows, is_body, is_brace, is_group, is_in, looseness, field_name_of, begun_by, literal_text}
 use Rattle.ar_syntax.specs.declared.token.Token.{Token}
 use Rattle.ar_tree.specs.declared.tree.Binary.{Binary}
 use Rattle.ar_tree.specs.declared.tree.Binary.TheVariants.{NotIn}
@@ -36,15 +38,15 @@ pub record Rules : Type 0 where
 abbrev pub most_openers : ℕ
 most_openers = 64
 
--- one more opener where so many may still be unfinished
+-- one more opener where n may still be unfinished
 abbrev pub may_open : Rules → ℕ → Bool
 may_open rules left = nat_lt 0 left || rules.any_depth
 
--- one more item after so many
+-- one more item after n
 abbrev pub may_continue : Rules → ℕ → Bool
 may_continue rules items = nat_lt items most_literal_items || rules.any_items
 
--- one more argument after so many, and none after them
+-- one more argument after n, and none after them
 abbrev pub takes_more : Rules → Call → ℕ → Bool
 takes_more rules call arguments = nat_lt arguments (arity call) || rules.any_count
 
@@ -56,14 +58,14 @@ ends_bracket (Ends EndBracket) = true
 ends_bracket role = false
 
 -- one text between brackets is a field's name
-abbrev pub is_alone : Option (List ℕ) → List Token → Bool
+abbrev pub is_alone : Option Text → List Token → Bool
 is_alone None behind = false
 is_alone (Some text) [] = false
 is_alone (Some text) (close ∷ behind) = ends_bracket (follows close)
 
 abbrev pub is_text_alone : List Token → Bool
 is_text_alone [] = false
-is_text_alone (text ∷ behind) = is_alone (token_text text) behind
+is_text_alone (text ∷ behind) = is_alone (literal_text text) behind
 
 -- ---- levels: 0 is `una`, and further ones have one kind of operators more: `mul`, `add`, `cmp`, `and`, `or`, `tern`
 
@@ -80,95 +82,142 @@ module _ (rules : Rules) where
     pub data Phrase : ℕ → Bool → ℕ → List Token → Expression → List Token → Type 0 where
       -- mul, add, cmp, and, or, tern: a phrase of the level below, and what follows it
       level : {d : ℕ} {inside : Bool} {left : ℕ} {tokens mid rest : List Token} {first tree : Expression}
-          → Phrase d inside left tokens first mid → Further d inside left first mid tree rest → Phrase (suc d) inside left tokens tree rest
+          → Phrase d inside left tokens first mid → Further d inside left first mid tree rest
+          → Phrase (suc d) inside left tokens tree rest
       -- una = ("-" | "+" | "!" | "not") una
-      prefixed : {inside : Bool} {left : ℕ} {token : Token} {behind rest : List Token} {operator : Unary} {operand : Expression}
-          → begins_as inside token ≡ Prefix operator → may_open rules left ≡ true → Phrase zero inside (pred left) behind operand rest
+      prefixed : {inside : Bool} {left : ℕ} {token : Token} {behind rest : List Token} {operator : Unary}
+          {operand : Expression}
+          → begun_by inside token ≡ Prefix operator → may_open rules left ≡ true
+          → Phrase zero inside (pred left) behind operand rest
           → Phrase zero inside left (token ∷ behind) (UnaryAt token.span.start operator operand) rest
       -- una = post = prim { .. }
       postfixed : {inside : Bool} {left : ℕ} {tokens mid rest : List Token} {first tree : Expression}
-          → Primary inside left tokens first mid → Selections inside left first mid tree rest → Phrase zero inside left tokens tree rest
+          → Primary inside left tokens first mid → Selections inside left first mid tree rest
+          → Phrase zero inside left tokens tree rest
 
     -- what follows the first phrase of a level
     pub data Further : ℕ → Bool → ℕ → Expression → List Token → Expression → List Token → Type 0 where
-      nothing : {d : ℕ} {inside : Bool} {left : ℕ} {tree : Expression} {rest : List Token} → Further d inside left tree rest tree rest
+      nothing : {d : ℕ} {inside : Bool} {left : ℕ} {tree : Expression} {rest : List Token}
+          → Further d inside left tree rest tree rest
       -- { operator level }
-      operator : {d : ℕ} {inside : Bool} {left : ℕ} {token : Token} {behind mid rest : List Token} {operator : Binary} {first second tree : Expression}
+      operator : {d : ℕ} {inside : Bool} {left : ℕ} {token : Token} {behind mid rest : List Token} {operator : Binary}
+          {first second tree : Expression}
           → follows token ≡ Operator operator → looseness operator ≡ d → Phrase d inside left behind second mid
-          → Further d inside left (BinaryAt token.span.start operator first second) mid tree rest → Further d inside left first (token ∷ behind) tree rest
+          → Further d inside left (BinaryAt token.span.start operator first second) mid tree rest
+          → Further d inside left first (token ∷ behind) tree rest
       -- { "not" "in" add }
-      not_in : {d : ℕ} {inside : Bool} {left : ℕ} {not_token in_token : Token} {behind mid rest : List Token} {first second tree : Expression}
-          → follows not_token ≡ NotOf → is_in in_token ≡ true → looseness NotIn ≡ d → Phrase d inside left behind second mid
-          → Further d inside left (BinaryAt not_token.span.start NotIn first second) mid tree rest → Further d inside left first (not_token ∷ in_token ∷ behind) tree rest
+      not_in : {d : ℕ} {inside : Bool} {left : ℕ} {not_token in_token : Token} {behind mid rest : List Token}
+          {first second tree : Expression}
+          → follows not_token ≡ NotOf → is_in in_token ≡ true → looseness NotIn ≡ d
+          → Phrase d inside left behind second mid
+          → Further d inside left (BinaryAt not_token.span.start NotIn first second) mid tree rest
+          → Further d inside left first (not_token ∷ in_token ∷ behind) tree rest
       -- "?" tern ":" tern
-      choice : {d : ℕ} {inside : Bool} {left : ℕ} {question colon : Token} {behind after rest : List Token} {condition yes no : Expression}
-          → follows question ≡ Choose → may_open rules left ≡ true → suc d ≡ ternary → Phrase ternary inside (pred left) behind yes (colon ∷ after)
+      choice : {d : ℕ} {inside : Bool} {left : ℕ} {question colon : Token} {behind after rest : List Token}
+          {condition yes no : Expression}
+          → follows question ≡ Choose → may_open rules left ≡ true → suc d ≡ ternary
+          → Phrase ternary inside (pred left) behind yes (colon ∷ after)
           → follows colon ≡ Ends Colon → Phrase ternary inside (pred left) after no rest
           → Further d inside left condition (question ∷ behind) (ChoiceAt question.span.start condition yes no) rest
 
     -- { "." word | "[" text "]" | "[" tern "]" }
     pub data Selections : Bool → ℕ → Expression → List Token → Expression → List Token → Type 0 where
-      nothing_more : {inside : Bool} {left : ℕ} {tree : Expression} {rest : List Token} → Selections inside left tree rest tree rest
-      field : {inside : Bool} {left : ℕ} {point name : Token} {behind rest : List Token} {word : List ℕ} {owner tree : Expression}
-          → follows point ≡ Select → token_name name ≡ Some word → Selections inside left (FieldAt point.span.start owner word) behind tree rest
+      nothing_more : {inside : Bool} {left : ℕ} {tree : Expression} {rest : List Token}
+          → Selections inside left tree rest tree rest
+      field : {inside : Bool} {left : ℕ} {point name : Token} {behind rest : List Token} {word : Text}
+          {owner tree : Expression}
+          → follows point ≡ Select → field_name_of name ≡ Some word
+          → Selections inside left (FieldAt point.span.start owner word) behind tree rest
           → Selections inside left owner (point ∷ name ∷ behind) tree rest
-      text_field : {inside : Bool} {left : ℕ} {opener text close : Token} {behind rest : List Token} {word : List ℕ} {owner tree : Expression}
-          → follows opener ≡ Open → may_open rules left ≡ true → token_text text ≡ Some word → follows close ≡ Ends EndBracket
-          → Selections inside left (FieldAt opener.span.start owner word) behind tree rest → Selections inside left owner (opener ∷ text ∷ close ∷ behind) tree rest
-      index : {inside : Bool} {left : ℕ} {opener close : Token} {behind after rest : List Token} {owner found tree : Expression}
-          → follows opener ≡ Open → may_open rules left ≡ true → is_text_alone behind ≡ false → Phrase ternary inside (pred left) behind found (close ∷ after)
-          → follows close ≡ Ends EndBracket → Selections inside left (IndexAt opener.span.start owner found) after tree rest → Selections inside left owner (opener ∷ behind) tree rest
+      text_field : {inside : Bool} {left : ℕ} {opener text close : Token} {behind rest : List Token} {word : Text}
+          {owner tree : Expression}
+          → follows opener ≡ Open → may_open rules left ≡ true → literal_text text ≡ Some word
+          → follows close ≡ Ends EndBracket
+          → Selections inside left (FieldAt opener.span.start owner word) behind tree rest
+          → Selections inside left owner (opener ∷ text ∷ close ∷ behind) tree rest
+      index : {inside : Bool} {left : ℕ} {opener close : Token} {behind after rest : List Token}
+          {owner found tree : Expression}
+          → follows opener ≡ Open → may_open rules left ≡ true → is_text_alone behind ≡ false
+          → Phrase ternary inside (pred left) behind found (close ∷ after)
+          → follows close ≡ Ends EndBracket
+          → Selections inside left (IndexAt opener.span.start owner found) after tree rest
+          → Selections inside left owner (opener ∷ behind) tree rest
 
     pub data Primary : Bool → ℕ → List Token → Expression → List Token → Type 0 where
       -- number | text | "true" | "false" | "nil" | "result" | "#"
-      leaf : {inside : Bool} {left : ℕ} {token : Token} {rest : List Token} {tree : Expression} → begins_as inside token ≡ Leaf tree → Primary inside left (token ∷ rest) tree rest
+      leaf : {inside : Bool} {left : ℕ} {token : Token} {rest : List Token} {tree : Expression}
+          → begun_by inside token ≡ Leaf tree → Primary inside left (token ∷ rest) tree rest
       -- "." word
-      item_field : {inside : Bool} {left : ℕ} {point name : Token} {rest : List Token} {word : List ℕ} → begins_as inside point ≡ ItemPoint → token_name name ≡ Some word
+      item_field : {inside : Bool} {left : ℕ} {point name : Token} {rest : List Token} {word : Text}
+          → begun_by inside point ≡ ItemPoint → field_name_of name ≡ Some word
           → Primary inside left (point ∷ name ∷ rest) (FieldAt point.span.start (ItemAt point.span.start) word) rest
       -- "(" tern ")"
       group : {inside : Bool} {left : ℕ} {opener close : Token} {behind rest : List Token} {tree : Expression}
-          → begins_as inside opener ≡ Group → may_open rules left ≡ true → Phrase ternary inside (pred left) behind tree (close ∷ rest)
+          → begun_by inside opener ≡ Group → may_open rules left ≡ true
+          → Phrase ternary inside (pred left) behind tree (close ∷ rest)
           → follows close ≡ Ends EndGroup → Primary inside left (opener ∷ behind) tree rest
       -- "[" tern { "," tern } "]"
       list : {inside : Bool} {left : ℕ} {opener : Token} {behind rest : List Token} {items : List Expression}
-          → begins_as inside opener ≡ Bracket → may_open rules left ≡ true → Items inside (pred left) [] behind items rest
+          → begun_by inside opener ≡ Bracket → may_open rules left ≡ true
+          → ListItems inside (pred left) [] behind items rest
           → Primary inside left (opener ∷ behind) (ListAt opener.span.start (expressions items)) rest
       -- call
-      call : {inside : Bool} {left : ℕ} {name opener : Token} {behind rest : List Token} {function : Call} {arguments : List Expression}
-          → begins_as inside name ≡ Calls function → may_open rules left ≡ true → is_group opener ≡ true → Arguments inside (pred left) function [] behind arguments rest
+      call : {inside : Bool} {left : ℕ} {name opener : Token} {behind rest : List Token} {function : Call}
+          {arguments : List Expression}
+          → begun_by inside name ≡ Calls function → may_open rules left ≡ true → is_group opener ≡ true
+          → Arguments inside (pred left) function [] behind arguments rest
           → Primary inside left (name ∷ opener ∷ behind) (called name.span.start function arguments) rest
 
     -- a list's items after those so far, up to the bracket
-    pub data Items : Bool → ℕ → List Expression → List Token → List Expression → List Token → Type 0 where
-      item : {inside : Bool} {left : ℕ} {so_far items : List Expression} {tokens mid rest : List Token} {first : Expression}
-          → Phrase ternary inside left tokens first mid → ItemsBehind inside left (so_far ++ first ∷ []) mid items rest → Items inside left so_far tokens items rest
+    pub data ListItems : Bool → ℕ → List Expression → List Token → List Expression → List Token → Type 0 where
+      item : {inside : Bool} {left : ℕ} {so_far items : List Expression} {tokens mid rest : List Token}
+          {first : Expression}
+          → Phrase ternary inside left tokens first mid → ItemsBehind inside left (so_far ++ first ∷ []) mid items rest
+          → ListItems inside left so_far tokens items rest
 
     pub data ItemsBehind : Bool → ℕ → List Expression → List Token → List Expression → List Token → Type 0 where
-      last_item : {inside : Bool} {left : ℕ} {items : List Expression} {close : Token} {rest : List Token} → follows close ≡ Ends EndBracket → ItemsBehind inside left items (close ∷ rest) items rest
-      comma_item : {inside : Bool} {left : ℕ} {so_far items : List Expression} {comma : Token} {behind rest : List Token}
-          → follows comma ≡ Ends Comma → may_continue rules (length so_far) ≡ true → Items inside left so_far behind items rest → ItemsBehind inside left so_far (comma ∷ behind) items rest
+      last_item : {inside : Bool} {left : ℕ} {items : List Expression} {close : Token} {rest : List Token}
+          → follows close ≡ Ends EndBracket → ItemsBehind inside left items (close ∷ rest) items rest
+      comma_item : {inside : Bool} {left : ℕ} {so_far items : List Expression} {comma : Token}
+          {behind rest : List Token}
+          → follows comma ≡ Ends Comma → may_continue rules (length so_far) ≡ true
+          → ListItems inside left so_far behind items rest → ItemsBehind inside left so_far (comma ∷ behind) items rest
 
     -- a call's arguments after those so far, up to the parenthesis
     pub data Arguments : Bool → ℕ → Call → List Expression → List Token → List Expression → List Token → Type 0 where
       no_argument : {inside : Bool} {left : ℕ} {function : Call} {close : Token} {rest : List Token}
-          → follows close ≡ Ends EndGroup → takes_all rules function 0 ≡ true → Arguments inside left function [] (close ∷ rest) [] rest
-      argument : {inside : Bool} {left : ℕ} {function : Call} {so_far arguments : List Expression} {tokens mid rest : List Token} {first : Expression}
+          → follows close ≡ Ends EndGroup → takes_all rules function 0 ≡ true
+          → Arguments inside left function [] (close ∷ rest) [] rest
+      argument : {inside : Bool} {left : ℕ} {function : Call} {so_far arguments : List Expression}
+          {tokens mid rest : List Token} {first : Expression}
           → is_body function (length so_far) ≡ false → Phrase ternary inside left tokens first mid
-          → ArgumentsBehind inside left function (so_far ++ first ∷ []) mid arguments rest → Arguments inside left function so_far tokens arguments rest
+          → ArgumentsBehind inside left function (so_far ++ first ∷ []) mid arguments rest
+          → Arguments inside left function so_far tokens arguments rest
       -- pred = tern
-      body : {inside : Bool} {left : ℕ} {function : Call} {so_far arguments : List Expression} {tokens mid rest : List Token} {first : Expression}
+      body : {inside : Bool} {left : ℕ} {function : Call} {so_far arguments : List Expression}
+          {tokens mid rest : List Token} {first : Expression}
           → is_body function (length so_far) ≡ true → Phrase ternary true left tokens first mid
-          → ArgumentsBehind inside left function (so_far ++ first ∷ []) mid arguments rest → Arguments inside left function so_far tokens arguments rest
+          → ArgumentsBehind inside left function (so_far ++ first ∷ []) mid arguments rest
+          → Arguments inside left function so_far tokens arguments rest
       -- pred = "{" tern "}"
-      braced : {inside : Bool} {left : ℕ} {function : Call} {so_far arguments : List Expression} {opener close : Token} {behind mid rest : List Token} {first : Expression}
-          → is_body function (length so_far) ≡ true → is_brace opener ≡ true → may_open rules left ≡ true → Phrase ternary true (pred left) behind first (close ∷ mid)
-          → follows close ≡ Ends EndBrace → ArgumentsBehind inside left function (so_far ++ first ∷ []) mid arguments rest → Arguments inside left function so_far (opener ∷ behind) arguments rest
+      braced : {inside : Bool} {left : ℕ} {function : Call} {so_far arguments : List Expression} {opener close : Token}
+          {behind mid rest : List Token} {first : Expression}
+          → is_body function (length so_far) ≡ true → is_brace opener ≡ true → may_open rules left ≡ true
+          → Phrase ternary true (pred left) behind first (close ∷ mid)
+          → follows close ≡ Ends EndBrace
+          → ArgumentsBehind inside left function (so_far ++ first ∷ []) mid arguments rest
+          → Arguments inside left function so_far (opener ∷ behind) arguments rest
 
-    pub data ArgumentsBehind : Bool → ℕ → Call → List Expression → List Token → List Expression → List Token → Type 0 where
-      last_argument : {inside : Bool} {left : ℕ} {function : Call} {arguments : List Expression} {close : Token} {rest : List Token}
-          → follows close ≡ Ends EndGroup → takes_all rules function (length arguments) ≡ true → ArgumentsBehind inside left function arguments (close ∷ rest) arguments rest
-      comma_argument : {inside : Bool} {left : ℕ} {function : Call} {so_far arguments : List Expression} {comma : Token} {behind rest : List Token}
-          → follows comma ≡ Ends Comma → takes_more rules function (length so_far) ≡ true → Arguments inside left function so_far behind arguments rest
+    pub data ArgumentsBehind : Bool → ℕ → Call → List Expression → List Token → List Expression → List Token
+        → Type 0 where
+      last_argument : {inside : Bool} {left : ℕ} {function : Call} {arguments : List Expression} {close : Token}
+          {rest : List Token}
+          → follows close ≡ Ends EndGroup → takes_all rules function (length arguments) ≡ true
+          → ArgumentsBehind inside left function arguments (close ∷ rest) arguments rest
+      comma_argument : {inside : Bool} {left : ℕ} {function : Call} {so_far arguments : List Expression}
+          {comma : Token} {behind rest : List Token}
+          → follows comma ≡ Ends Comma → takes_more rules function (length so_far) ≡ true
+          → Arguments inside left function so_far behind arguments rest
           → ArgumentsBehind inside left function so_far (comma ∷ behind) arguments rest
 
 -- all of the tokens are a condition by these rules, which the tree says

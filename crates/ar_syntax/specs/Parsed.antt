@@ -1,5 +1,6 @@
--- What parsing a text answers, and its refusal in the words of the grammar.
-use Rattle.std.specs.Prelude.{◌≡◌, ℕ, ◌<◌, List, length, Result, Ok, Err, IfOk, IfErr}
+-- What parsing a text returns, and its refusal in the words of the grammar.
+use Rattle.std.specs.Prelude.{◌≡◌, ◌<◌, List, length, Result, Ok, Err, IfOk, IfErr}
+use Rattle.ar_value.specs.Terms.{Text}
 use Rattle.ar_value.specs.Answer.{Gives}
 use Rattle.ar_value.specs.Limits.{most_text_bytes}
 use Rattle.ar_tree.specs.Expression.{Expression}
@@ -16,17 +17,18 @@ use Rattle.ar_syntax.specs.declared.token.Token.{Token}
 use Rattle.ar_syntax.specs.Parse.{parse_of}
 
 -- a text's refusal: its first token fault, or else what the grammar refuses in its tokens
-pub data IsRefusal (text : List ℕ) (error : SyntaxError) : Type 0 where
+pub data IsRefusal (text : Text) (error : SyntaxError) : Type 0 where
   token_fault : tokens_of text ≡ Err error → IsRefusal text error
-  grammar_fault : (tokens : List Token) → tokens_of text ≡ Ok tokens → AreRefused (length text) tokens error → IsRefusal text error
+  grammar_fault : (tokens : List Token) → tokens_of text ≡ Ok tokens → AreRefused (length text) tokens error
+      → IsRefusal text error
 
 -- unless memory ran out, an error says that the text is no condition, and why
-abbrev pub IsNoCondition : List ℕ → SyntaxError → Type 0
+abbrev pub IsNoCondition : Text → SyntaxError → Type 0
 IsNoCondition text OutOfMemory = Unit {0}
 IsNoCondition text error = ((tree : Expression) → ¬ SaysTree text tree) × IsRefusal text error
 
--- what parsing a text answers
-pub record ParsesTo (text : List ℕ) (result : Result Tree SyntaxError) : Type 0 where
+-- what parsing a text returns
+pub record ParsesTo (text : Text) (result : Result Tree SyntaxError) : Type 0 where
   -- this tree, or this refusal
   pub exact : Gives is_syntax_memory expression_of result (parse_of text)
   -- a text that is too long is refused for that alone

@@ -1,5 +1,6 @@
--- What a token can be where an operand is wanted, and after an operand.
+-- What a token can be where an operand is expected, and after an operand.
 use Rattle.std.specs.Prelude.{ℕ, Bool, true, false, nat_eq, List, [], ◌∷◌, Option, Some, None}
+use Rattle.ar_value.specs.Terms.{Offset, Text}
 use Rattle.ar_tree.specs.Expression.{Expression, ResultAt, ItemAt, LiteralAt, LenAt, IsNilAt, DefaultAt, PredicateAt}
 use Rattle.ar_syntax.specs.Token.{letters}
 pub use Rattle.ar_syntax.specs.declared.role.Call.{Call}
@@ -30,20 +31,20 @@ arity IsNil = 1
 arity Default = 2
 arity (Over predicate) = 2
 
--- the argument after so many others is a predicate
+-- the argument after n others is a predicate
 abbrev pub is_body : Call → ℕ → Bool
 is_body (Over predicate) before = nat_eq before 1
 is_body call before = false
 
 -- the tree of a call; with another number of arguments, which only rules without that limit allow, it is nil
-abbrev pub called : ℕ → Call → List Expression → Expression
+abbrev pub called : Offset → Call → List Expression → Expression
 called at Len (list ∷ []) = LenAt at list
 called at IsNil (operand ∷ []) = IsNilAt at operand
 called at Default (operand ∷ otherwise ∷ []) = DefaultAt at operand otherwise
 called at (Over predicate) (list ∷ body ∷ []) = PredicateAt at predicate list body
 called at call arguments = LiteralAt at literals.Nil
 
--- ---- where an operand is wanted
+-- ---- where an operand is expected
 
 pub data Start : Type 0 where
   Leaf : Expression → Start
@@ -54,7 +55,7 @@ pub data Start : Type 0 where
   ItemPoint : Start
   NoStart : Start
 
-abbrev pub word_start : ℕ → Word → Start
+abbrev pub word_start : Offset → Word → Start
 word_start at words.Result = Leaf (ResultAt at)
 word_start at words.True = Leaf (LiteralAt at (literals.Bool true))
 word_start at words.False = Leaf (LiteralAt at (literals.Bool false))
@@ -69,8 +70,8 @@ word_start at words.Or = NoStart
 word_start at words.In = NoStart
 word_start at (words.Test test) = NoStart
 
--- `#`, and a point for its field, stand inside predicates
-abbrev pub sign_start : Bool → ℕ → Sign → Start
+-- `#`, and a point for its field, appear inside predicates
+abbrev pub sign_start : Bool → Offset → Sign → Start
 sign_start inside at signs.Minus = Prefix unaries.Minus
 sign_start inside at signs.Plus = Prefix unaries.Plus
 sign_start inside at signs.Not = Prefix unaries.Not
@@ -80,7 +81,7 @@ sign_start true at signs.Hash = Leaf (ItemAt at)
 sign_start true at signs.Point = ItemPoint
 sign_start inside at sign = NoStart
 
-abbrev pub kind_start : Bool → ℕ → TokenKind → Start
+abbrev pub kind_start : Bool → Offset → TokenKind → Start
 kind_start inside at (kinds.Word word) = word_start at word
 kind_start inside at (kinds.Name name) = NoStart
 kind_start inside at (kinds.Whole value) = Leaf (LiteralAt at (literals.Whole value))
@@ -88,9 +89,9 @@ kind_start inside at (kinds.Decimal millionths) = Leaf (LiteralAt at (literals.D
 kind_start inside at (kinds.Text text) = Leaf (LiteralAt at (literals.Text text))
 kind_start inside at (kinds.Sign sign) = sign_start inside at sign
 
--- what a token begins where an operand is wanted, inside a predicate or not
-unfoldable pub begins_as : Bool → Token → Start
-begins_as inside token = kind_start inside token.span.start token.kind
+-- what a token begins where an operand is expected, inside a predicate or not
+unfoldable pub begun_by : Bool → Token → Start
+begun_by inside token = kind_start inside token.span.start token.kind
 
 -- ---- after an operand
 
@@ -137,7 +138,8 @@ kind_follow kind = NoFollow
 unfoldable pub follows : Token → Follow
 follows token = kind_follow token.kind
 
--- how many levels of operators bind tighter than this one: 0 for `*`, 1 for `+`, 2 for `==`, `in` and `contains`, 3 for `and`, 4 for `or`
+-- how many levels of operators bind tighter than this one: 0 for `*`, 1 for `+`, 2 for `==`, `in` and `contains`, 3 for
+-- `and`, 4 for `or`
 abbrev pub looseness : Binary → ℕ
 looseness binaries.Or = 4
 looseness binaries.And = 3
@@ -154,20 +156,20 @@ looseness binaries.Remainder = 0
 -- ---- elsewhere
 
 -- after a point every word is a name
-abbrev pub kind_name : TokenKind → Option (List ℕ)
+abbrev pub kind_name : TokenKind → Option Text
 kind_name (kinds.Word word) = Some (letters word)
 kind_name (kinds.Name name) = Some name
 kind_name kind = None
 
-unfoldable pub token_name : Token → Option (List ℕ)
-token_name token = kind_name token.kind
+unfoldable pub field_name_of : Token → Option Text
+field_name_of token = kind_name token.kind
 
-abbrev pub kind_text : TokenKind → Option (List ℕ)
+abbrev pub kind_text : TokenKind → Option Text
 kind_text (kinds.Text text) = Some text
 kind_text kind = None
 
-unfoldable pub token_text : Token → Option (List ℕ)
-token_text token = kind_text token.kind
+unfoldable pub literal_text : Token → Option Text
+literal_text token = kind_text token.kind
 
 abbrev pub kind_is_in : TokenKind → Bool
 kind_is_in (kinds.Word words.In) = true

@@ -1,7 +1,9 @@
 -- The letters, signs, bases and escapes of tokens.
-use Rattle.std.specs.Prelude.{ℕ, ◌+◌, Bool, true, false, ◌||◌, ◌==◌, if◌then◌else◌, List, [], ◌∷◌, codes, find, Option, Some, None, Result, Ok, Err}
+use Rattle.std.specs.Prelude.{ℕ, ◌+◌, Bool, true, false, ◌||◌, ◌==◌, if◌then◌else◌, List, [], ◌∷◌, codes, find, Option, Some, None, Result, Ok, Err, ◌≡◌, refl}
 use Rattle.std.specs.Char.{is_ascii_alphabetic, is_ascii_alphanumeric, is_digit}
 use Rattle.std.specs.Str.{bytes_eq}
+use Rattle.ar_value.specs.Terms.{Offset, Text}
+use Rattle.ar_value.specs.Bytes.{byte_of}
 use Rattle.ar_value.specs.Answer.{◌>>=◌}
 use Rattle.ar_syntax.specs.declared.error.SyntaxError.{SyntaxError}
 use Rattle.ar_syntax.specs.declared.error.SyntaxError.TheVariants.{BadEscape}
@@ -24,19 +26,19 @@ use Rattle.ar_value.specs.declared.operator.TextTest.TheVariants as tests
 
 -- a word has letters, digits and `_`, and begins with none of the digits
 abbrev pub begins_word : ℕ → Bool
-begins_word byte = is_ascii_alphabetic byte || byte == 95
+begins_word byte = is_ascii_alphabetic byte || byte == byte_of (codes "_")
 
 abbrev pub continues_word : ℕ → Bool
-continues_word byte = is_ascii_alphanumeric byte || byte == 95
+continues_word byte = is_ascii_alphanumeric byte || byte == byte_of (codes "_")
 
 -- how the language spells a test of texts
-abbrev pub test_letters : TextTest → List ℕ
+abbrev pub test_letters : TextTest → Text
 test_letters tests.Contains = codes "contains"
 test_letters tests.StartsWith = codes "startsWith"
 test_letters tests.EndsWith = codes "endsWith"
 
 -- how the language spells a call with a predicate
-abbrev pub predicate_letters : Predicate → List ℕ
+abbrev pub predicate_letters : Predicate → Text
 predicate_letters predicates.All = codes "all"
 predicate_letters predicates.Any = codes "any"
 predicate_letters predicates.None = codes "none"
@@ -45,7 +47,7 @@ predicate_letters predicates.Count = codes "count"
 predicate_letters predicates.Filter = codes "filter"
 
 -- how the language spells the words that it names
-abbrev pub letters : Word → List ℕ
+abbrev pub letters : Word → Text
 letters words.Result = codes "result"
 letters words.True = codes "true"
 letters words.False = codes "false"
@@ -65,21 +67,22 @@ named_words =
     words.Result ∷ words.True ∷ words.False ∷ words.Nil ∷ words.And ∷ words.Or ∷ words.Not ∷ words.In
     ∷ words.Test tests.Contains ∷ words.Test tests.StartsWith ∷ words.Test tests.EndsWith
     ∷ words.Len ∷ words.IsNil ∷ words.Default
-    ∷ words.Over predicates.All ∷ words.Over predicates.Any ∷ words.Over predicates.None ∷ words.Over predicates.One ∷ words.Over predicates.Count ∷ words.Over predicates.Filter ∷ []
+    ∷ words.Over predicates.All ∷ words.Over predicates.Any ∷ words.Over predicates.None ∷ words.Over predicates.One
+    ∷ words.Over predicates.Count ∷ words.Over predicates.Filter ∷ []
 
 -- the word that the language spells so
-unfoldable pub word_of : List ℕ → Option Word
+unfoldable pub word_of : Text → Option Word
 word_of bytes = find (λ word. bytes_eq (letters word) bytes) named_words
 
 -- a word that the language doesn't name is a name
-abbrev pub word_or_name : List ℕ → Option Word → TokenKind
+abbrev pub word_or_name : Text → Option Word → TokenKind
 word_or_name bytes (Some word) = kinds.Word word
 word_or_name bytes None = kinds.Name bytes
 
 -- ---- signs
 
 -- the sign of a comparison
-abbrev pub comparison_sign : Comparison → List ℕ
+abbrev pub comparison_sign : Comparison → Text
 comparison_sign comparisons.Equal = codes "=="
 comparison_sign comparisons.NotEqual = codes "!="
 comparison_sign comparisons.Less = codes "<"
@@ -87,7 +90,7 @@ comparison_sign comparisons.LessOrEqual = codes "<="
 comparison_sign comparisons.Greater = codes ">"
 comparison_sign comparisons.GreaterOrEqual = codes ">="
 
-abbrev pub spelling : Sign → List ℕ
+abbrev pub spelling : Sign → Text
 spelling (signs.Comparison comparison) = comparison_sign comparison
 spelling signs.And = codes "&&"
 spelling signs.Or = codes "||"
@@ -131,35 +134,52 @@ is_digit_in base byte = is_digit byte (radix base)
 
 -- ---- texts
 
--- a text stands between two `"` or two `'`
+-- a text is between two `"` or two `'`
 abbrev pub is_quote : ℕ → Bool
-is_quote byte = byte == 34 || byte == 39
+is_quote byte = byte == byte_of (codes "\"") || byte == byte_of (codes "'")
 
--- the place of the quote that ends a text, of bytes that begin at a place: a backslash takes the next byte's own meaning
-abbrev pub text_end : ℕ → ℕ → Bool → List ℕ → Option ℕ
+-- the offset of the quote that ends a text, of bytes that begin at an offset: a backslash takes the next byte's own
+-- meaning
+abbrev pub text_end : ℕ → Offset → Bool → Text → Option ℕ
 text_end quote at escaped [] = None
 text_end quote at true (byte ∷ bytes) = text_end quote (at + 1) false bytes
-text_end quote at false (byte ∷ bytes) = if byte == quote then Some at else text_end quote (at + 1) (byte == 92) bytes
+text_end quote at false (byte ∷ bytes) =
+    if byte == quote then Some at else text_end quote (at + 1) (byte == byte_of (codes "\\")) bytes
 
--- what stands for a backslash with a byte after it: itself, a quote, LF, CR or tab
+-- what a backslash with a byte after it represents: itself, a quote, LF, CR or tab
 abbrev pub escape_of : ℕ → Option ℕ
 escape_of byte =
-    if byte == 92 || byte == 34 || byte == 39 then Some byte
-    else (if byte == 110 then Some 10
-    else (if byte == 114 then Some 13
-    else (if byte == 116 then Some 9
+    if byte == byte_of (codes "\\") || byte == byte_of (codes "\"") || byte == byte_of (codes "'") then Some byte
+    else (if byte == byte_of (codes "n") then Some (byte_of (codes "\n"))
+    else (if byte == byte_of (codes "r") then Some (byte_of (codes "\r"))
+    else (if byte == byte_of (codes "t") then Some (byte_of (codes "\t"))
     else None)))
 
--- a byte in front of those that others stand for
-abbrev pub with_byte : ℕ → Result (List ℕ) SyntaxError → Result (List ℕ) SyntaxError
+-- a byte in front of those that others represent
+abbrev pub with_byte : ℕ → Result Text SyntaxError → Result Text SyntaxError
 with_byte byte behind = behind >>= λ bytes. Ok (byte ∷ bytes)
 
-abbrev pub with_escape : ℕ → Option ℕ → Result (List ℕ) SyntaxError → Result (List ℕ) SyntaxError
+abbrev pub with_escape : Offset → Option ℕ → Result Text SyntaxError → Result Text SyntaxError
 with_escape at (Some byte) behind = with_byte byte behind
 with_escape at None behind = Err (BadEscape at)
 
--- what the bytes of a text directly after a place stand for
-abbrev pub unescaped : ℕ → Bool → List ℕ → Result (List ℕ) SyntaxError
+-- what the bytes of a text directly after an offset represent
+abbrev pub unescaped : Offset → Bool → Text → Result Text SyntaxError
 unescaped before escaped [] = Ok []
 unescaped before true (byte ∷ bytes) = with_escape before (escape_of byte) (unescaped (before + 1) false bytes)
-unescaped before false (byte ∷ bytes) = if byte == 92 then unescaped (before + 1) true bytes else with_byte byte (unescaped (before + 1) false bytes)
+unescaped before false (byte ∷ bytes) =
+    if byte == byte_of (codes "\\") then unescaped (before + 1) true bytes
+    else with_byte byte (unescaped (before + 1) false bytes)
+
+-- ---- worked rows
+
+a_named_word : word_of (codes "not") ≡ Some words.Not
+unfolding word_of
+a_named_word = refl
+
+no_word : word_of (codes "size") ≡ None
+unfolding word_of
+no_word = refl
+
+with_a_line_feed : unescaped 0 false (codes "a\\nb") ≡ Ok (codes "a\nb")
+with_a_line_feed = refl

@@ -1,4 +1,4 @@
-//! What stands in a call's parentheses, as the two arguments of `default(result, 0)`.
+//! What is in a call's parentheses, as the two arguments of `default(result, 0)`.
 
 ghost use Rattle.std.specs.Prelude.{◌≡◌, ◌∷◌, ◌++◌, ◌<◌, [], length, map, IfOk};
 ghost use Rattle.ar_syntax.specs.Machine.{Have, WantArgument, close_braced, when};
@@ -124,7 +124,7 @@ fn call(alloc: Global, at: usize, function: Call, arguments: Vec<Tree>) -> Resul
     }
 }
 
-/// Takes the last argument, which has to be there.
+/// Takes the last argument, which is required.
 fn pop_argument(alloc: Global, arguments: &mut Vec<Tree>) -> Result<Box<Tree>, AllocError>
     requires { 0 < length arguments.old.items }
     ensures { IfOk result (λ last. arguments.old.items ≡ arguments.new.items ++ last.value ∷ []) }

@@ -7,7 +7,7 @@ ghost use Rattle.ar_tree.specs.Views.{expression_of};
 
 use ar_tree::tree::Tree;
 
-/// Whether a tree has at most so many levels. It recurs no deeper than that.
+/// Whether a tree has at most `levels` levels. It recurs no deeper than that.
 #[cycle(fits)]
 #[tactic(auto, using(crate::proofs::Depths::no_level, crate::proofs::Depths::leaf_level, crate::proofs::Depths::one_level, crate::proofs::Depths::two_levels, crate::proofs::Depths::three_levels))]
 pub(crate) fn fits(tree: &Tree, levels: usize) -> bool

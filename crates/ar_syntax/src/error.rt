@@ -9,33 +9,33 @@ use std::alloc::{AllocError, AllocFailed};
 use std::fmt;
 use thiserror::Error;
 
-/// Why a text is no condition. A number is the place of the fault: a byte offset from 0.
+/// Why a text is no condition. A number is the offset of the fault in bytes, from 0.
 #[derive(Clone, Copy, Debug, Error)]
 pub enum SyntaxError {
     /// The text has more than 4,096 bytes.
     TooLong,
-    /// No token begins with this byte, or it stands directly after a number and continues it.
+    /// No token begins with this byte, or it comes directly after a number and continues it.
     BadCharacter(usize),
     /// The text literal that begins here has no end.
     OpenText(usize),
     /// The comment that begins here has no end.
     OpenComment(usize),
-    /// The backslash here stands before a byte that it can't escape.
+    /// The backslash here comes before a byte that it can't escape.
     BadEscape(usize),
     /// The number that begins here has more than six digits after its point.
     LiteralTooFine(usize),
     /// The number that begins here is above the greatest whole or decimal.
     NumberTooLarge(usize),
-    /// No condition has the token at this place after those before it. The end of the text
+    /// No condition has the token at this offset after those before it. The end of the text
     /// counts as a token.
     Unexpected(usize),
-    /// An operand is wanted here, and the language doesn't name this word.
+    /// An operand is expected here, and the language doesn't name this word.
     UnknownName(usize),
     /// The call takes another number of arguments than end here.
     WrongCount(usize),
-    /// `#`, or a point for its field, stands outside predicates.
+    /// `#`, or a point for its field, is outside predicates.
     ItemOutside(usize),
-    /// A list goes on after its sixteenth item.
+    /// A list continues after its sixteenth item.
     TooManyItems(usize),
     /// A parenthesis, bracket, brace, call, sign or `?` begins while 64 are unfinished; at 0, the
     /// tree of the whole text is deeper than 64.

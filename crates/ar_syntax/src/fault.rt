@@ -11,7 +11,7 @@ use crate::stack::inside;
 use crate::state::{Refusal, State};
 use crate::token::{Sign, Token, TokenKind};
 
-/// Whether an operand may stand next.
+/// Whether an operand may come next.
 pub(crate) fn wants_operand(state: &State) -> bool
     ensures { (stack : _) → result ≡ wants_operand (state_of stack state.now) }
 {
@@ -21,7 +21,7 @@ pub(crate) fn wants_operand(state: &State) -> bool
     )
 }
 
-/// Whether what stands next stands inside a predicate.
+/// Whether what comes next is inside a predicate.
 #[tactic(auto, using(crate::proofs::Openers::length_of_map))]
 pub(crate) fn is_inside(stack: &[Frame], state: &State) -> bool
     ensures { result ≡ is_inside (state_of (frames_of stack.now) state.now) }

@@ -2,14 +2,14 @@
 //! tokens say, and from tokens to a tree. It is a part of the language in expr-lang's Language
 //! Definition.
 //!
-//! [`tokens`] answers the tokens of a text, or says at which byte it stops being one and what was
-//! expected there. [`parse`] answers the one tree of a condition, or the first refusal and its
-//! place. Only out of memory can keep them from it.
+//! [`tokens`] returns the tokens of a text, or says at which byte it stops being one and what was
+//! expected there. [`parse`] returns the one tree of a condition, or the first refusal and its
+//! offset. Only out of memory can keep them from it.
 //!
 //! - [`token`]: words, numbers, texts and signs, and how they are spelled; `scanner` cuts a text
 //!   into them, with `number` for numbers and `quoted` for texts
 //! - [`role`]: what a token can be after an operand, and what calls take
-//! - `parser`: from tokens to a tree, one `step` for each token, with `call` for what stands in a
+//! - `parser`: from tokens to a tree, one `step` for each token, with `call` for what is in a
 //!   call's parentheses; `start` says what a token begins, `state` what may come next, `machine`
 //!   what is begun and not ended, `climb` ends it, `build` boxes the nodes, `stack` counts what is
 //!   begun, `fault` names a refusal, `depth` limits the tree
@@ -20,9 +20,9 @@
 //!
 //! In `specs`, `Token` and `Tokens` define the tokens of a text, and `Spelling` how it spells them;
 //! `Grammar` the trees that tokens derive, with `Roles` for what each token can be, `Condition` which
-//! texts are conditions, and `Refusal` the place and name of the fault of those that are none.
+//! texts are conditions, and `Refusal` the offset and name of the fault of those that are none.
 //! `Machine` reads the grammar token by token, `Fault` finds the name, and `Parse` is both as a function
-//! of the text; `Parsed` is what parsing answers. `Examples` and `RefusalExamples` have texts with their
+//! of the text; `Parsed` is what parsing returns. `Examples` and `RefusalExamples` have texts and their
 //! trees and refusals. What is in `Private` no public contract speaks of.
 #![tactic(auto)]
 

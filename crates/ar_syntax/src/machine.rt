@@ -28,7 +28,7 @@ pub(crate) enum Frame {
         condition: Box<Tree>,
         met: Box<Tree>,
     },
-    /// What stands in parentheses.
+    /// What is in parentheses.
     Grouped,
     /// An item of a list.
     Listed {

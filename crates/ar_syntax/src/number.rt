@@ -8,7 +8,7 @@ ghost use Rattle.std.specs.Str.Parse.{digits_value};
 ghost use Rattle.ar_value.specs.Decimal.{is_i64};
 ghost use Rattle.ar_value.specs.Digits.{magnitude_of};
 ghost use Rattle.ar_syntax.specs.Token.{continues_word, is_digit_in, radix};
-ghost use Rattle.ar_syntax.specs.Tokens.{base_digits, base_named, base_of, begins_number, digits_at, digits_behind_point, number_ended, number_at_front, number_text, plain_number, prefixed_number, number_spelled};
+ghost use Rattle.ar_syntax.specs.Tokens.{base_digits, base_named, base_of, begins_number, digits_at, digits_behind_point, number_ended, number_at_front, number_text, plain_number, prefixed_number, number_token_kind};
 
 use crate::error::SyntaxError;
 use crate::token::{Base, Token, TokenKind, continues_word, placed};
@@ -21,7 +21,7 @@ const MOST_FRACTION_DIGITS: usize = 6;
 /// How many bytes the prefix of a base has.
 const PREFIX_LEN: usize = 2;
 
-/// Whether a number begins here. Where a field may stand, a point isn't a number's.
+/// Whether a number begins here. Where a field may come, a point isn't a number's.
 pub(crate) fn begins_number(bytes: &[u8], field: bool) -> bool
     ensures { result ≡ begins_number field bytes.now }
 {
@@ -163,7 +163,7 @@ fn plain_number(bytes: &[u8], at: usize) -> Result<Token, SyntaxError>
     ended(bytes, at, number_len(whole, fraction), kind)
 }
 
-/// A number of so many bytes, where none stands after it that continues a word.
+/// A number of `len` bytes, where nothing comes after it that continues a word.
 fn ended(bytes: &[u8], at: usize, len: usize, kind: TokenKind) -> Result<Token, SyntaxError>
     requires within { len ≤ length bytes.now }
     requires in_range { at + length bytes.now < 2 ^ 64 }
@@ -215,11 +215,11 @@ fn number_len(whole: &[u8], fraction: &[u8]) -> usize
     }
 }
 
-/// The value of a number that begins at a place of the text.
+/// The value of a number that begins at an offset of the text.
 fn value(whole: &[u8], fraction: &[u8], at: usize) -> Result<TokenKind, SyntaxError>
     requires whole { list_all is_ascii_digit whole.now ≡ true }
     requires fraction { list_all is_ascii_digit fraction.now ≡ true }
-    ensures { result ≡ number_spelled at whole.now fraction.now }
+    ensures { result ≡ number_token_kind at whole.now fraction.now }
 {
     if fraction.len() > MOST_FRACTION_DIGITS {
         return Err(SyntaxError::LiteralTooFine(at));

@@ -3,7 +3,7 @@
 ghost use Rattle.std.specs.Prelude.{◌≡◌, ◌<◌, length, Err, IfOk, false, option_map};
 ghost use Rattle.ar_value.specs.Answer.{Gives};
 ghost use Rattle.ar_value.specs.Limits.{most_text_bytes};
-ghost use Rattle.ar_syntax.specs.Machine.{Have, finished, step, whole};
+ghost use Rattle.ar_syntax.specs.Machine.{Have, finished, parser_step, whole};
 ghost use Rattle.ar_syntax.specs.Parsed.{ParsesTo};
 ghost use Rattle.ar_syntax.specs.Parse.{tree_at_end, limited, parse_of, state_after, tree_of};
 ghost use Rattle.ar_syntax.specs.Condition.{strict};
@@ -29,7 +29,7 @@ use std::alloc::{AllocError, Global};
 const MOST_TREE_LEVELS: usize = 64;
 
 /// The tree of a condition, by the grammar in expr-lang's Language Definition, of which this is a
-/// part. A node has the place of its operator, or of its first token.
+/// part. A node has the offset of its operator, or of its first token.
 ///
 /// # Errors
 ///
@@ -37,7 +37,7 @@ const MOST_TREE_LEVELS: usize = 64;
 /// before it, begins no condition, at its first byte; the end of the text counts as a token.
 /// `TooManyItems` and `WrongCount` where just the number of items or arguments is to blame,
 /// `ItemOutside` for `#` outside a predicate, `UnknownName` for a word that the language doesn't
-/// name where an operand is wanted, `TooDeep` for the opener after 64 unfinished ones, else
+/// name where an operand is expected, `TooDeep` for the opener after 64 unfinished ones, else
 /// `Unexpected`. Last, `TooDeep` at byte 0 for a tree of more than 64 levels.
 pub fn parse(alloc: Global, text: &str) -> Result<Tree, SyntaxError>
     ensures { ParsesTo text.now result }
@@ -55,7 +55,7 @@ fn tree(alloc: Global, text: &str) -> Result<Tree, SyntaxError>
     tree_of_tokens(alloc, &tokens, text.len())
 }
 
-/// The tree of tokens whose text ends at a place.
+/// The tree of tokens whose text ends at an offset.
 #[tactic(auto, unfolding(crate::specs::Parse::tree_of))]
 fn tree_of_tokens(alloc: Global, tokens: &[Token], end: usize) -> Result<Tree, SyntaxError>
     ensures { Gives is_syntax_memory expression_of result (tree_of end tokens.now) }
@@ -78,7 +78,7 @@ fn stepped(
 ) -> Result<State, SyntaxError>
     ensures { Gives is_syntax_memory (λ next. at_state stack.new.items next) result
         (state_after (at_state stack.old.items state) token.now
-        (step strict (at_state stack.old.items state) token.now)) }
+        (parser_step strict (at_state stack.old.items state) token.now)) }
 {
     let wants = wants_operand(&state);
     let inside = is_inside(stack, &state);
@@ -96,7 +96,7 @@ fn ended(alloc: Global, stack: Vec<Frame>, state: State, end: usize) -> Result<T
     complete(tree, end)
 }
 
-/// The tree of tokens that end at a place, where they are a condition.
+/// The tree of tokens that end at an offset, where they are a condition.
 fn complete(tree: Option<Box<Tree>>, end: usize) -> Result<Tree, SyntaxError>
     ensures { Gives (λ _. false) expression_of result
         (tree_at_end end (option_map (λ tree. expression_of tree.value) tree)) }

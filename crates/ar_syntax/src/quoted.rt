@@ -35,7 +35,7 @@ pub(crate) fn text_token(alloc: Global, text: &str, at: usize) -> Result<Token, 
     Ok(placed(TokenKind::Text(value), at, len + QUOTES_LEN))
 }
 
-/// The place of the quote that ends a text.
+/// The offset of the quote that ends a text.
 #[tactic(auto, using(crate::proofs::Quotes::text_ends))]
 fn text_end(bytes: &[u8], quote: u8) -> Option<usize>
     ensures end { result ≡ text_end quote 0 false bytes.now }
@@ -55,7 +55,7 @@ fn text_end(bytes: &[u8], quote: u8) -> Option<usize>
     None
 }
 
-/// What a text directly after a place stands for.
+/// What a text directly after an offset represents.
 fn unescaped(alloc: Global, text: &str, before: usize) -> Result<Text, SyntaxError>
     requires in_range { before + length text.now < 2 ^ 64 }
     ensures { Gives is_syntax_memory (λ value. value) result (unescaped before false text.now) }
@@ -67,7 +67,7 @@ fn unescaped(alloc: Global, text: &str, before: usize) -> Result<Text, SyntaxErr
     }
 }
 
-/// What the bytes of a text directly after a place stand for.
+/// What the bytes of a text directly after an offset represent.
 #[tactic(auto, using(crate::proofs::Quotes::text_values))]
 fn unescaped_bytes(alloc: Global, bytes: &[u8], before: usize) -> Result<Vec<u8>, SyntaxError>
     requires in_range { before + length bytes.now < 2 ^ 64 }
@@ -88,7 +88,7 @@ fn unescaped_bytes(alloc: Global, bytes: &[u8], before: usize) -> Result<Vec<u8>
     Ok(value)
 }
 
-/// What a backslash and this byte stand for.
+/// What a backslash and this byte represent.
 fn escape(byte: u8) -> Option<u8>
     ensures { result ≡ escape_of byte }
 {

@@ -16,7 +16,7 @@ pub enum Call {
     Over(Predicate),
 }
 
-/// The signs that end what stands in brackets, or before a colon.
+/// The signs that end what is in brackets, or before a colon.
 #[derive(Clone, Copy)]
 pub enum Ender {
     Comma,
@@ -53,7 +53,7 @@ impl Call {
         }
     }
 
-    /// Whether the argument after so many others is a predicate.
+    /// Whether the argument after `before` others is a predicate.
     pub(crate) fn is_body(self, before: usize) -> bool
         ensures { result ≡ is_body self before }
     {

@@ -49,14 +49,14 @@ const SIGNS: [Sign; 25] = [
     Sign::Hash,
 ];
 
-/// What stands at the front of bytes: a blank or a comment of so many bytes, or a token.
+/// What is at the front of bytes: a blank or a comment of n bytes, or a token.
 #[derive(Drop)]
 enum Piece {
     Gap(usize),
     Found(Token),
 }
 
-/// The tokens of a text, in order. Each is the longest that stands at its place; blanks and
+/// The tokens of a text, in order. Each is the longest possible at its offset; blanks and
 /// comments separate them.
 ///
 /// # Errors
@@ -107,7 +107,7 @@ fn scan(alloc: Global, text: &str) -> Result<Vec<Token>, SyntaxError>
     Ok(tokens)
 }
 
-/// What stands at the front of bytes that begin at a place of the text. `field` says that a point
+/// What is at the front of bytes that begin at an offset of the text. `field` says that a point
 /// here is a field's.
 #[tactic(auto, unfolding(crate::specs::Tokens::front_of))]
 fn front(alloc: Global, text: &str, at: usize, field: bool) -> Result<Piece, SyntaxError>
@@ -241,7 +241,7 @@ fn sign(bytes: &[u8], at: usize) -> Result<Token, SyntaxError>
     }
 }
 
-/// Whether `??` or `?.` stands at the front.
+/// Whether `??` or `?.` is at the front.
 fn is_coalescing(bytes: &[u8]) -> bool
     ensures { result ≡ is_coalescing bytes.now }
 {

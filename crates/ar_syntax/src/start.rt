@@ -1,8 +1,8 @@
-//! What a token begins where an operand is wanted.
+//! What a token begins where an operand is expected.
 
 ghost use Rattle.std.specs.Prelude.{◌≡◌, IfOk};
 ghost use Rattle.ar_tree.specs.Expression.{LiteralAt};
-ghost use Rattle.ar_syntax.specs.Roles.{Leaf, sign_start, begins_as, word_start};
+ghost use Rattle.ar_syntax.specs.Roles.{Leaf, sign_start, begun_by, word_start};
 ghost use Rattle.ar_syntax.specs.Private.Steps.{start_of};
 ghost use Rattle.ar_tree.specs.Views.{expression_of};
 
@@ -26,9 +26,9 @@ pub(crate) enum Begin {
 }
 
 /// What a token begins, inside a predicate or not.
-#[tactic(auto, unfolding(crate::specs::Roles::begins_as))]
+#[tactic(auto, unfolding(crate::specs::Roles::begun_by))]
 pub(crate) fn begin_of(alloc: Global, inside: bool, token: &Token) -> Result<Begin, AllocError>
-    ensures { IfOk result (λ begin. start_of begin ≡ begins_as inside token.now) }
+    ensures { IfOk result (λ begin. start_of begin ≡ begun_by inside token.now) }
 {
     let at = token.span.start;
     match &token.kind {

@@ -8,41 +8,41 @@ use ar_tree::tree::Tree;
 use ar_value::text::Text;
 use std::alloc::{AllocError, AllocFailed};
 
-/// What is wanted next, or there.
+/// What is expected next, or there.
 #[derive(Drop)]
 pub(crate) enum State {
-    /// An operand is wanted.
+    /// An operand is expected.
     Want,
     /// An operand is there.
     Have(Box<Tree>),
-    /// A word is wanted, after the point of a field.
+    /// A word is expected, after the point of a field.
     WantName {
         at: usize,
         owner: Box<Tree>,
     },
-    /// What comes after the `[` of an index or field is wanted.
+    /// What comes after the `[` of an index or field is expected.
     WantIndex {
         at: usize,
         owner: Box<Tree>,
     },
-    /// A text stands after such a `[`.
+    /// A text comes after such a `[`.
     HaveText {
         at: usize,
         owner: Box<Tree>,
         text_at: usize,
         text: Text,
     },
-    /// `in` is wanted, after `not`.
+    /// `in` is expected, after `not`.
     WantIn {
         at: usize,
         first: Box<Tree>,
     },
-    /// `(` is wanted, after the name of a call.
+    /// `(` is expected, after the name of a call.
     WantGroup {
         at: usize,
         function: Call,
     },
-    /// An argument is wanted, after so many.
+    /// An argument is expected, after n of them.
     WantArgument {
         at: usize,
         function: Call,
@@ -56,7 +56,7 @@ pub(crate) enum State {
     },
 }
 
-/// Why a token can't stand next: a limit alone forbids it, or something else does.
+/// Why a token can't come next: a limit alone forbids it, or something else does.
 #[derive(Clone, Copy)]
 pub(crate) enum Refusal {
     Arguments,

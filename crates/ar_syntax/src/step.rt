@@ -3,8 +3,8 @@
 ghost use Rattle.std.specs.Prelude.{◌≡◌, ◌∷◌, ◌++◌, [], length, map, pred, Some, IfOk};
 ghost use Rattle.ar_tree.specs.Expression.{LiteralAt};
 ghost use Rattle.ar_syntax.specs.Grammar.{ends_bracket, may_continue, may_open};
-ghost use Rattle.ar_syntax.specs.Machine.{Argued, Body, Braced, Frame, Grouped, Have, Indexed, Listed, RightOf, Yes, Want, WantArgument, argue, begin, choose, climbed, close_empty, close_text, end_with, have, openers_left, open_index, operate, negate, select, step, unwound, want, when};
-ghost use Rattle.ar_syntax.specs.Roles.{follows, is_body, is_brace, is_in, looseness, token_name, token_text};
+ghost use Rattle.ar_syntax.specs.Machine.{Argued, Body, Braced, Frame, Grouped, Have, Indexed, Listed, RightOf, Yes, Want, WantArgument, argue, argument_start, begun_with, choose, climbed, close_empty, close_text, end_with, have, openers_left, open_index, operate, negate, select, parser_step, unwound, want, when};
+ghost use Rattle.ar_syntax.specs.Roles.{follows, is_body, is_brace, is_in, looseness, field_name_of, literal_text};
 ghost use Rattle.ar_tree.specs.declared.tree.Binary.TheVariants.{NotIn};
 ghost use Rattle.ar_tree.specs.declared.tree.Literal.TheVariants.{Text as TextLiteral};
 ghost use Rattle.ar_syntax.specs.Private.Steps.{Steps, StepsFreely, is_empty_call, start_of, state_of};
@@ -29,7 +29,7 @@ use std::mem;
 /// The level of a choice's condition: all operators bind tighter.
 const CONDITION_LEVEL: usize = 5;
 
-/// A phrase more, whose operand is wanted next.
+/// One more phrase, whose operand is expected next.
 #[tactic(auto, using(crate::proofs::Climbs::pops))]
 fn wait(stack: &mut Vec<Frame>, frame: Frame) -> Result<State, Refusal>
     ensures { Steps (λ rules. Some (Want (frame_of frame ∷ frames_of stack.old.items)))
@@ -70,7 +70,7 @@ fn with_opener(stack: &[Frame], state: State) -> Result<State, Refusal>
     }
 }
 
-/// Where an operand is wanted.
+/// Where an operand is expected.
 fn want(alloc: Global, stack: &mut Vec<Frame>, token: &Token) -> Result<State, Refusal>
     ensures { Steps (λ rules. want rules (frames_of stack.old.items) token.now) (frames_of stack.new.items) result }
 {
@@ -78,14 +78,14 @@ fn want(alloc: Global, stack: &mut Vec<Frame>, token: &Token) -> Result<State, R
     begin_with(alloc, stack, token.span.start, start)
 }
 
-/// What a token begins, where an operand is wanted.
+/// What a token begins, where an operand is expected.
 fn begin_with(
     alloc: Global,
     stack: &mut Vec<Frame>,
     at: usize,
     start: Begin,
 ) -> Result<State, Refusal>
-    ensures { Steps (λ rules. begin rules (frames_of stack.old.items) at (start_of start))
+    ensures { Steps (λ rules. begun_with rules (frames_of stack.old.items) at (start_of start))
         (frames_of stack.new.items) result }
 {
     match start {
@@ -278,7 +278,7 @@ fn end_frame(
     }
 }
 
-/// What stands in parentheses ends.
+/// The end of what is in parentheses.
 fn end_group(tree: Box<Tree>, ender: Ender) -> Result<State, Refusal>
     ensures { (stack : _)
         → StepsFreely (λ rules. end_with rules ender (Have (Grouped ∷ stack) (expression_of tree.value))) stack result }
@@ -431,7 +431,7 @@ fn next_item(stack: &mut Vec<Frame>, at: usize, so_far: Vec<Tree>) -> Result<Sta
 /// After the point of a field.
 fn select(alloc: Global, at: usize, owner: Box<Tree>, token: &Token) -> Result<State, Refusal>
     ensures { (stack : _)
-        → Steps (λ rules. select rules stack at (expression_of owner.value) (token_name token.now)) stack result }
+        → Steps (λ rules. select rules stack at (expression_of owner.value) (field_name_of token.now)) stack result }
 {
     match name_of(alloc, token)? {
         Some(name) => operand(alloc, Tree::Field { at, owner, name }),
@@ -440,9 +440,9 @@ fn select(alloc: Global, at: usize, owner: Box<Tree>, token: &Token) -> Result<S
 }
 
 /// What a token names after a point.
-#[tactic(auto, unfolding(crate::specs::Roles::token_name))]
+#[tactic(auto, unfolding(crate::specs::Roles::field_name_of))]
 fn name_of(alloc: Global, token: &Token) -> Result<Option<Text>, AllocError>
-    ensures { IfOk result (λ name. name ≡ token_name token.now) }
+    ensures { IfOk result (λ name. name ≡ field_name_of token.now) }
 {
     let name = match &token.kind {
         TokenKind::Word(word) => word.letters(),
@@ -453,9 +453,9 @@ fn name_of(alloc: Global, token: &Token) -> Result<Option<Text>, AllocError>
 }
 
 /// A text token's text.
-#[tactic(auto, unfolding(crate::specs::Roles::token_text))]
+#[tactic(auto, unfolding(crate::specs::Roles::literal_text))]
 fn text_of(alloc: Global, token: &Token) -> Result<Option<Text>, AllocError>
-    ensures { IfOk result (λ text. text ≡ token_text token.now) }
+    ensures { IfOk result (λ text. text ≡ literal_text token.now) }
 {
     match &token.kind {
         TokenKind::Text(text) => Ok(Some(Text::of(alloc, text.as_str())?)),
@@ -474,7 +474,7 @@ fn open_index(
 ) -> Result<State, Refusal>
     ensures { Steps
         (λ rules. open_index rules (frames_of stack.old.items) at (expression_of owner.value) token.now
-        (token_text token.now))
+        (literal_text token.now))
         (frames_of stack.new.items) result }
 {
     match text_of(alloc, token)? {
@@ -495,7 +495,7 @@ fn closes_bracket(token: &Token) -> bool
     matches!(follow_of(token), Follow::Ends(Ender::EndBracket))
 }
 
-/// After a text that stands after such a `[`.
+/// After a text that comes after such a `[`.
 #[tactic(auto, using(crate::proofs::Climbs::pops, crate::proofs::Openers::text_goes_on, crate::proofs::Openers::text_is_name))]
 fn close_text(
     alloc: Global,
@@ -579,7 +579,7 @@ fn want_in(
     }
 }
 
-/// Where an argument of a call is wanted.
+/// Where an argument of a call is expected.
 fn want_argument(
     alloc: Global,
     stack: &mut Vec<Frame>,
@@ -618,7 +618,7 @@ fn argue(
 ) -> Result<State, Refusal>
     ensures { Steps
         (λ rules. argue rules (frames_of stack.old.items) at function (map expression_of so_far.items) token.now
-        (is_body function (length (map expression_of so_far.items))) (is_brace token.now))
+        (argument_start function (length (map expression_of so_far.items)) token.now))
         (frames_of stack.new.items) result }
 {
     if !function.is_body(so_far.len()) {
@@ -675,15 +675,15 @@ fn open_braces(
     }
 }
 
-/// One token more: the state after it, or why it can't stand here.
-#[tactic(auto, unfolding(crate::specs::Machine::step))]
+/// One more token: the state after it, or why it can't be here.
+#[tactic(auto, unfolding(crate::specs::Machine::parser_step))]
 pub(crate) fn step(
     alloc: Global,
     stack: &mut Vec<Frame>,
     state: State,
     token: &Token,
 ) -> Result<State, Refusal>
-    ensures { Steps (λ rules. step rules (state_of (frames_of stack.old.items) state) token.now)
+    ensures { Steps (λ rules. parser_step rules (state_of (frames_of stack.old.items) state) token.now)
         (frames_of stack.new.items) result }
 {
     match state {

@@ -9,14 +9,14 @@ use ar_value::decimal::Decimal;
 use ar_value::operator::{Predicate, TextTest};
 use ar_value::text::Text;
 
-/// Where a token stands in its text: byte offsets from 0, `end` being the first byte after it.
+/// Where a token is in its text: byte offsets from 0, `end` being the first byte after it.
 #[derive(Clone, Copy)]
 pub struct Span {
     pub start: usize,
     pub end: usize,
 }
 
-/// A word, a number, a text or a sign, and where it stands.
+/// A word, a number, a text or a sign, and where it is.
 #[derive(Drop)]
 pub struct Token {
     pub kind: TokenKind,
@@ -262,7 +262,7 @@ pub(crate) fn continues_word(byte: u8) -> bool
     byte.is_ascii_alphanumeric() || byte == b'_'
 }
 
-/// A token of so many bytes at a place.
+/// A token of `len` bytes at the offset `at`.
 pub(crate) fn placed(kind: TokenKind, at: usize, len: usize) -> Token
     requires { at + len < 2 ^ 64 }
     ensures { result ≡ token kind at len }

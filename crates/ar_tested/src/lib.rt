@@ -1,13 +1,13 @@
 //! The machine with operand tests: it runs any code on any value.
 //!
-//! [`run_tested`] runs code on a value for no more than so much fuel, and tests every operand as it is
-//! taken: it answers true, false or a fault, with what the run cost, or tells that the machine is stuck at
-//! a place or that the next operation costs more than is left. That is how the run of the machine in
+//! [`run_tested`] runs code on a value for no more than `fuel`, and tests every operand as it is
+//! taken: it returns true, false or a fault, with what the run cost, or says that the machine is stuck at
+//! an index or that the next operation costs more than is left. That is how the run of the machine in
 //! `ar_op/specs/Machine` ends, by the definitions in `specs/Run`; [`laws`] says that a run ends in one way
 //! only. Only out of memory can keep it from that, which operands, loops and the lists that code makes
 //! take. Texts and values are borrowed from the measured value and from the code.
 //!
-//! Nothing that the program runs stands on it: judges run verified code by `ar_machine`.
+//! Nothing that the program runs depends on it: judges run verified code by `ar_machine`.
 //!
 //! - [`outcome`]: how runs end
 //! - `runs`: runs, loops over states; `state`: those
@@ -17,8 +17,8 @@
 //!   `operators`: signs, arithmetic, orders and equality of operands
 //! - [`laws`]: what holds of all runs
 //!
-//! `specs/Private` says what states in memory stand for. Of the items that a loop found, memory keeps
-//! what its answer takes, so a state in memory stands for one of the machine by a relation
+//! `specs/Private` says what states in memory represent. Of the items that a loop found, memory keeps
+//! what its answer takes, so a state in memory represents one of the machine by a relation
 //! (`ar_machine/specs/Same`).
 #![tactic(auto)]
 

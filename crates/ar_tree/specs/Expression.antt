@@ -1,26 +1,27 @@
--- What a tree says, without where it lies in memory.
+-- What a tree says, without where it is in memory.
 use Rattle.std.specs.Prelude.{ℕ, suc, List, [], ◌∷◌}
+use Rattle.ar_value.specs.Terms.{Offset, Text}
 use Rattle.ar_tree.specs.declared.tree.Binary.{Binary}
 use Rattle.ar_tree.specs.declared.tree.Literal.{Literal}
 use Rattle.ar_value.specs.declared.operator.Predicate.{Predicate}
 use Rattle.ar_tree.specs.declared.tree.Unary.{Unary}
 
 mutual
-  -- a node with its place and its children
+  -- a node with its place (byte offset) and its children
   pub data Expression : Type 0 where
-    ResultAt : (at : ℕ) → Expression
-    ItemAt : (at : ℕ) → Expression
-    LiteralAt : (at : ℕ) (literal : Literal) → Expression
-    FieldAt : (at : ℕ) (owner : Expression) (name : List ℕ) → Expression
-    IndexAt : (at : ℕ) (list index : Expression) → Expression
-    UnaryAt : (at : ℕ) (operator : Unary) (operand : Expression) → Expression
-    BinaryAt : (at : ℕ) (operator : Binary) (left right : Expression) → Expression
-    ChoiceAt : (at : ℕ) (condition yes no : Expression) → Expression
-    ListAt : (at : ℕ) (items : Expressions) → Expression
-    LenAt : (at : ℕ) (list : Expression) → Expression
-    IsNilAt : (at : ℕ) (operand : Expression) → Expression
-    DefaultAt : (at : ℕ) (operand otherwise : Expression) → Expression
-    PredicateAt : (at : ℕ) (predicate : Predicate) (list body : Expression) → Expression
+    ResultAt : (at : Offset) → Expression
+    ItemAt : (at : Offset) → Expression
+    LiteralAt : (at : Offset) (literal : Literal) → Expression
+    FieldAt : (at : Offset) (owner : Expression) (name : Text) → Expression
+    IndexAt : (at : Offset) (list index : Expression) → Expression
+    UnaryAt : (at : Offset) (operator : Unary) (operand : Expression) → Expression
+    BinaryAt : (at : Offset) (operator : Binary) (left right : Expression) → Expression
+    ChoiceAt : (at : Offset) (condition yes no : Expression) → Expression
+    ListAt : (at : Offset) (items : Expressions) → Expression
+    LenAt : (at : Offset) (list : Expression) → Expression
+    IsNilAt : (at : Offset) (operand : Expression) → Expression
+    DefaultAt : (at : Offset) (operand otherwise : Expression) → Expression
+    PredicateAt : (at : Offset) (predicate : Predicate) (list body : Expression) → Expression
 
   pub data Expressions : Type 0 where
     none : Expressions
@@ -31,12 +32,12 @@ expressions [] = none
 expressions (first ∷ others) = more first (expressions others)
 
 -- how many there are
-abbrev pub count : Expressions → ℕ
-count none = 0
-count (more first others) = suc (count others)
+abbrev pub expression_count : Expressions → ℕ
+expression_count none = 0
+expression_count (more first others) = suc (expression_count others)
 
 -- the place of a tree: that of its operator, else of its own token
-abbrev pub place_of : Expression → ℕ
+abbrev pub place_of : Expression → Offset
 place_of (ResultAt at) = at
 place_of (ItemAt at) = at
 place_of (LiteralAt at literal) = at

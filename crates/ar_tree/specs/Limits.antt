@@ -1,14 +1,15 @@
 -- Trees whose list literals, texts and names are short enough.
-use Rattle.std.specs.Prelude.{◌≤◌, ℕ, List, length}
+use Rattle.std.specs.Prelude.{◌≤◌, length}
+use Rattle.ar_value.specs.Terms.{Text}
 use Rattle.ar_value.specs.Limits.{most_literal_items, most_text_bytes}
-use Rattle.ar_tree.specs.Expression.{Expression, Expressions, count}
+use Rattle.ar_tree.specs.Expression.{Expression, Expressions, expression_count}
 use Rattle.ar_tree.specs.Expression as trees
 use Rattle.ar_tree.specs.Typed.{Typed, Typeds, how_many}
 use Rattle.ar_tree.specs.Typed as typed
 use Rattle.ar_tree.specs.declared.tree.Literal.{Literal}
 use Rattle.ar_tree.specs.declared.tree.Literal.TheVariants as literals
 
-abbrev pub IsShort : List ℕ → Type 0
+abbrev pub IsShort : Text → Type 0
 IsShort text = length text ≤ most_text_bytes
 
 abbrev pub IsShortLiteral : Literal → Type 0
@@ -24,8 +25,9 @@ abbrev mutual
   WrittenInLimits (trees.IndexAt at list position) = WrittenInLimits list × WrittenInLimits position
   WrittenInLimits (trees.UnaryAt at operator operand) = WrittenInLimits operand
   WrittenInLimits (trees.BinaryAt at operator left right) = WrittenInLimits left × WrittenInLimits right
-  WrittenInLimits (trees.ChoiceAt at condition met unmet) = WrittenInLimits condition × WrittenInLimits met × WrittenInLimits unmet
-  WrittenInLimits (trees.ListAt at items) = AllWrittenInLimits items × (count items ≤ most_literal_items)
+  WrittenInLimits (trees.ChoiceAt at condition met unmet) =
+      WrittenInLimits condition × WrittenInLimits met × WrittenInLimits unmet
+  WrittenInLimits (trees.ListAt at items) = AllWrittenInLimits items × (expression_count items ≤ most_literal_items)
   WrittenInLimits (trees.LenAt at list) = WrittenInLimits list
   WrittenInLimits (trees.IsNilAt at operand) = WrittenInLimits operand
   WrittenInLimits (trees.DefaultAt at operand other) = WrittenInLimits operand × WrittenInLimits other

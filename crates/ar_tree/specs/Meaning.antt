@@ -1,7 +1,8 @@
--- What a typed condition means where `result` has a value, and so has the innermost item: a value, or a fault.
-use Rattle.std.specs.Prelude.{◌==◌, pos, Bool, true, false, if◌then◌else◌, Option, Some, Result, Ok, Err}
+-- What a typed condition means where `result` has a value, and so has the innermost item: a value, or a fault,
+-- or neither where operands are of wrong kinds.
+use Rattle.std.specs.Prelude.{◌==◌, pos, Bool, true, false, if◌then◌else◌, Option, Some, None, Result, Ok, Err, ◌≡◌, [], ◌∷◌, refl, ℤ}
 use Rattle.ar_value.specs.Answer.{◌>>=◌}
-use Rattle.ar_value.specs.Operators.{Failure, Meaning, faulted, field_in, ill_kinded, items_in, one, scalar_item, there, truth, two}
+use Rattle.ar_value.specs.Operators.{Failure, Meaning, faulted, field_in, ill_kinded, items_in, unary_meaning, scalar_item, there, truth, binary_meaning}
 use Rattle.ar_value.specs.Value.{Value, Items, nil, bool, whole, decimal, text, list, no_items, item, count}
 use Rattle.ar_value.specs.declared.fault.Fault.{Fault}
 use Rattle.ar_tree.specs.declared.tree.Literal.{Literal}
@@ -10,6 +11,13 @@ use Rattle.ar_value.specs.declared.operator.Predicate.{Predicate}
 use Rattle.ar_value.specs.declared.operator.Predicate.TheVariants as predicates
 use Rattle.ar_tree.specs.Typed.{Typed, Typeds}
 use Rattle.ar_tree.specs.Typed as typed
+use Rattle.ar_value.specs.Value.{items_of}
+use Rattle.ar_value.specs.declared.fault.Fault.TheVariants.{DivisionByZero}
+use Rattle.ar_value.specs.declared.operator.Arithmetic.TheVariants.{Divide}
+use Rattle.ar_value.specs.declared.operator.BinaryOperator.TheVariants as binary
+use Rattle.ar_value.specs.declared.operator.Compared.TheVariants as compared
+use Rattle.ar_value.specs.declared.operator.Family.TheVariants as families
+use Rattle.ar_value.specs.declared.operator.Order.TheVariants.{Less}
 
 abbrev pub literal_value : Literal → Value
 literal_value literals.Nil = nil
@@ -58,11 +66,11 @@ abbrev mutual
   mean result here typed.item = there ill_kinded here
   mean result here (typed.literal literal) = Ok (literal_value literal)
   mean result here (typed.field owner name) = mean result here owner >>= field_in name
-  mean result here (typed.unary operator operand) = mean result here operand >>= one operator
+  mean result here (typed.unary operator operand) = mean result here operand >>= unary_meaning operator
   mean result here (typed.binary operator left right) = do
     left ← mean result here left
     right ← mean result here right
-    two operator left right
+    binary_meaning operator left right
   -- the right side only where the left one doesn't decide
   mean result here (typed.both left right) = do
     first ← mean result here left
@@ -91,13 +99,49 @@ abbrev mutual
     items ← items_mean result here others
     Ok (item scalar items)
 
--- what a condition may come to: true, false or a fault, and nothing else
+-- what a condition may evaluate to: true, false or a fault, and nothing else
 pub data IsTruthOrFault : Meaning → Type 0 where
   is_truth : (holds : Bool) → IsTruthOrFault (Ok (bool holds))
   is_fault : (fault : Fault) → IsTruthOrFault (Err (faulted fault))
 
--- What a checked condition says: true or false, or the fault that it meets. It means nothing else.
-abbrev pub answer_of : Meaning → Result Bool Fault
-answer_of (Ok (bool holds)) = Ok holds
-answer_of (Err (faulted fault)) = Err fault
-answer_of meaning = Ok false
+-- What a condition returns: true or false, or the fault that it meets. Any other meaning is no answer; a checked
+-- condition has no such meaning.
+abbrev pub answer_of : Meaning → Option (Result Bool Fault)
+answer_of (Ok (bool holds)) = Some (Ok holds)
+answer_of (Ok value) = None
+answer_of (Err (faulted fault)) = Some (Err fault)
+answer_of (Err ill_kinded) = None
+
+-- ---- worked rows
+
+abbrev the_literal : ℤ → Typed
+the_literal value = typed.literal (literals.Whole value)
+
+-- `result < 8`
+below_eight : answer_of (mean (whole (pos 7)) None (typed.binary (binary.Compare compared.Wholes Less) typed.result
+    (the_literal (pos 8)))) ≡ Some (Ok true)
+below_eight = refl
+
+-- `1 / result == 0`
+abbrev one_over_result : Typed
+one_over_result = typed.binary (binary.Equal families.Number) (typed.binary (binary.Wholes Divide) (the_literal (pos 1))
+    typed.result) (the_literal (pos 0))
+
+divided_by_zero : answer_of (mean (whole (pos 0)) None one_over_result) ≡ Some (Err DivisionByZero)
+divided_by_zero = refl
+
+-- `true or 1 / result == 0`
+right_side_not_needed : answer_of (mean (whole (pos 0)) None
+    (typed.either (typed.literal (literals.Bool true)) one_over_result)) ≡ Some (Ok true)
+right_side_not_needed = refl
+
+-- `count(result, # < 8)`
+one_of_two : mean (list (items_of (whole (pos 1) ∷ whole (pos 9) ∷ []))) None
+    (typed.predicate predicates.Count typed.result
+    (typed.binary (binary.Compare compared.Wholes Less) typed.item (the_literal (pos 8))))
+    ≡ Ok (whole (pos 1))
+one_of_two = refl
+
+-- `result`, where that is no boolean
+no_answer : answer_of (mean (whole (pos 7)) None typed.result) ≡ None
+no_answer = refl

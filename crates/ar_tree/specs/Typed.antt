@@ -1,5 +1,7 @@
--- Conditions whose kinds are known. Where an operand is made plain or turned into decimal, a node says so, and `+a` is a.
+-- Conditions whose kinds are known. Where an operand is unwrapped or converted to decimal, a node says so, and `+a`
+-- is `a`.
 use Rattle.std.specs.Prelude.{ℕ, suc, List, [], ◌∷◌}
+use Rattle.ar_value.specs.Terms.{Text}
 use Rattle.ar_tree.specs.declared.tree.Literal.{Literal}
 use Rattle.ar_value.specs.declared.operator.Predicate.{Predicate}
 use Rattle.ar_value.specs.declared.operator.BinaryOperator.{BinaryOperator}
@@ -13,7 +15,7 @@ mutual
     -- the innermost item
     item : Typed
     literal : Literal → Typed
-    field : (whole : Typed) (name : List ℕ) → Typed
+    field : (whole : Typed) (name : Text) → Typed
     unary : UnaryOperator → (operand : Typed) → Typed
     binary : BinaryOperator → (left right : Typed) → Typed
     both : (left right : Typed) → Typed

@@ -1,4 +1,4 @@
--- What trees in memory say, and what typed trees in memory stand for.
+-- What trees in memory say, and what typed trees in memory represent.
 use Rattle.ar_tree.specs.Expression.{Expression, Expressions, ResultAt, ItemAt, LiteralAt, FieldAt, IndexAt, UnaryAt, BinaryAt, ChoiceAt, ListAt, LenAt, IsNilAt, DefaultAt, PredicateAt, expressions}
 use Rattle.ar_tree.specs.declared.tree.Tree.{Tree, fold-Tree}
 use Rattle.ar_tree.specs.declared.tree.Tree.TheOpen.{Tree-F, Trees-F}

@@ -6,7 +6,7 @@
 //! `specs/Limits` says how long their lists, texts and names may be, and `specs/Meaning` defines what
 //! a typed condition means on a value.
 //!
-//! - [`tree`]: trees as written, with the places of their operators
+//! - [`tree`]: trees as written, with the byte offsets of their operators
 //! - [`typed`]: trees whose kinds are known
 #![tactic(auto)]
 

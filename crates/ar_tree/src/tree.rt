@@ -18,7 +18,7 @@ pub enum Literal {
     Text(Text),
 }
 
-/// The operators of one operand, which stand before it.
+/// The operators of one operand, which come before it.
 #[derive(Clone, Copy)]
 pub enum Unary {
     Plus,
@@ -26,7 +26,7 @@ pub enum Unary {
     Not,
 }
 
-/// The operators of two operands, which stand between them.
+/// The operators of two operands, which come between them.
 #[derive(Clone, Copy)]
 pub enum Binary {
     Or,
@@ -139,7 +139,7 @@ pub struct Trees {
 }
 
 impl Tree {
-    /// The place of the tree: that of its operator, else of its own token.
+    /// The place (byte offset) of the tree: that of its operator, else of its own token.
     pub fn place(&self) -> usize
         ensures { result ≡ place_of (expression_of self.now) }
     {

@@ -4,7 +4,7 @@ use crate::tree::Literal;
 use ar_value::operator::{BinaryOperator, Predicate, Scalar, UnaryOperator};
 use ar_value::text::Text;
 
-/// A condition whose kinds are known: where an operand is made plain or turned into decimal, a node
+/// A condition whose kinds are known: where an operand is unwrapped or converted to decimal, a node
 /// says so. `!=` is `==` negated, `not in` is `in` negated, a comparison with the literal `nil` is
 /// `isNil`, and `+a` is `a`.
 #[cycle(typed)]

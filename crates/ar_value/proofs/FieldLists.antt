@@ -112,7 +112,7 @@ at_none true found = refl
 at_none false None = refl
 at_none false (Some i) = refl
 
--- the value at a place has the index of the place
+-- the value at `place` has the index of that place
 pub value_by_index : (place : ℕ) (places : List ℕ) (vs : List ValueCode) → value_at place places (map value_view vs) ≡ unwrap_or (option_map value_view (option_and_then (slice_get vs) (index_of place places))) nil
 value_by_index place [] vs = refl
 value_by_index place (first ∷ places) [] = at_none (first == place) (index_of place places)

@@ -1,4 +1,4 @@
--- Where an exponent's mark stands in a text.
+-- Where an exponent's mark is in a text.
 use Rattle.std.proofs.Common.{◌≡◌, ℕ, suc, ◌+◌, ◌<◌, ◌≤◌, Bool, true, false, not, cond, nat_lt, List, [], ◌∷◌, drop, length, Option, Some, refl, arith}
 use Rattle.std.specs.Prelude.{◌||◌}
 use Rattle.std.specs.List.{list_any, position_or_len}
@@ -10,7 +10,7 @@ next_inside : (here : Bool) (any : Bool) (at len : ℕ) → any ≡ nat_lt at le
 next_inside true any at len h = grind (arith, nat_tests)
 next_inside false any at len h = rw h (grind (arith, nat_tests))
 
--- a byte passes a test where the first one that does stands inside
+-- a byte passes a test where the first one that does is inside
 first_inside : (test : ℕ → Bool) (text : List ℕ) → list_any test text ≡ nat_lt (position_or_len test text) (length text)
 first_inside test [] = refl
 first_inside test (x ∷ xs) = next_inside (test x) (list_any test xs) (position_or_len test xs) (length xs) (first_inside test xs)

@@ -44,7 +44,7 @@ merge_with_itself (kinds.shaped (list shape max)) = rw (widest_self shape, max_s
 merge_with_itself (kinds.shaped (object fields)) = rw (fields_self fields) refl
 merge_with_itself (kinds.shaped (optional shape)) = rw (widest_self shape) refl
 
--- the kind that two shapes have in common, by the shapes that each is turned into next to the other
+-- the kind that two shapes have in common, by the shapes that each is converted to next to the other
 pub common_of_shapes : (left right one other : Shape) → kinds.shaped one ≡ turned_beside (kinds.shaped right) (kinds.shaped left)
     → kinds.shaped other ≡ turned_beside (kinds.shaped left) (kinds.shaped right)
     → option_map kinds.shaped (merge_shapes one other) ≡ common (kinds.shaped left) (kinds.shaped right)

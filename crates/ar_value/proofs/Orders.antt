@@ -110,7 +110,7 @@ round_gap : (name : List ℕ) (names : List (List ℕ)) (i : ℕ) → ((k : ℕ)
     → ((k : ℕ) (d : List ℕ) → i ≤ k → k < length names → slice_cmp nat_cmp (get_or names k d) name ≡ Greater) → (k : ℕ) → k < length names → is_eq (slice_cmp nat_cmp (get_or names k []) name) ≡ false
 round_gap name names i below above k within = ⊎_elim (λ low. ap is_eq (below k [] (omega arith) low)) (λ high. ap is_eq (above k [] high within)) (cases_lt k i)
 
--- what a binary search among names answers
+-- what a binary search among names returns
 pub name_searched : (names : List (List ℕ)) (name : List ℕ) (answer : Result ℕ ℕ) → Rise names → IsSearchInRange answer (length names)
     → IsBinarySearchResult (λ of. slice_cmp nat_cmp of name) names answer → result_ok answer ≡ index_named name names
 name_searched names name (Ok i) rise range result = sym (found name names i rise range result)

@@ -8,7 +8,7 @@ pub leads : {P Q : Type 0} (memory : Bool) → (P → Q) → Unless memory P →
 leads true f h = tt
 leads false f h = f h
 
--- the refusal that is defined may be answered
+-- the refusal that is defined may be returned
 pub refuses_same : {A E : Type 0} (memory : Bool) (refusal : E) (answer : Result A E) → answer ≡ Err refusal → Unless memory (answer ≡ Err refusal)
 refuses_same true refusal answer e = tt
 refuses_same false refusal answer e = e

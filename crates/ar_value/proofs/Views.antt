@@ -1,4 +1,4 @@
--- What the code's values and shapes stand for, level by level.
+-- What the code's values and shapes represent, level by level.
 use Rattle.std.proofs.Common.{◌≡◌, Bor, Box, Global, Option, Some, None, option_map, ℕ, suc, List, [], ◌∷◌, length, map, refl, ap, rules}
 use Rattle.ar_value.specs.Shape as shapes
 use Rattle.ar_value.specs.Shape.{field_shapes_of}

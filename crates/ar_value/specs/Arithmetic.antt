@@ -1,6 +1,6 @@
 -- Arithmetic of wholes, and of decimals as counts of millionths: the exact result, or the one cut toward zero, where it
 -- fits a signed 64-bit number.
-use Rattle.std.specs.Prelude.{zero, ℤ, pos, ◌+ℤ◌, ◌-ℤ◌, ◌*ℤ◌, neg_ℤ, int_rem, if◌then◌else◌, Result, Ok, Err}
+use Rattle.std.specs.Prelude.{zero, ℤ, pos, ◌+ℤ◌, ◌-ℤ◌, ◌*ℤ◌, neg_ℤ, int_rem, if◌then◌else◌, Result, Ok, Err, ◌≡◌, negsuc, refl}
 use Rattle.ar_value.specs.Decimal.{cut, is_i64, million}
 use Rattle.ar_value.specs.declared.fault.Fault.{Fault}
 use Rattle.ar_value.specs.declared.fault.Fault.TheVariants.{Overflow, DivisionByZero}
@@ -38,3 +38,23 @@ remainder a b = Ok (int_rem a b)
 -- a whole as a decimal
 abbrev pub decimal_of_whole : ℤ → Result ℤ Fault
 decimal_of_whole whole = within (whole *ℤ million)
+
+-- ---- worked rows
+
+one_third : quotient (pos 1) (pos 3) ≡ Ok (pos 333333)
+one_third = refl
+
+minus_one_third : quotient (negsuc 0) (pos 3) ≡ Ok (negsuc 333332)
+minus_one_third = refl
+
+nothing_by_zero : quotient (pos 1) (pos 0) ≡ Err DivisionByZero
+nothing_by_zero = refl
+
+sign_of_the_first : remainder (negsuc 6) (pos 3) ≡ Ok (negsuc 0)
+sign_of_the_first = refl
+
+half_of_a_half : decimal_product (pos 500000) (pos 500000) ≡ Ok (pos 250000)
+half_of_a_half = refl
+
+past_the_range : sum (pos 9223372036854775807) (pos 1) ≡ Err Overflow
+past_the_range = refl

@@ -1,15 +1,29 @@
 -- Kinds of expressions: a shape, or that of the literal `nil`; and the kind that two of them have in common. The fields
--- of two records go by place, since both have their names in byte order, each once (`Names`).
-use Rattle.std.specs.Prelude.{ℕ, max, Bool, true, false, ◌||◌, if◌then◌else◌, List, Option, Some, None, option_map}
+-- of two records are matched by index, since both have their names in byte order, each once (`Names`).
+use Rattle.std.specs.Prelude.{max, Bool, true, false, ◌||◌, if◌then◌else◌, Option, Some, None, option_map, ◌≡◌, refl}
 use Rattle.std.specs.Str.{bytes_eq}
+use Rattle.ar_value.specs.Terms.{Text}
 use Rattle.ar_value.specs.Fits.{fits}
 use Rattle.ar_value.specs.Shape.{Shape, FieldShapes, bool, whole, decimal, text, list, object, optional, no_fields, field}
 use Rattle.ar_value.specs.Value.{Value}
 use Rattle.ar_value.specs.Value as values
+use Rattle.ar_value.specs.declared.operator.Scalar.{Scalar}
+use Rattle.ar_value.specs.declared.operator.Scalar.TheVariants as scalars
 
 pub data Kind : Type 0 where
   nil : Kind
   shaped : Shape → Kind
+
+-- the kind of booleans
+abbrev pub truth_kind : Kind
+truth_kind = shaped bool
+
+-- the shape of a scalar
+abbrev pub scalar_shape : Scalar → Shape
+scalar_shape scalars.Bool = bool
+scalar_shape scalars.Whole = whole
+scalar_shape scalars.Decimal = decimal
+scalar_shape scalars.Text = text
 
 -- nil is the only value of its kind
 abbrev pub fits_kind : Value → Kind → Bool
@@ -18,7 +32,7 @@ fits_kind value nil = false
 fits_kind value (shaped shape) = fits value shape
 
 -- a record's first field, where the two names are one
-abbrev pub joined_field : Bool → List ℕ → Option Shape → Option FieldShapes → Option FieldShapes
+abbrev pub joined_field : Bool → Text → Option Shape → Option FieldShapes → Option FieldShapes
 joined_field true name (Some shape) (Some fields) = Some (field name shape fields)
 joined_field same name shape fields = None
 
@@ -36,7 +50,8 @@ abbrev mutual
 
   pub widest_fields : FieldShapes → FieldShapes → Option FieldShapes
   widest_fields no_fields no_fields = Some no_fields
-  widest_fields (field name left lefts) (field of right rights) = joined_field (bytes_eq name of) name (widest left right) (widest_fields lefts rights)
+  widest_fields (field name left lefts) (field of right rights) =
+      joined_field (bytes_eq name of) name (widest left right) (widest_fields lefts rights)
   widest_fields left right = None
 
 abbrev pub is_optional : Shape → Bool
@@ -53,10 +68,12 @@ abbrev pub or_nil : Shape → Shape
 or_nil shape = optional (plain shape)
 
 abbrev pub merge_shapes : Shape → Shape → Option Shape
-merge_shapes left right = if is_optional left || is_optional right then option_map optional (widest (plain left) (plain right)) else widest left right
+merge_shapes left right =
+    if is_optional left || is_optional right then option_map optional (widest (plain left) (plain right))
+    else widest left right
 
--- The kind of what has the one kind or the other, where there is one: nil makes a shape optional, and so does an optional
--- shape; else the two differ in greatest lengths only.
+-- The kind of what has the one kind or the other, where there is one: nil makes a shape optional, and so does an
+-- optional shape; else the two differ in greatest lengths only.
 abbrev pub merge : Kind → Kind → Option Kind
 merge nil nil = Some nil
 merge nil (shaped right) = Some (shaped (or_nil right))
@@ -74,11 +91,25 @@ is_decimal decimal = true
 is_decimal (optional decimal) = true
 is_decimal shape = false
 
--- a kind next to another: a whole, also an optional one, is turned into decimal where the other is a decimal
+-- a kind next to another: a whole, also an optional one, is converted to decimal where the other is a decimal
 abbrev pub turned_beside : Kind → Kind → Kind
 turned_beside (shaped other) (shaped shape) = if is_decimal other then shaped (whole_as_decimal shape) else shaped shape
 turned_beside other kind = kind
 
--- the kind that two have in common, once a whole that meets a decimal was turned
+-- the kind that two have in common, once a whole next to a decimal was converted
 abbrev pub common : Kind → Kind → Option Kind
 common left right = merge (turned_beside right left) (turned_beside left right)
+
+-- ---- worked rows
+
+nil_and_a_whole : merge nil (shaped whole) ≡ Some (shaped (optional whole))
+nil_and_a_whole = refl
+
+whole_next_to_decimal : common (shaped whole) (shaped decimal) ≡ Some (shaped decimal)
+whole_next_to_decimal = refl
+
+longer_list : merge (shaped (list whole 2)) (shaped (list whole 3)) ≡ Some (shaped (list whole 3))
+longer_list = refl
+
+nothing_in_common : common (shaped whole) (shaped text) ≡ None
+nothing_in_common = refl

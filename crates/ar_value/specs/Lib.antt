@@ -1,4 +1,6 @@
+pub mod Terms
 pub mod Limits
+pub mod Bytes
 pub mod Answer
 pub mod Fault
 pub mod Digits

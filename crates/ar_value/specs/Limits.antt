@@ -13,7 +13,7 @@ most_literal_items = 16
 abbrev pub most_code_entries : ℕ
 most_code_entries = 4096
 
--- how many calls with a predicate may stand in one another, and so how many loops may be around an operation
+-- how many calls with a predicate may be nested, and so how many loops may be around an operation
 abbrev pub most_loops : ℕ
 most_loops = 4
 

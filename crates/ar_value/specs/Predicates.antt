@@ -5,7 +5,7 @@ use Rattle.ar_value.specs.declared.operator.Gather.TheVariants.{Nothing, Number,
 use Rattle.ar_value.specs.declared.operator.Predicate.{Predicate}
 use Rattle.ar_value.specs.declared.operator.Predicate.TheVariants as predicates
 
--- the boolean of an item that ends the loop at once, and the answer that it then gives
+-- the boolean of an item that ends the loop at once, and the answer that it then has
 abbrev pub ends_at : Predicate → Option (Bool × Bool)
 ends_at predicates.All = Some (false, false)
 ends_at predicates.Any = Some (true, true)
@@ -23,13 +23,13 @@ gathers predicates.One = Number
 gathers predicates.Count = Number
 gathers predicates.Filter = Items
 
-abbrev pub number_of : Predicate → ℕ
-number_of predicates.All = 0
-number_of predicates.Any = 1
-number_of predicates.None = 2
-number_of predicates.One = 3
-number_of predicates.Count = 4
-number_of predicates.Filter = 5
+abbrev pub predicate_number : Predicate → ℕ
+predicate_number predicates.All = 0
+predicate_number predicates.Any = 1
+predicate_number predicates.None = 2
+predicate_number predicates.One = 3
+predicate_number predicates.Count = 4
+predicate_number predicates.Filter = 5
 
 abbrev pub is_same : Predicate → Predicate → Bool
-is_same predicate other = number_of predicate == number_of other
+is_same predicate other = predicate_number predicate == predicate_number other

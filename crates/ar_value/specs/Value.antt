@@ -1,6 +1,7 @@
 -- Values of measurements.
 use Rattle.std.specs.Prelude.{ℕ, suc, ℤ, Bool, ◌==◌, if◌then◌else◌, List, [], ◌∷◌, Option, Some, None}
 use Rattle.std.specs.Str.{bytes_eq}
+use Rattle.ar_value.specs.Terms.{Text}
 
 mutual
   pub data Value : Type 0 where
@@ -10,7 +11,7 @@ mutual
     -- a number of millionths
     decimal : ℤ → Value
     -- its bytes in UTF-8
-    text : List ℕ → Value
+    text : Text → Value
     list : Items → Value
     object : Fields → Value
 
@@ -21,7 +22,7 @@ mutual
   pub data Fields : Type 0 where
     no_fields : Fields
     -- a name, its value, and the fields after it
-    field : List ℕ → Value → Fields → Fields
+    field : Text → Value → Fields → Fields
 
 abbrev pub count : Items → ℕ
 count no_items = 0
@@ -37,11 +38,12 @@ value_at place (first ∷ places) (value ∷ values) = if first == place then va
 value_at place places values = nil
 
 -- a field for each name, the first at `place` and each other one at the next, with the value that is there
-abbrev pub fields_from : ℕ → List (List ℕ) → List ℕ → List Value → Fields
+abbrev pub fields_from : ℕ → List Text → List ℕ → List Value → Fields
 fields_from place [] places values = no_fields
-fields_from place (name ∷ names) places values = field name (value_at place places values) (fields_from (suc place) names places values)
+fields_from place (name ∷ names) places values =
+    field name (value_at place places values) (fields_from (suc place) names places values)
 
 -- the value of the first field of a name
-abbrev pub value_named : List ℕ → Fields → Option Value
+abbrev pub value_named : Text → Fields → Option Value
 value_named name no_fields = None
 value_named name (field of value others) = if bytes_eq of name then Some value else value_named name others

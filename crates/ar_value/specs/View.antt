@@ -1,4 +1,4 @@
--- The values, shapes and kinds that the code's types stand for.
+-- The values, shapes and kinds that the code's types represent.
 use Rattle.ar_value.specs.Kind.{Kind}
 use Rattle.ar_value.specs.Kind as kinds
 use Rattle.ar_value.specs.Shape.{Shape, FieldShapes, field_shapes_of}
@@ -15,7 +15,8 @@ use Rattle.ar_value.specs.declared.value.Value.TheOpen.{Value-F, Fields-F, Value
 use Rattle.ar_value.specs.declared.value.Fields.{Fields as FieldsCode, fold-Fields}
 use Rattle.ar_value.specs.declared.value.Values.{Values as ValuesCode, fold-Values}
 
--- One level of a value, with what is inside already seen. A record has a field for each name, nil where it has no value.
+-- One level of a value, with what is inside already seen. A record has a field for each name, nil where it has no
+-- value.
 
 abbrev pub value_step : Value-F Value Fields Items → Value
 value_step Value-F.Nil = values.nil
@@ -41,7 +42,7 @@ fields_view = fold-Fields Value Fields Items value_step fields_step values_step
 abbrev pub values_view : ValuesCode → Items
 values_view = fold-Values Value Fields Items value_step fields_step values_step
 
--- One level of a shape, likewise.
+-- One level of a shape, in the same way.
 
 abbrev pub shape_step : Shape-F Shape FieldShapes → Shape
 shape_step Shape-F.Bool = shapes.bool

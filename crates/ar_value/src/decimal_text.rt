@@ -26,7 +26,7 @@ struct Scale {
 }
 
 impl Decimal {
-    /// The decimal that a text stands for: an optional sign, then one to 64 digits with at most
+    /// The decimal that a text represents: an optional sign, then one to 64 digits with at most
     /// one point among, before or after them, then an exponent or none: `e` or `E`, an optional
     /// sign, and one to three digits. Digits past the sixth after the point are cut off.
     ///
@@ -46,7 +46,7 @@ impl Decimal {
     }
 }
 
-/// The decimal that a text after its sign stands for.
+/// The decimal that a text after its sign represents.
 fn of_unsigned(is_negative: bool, text: &[u8]) -> Result<Decimal, NumberFault>
     ensures { result ≡ of_unsigned is_negative text.now }
 {
@@ -128,7 +128,7 @@ fn exponent(text: &[u8]) -> Option<Scale>
     }
 }
 
-/// The place of the first `e` or `E`, or the length where there is none.
+/// The index of the first `e` or `E`, or the length where there is none.
 fn first_mark(text: &[u8]) -> usize
     ensures { result ≡ position_or_len marks_exponent text.now }
 {
@@ -151,7 +151,7 @@ fn is_not_finite(text: &str) -> bool
     matches!(text, "NaN" | "Inf" | "+Inf" | "-Inf")
 }
 
-/// Whether a minus stands first, and what follows the sign.
+/// Whether a minus comes first, and what follows the sign.
 fn split_sign(text: &[u8]) -> (bool, &[u8])
     ensures minus { result.0 ≡ starts_with_minus text.now }
     ensures rest { result.1.now ≡ without_leading_sign text.now }
@@ -176,7 +176,7 @@ fn split_point(mantissa: &[u8]) -> (&[u8], &[u8])
     }
 }
 
-/// The place of the first point, or the length where there is none.
+/// The index of the first point, or the length where there is none.
 fn first_point(mantissa: &[u8]) -> usize
     ensures { result ≡ position_or_len is_point mantissa.now }
 {

@@ -11,7 +11,7 @@ use thiserror::Error;
 pub enum Fault {
     /// A list has no item at an index.
     IndexOutOfRange,
-    /// A value is nil where an operand is wanted.
+    /// A value is nil where an operand is required.
     NilOperand,
     /// A result doesn't fit a signed 64-bit number.
     Overflow,

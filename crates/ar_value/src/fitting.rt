@@ -21,7 +21,7 @@ pub fn fits(value: &Value, shape: &Shape) -> bool
     is_fit(shape, value)
 }
 
-/// The recursion goes down the shape.
+/// The recursion descends the shape.
 #[cycle(is_fit)]
 #[tactic(auto, using(crate::proofs::FitLemmas::list_fits, crate::proofs::FitLemmas::record_fits))]
 fn is_fit(shape: &Shape, value: &Value) -> bool

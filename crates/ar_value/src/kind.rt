@@ -18,7 +18,7 @@ pub enum Kind {
 
 /// The kind of what has the one kind or the other, where there is one. Nil makes a shape optional,
 /// and so does an optional shape; else the two differ in the greatest lengths of lists only, and
-/// the greater ones stand. Below the top, optional shapes and others have no kind in common.
+/// the greater ones are taken. Below the top, optional shapes and others have no kind in common.
 pub fn merge(alloc: Global, left: &Kind, right: &Kind) -> Result<Option<Kind>, AllocError>
     ensures { IfOk result (λ kind. option_map kind_view kind ≡ merge (kind_view left.now) (kind_view right.now)) }
 {
@@ -35,7 +35,7 @@ pub fn merge(alloc: Global, left: &Kind, right: &Kind) -> Result<Option<Kind>, A
 }
 
 /// The kind that two have in common: that of `merge`, once a whole, also an optional one, that
-/// meets a decimal was turned into decimal.
+/// is next to a decimal was converted to decimal.
 pub fn common(alloc: Global, left: &Kind, right: &Kind) -> Result<Option<Kind>, AllocError>
     ensures { IfOk result (λ kind. option_map kind_view kind ≡ common (kind_view left.now) (kind_view right.now)) }
 {
@@ -76,8 +76,8 @@ fn turned_or<'shape>(turned: &'shape Option<Shape>, shape: &'shape Shape) -> &'s
     }
 }
 
-/// What a shape is turned into next to another, where it is turned: a whole, also an optional one,
-/// into decimal next to a decimal.
+/// What a shape is converted to next to another, where it is converted: a whole, also an optional one,
+/// to decimal next to a decimal.
 fn turned_beside(alloc: Global, other: &Shape, shape: &Shape) -> Result<Option<Shape>, AllocError>
     ensures { IfOk result (λ turned. shaped (unwrap_or (option_map shape_view turned) (shape_view shape.now))
         ≡ turned_beside (shaped (shape_view other.now)) (shaped (shape_view shape.now))) }

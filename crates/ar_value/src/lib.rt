@@ -6,7 +6,7 @@
 //! What is proved, for all inputs: a text is the decimal that `specs/DecimalText` defines, or
 //! refused by the one name that it gives; a value fits a shape by `specs/Fits`; arithmetic is that of
 //! `specs/Arithmetic`, and numbers compare by their exact values; the kind that two kinds have in
-//! common is that of `specs/Kind`. Only a refused allocation can keep a call from its answer: copies of
+//! common is that of `specs/Kind`. Only a refused allocation can keep a call from its result: copies of
 //! texts and shapes and common kinds take memory.
 //!
 //! `specs/Answer` has the words for answers, a value or a refusal, that the crates above use.
@@ -24,7 +24,7 @@
 //! - [`kind`]: kinds of expressions; `widening` joins shapes; [`sameness`]: which are the same;
 //!   [`shared_shape`]: shapes with several owners
 //! - [`holding`]: values that are held while others are made
-//! - [`limits`]: limits that several crates keep to
+//! - [`limits`]: limits that several crates observe
 //! - [`laws`]: what holds of kinds
 #![tactic(auto)]
 

@@ -9,7 +9,7 @@ pub const MOST_LITERAL_ITEMS: usize = 16;
 /// How many operations code may have, how many texts, and how many names.
 pub const MOST_CODE_ENTRIES: usize = 4096;
 
-/// How many calls with a predicate may stand in one another, and so how many loops may be around an
+/// How many calls with a predicate may be nested, and so how many loops may be around an
 /// operation.
 pub const MOST_LOOPS: usize = 4;
 

@@ -1,4 +1,4 @@
-//! The operators of conditions, and the kinds of operands that they tell apart.
+//! The operators of conditions, and the kinds of operands that they distinguish.
 
 ghost use Rattle.std.specs.Prelude.{◌≡◌};
 ghost use Rattle.std.specs.Bool.{Decides};
@@ -112,8 +112,8 @@ pub enum TextTest {
 }
 
 impl TextTest {
-    /// Whether the whole has the part, at its start or end where the test wants it there. Every whole has the
-    /// empty part.
+    /// Whether the whole has the part, at its start or end where the test requires it there. Every
+    /// whole has the empty part.
     #[tactic(auto, using(crate::proofs::TextTests::contained, crate::proofs::TextTests::started, crate::proofs::TextTests::ended, crate::proofs::TextTests::stands))]
     pub fn passes(self, whole: &str, part: &str) -> bool
         ensures exact { result ≡ passes self whole.now part.now }
@@ -147,7 +147,7 @@ pub enum Gather {
 }
 
 impl Predicate {
-    /// The boolean of an item that ends the loop at once, and the answer that it then gives.
+    /// The boolean of an item that ends the loop at once, and the answer that it then has.
     pub fn ends_at(self) -> Option<(bool, bool)>
         ensures { result ≡ ends_at self }
     {

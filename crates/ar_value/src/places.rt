@@ -1,4 +1,4 @@
-//! Places of fields.
+//! Places of fields: indexes among a record's names.
 
 ghost use Rattle.std.specs.Prelude.{◌≡◌, ◌<◌, ◌++◌, ◌∷◌, [], All, IfOk, OnErr, OnOk};
 ghost use Rattle.ar_value.specs.Names.{index_of};

@@ -1,4 +1,4 @@
--- Pass 5 comes from one place to the next, and what its table shows is what arrives.
+-- Pass 5 moves from one index to the next, and what its table shows is what arrives.
 use Rattle.std.proofs.Common.{◌≡◌, ◌≢◌, ◌<◌, ◌≤◌, ℕ, zero, suc, ◌+◌, max, Bool, true, false, List, [], ◌∷◌, ◌++◌, drop, length, replicate, Option, Some, None, Result, Ok, Err, refl, sym, ap, subst, ◌∙◌, arith, add-one, append_assoc, drop-cons}
 use Rattle.std.specs.Prelude.{◌==◌, if◌then◌else◌, slice_index_or}
 use Rattle.std.specs.List.{AllByRecursion}
@@ -11,14 +11,14 @@ use Rattle.ar_value.specs.Shape.{Shape}
 use Rattle.ar_op.specs.Code.{Code}
 use Rattle.ar_op.specs.declared.op.Op.{Op}
 use Rattle.ar_op.specs.Machine.{nth}
-use Rattle.ar_safety.specs.Arrivals.{Around, Operands, Sent, all_sent, arrival, arrived, at_place, deepest, joined, merged, of_loops, operands, sends, sent, sent_on, sent_to}
+use Rattle.ar_safety.specs.Arrivals.{Around, Operands, Sent, all_sent, arrival, arrived, at_place, deepest, merged_all, merged, of_loops, operands, sends, sent, sent_on, sent_to}
 use Rattle.ar_safety.specs.Budget.{most_items, most_on_top}
 use Rattle.ar_safety.specs.Memory.{is_memory}
 use Rattle.ar_safety.specs.Places.{all_pass, names_well}
 use Rattle.ar_verify.specs.Private.Failures.{Meets, cause_at}
 use Rattle.ar_verify.specs.Private.Held.{arrival_view}
 use Rattle.ar_verify.specs.Private.Sending.{sends_by}
-use Rattle.ar_verify.specs.Private.Table.{ComesTo, Shows, State, StaysWithin, Table, entry, looked_at, most_each, one_more, summary, summed_up, table_view, visited, with_all, with_one, without}
+use Rattle.ar_verify.specs.Private.Table.{ComesTo, Shows, Sweep, StaysWithin, Table, entry, place_added, most_each, one_more, summary, summed_up, table_view, visited, with_all, with_one, without}
 use Rattle.ar_safety.specs.declared.error.Cause.{Cause}
 use Rattle.ar_safety.specs.declared.error.Cause.TheVariants.{Fault}
 use Rattle.ar_safety.specs.declared.error.Reason.{Reason}
@@ -58,7 +58,7 @@ reached_on (Ok so_far) next reached = still_reached so_far.loops (merged so_far.
 reached_on (Err Unreachable) next reached = absurd reached
 reached_on (Err reason) next reached = reached
 
-joined_one : (so_far : Result Operands Reason) (others : List Operands) (next : Operands) → Reached so_far → joined so_far (others ++ next ∷ []) ≡ one_more (joined so_far others) next
+joined_one : (so_far : Result Operands Reason) (others : List Operands) (next : Operands) → Reached so_far → merged_all so_far (others ++ next ∷ []) ≡ one_more (merged_all so_far others) next
 joined_one so_far [] next reached = joins_one so_far next reached
 joined_one so_far (other ∷ others) next reached = joined_one (joined_with so_far other) others next (reached_on so_far other reached)
 
@@ -106,7 +106,7 @@ deepest_both : (before more : List Sent) → deepest (before ++ more) ≡ max (d
 deepest_both [] more = omega arith
 deepest_both (one ∷ before) more = let rest = deepest_both before more in rw rest (omega arith)
 
--- what is sent further on leaves what arrives at places before
+-- what is sent further on leaves what arrives at indexes before
 arrives_alike : (place before : ℕ) (sents more : List Sent) → before ≤ place → AllByRecursion (Ahead place) more → arrival before (sents ++ more) ≡ arrival before sents
 arrives_alike place before sents more further ahead =
     ap arrived (sent_to_both before sents more ∙ ap (λ later. sent_to before sents ++ later) (elsewhere before more (all_more (Ahead place) (λ one. one.target ≡ before → ⊥) more (λ one h same. omega arith) ahead))
@@ -117,7 +117,7 @@ most_alike place zero sents more few ahead = refl
 most_alike place (suc places) sents more few ahead =
     rw (most_alike place places sents more (omega arith) ahead, arrives_alike place places sents more (omega arith) ahead) refl
 
--- ---- from one place to the next
+-- ---- from one index to the next
 
 -- what is made of what two steps found
 record Both {A B C E : Type 0} (m : Result A E) (f : A → Result B E) (g : A → B → C) (z : C) : Type 0 where
@@ -152,8 +152,8 @@ refused : {A B C E : Type 0} (m : Result A E) (f : A → Result B E) (g : A → 
 refused (Ok x) f g e is = refused_then (f x) (g x) e is
 refused (Err reason) f g e is = cc
 
-module _ (code : Code) (shape : Shape) (named : all_pass (names_well code.ops) 0 code.ops ≡ Ok tt) (place : ℕ) (s : State) (comes : ComesTo code shape place s) where
-  -- the operation at the place
+module _ (code : Code) (shape : Shape) (named : all_pass (names_well code.ops) 0 code.ops ≡ Ok tt) (place : ℕ) (s : Sweep) (comes : ComesTo code shape place s) where
+  -- the operation at `place`
   module _ (op default : Op) (within : place < length code.ops) (is : op ≡ slice_index_or code.ops place default) where
     abbrev rest : List Op
     rest = drop (suc place) code.ops
@@ -178,7 +178,7 @@ module _ (code : Code) (shape : Shape) (named : all_pass (names_well code.ops) 0
     same_sends (Ok had) = sym (sends_as code shape place op had)
     same_sends (Err reason) = refl
 
-    pub stops : (reason : Reason) → looked_at code shape place op s ≡ Err reason → all_sent code shape ≡ Err (Fault place reason)
+    pub stops : (reason : Reason) → place_added code shape place op s ≡ Err reason → all_sent code shape ≡ Err (Fault place reason)
     stops reason refuses =
         let none = refused (entry s.table place) (sends_by code shape (place + 1) op) (visited place s) reason refuses in
         let same : now ≡ Err reason = ap (λ m. m >>= sends code shape place op) (sym here) ∙ sym (same_sends (entry s.table place)) ∙ none in
@@ -212,13 +212,13 @@ module _ (code : Code) (shape : Shape) (named : all_pass (names_well code.ops) 0
             ∙ ap (λ last. most_each place (comes.sents ++ more) ++ most_items last ∷ []) (sym (arrives_alike place place comes.sents more (omega arith) ahead ∙ arrives_here));
       })
 
-    pub goes_on : (next : State) → looked_at code shape place op s ≡ Ok next → ComesTo code shape (place + 1) next
+    pub goes_on : (next : Sweep) → place_added code shape place op s ≡ Ok next → ComesTo code shape (place + 1) next
     goes_on next finds =
         let both = found_both (entry s.table place) (sends_by code shape (place + 1) op) (visited place s) next finds in
         subst (ComesTo code shape (place + 1)) both.made (comes_next both.x both.y both.first both.second)
 
-    -- likewise told by why the code stops
-    pub stopped : (failure : Failure) (cause : Cause) (next : State) → cause ≡ cause_at place failure → Meets {X = Unit {0}} (λ _. next) (Err failure) (looked_at code shape place op s)
+    -- likewise by why the code stops
+    pub stopped : (failure : Failure) (cause : Cause) (next : Sweep) → cause ≡ cause_at place failure → Meets {X = Unit {0}} (λ _. next) (Err failure) (place_added code shape place op s)
         → Unless (is_memory cause) (summed_up code shape ≡ Err cause)
     stopped (failures.Fault reason) cause next is refuses = rw is (ap (λ all. all >>= λ sents. Ok (summary (length code.ops) sents)) (stops reason refuses))
     stopped failures.OutOfMemory cause next is refuses = rw is tt
@@ -240,7 +240,7 @@ shows_begin count zero inside = refl
 shows_begin count (suc further) inside =
     get_or-replicate count further (Err Unreachable) (Err Unreachable) (omega arith) ∙ sent_elsewhere (0 == suc further) (operands [] []) (grind (arith, nat_tests))
 
-pub begins : (code : Code) (shape : Shape) (s : State) → s.table ≡ Ok (operands [] []) ∷ replicate (length code.ops) (Err Unreachable) → s.found.depth ≡ 0 → s.found.most_items ≡ []
+pub begins : (code : Code) (shape : Shape) (s : Sweep) → s.table ≡ Ok (operands [] []) ∷ replicate (length code.ops) (Err Unreachable) → s.found.depth ≡ 0 → s.found.most_items ≡ []
     → ComesTo code shape 0 s
 begins code shape s table depth most = record {
   sents = sent 0 [] [] ∷ [];
@@ -254,7 +254,7 @@ begins code shape s table depth most = record {
 
 -- ---- where no operation is left
 
-pub all_seen : (code : Code) (shape : Shape) (place : ℕ) (s : State) → ComesTo code shape place s → length code.ops ≤ place → summed_up code shape ≡ Ok s.found
+pub all_seen : (code : Code) (shape : Shape) (place : ℕ) (s : Sweep) → ComesTo code shape place s → length code.ops ≤ place → summed_up code shape ≡ Ok s.found
 all_seen code shape place s comes past =
     let inside = comes.inside in
     let all : length code.ops ≡ place = omega (arith, inside, past) in

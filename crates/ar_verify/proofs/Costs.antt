@@ -1,4 +1,4 @@
--- What the most expensive ways cost, place by place from the code's end, where costs above the greatest budget count as one more than it.
+-- Costs of the most expensive ways, index by index from the end; those above the greatest budget count as one more.
 use Rattle.std.proofs.Common.{◌≡◌, ◌<◌, ℕ, zero, suc, ◌+◌, ◌-◌, ◌*◌, min, max, List, length, get_or, get_or-set_other, get_or-set_same, Some, refl, sym, ap, subst, inl, inr, ◌∙◌, arith}
 use Rattle.std.specs.Prelude.{◌⊎◌, ◌≢◌, false, slice_set}
 use Rattle.std.proofs.lemmas.Bool.Decides.{leb_tells}
@@ -51,9 +51,9 @@ module _ (code : Code) (shape : Shape) (sents : List Sent) (is : Clean code shap
   abbrev most_here : ℕ → ℕ
   most_here place = most_at code.ops sents place
 
-  -- ---- what is due at a place, by what is due after it
+  -- ---- what is due at an index, by what is due after it
 
-  -- one of the ways from a place costs what is due there
+  -- one of the ways from `place` costs what is due there
   way_due : (place : ℕ) (op : Op) → At place op → WayBy code shape sents is place op (due_from place)
   way_due place op there = way_by code shape sents is place op (due_from place) there (due_is code shape sents is place (stands_below code.ops place op there)).way
 
@@ -91,12 +91,12 @@ module _ (code : Code) (shape : Shape) (sents : List Sent) (is : Clean code shap
       let same = by.4 in
       omega (arith, inner, most, less, same)
 
-  -- ---- the numbers that stand for it
+  -- ---- the numbers that represent it
 
   abbrev Capped : (place number : ℕ) → Type 0
   Capped place number = number ≡ min too_dear (due_from place)
 
-  -- no other number stands for it
+  -- no other number represents it
   pub one_number : (place number : ℕ) → place < length code.ops → IsCapped code sents place number → Capped place number
   one_number place number inside capped =
       let own = due_is code shape sents is place inside in
@@ -108,7 +108,7 @@ module _ (code : Code) (shape : Shape) (sents : List Sent) (is : Clean code shap
   pub stands_for : (place number : ℕ) → place < length code.ops → Capped place number → IsCapped code sents place number
   stands_for place number inside capped = record { cost = due_from place; dearest = due_is code shape sents is place inside; is = capped }
 
-  -- ---- from the numbers of the places after a place to its own
+  -- ---- from the numbers of the indexes after an index to its own
 
   module _ (place : ℕ) (costs : List ℕ) (behind : (other : ℕ) → place < other → other < length code.ops → Capped other (number_at costs other)) where
     next_by : (op : Op) → At place op → GoesOn op → suc place < length code.ops → NextWay code shape sents is place op (due_from place) → Capped place (cost_by_next op (most_here place) (number_at costs (suc place)))
@@ -173,7 +173,7 @@ leads_inside code place op has there = leads code has.0 has.1.0 (clean code has.
     leads code shape sents is place Return there = tt
     leads code shape sents is place op there = not_last code shape sents is place op there tt
 
--- the number of the place before, once those after it are there
+-- the number of the index before, once those after it are there
 own_cost : (code : Code) (most costs : List ℕ) (place : ℕ) (op : Op) → nth code.ops place ≡ Some op → AreCosts code most (suc place) costs → IsCost code most place (cost_by costs place (number_at most place) op)
 own_cost code most costs place op there behind shape sents passes are =
     let is = clean code shape sents passes in
@@ -191,7 +191,7 @@ one_more code most costs place op same there behind other le inside = elim (leb_
   | inr w ↦ (let apart : other ≢ place = omega (arith, w.1) in rw get_or-set_other (behind other (omega (arith, w.1)) inside))
 ]
 
--- ---- the same, of what the loop over places has at hand
+-- ---- the same, for the values that the loop over indexes has
 
 module _ (code : Code) (ops : List Op) (same_ops : ops ≡ code.ops) (from : ℕ) (some : 0 < from) (costs lent : List ℕ) (same : lent ≡ costs) (count : length costs ≡ length ops) where
   abbrev op_before : Op

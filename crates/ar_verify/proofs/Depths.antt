@@ -13,7 +13,7 @@ use Rattle.ar_op.specs.declared.op.Op.{Op}
 use Rattle.ar_op.specs.declared.op.Op.TheVariants.{Jump, Enter, Step, Return}
 use Rattle.ar_verify.specs.Private.Depths.{depth_at, depth_behind, depths, is_inside, last_of, nests_by, open_behind, stays_by, step_of, open_steps, IsNested, JumpsInside}
 use Rattle.ar_safety.specs.declared.error.Cause.TheVariants.{Fault}
-use Rattle.ar_safety.specs.Places.{all_pass, held, holding, in_innermost, names_well, nests_well, reaches, same_loops, stays, unless}
+use Rattle.ar_safety.specs.Places.{all_pass, loops_around, loops_among, in_innermost, names_well, nests_well, loop_reaches, same_loops, stays, unless}
 use Rattle.ar_safety.specs.declared.error.Reason.{Reason}
 use Rattle.ar_safety.specs.declared.error.Reason.TheVariants.{CrossesLoop}
 use Rattle.ar_safety.proofs.Entries.{nth_at}
@@ -70,17 +70,17 @@ none_by_number [] = refl
 none_by_number (enter ∷ enters) = grind (arith, nat_tests)
 
 module _ (ops : List Op) where
-  first_reaches : (place k enter : ℕ) (outer : List ℕ) → holding ops place k ≡ enter ∷ outer → reaches (nth ops enter) place ≡ true
+  first_reaches : (place k enter : ℕ) (outer : List ℕ) → loops_among ops place k ≡ enter ∷ outer → loop_reaches (nth ops enter) place ≡ true
   first_reaches place zero enter outer is = absurd cc
-  first_reaches place (suc k) enter outer is = by_test (reaches (nth ops k) place) refl (λ same. first_reaches place k enter outer same)
+  first_reaches place (suc k) enter outer is = by_test (loop_reaches (nth ops k) place) refl (λ same. first_reaches place k enter outer same)
     where
-      by_test : (test : Bool) → reaches (nth ops k) place ≡ test → (holding ops place k ≡ enter ∷ outer → reaches (nth ops enter) place ≡ true) → reaches (nth ops enter) place ≡ true
+      by_test : (test : Bool) → loop_reaches (nth ops k) place ≡ test → (loops_among ops place k ≡ enter ∷ outer → loop_reaches (nth ops enter) place ≡ true) → loop_reaches (nth ops enter) place ≡ true
       by_test true holds others =
-          let here : k ∷ holding ops place k ≡ enter ∷ outer = rw holds at is in let same : k ≡ enter = cc in subst (λ e. reaches (nth ops e) place ≡ true) same holds
+          let here : k ∷ loops_among ops place k ≡ enter ∷ outer = rw holds at is in let same : k ≡ enter = cc in subst (λ e. loop_reaches (nth ops e) place ≡ true) same holds
       by_test false holds others = others (rw holds at is)
 
-  -- whether the innermost loop reaches a place is told by its Step
-  innermost_reaches : (place target : ℕ) (enters : List ℕ) → held ops place ≡ enters → in_innermost ops enters target ≡ is_inside (last_of (open_steps ops enters)) target
+  -- whether the innermost loop reaches an index is known from its Step
+  innermost_reaches : (place target : ℕ) (enters : List ℕ) → loops_around ops place ≡ enters → in_innermost ops enters target ≡ is_inside (last_of (open_steps ops enters)) target
   innermost_reaches place target [] is = refl
   innermost_reaches place target (enter ∷ outer) is =
       let r = reaching (nth ops enter) place (first_reaches place place enter outer is) in
@@ -89,58 +89,58 @@ module _ (ops : List Op) where
 
   -- ---- the same loops, by their number
 
-  own_reaches : (place k : ℕ) → in_innermost ops (holding ops place k) place ≡ true
+  own_reaches : (place k : ℕ) → in_innermost ops (loops_among ops place k) place ≡ true
   own_reaches place zero = refl
-  own_reaches place (suc k) = by_test (reaches (nth ops k) place) refl (own_reaches place k)
+  own_reaches place (suc k) = by_test (loop_reaches (nth ops k) place) refl (own_reaches place k)
     where
-      by_test : (test : Bool) → reaches (nth ops k) place ≡ test → in_innermost ops (holding ops place k) place ≡ true → in_innermost ops (holding ops place (suc k)) place ≡ true
+      by_test : (test : Bool) → loop_reaches (nth ops k) place ≡ test → in_innermost ops (loops_among ops place k) place ≡ true → in_innermost ops (loops_among ops place (suc k)) place ≡ true
       by_test true holds others = rw holds holds
       by_test false holds others = rw holds others
 
-  as_many_or_more : (place from k : ℕ) → from ≤ k → (holding ops place k ≡ holding ops place from) ⊎ (length (holding ops place from) < length (holding ops place k))
+  as_many_or_more : (place from k : ℕ) → from ≤ k → (loops_among ops place k ≡ loops_among ops place from) ⊎ (length (loops_among ops place from) < length (loops_among ops place k))
   as_many_or_more place from zero le = let same : from ≡ 0 = omega arith in rw same (inl refl)
   as_many_or_more place from (suc k) le =
       elim (leb_tells from k) [
-        | inl w ↦ one_more (reaches (nth ops k) place) k (holding ops place k) (holding ops place from) (as_many_or_more place from k w.1)
+        | inl w ↦ one_more (loop_reaches (nth ops k) place) k (loops_among ops place k) (loops_among ops place from) (as_many_or_more place from k w.1)
         | inr w ↦ let same : from ≡ suc k = omega (arith, w.1) in rw same (inl refl)
       ]
 
 -- ---- where pass 2 found nothing
 
 module _ (ops : List Op) (paired : (place : ℕ) (op : Op) → nth ops place ≡ Some op → names_well ops place op ≡ None) where
-  -- one loop fewer is around the place after a Step, whichever loops cross each other
+  -- one loop fewer is around the index after a Step, whichever loops cross each other
   fewer_by_one : (predicate : Predicate) (step enter k : ℕ) → nth ops step ≡ Some (Step predicate enter) → suc enter ≤ k → k ≤ step
-      → length (holding ops step k) ≡ suc (length (holding ops (suc step) k))
+      → length (loops_among ops step k) ≡ suc (length (loops_among ops (suc step) k))
   fewer_by_one predicate step enter zero there behind le = absurd (omega arith)
   fewer_by_one predicate step enter (suc k) there behind le =
       let itself = step_pairs ops paired predicate step enter there in
       let ahead = itself.0 in
-      let other : (outer : ℕ) → (outer ≡ enter → ⊥) → reaches (nth ops outer) (suc step) ≡ reaches (nth ops outer) step = λ outer differs. held_further ops paired step outer (λ family is. differs (let same : outer ≡ enter = cc in same)) in
+      let other : (outer : ℕ) → (outer ≡ enter → ⊥) → loop_reaches (nth ops outer) (suc step) ≡ loop_reaches (nth ops outer) step = λ outer differs. held_further ops paired step outer (λ family is. differs (let same : outer ≡ enter = cc in same)) in
       elim (leb_tells (suc enter) k) [
         | inl w ↦
             let more = w.1 in
-            let same : reaches (nth ops k) (suc step) ≡ reaches (nth ops k) step = other k (λ is. omega arith) in
-            rw same (both_with (reaches (nth ops k) step) k (holding ops step k) (holding ops (suc step) k) (fewer_by_one predicate step enter k there w.1 (omega arith)))
+            let same : loop_reaches (nth ops k) (suc step) ≡ loop_reaches (nth ops k) step = other k (λ is. omega arith) in
+            rw same (both_with (loop_reaches (nth ops k) step) k (loops_among ops step k) (loops_among ops (suc step) k) (fewer_by_one predicate step enter k there w.1 (omega arith)))
         | inr w ↦
             let same : k ≡ enter = omega (arith, w.1) in
-            let own : reaches (nth ops enter) step ≡ true = rw itself.1 (le-leb step step (omega arith)) in
-            let ended : reaches (nth ops enter) (suc step) ≡ false = rw itself.1 (lt-leb (suc step) step (omega arith)) in
-            let around : holding ops (suc step) enter ≡ holding ops step enter = holding_alike ops (suc step) step enter (λ outer below. other outer (λ is. omega arith)) in
+            let own : loop_reaches (nth ops enter) step ≡ true = rw itself.1 (le-leb step step (omega arith)) in
+            let ended : loop_reaches (nth ops enter) (suc step) ≡ false = rw itself.1 (lt-leb (suc step) step (omega arith)) in
+            let around : loops_among ops (suc step) enter ≡ loops_among ops step enter = holding_alike ops (suc step) step enter (λ outer below. other outer (λ is. omega arith)) in
             rw (same, own, ended, around) refl
       ]
 
-  moves : (place : ℕ) (op : Op) → nth ops place ≡ Some op → depth_behind op (length (held ops place)) ≡ length (held ops (suc place))
-  moves place (Enter predicate step) there = let begun = begins ops paired predicate place step there in rw begun (add-one (length (held ops place)))
+  moves : (place : ℕ) (op : Op) → nth ops place ≡ Some op → depth_behind op (length (loops_around ops place)) ≡ length (loops_around ops (suc place))
+  moves place (Enter predicate step) there = let begun = begins ops paired predicate place step there in rw begun (add-one (length (loops_around ops place)))
   moves place (Step predicate enter) there =
       let itself = step_pairs ops paired predicate place enter there in
       let ahead = itself.0 in
       let fewer = fewer_by_one predicate place enter place there (omega arith) (omega arith) in
-      let not_begun : reaches (nth ops place) (suc place) ≡ false = rw there refl in
+      let not_begun : loop_reaches (nth ops place) (suc place) ≡ false = rw there refl in
       rw not_begun (omega (arith, fewer))
   moves place op there = ap length (sym (stays_around ops paired place op there tt))
 
   -- as many loops hold an operation as are counted there
-  held_from : (from : ℕ) (rest : List Op) → ((n : ℕ) (op : Op) → nth rest n ≡ Some op → nth ops (from + n) ≡ Some op) → (n : ℕ) → n < length rest → depth_at (depths (length (held ops from)) rest) n ≡ length (held ops (from + n))
+  held_from : (from : ℕ) (rest : List Op) → ((n : ℕ) (op : Op) → nth rest n ≡ Some op → nth ops (from + n) ≡ Some op) → (n : ℕ) → n < length rest → depth_at (depths (length (loops_around ops from)) rest) n ≡ length (loops_around ops (from + n))
   held_from from [] part n within = absurd (omega arith)
   held_from from (op ∷ rest) part zero within = let start : from + 0 ≡ from = omega arith in rw start refl
   held_from from (op ∷ rest) part (suc n) within =
@@ -149,63 +149,63 @@ module _ (ops : List Op) (paired : (place : ℕ) (op : Op) → nth ops place ≡
       let further : from + suc n ≡ suc from + n = omega arith in
       rw (moves from op there, further) (held_from (suc from) rest (λ m other is. let next : suc from + m ≡ from + suc m = omega arith in rw next (part (suc m) other is)) n (omega arith))
 
-  pub depth_is : (place : ℕ) → place < length ops → depth_at (depths 0 ops) place ≡ length (held ops place)
-  depth_is place within = held_from 0 ops (λ n op is. let start : 0 + n ≡ n = omega arith in rw start is) place within ∙ ap (λ p. length (held ops p)) (let start : 0 + place ≡ place = omega arith in start)
+  pub depth_is : (place : ℕ) → place < length ops → depth_at (depths 0 ops) place ≡ length (loops_around ops place)
+  depth_is place within = held_from 0 ops (λ n op is. let start : 0 + n ≡ n = omega arith in rw start is) place within ∙ ap (λ p. length (loops_around ops p)) (let start : 0 + place ≡ place = omega arith in start)
 
-  -- ---- where pass 3 found nothing at the first places
+  -- ---- where pass 3 found nothing at the first indexes
 
   module _ (n : ℕ) (nested : (place : ℕ) (op : Op) → place < n → nth ops place ≡ Some op → nests_well ops place op ≡ None) where
     enters : (enter step : ℕ) (predicate : Predicate) → enter < n → nth ops enter ≡ Some (Enter predicate step) → nests_well ops enter (Enter predicate step) ≡ None
     enters enter step predicate below there = nested enter (Enter predicate step) below there
 
-    same_by_number : (place target : ℕ) → place ≤ n → place ≤ target → same_loops (held ops place) (held ops target) ≡ (in_innermost ops (held ops place) target && length (held ops place) == length (held ops target))
+    same_by_number : (place target : ℕ) → place ≤ n → place ≤ target → same_loops (loops_around ops place) (loops_around ops target) ≡ (in_innermost ops (loops_around ops place) target && length (loops_around ops place) == length (loops_around ops target))
     same_by_number place target le ahead =
-        alike (same_loops (held ops place) (held ops target)) (in_innermost ops (held ops place) target && length (held ops place) == length (held ops target))
-        (λ h. let same = the_same_loops (held ops place) (held ops target) h in rw (same, own_reaches ops target target) (grind (arith, nat_tests)))
+        alike (same_loops (loops_around ops place) (loops_around ops target)) (in_innermost ops (loops_around ops place) target && length (loops_around ops place) == length (loops_around ops target))
+        (λ h. let same = the_same_loops (loops_around ops place) (loops_around ops target) h in rw (same, own_reaches ops target target) (grind (arith, nat_tests)))
         (λ h.
-        let tests = both (in_innermost ops (held ops place) target) (length (held ops place) == length (held ops target)) h in
-        let as_many : length (held ops place) ≡ length (held ops target) = eqb-true (length (held ops place)) (length (held ops target)) tests.1 in
-        let reach : (outer : ℕ) → outer < place → reaches (nth ops outer) target ≡ reaches (nth ops outer) place = λ outer below.
-        alike (reaches (nth ops outer) target) (reaches (nth ops outer) place)
+        let tests = both (in_innermost ops (loops_around ops place) target) (length (loops_around ops place) == length (loops_around ops target)) h in
+        let as_many : length (loops_around ops place) ≡ length (loops_around ops target) = eqb-true (length (loops_around ops place)) (length (loops_around ops target)) tests.1 in
+        let reach : (outer : ℕ) → outer < place → loop_reaches (nth ops outer) target ≡ loop_reaches (nth ops outer) place = λ outer below.
+        alike (loop_reaches (nth ops outer) target) (loop_reaches (nth ops outer) place)
         (λ holds. reaches_less (nth ops outer) target place ahead holds)
         (λ holds. inner_first ops paired place target (λ inner less predicate end is. lies_within ops paired n enters predicate inner end (omega arith) is) place (omega arith) tests.0 outer below holds) in
-        let around : holding ops target place ≡ holding ops place place = holding_alike ops target place place reach in
+        let around : loops_among ops target place ≡ loops_among ops place place = holding_alike ops target place place reach in
         let fewer = ap length around in
         elim (as_many_or_more ops target place target ahead) [
-          | inl same ↦ let all : held ops target ≡ held ops place = same ∙ around in rw all (same_as_itself (held ops place))
+          | inl same ↦ let all : loops_around ops target ≡ loops_around ops place = same ∙ around in rw all (same_as_itself (loops_around ops place))
           | inr more ↦ absurd (omega arith)
         ])
 
-    stays_is : (place target : ℕ) → place < length ops → place ≤ n → (place < target) × (target < length ops) → stays_by (depths 0 ops) (last_of (open_steps ops (held ops place))) place target ≡ stays ops place target
+    stays_is : (place target : ℕ) → place < length ops → place ≤ n → (place < target) × (target < length ops) → stays_by (depths 0 ops) (last_of (open_steps ops (loops_around ops place))) place target ≡ stays ops place target
     stays_is place target within le ahead =
         let further : place ≤ target = omega (arith, ahead.0) in
         let here = depth_is place within in
         let there = depth_is target ahead.1 in
-        let inside = innermost_reaches ops place target (held ops place) refl in
+        let inside = innermost_reaches ops place target (loops_around ops place) refl in
         let same = same_by_number place target le further in
         rw (here, there, ← inside, ← same) refl
 
     -- what the code tests is pass 3
-    pub nests_is : (place : ℕ) (op : Op) → place < length ops → place ≤ n → nth ops place ≡ Some op → nests_by (depths 0 ops) (last_of (open_steps ops (held ops place))) place op ≡ nests_well ops place op
+    pub nests_is : (place : ℕ) (op : Op) → place < length ops → place ≤ n → nth ops place ≡ Some op → nests_by (depths 0 ops) (last_of (open_steps ops (loops_around ops place))) place op ≡ nests_well ops place op
     nests_is place (Jump jump target) within le there = stays_is place target within le (is_ahead ops place target (paired place (Jump jump target) there))
     nests_is place (Enter predicate step) within le there =
         let here = depth_is place within in
         let begun = begins ops paired predicate place step there in
-        let inside = innermost_reaches ops place step (held ops place) refl in
+        let inside = innermost_reaches ops place step (loops_around ops place) refl in
         rw (here, begun, ← inside) refl
     nests_is place Return within le there =
         let here = depth_is place within in
-        rw here (ap (λ holds. unless holds CrossesLoop) (none_by_number (held ops place)))
+        rw here (ap (λ holds. unless holds CrossesLoop) (none_by_number (loops_around ops place)))
     nests_is place op within le there = refl
 
-    pub opened_is : (place : ℕ) (op : Op) → place ≤ n → nth ops place ≡ Some op → open_behind op (open_steps ops (held ops place)) ≡ open_steps ops (held ops (suc place))
+    pub opened_is : (place : ℕ) (op : Op) → place ≤ n → nth ops place ≡ Some op → open_behind op (open_steps ops (loops_around ops place)) ≡ open_steps ops (loops_around ops (suc place))
     opened_is place (Enter predicate step) le there =
         let begun = begins ops paired predicate place step there in
         rw (begun, there) refl
     opened_is place (Step predicate enter) le there =
         let inner = innermost_at_step ops paired n enters predicate place enter there le in
         let outer = behind_step ops paired n enters predicate place enter there le in
-        rw (inner, outer) (without_last (open_steps ops (held ops enter)) (step_of (nth ops enter)))
+        rw (inner, outer) (without_last (open_steps ops (loops_around ops enter)) (step_of (nth ops enter)))
     opened_is place op le there = ap (open_steps ops) (sym (stays_around ops paired place op there tt))
 
 -- ---- the loop over the operations
@@ -225,7 +225,7 @@ module _ (ops : List Op) (passed : all_pass (names_well ops) 0 ops ≡ Ok tt) (a
   module _ (place : ℕ) (steps : List ℕ) (within : place < length ops) (so_far : IsNested ops place steps) (innermost : Option ℕ) (last : innermost ≡ last_of steps) (d : Op) where
     pub tests_the_pass : nests_by around innermost place (slice_index_or ops place d) ≡ nests_well ops place (slice_index_or ops place d)
     tests_the_pass =
-        let by_steps : innermost ≡ last_of (open_steps ops (held ops place)) = last ∙ ap last_of so_far.0 in
+        let by_steps : innermost ≡ last_of (open_steps ops (loops_around ops place)) = last ∙ ap last_of so_far.0 in
         rw (counted, by_steps) (nests_is ops (passes_each (names_well ops) ops passed) place so_far.1 place (slice_index_or ops place d) within (omega arith) (nth_at ops place d within))
 
     itself : slice_index_or ops place d ≡ slice_index_or ops place (slice_index_or ops place d)
@@ -238,7 +238,7 @@ module _ (ops : List Op) (passed : all_pass (names_well ops) 0 ops ≡ Ok tt) (a
     nested_further more is opened =
         let there : nth ops place ≡ Some (slice_index_or ops place d) = nth_at ops place d within in
         let none : nests_well ops place (slice_index_or ops place d) ≡ None = sym tests_the_pass ∙ is in
-        let open_now : open_behind (slice_index_or ops place d) (open_steps ops (held ops place)) ≡ open_steps ops (held ops (suc place)) =
+        let open_now : open_behind (slice_index_or ops place d) (open_steps ops (loops_around ops place)) ≡ open_steps ops (loops_around ops (suc place)) =
         opened_is ops (passes_each (names_well ops) ops passed) place so_far.1 place (slice_index_or ops place d) (omega arith) there in (
           rw (add-one place) (opened ∙ ap (open_behind (slice_index_or ops place d)) so_far.0 ∙ open_now),
           λ before op below at. elim (leb_tells place before) [

@@ -31,7 +31,7 @@ unlike (left ∷ lefts) (right ∷ rights) differ =
 pub unlike_heights : {A B : Type 0} (f : A → Kind) (g : B → Kind) (xs : List A) (ys : List B) → length xs ≢ length ys → merged (map f xs) (map g ys) ≡ None
 unlike_heights f g xs ys differ = unlike (map f xs) (map g ys) (λ like. differ (sym (length-map xs f) ∙ like ∙ length-map ys g))
 
--- the item at an index stands before those after it
+-- the item at an index comes before those after it
 first_left : {A : Type 0} (f : A → Kind) (xs : List A) (i : ℕ) (x : A) → i < length xs → x ≡ slice_index_or xs i x → drop i (map f xs) ≡ f x ∷ drop (i + 1) (map f xs)
 first_left f xs i x within is =
     rw (add-one i) (drop-map f i xs ∙ ap (map f) (drop-cons xs i x within ∙ ap (λ y. y ∷ drop (suc i) xs) (sym is)) ∙ ap (λ rest. f x ∷ rest) (sym (drop-map f (suc i) xs)))

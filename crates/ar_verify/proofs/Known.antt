@@ -29,7 +29,7 @@ module _ (places : ℕ) (sents : List Sent) (place d : ℕ) (within : place < su
       ap (λ i. slice_index_or (most_each places sents ++ most_items (arrival places sents) ∷ []) i d) last ∙ get_or-append_seam (most_each places sents) (most_items (arrival places sents)) [] d
       ∙ ap (λ i. most_items (arrival i sents)) (sym (long_each places sents) ∙ sym last)
 
--- the number of each place
+-- the number of each index
 each_at : (places : ℕ) (sents : List Sent) (place d : ℕ) → place < places → slice_index_or (most_each places sents) place d ≡ most_items (arrival place sents)
 each_at zero sents place d within = absurd (omega arith)
 each_at (suc places) sents place d within = last_or_before places sents place d within (nat_lt place places) refl (each_at places sents place d)

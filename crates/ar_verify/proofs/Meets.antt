@@ -1,4 +1,4 @@
--- How shapes that met lie in memory, and the merges that are kept by them.
+-- How joined shapes are stored in memory, and the merges that are kept by them.
 use Rattle.std.proofs.Common.{◌≡◌, ℕ, zero, suc, ◌+◌, ◌<◌, ◌≤◌, Bool, true, false, List, [], ◌∷◌, ◌++◌, map, length, drop, Option, Some, None, option_map, refl, sym, ap, ◌∙◌, add-one, arith, drop-cons}
 use Rattle.std.specs.Bool.{Decides}
 use Rattle.std.specs.Prelude.{◌||◌, slice_index_or}
@@ -88,7 +88,7 @@ pub longest_counted : {A : Type 0} (view : A → Shape) (first : Shape) (others 
 longest_counted view first others items i most alike same past counted =
     sym (longest_widest first (map view others) alike ∙ counted ∙ ap (λ rest. longest_of most (map view rest)) (drop_of_length-le others (rw same at past)))
 
--- ---- shapes that meet
+---- shapes that are joined
 
 -- of which the first are one
 pub one_first : (first other : Shape) (lefts rights : List Shape) (is : Bool) → is ≡ true → first ≡ other → Decides is (form (widest_of first lefts) ≡ form (widest_of other rights))

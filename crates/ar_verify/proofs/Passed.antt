@@ -1,4 +1,4 @@
--- What operations send on, by the number of the next place.
+-- What operations send on, by the number of the next index.
 use Rattle.std.proofs.Common.{◌≡◌, ℕ, suc, ◌+◌, Bool, true, false, List, [], ◌∷◌, Option, Some, None, Result, Ok, Err, refl, sym, ap, ◌∙◌, add-one}
 use Rattle.ar_value.specs.Answer.{◌>>=◌}
 use Rattle.ar_value.specs.Kind.{Kind, nil, shaped}
@@ -10,8 +10,8 @@ use Rattle.ar_op.specs.declared.op.Jump.{Jump}
 use Rattle.ar_op.specs.declared.op.Jump.TheVariants as jumps_by
 use Rattle.ar_op.specs.declared.op.Op.{Op}
 use Rattle.ar_op.specs.declared.op.Op.TheVariants as ops
-use Rattle.ar_safety.specs.Arrivals.{Around, Operands, Sent, ended, entered, item_of, jumped, on_truth, passed_on, sends, sent, to_next}
-use Rattle.ar_safety.specs.Effects.{effect, is_scalar}
+use Rattle.ar_safety.specs.Arrivals.{Around, Operands, Sent, loop_ended, loop_entered, innermost_shape, jump_sends, on_truth_kind, passed_on, sends, sent, to_next}
+use Rattle.ar_safety.specs.Effects.{kinds_left, is_scalar_kind}
 use Rattle.ar_verify.specs.Private.Sending.{beginning, ending, going_on, jumping, passed_by, sends_by, truth_taken}
 use Rattle.ar_verify.specs.Private.Stacks.{TakesScalar}
 use Rattle.ar_safety.specs.declared.error.Reason.{Reason}
@@ -19,7 +19,7 @@ use Rattle.ar_safety.specs.declared.error.Reason.TheVariants.{IllKinded}
 
 -- ---- a boolean on top
 
-truth_on_top : (kind : Kind) (kinds : List Kind) → true ≡ is_scalar scalars.Bool kind → truth_taken (kind ∷ kinds) ≡ Ok kinds
+truth_on_top : (kind : Kind) (kinds : List Kind) → true ≡ is_scalar_kind scalars.Bool kind → truth_taken (kind ∷ kinds) ≡ Ok kinds
 truth_on_top nil kinds is = absurd cc
 truth_on_top (shaped bool) kinds is = refl
 truth_on_top (shaped whole) kinds is = absurd cc
@@ -29,7 +29,7 @@ truth_on_top (shaped (list shape most)) kinds is = absurd cc
 truth_on_top (shaped (object inside)) kinds is = absurd cc
 truth_on_top (shaped (optional shape)) kinds is = absurd cc
 
-no_truth_on_top : (kind : Kind) (kinds : List Kind) → false ≡ is_scalar scalars.Bool kind → truth_taken (kind ∷ kinds) ≡ Err IllKinded
+no_truth_on_top : (kind : Kind) (kinds : List Kind) → false ≡ is_scalar_kind scalars.Bool kind → truth_taken (kind ∷ kinds) ≡ Err IllKinded
 no_truth_on_top nil kinds is = refl
 no_truth_on_top (shaped bool) kinds is = absurd cc
 no_truth_on_top (shaped whole) kinds is = refl
@@ -49,7 +49,7 @@ no_truth_is_taken (kind ∷ before) after is_taken takes is = no_truth_on_top ki
 
 -- ---- operations
 
-taken_next : (kinds : List Kind) (next : List Kind → Result (List Sent) Reason) → on_truth kinds next ≡ (truth_taken kinds >>= next)
+taken_next : (kinds : List Kind) (next : List Kind → Result (List Sent) Reason) → on_truth_kind kinds next ≡ (truth_taken kinds >>= next)
 taken_next [] next = refl
 taken_next (nil ∷ kinds) next = refl
 taken_next (shaped bool ∷ kinds) next = refl
@@ -60,7 +60,7 @@ taken_next (shaped (list shape most) ∷ kinds) next = refl
 taken_next (shaped (object inside) ∷ kinds) next = refl
 taken_next (shaped (optional shape) ∷ kinds) next = refl
 
-begins : (predicate : Predicate) (place step : ℕ) (kinds : List Kind) (loops : List Around) → entered predicate place step kinds loops ≡ beginning predicate (suc place) (suc step) kinds loops
+begins : (predicate : Predicate) (place step : ℕ) (kinds : List Kind) (loops : List Around) → loop_entered predicate place step kinds loops ≡ beginning predicate (suc place) (suc step) kinds loops
 begins predicate place step [] loops = refl
 begins predicate place step (nil ∷ kinds) loops = refl
 begins predicate place step (shaped bool ∷ kinds) loops = refl
@@ -71,7 +71,7 @@ begins predicate place step (shaped (list shape most) ∷ kinds) loops = refl
 begins predicate place step (shaped (object inside) ∷ kinds) loops = refl
 begins predicate place step (shaped (optional shape) ∷ kinds) loops = refl
 
-ends_by : (predicate : Predicate) (place : ℕ) (kinds : List Kind) (loops : List Around) → ended predicate place kinds loops ≡ ending predicate (suc place) kinds loops
+ends_by : (predicate : Predicate) (place : ℕ) (kinds : List Kind) (loops : List Around) → loop_ended predicate place kinds loops ≡ ending predicate (suc place) kinds loops
 ends_by predicate place [] [] = refl
 ends_by predicate place [] (loop ∷ outer) = refl
 ends_by predicate place (kind ∷ kinds) loops = refl
@@ -81,15 +81,15 @@ goes_by place loops (Some kinds) = refl
 goes_by place loops None = refl
 
 steps_by : (predicate : Predicate) (place : ℕ) (taken : Result (List Kind) Reason) (loops : List Around)
-    → (taken >>= λ taken. ended predicate place taken loops) ≡ (taken >>= λ taken. ending predicate (suc place) taken loops)
+    → (taken >>= λ taken. loop_ended predicate place taken loops) ≡ (taken >>= λ taken. ending predicate (suc place) taken loops)
 steps_by predicate place (Ok taken) loops = ends_by predicate place taken loops
 steps_by predicate place (Err reason) loops = refl
 
 module _ (code : Code) (result : Shape) (place : ℕ) (kinds : List Kind) (loops : List Around) where
-  goes : (op : Op) → to_next place loops (effect code result (item_of loops) op kinds) ≡ going_on (suc place) loops (effect code result (item_of loops) op kinds)
-  goes op = goes_by place loops (effect code result (item_of loops) op kinds)
+  goes : (op : Op) → to_next place loops (kinds_left code result (innermost_shape loops) op kinds) ≡ going_on (suc place) loops (kinds_left code result (innermost_shape loops) op kinds)
+  goes op = goes_by place loops (kinds_left code result (innermost_shape loops) op kinds)
 
-  jumps : (jump : Jump) (target : ℕ) → jumped jump place target kinds loops ≡ jumping jump (suc place) target kinds loops
+  jumps : (jump : Jump) (target : ℕ) → jump_sends jump place target kinds loops ≡ jumping jump (suc place) target kinds loops
   jumps jumps_by.And target = taken_next kinds (λ taken. Ok (sent target kinds loops ∷ sent (suc place) taken loops ∷ []))
   jumps jumps_by.Or target = taken_next kinds (λ taken. Ok (sent target kinds loops ∷ sent (suc place) taken loops ∷ []))
   jumps jumps_by.Branch target = taken_next kinds (λ taken. Ok (sent target taken loops ∷ sent (suc place) taken loops ∷ []))
@@ -103,7 +103,7 @@ module _ (code : Code) (result : Shape) (place : ℕ) (kinds : List Kind) (loops
   passes (ops.Binary operator) = goes (ops.Binary operator)
   passes (ops.Jump jump target) = jumps jump target
   passes (ops.Enter predicate step) = begins predicate place step kinds loops ∙ ap (λ behind. beginning predicate (suc place) behind kinds loops) (sym (add-one step))
-  passes (ops.Step predicate enter) = taken_next kinds (λ taken. ended predicate place taken loops) ∙ steps_by predicate place (truth_taken kinds) loops
+  passes (ops.Step predicate enter) = taken_next kinds (λ taken. loop_ended predicate place taken loops) ∙ steps_by predicate place (truth_taken kinds) loops
   passes ops.Return = taken_next kinds (λ taken. Ok [])
 
 pub sends_as : (code : Code) (result : Shape) (place : ℕ) (op : Op) (had : Operands) → sends code result place op had ≡ sends_by code result (place + 1) op had

@@ -1,4 +1,4 @@
--- The table of what arrived at each place.
+-- The table of what arrived at each index.
 use Rattle.std.proofs.Common.{◌≡◌, ◌+◌, ◌<◌, ◌≤◌, ℕ, List, [], ◌∷◌, ◌++◌, length, replicate, Result, Ok, Err, refl, sym, ap, ◌∙◌, arith}
 use Rattle.std.specs.Prelude.{max, slice_index_or, slice_set}
 use Rattle.std.proofs.lemmas.List.{get_or-map, map-append, map-set, replicate-append-replicate, set-set}
@@ -9,7 +9,7 @@ use Rattle.ar_op.specs.declared.op.Op.{Op}
 use Rattle.ar_safety.specs.Arrivals.{Operands, Sent, deepest, operands}
 use Rattle.ar_verify.specs.Private.Held.{arrival_view, counted, operands_view}
 use Rattle.ar_verify.specs.Private.Sending.{sends_by}
-use Rattle.ar_verify.specs.Private.Table.{State, Table, added, entry, table_view, with_all, without}
+use Rattle.ar_verify.specs.Private.Table.{Sweep, Table, added, entry, table_view, with_all, without}
 use Rattle.ar_safety.specs.declared.error.Reason.{Reason}
 use Rattle.ar_safety.specs.declared.error.Reason.TheVariants.{Unreachable}
 use Rattle.ar_verify.specs.declared.operands.Operands as held
@@ -28,7 +28,7 @@ module _ {M : Type 0} {name : ShapeName.Ghosts M} (arrived : List (Result (held.
       → table_view (slice_set left place put) ≡ slice_set (table_view arrived) place (arrival_view put)
   put_there left put is = map-set arrival_view left place put ∙ ap (λ table. slice_set table place (arrival_view put)) is ∙ set-set (table_view arrived) place (Err Unreachable) (arrival_view put)
 
--- a table of so many places, made place by place
+-- a table of n indexes, made index by index
 module _ {M : Type 0} {name : ShapeName.Ghosts M} (arrived after : List (Result (held.Operands M name) Reason)) where
   pub one_place : (had : held.Operands M name) → arrived ≡ [] → after ≡ arrived ++ Ok had ∷ [] → operands_view had ≡ operands [] [] → table_view after ≡ Ok (operands [] []) ∷ replicate 0 (Err Unreachable)
   one_place had none longer is = rw (longer, none) (ap (λ had. Ok had ∷ []) is)
@@ -39,7 +39,7 @@ module _ {M : Type 0} {name : ShapeName.Ghosts M} (arrived after : List (Result 
       rw longer (map-append arrival_view arrived (Err Unreachable ∷ []) ∙ ap (λ before. before ++ Err Unreachable ∷ []) so_far ∙ ap (λ rest. Ok (operands [] []) ∷ rest) (replicate-append-replicate count 1 (Err Unreachable)))
 
 -- all that an operation sends on is added
-pub all_added : (code : Code) (shape : Shape) (next : ℕ) (op : Op) (s : State) (had : Operands) (sents : List Sent) (before after : Table) (height depth : ℕ)
+pub all_added : (code : Code) (shape : Shape) (next : ℕ) (op : Op) (s : Sweep) (had : Operands) (sents : List Sent) (before after : Table) (height depth : ℕ)
     → sends_by code shape next op had ≡ Ok sents → before ≡ s.table → after ≡ with_all before sents → height ≡ counted (deepest sents) → deepest sents ≤ most_operands → depth ≡ max s.found.depth height
     → added code shape next op s had ≡ Ok (record { table = after; found = record { depth = depth; most_items = s.found.most_items } })
 all_added code shape next op s had sents before after height depth sent same put high shallow most =

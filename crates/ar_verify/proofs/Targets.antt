@@ -1,4 +1,4 @@
--- Operations send on to places that the code has, or to the one after them.
+-- Operations send on to indexes that the code has, or to the one after them.
 use Rattle.std.proofs.Common.{◌≡◌, ◌<◌, ℕ, suc, ◌+◌, Bool, true, false, List, [], ◌∷◌, length, Option, Some, None, Result, Ok, Err, sym, arith}
 use Rattle.std.specs.Prelude.{if◌then◌else◌}
 use Rattle.std.specs.List.{AllByRecursion}
@@ -12,8 +12,8 @@ use Rattle.ar_op.specs.declared.op.Jump.{Jump}
 use Rattle.ar_op.specs.declared.op.Jump.TheVariants as jumps
 use Rattle.ar_op.specs.declared.op.Op.{Op}
 use Rattle.ar_op.specs.declared.op.Op.TheVariants as ops
-use Rattle.ar_safety.specs.Arrivals.{Around, Operands, Sent, answer_kind, item_of, lacks, sent, where_shallow}
-use Rattle.ar_safety.specs.Effects.{effect}
+use Rattle.ar_safety.specs.Arrivals.{Around, Operands, Sent, answer_kind, innermost_shape, lacks, sent, where_shallow}
+use Rattle.ar_safety.specs.Effects.{kinds_left}
 use Rattle.ar_safety.specs.Places.{ends_loop, forward, names_well, unless}
 use Rattle.ar_verify.specs.Private.Sending.{around, ending, going_on, jumping, kept_or_taken, list_taken, passed_by, sends_by, truth_taken}
 use Rattle.ar_verify.specs.Private.Table.{StaysWithin}
@@ -73,7 +73,7 @@ module _ (count : ℕ) where
     passed_within ops.Return kinds loops more within is =
         let taken = bound (truth_taken kinds) (λ taken. Ok []) more is in
         ok_within [] more tt taken.2
-    passed_within op kinds loops more within is = going_within next loops (effect code result (item_of loops) op kinds) more inside is
+    passed_within op kinds loops more within is = going_within next loops (kinds_left code result (innermost_shape loops) op kinds) more inside is
 
     pub sends_within : (op : Op) (had : Operands) (more : List Sent) → StaysWithin count op → sends_by code result next op had ≡ Ok more → Within more
     sends_within op had more within is =
@@ -81,7 +81,7 @@ module _ (count : ℕ) where
         let passed = bound (passed_by code result next op had.kinds had.loops) where_shallow more enough.1 in
         same_within passed.0 more (passed_within op had.kinds had.loops passed.0 within passed.1) (shallow_same passed.0 more _ _ passed.2)
 
--- ---- operations that name places well
+-- ---- operations that name indexes well
 
 module _ (all : List Op) (place : ℕ) where
   ahead : (target : ℕ) → forward all place target ≡ None → target < suc (length all)

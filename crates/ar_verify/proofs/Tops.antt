@@ -4,12 +4,12 @@ use Rattle.std.specs.List.{slice_get}
 use mathlib.Core.List.{reverse_aux}
 use Rattle.std.proofs.lemmas.Option.{slice_get-map}
 use Rattle.std.proofs.lemmas.List.{length-map, length-reverse, map-append, reverse-append}
-use Rattle.ar_value.specs.Kind.{Kind, nil, shaped}
+use Rattle.ar_value.specs.Kind.{Kind, nil, shaped, scalar_shape}
 use Rattle.ar_value.specs.Shape.{bool, whole, decimal, text, list, object, optional}
 use Rattle.ar_value.specs.declared.operator.Scalar.{Scalar}
-use Rattle.ar_safety.specs.Arrivals.{Around, item_of}
+use Rattle.ar_safety.specs.Arrivals.{Around, innermost_shape}
 use Rattle.ar_safety.specs.Budget.{most_on_top}
-use Rattle.ar_safety.specs.Effects.{list_made, scalar_shape}
+use Rattle.ar_safety.specs.Effects.{list_kind_left}
 use Rattle.ar_verify.specs.Private.Stacks.{TakesScalar, first, most_in}
 
 -- one more on top
@@ -21,25 +21,25 @@ so_many f xs = length-reverse (map f xs) ∙ length-map xs f
 
 -- ---- lists that are made of the scalars on top
 
-one_taken : (scalar : Scalar) (max m : ℕ) (before after : List Kind) → TakesScalar scalar before after true → list_made scalar max (suc m) before ≡ list_made scalar max m after
+one_taken : (scalar : Scalar) (max m : ℕ) (before after : List Kind) → TakesScalar scalar before after true → list_kind_left scalar max (suc m) before ≡ list_kind_left scalar max m after
 one_taken scalar max m [] after is = absurd cc
 one_taken scalar max m (kind ∷ before) after is = rw (← is.0, is.1) refl
 
-one_refused : (scalar : Scalar) (max m : ℕ) (before after : List Kind) → TakesScalar scalar before after false → list_made scalar max (suc m) before ≡ None
+one_refused : (scalar : Scalar) (max m : ℕ) (before after : List Kind) → TakesScalar scalar before after false → list_kind_left scalar max (suc m) before ≡ None
 one_refused scalar max m [] after is = refl
 one_refused scalar max m (kind ∷ before) after is = rw (← is.0) refl
 
 -- one scalar more
 pub scalar_taken : (scalar : Scalar) (n k : ℕ) (before after : List Kind) (is_taken : Bool) → k < n → TakesScalar scalar before after is_taken → is_taken ≡ true
-    → list_made scalar n (n - k) before ≡ list_made scalar n (n - (k + 1)) after
+    → list_kind_left scalar n (n - k) before ≡ list_kind_left scalar n (n - (k + 1)) after
 scalar_taken scalar n k before after is_taken within takes is =
     let so_many : n - k ≡ suc (n - (k + 1)) = omega arith in rw so_many (one_taken scalar n (n - (k + 1)) before after (rw is at takes))
 
-pub scalar_refused : (scalar : Scalar) (n k : ℕ) (before after : List Kind) (is_taken : Bool) → k < n → TakesScalar scalar before after is_taken → is_taken ≡ false → list_made scalar n (n - k) before ≡ None
+pub scalar_refused : (scalar : Scalar) (n k : ℕ) (before after : List Kind) (is_taken : Bool) → k < n → TakesScalar scalar before after is_taken → is_taken ≡ false → list_kind_left scalar n (n - k) before ≡ None
 scalar_refused scalar n k before after is_taken within takes is =
     let so_many : n - k ≡ suc (n - (k + 1)) = omega arith in rw so_many (one_refused scalar n (n - (k + 1)) before after (rw is at takes))
 
-pub all_taken : (scalar : Scalar) (n k : ℕ) (kinds : List Kind) → n ≤ k → list_made scalar n (n - k) kinds ≡ Some (shaped (list (scalar_shape scalar) n) ∷ kinds)
+pub all_taken : (scalar : Scalar) (n k : ℕ) (kinds : List Kind) → n ≤ k → list_kind_left scalar n (n - k) kinds ≡ Some (shaped (list (scalar_shape scalar) n) ∷ kinds)
 all_taken scalar n k kinds past = let none_left : n - k ≡ 0 = omega arith in rw none_left refl
 
 -- ---- the last item
@@ -59,12 +59,12 @@ first_reverse (x ∷ xs) = last_first x xs [] ∙ ap (slice_get (x ∷ xs)) (sym
 first_is_last : {A B : Type 0} (f : A → B) (xs : List A) → first (reverse (map f xs)) ≡ option_map f (slice_get xs (length xs - 1))
 first_is_last f xs = first_reverse (map f xs) ∙ slice_get-map f xs (length (map f xs) - 1) ∙ ap (λ n. option_map f (slice_get xs (n - 1))) (length-map xs f)
 
-item_is_first : (loops : List Around) → item_of loops ≡ option_map (λ loop. loop.item) (first loops)
+item_is_first : (loops : List Around) → innermost_shape loops ≡ option_map (λ loop. loop.item) (first loops)
 item_is_first [] = refl
 item_is_first (loop ∷ outer) = refl
 
 -- the item of the innermost loop is that of the last
-pub last_item : {A : Type 0} (f : A → Around) (xs : List A) → item_of (reverse (map f xs)) ≡ option_map (λ loop. loop.item) (option_map f (slice_get xs (length xs - 1)))
+pub last_item : {A : Type 0} (f : A → Around) (xs : List A) → innermost_shape (reverse (map f xs)) ≡ option_map (λ loop. loop.item) (option_map f (slice_get xs (length xs - 1)))
 last_item f xs = item_is_first (reverse (map f xs)) ∙ ap (option_map (λ loop. loop.item)) (first_is_last f xs)
 
 -- ---- a list on top

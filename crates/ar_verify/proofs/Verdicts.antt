@@ -6,7 +6,8 @@ use Rattle.ar_value.specs.Shape.{Shape}
 use Rattle.ar_op.specs.Code.{Code}
 use Rattle.ar_safety.specs.Budget.{IsBudget}
 use Rattle.ar_safety.specs.Places.{places_pass}
-use Rattle.ar_safety.specs.Verdict.{IsFault, IsVerified, greatest_budget, passed}
+use Rattle.ar_safety.specs.Verdict.{IsFault, IsVerified, passed}
+use Rattle.ar_safety.specs.Bounds.{greatest_budget}
 use Rattle.ar_safety.specs.declared.error.Reason.TheVariants.{BudgetTooLarge}
 use Rattle.ar_verify.specs.Private.Costs.{AreMost, HasPassed, IsCost}
 use Rattle.ar_verify.specs.Private.Table.{Summary, summed_up}
@@ -28,7 +29,7 @@ module _ (code : Code) (shape : Shape) (found : Summary) (places : places_pass c
   pub so_many : length found.most_items ≡ length code.ops
   so_many = is_known.long
 
-  -- what costs at most the greatest budget costs what the number says that stands for it
+  -- what costs at most the greatest budget costs what the number says that represents it
   pub is_verified : (number : ℕ) → IsCost code found.most_items 0 number → nat_le number greatest_budget ≡ true → IsVerified code shape number found.depth
   is_verified number is_cost paid =
       let payable : number ≤ greatest_budget = grind (arith, nat_tests) in

@@ -11,7 +11,7 @@ use Rattle.ar_value.specs.declared.shape.Shape.{Shape as ShapeCode}
 use Rattle.ar_value.proofs.FieldLists.{Of}
 use Rattle.std.proofs.lemmas.Bool.Decides.{nat_tests}
 use Rattle.ar_safety.specs.Effects.{field_kind}
-use Rattle.ar_verify.specs.Private.Roots.{child, field_or, nth_field, number_named, number_of, part_at}
+use Rattle.ar_verify.specs.Private.Roots.{child, field_or, nth_field, number_named, root_field, part_at}
 
 -- ---- step by step
 
@@ -98,12 +98,12 @@ module _ (other : Shape) where
   by_name name no_fields = refl
   by_name name (field of shape others) = by_test (bytes_eq of name) of name shape others (by_name name others)
 
-field_is : (name : List ℕ) (shape : Shape) → option_map (λ n. shaped (child n shape)) (number_of name shape) ≡ field_kind name (shaped shape)
+field_is : (name : List ℕ) (shape : Shape) → option_map (λ n. shaped (child n shape)) (root_field name shape) ≡ field_kind name (shaped shape)
 field_is name (object inside) = by_name (object inside) name inside
 field_is name shape = refl
 
-pub field_there : (name : List ℕ) (shape : Shape) (n : ℕ) → Some n ≡ number_of name shape → Some (shaped (child n shape)) ≡ field_kind name (shaped shape)
+pub field_there : (name : List ℕ) (shape : Shape) (n : ℕ) → Some n ≡ root_field name shape → Some (shaped (child n shape)) ≡ field_kind name (shaped shape)
 field_there name shape n is = ap (option_map (λ n. shaped (child n shape))) is ∙ field_is name shape
 
-pub no_field : (name : List ℕ) (shape : Shape) → None ≡ number_of name shape → None ≡ field_kind name (shaped shape)
+pub no_field : (name : List ℕ) (shape : Shape) → None ≡ root_field name shape → None ≡ field_kind name (shaped shape)
 no_field name shape is = ap (option_map (λ n. shaped (child n shape))) is ∙ field_is name shape

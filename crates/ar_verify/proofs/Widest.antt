@@ -8,9 +8,9 @@ use Rattle.ar_value.specs.declared.operator.Scalar.{Scalar}
 use Rattle.ar_value.specs.declared.operator.Scalar.TheVariants as scalars
 use Rattle.ar_value.specs.Private.Same.{same_shape}
 use Rattle.ar_value.proofs.Same.{same_is}
-use Rattle.ar_safety.specs.Effects.{decimal_shape, family_of, is_scalar}
+use Rattle.ar_safety.specs.Effects.{decimal_shape, family_of, is_scalar_kind}
 use Rattle.ar_verify.specs.Private.Forms.{all_alike, field_forms, form, longest_of, wider, wider_fields, widest_of}
-use Rattle.ar_verify.specs.Private.Roots.{child, field_or, number_named, number_of}
+use Rattle.ar_verify.specs.Private.Roots.{child, field_or, number_named, root_field}
 use Rattle.ar_verify.specs.Private.Lists.{is_list, longest}
 use Rattle.ar_verify.proofs.Forms.{absorbed, form_wider, wider_either_way, wider_itself, wider_of_wider}
 
@@ -159,7 +159,7 @@ list_form : (shape : Shape) → is_list (form shape) ≡ is_list shape
 list_form (list item most) = refl
 list_form shape = refl
 
-scalar_form : (scalar : Scalar) (shape : Shape) → is_scalar scalar (shaped (form shape)) ≡ is_scalar scalar (shaped shape)
+scalar_form : (scalar : Scalar) (shape : Shape) → is_scalar_kind scalar (shaped (form shape)) ≡ is_scalar_kind scalar (shaped shape)
 scalar_form scalars.Bool (list item most) = refl
 scalar_form scalars.Bool shape = refl
 scalar_form scalars.Whole (list item most) = refl
@@ -183,8 +183,8 @@ both_optional = one_for_both is_optional optional_form
 pub both_lists : (left right : Shape) → form left ≡ form right → is_list left ≡ is_list right
 both_lists = one_for_both is_list list_form
 
-pub both_scalars : (scalar : Scalar) (left right : Shape) → form left ≡ form right → is_scalar scalar (shaped left) ≡ is_scalar scalar (shaped right)
-both_scalars scalar = one_for_both (λ shape. is_scalar scalar (shaped shape)) (scalar_form scalar)
+pub both_scalars : (scalar : Scalar) (left right : Shape) → form left ≡ form right → is_scalar_kind scalar (shaped left) ≡ is_scalar_kind scalar (shaped right)
+both_scalars scalar = one_for_both (λ shape. is_scalar_kind scalar (shaped shape)) (scalar_form scalar)
 
 pub both_of_family : (left right : Shape) → form left ≡ form right → family_of left ≡ family_of right
 both_of_family = one_for_both family_of family_form
@@ -192,7 +192,7 @@ both_of_family = one_for_both family_of family_form
 pub both_decimal : (left right : Shape) → form left ≡ form right → decimal_shape left ≡ decimal_shape right
 both_decimal = one_for_both decimal_shape decimal_form
 
-number_form : (name : List ℕ) (shape : Shape) → number_of name (form shape) ≡ number_of name shape
+number_form : (name : List ℕ) (shape : Shape) → root_field name (form shape) ≡ root_field name shape
 number_form name (object fields) = inside fields
   where
     inside : (fields : FieldShapes) → number_named name (field_forms fields) ≡ number_named name fields
@@ -200,8 +200,8 @@ number_form name (object fields) = inside fields
     inside (field of shape others) = ap (λ number. if bytes_eq of name then Some 0 else option_map suc number) (inside others)
 number_form name shape = refl
 
-pub both_numbered : (name : List ℕ) (left right : Shape) → form left ≡ form right → number_of name left ≡ number_of name right
-both_numbered name = one_for_both (number_of name) (number_form name)
+pub both_numbered : (name : List ℕ) (left right : Shape) → form left ≡ form right → root_field name left ≡ root_field name right
+both_numbered name = one_for_both (root_field name) (number_form name)
 
 plain_form : (shape : Shape) → form (plain shape) ≡ plain (form shape)
 plain_form (optional shape) = refl

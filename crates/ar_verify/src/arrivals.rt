@@ -1,4 +1,4 @@
-//! What arrives at each place of code: operands are passed on from one place to the next, and none is
+//! What arrives at each index of code: operands are passed on from one index to the next, and none is
 //! sent back, so one way through the operations is enough.
 
 ghost use Rattle.std.specs.Prelude.{◌≡◌, ◌+◌, ◌<◌, ◌∷◌, ◌++◌, [], IfOk, OnOk, Ok, Err, length, replicate};
@@ -13,7 +13,7 @@ ghost use Rattle.ar_verify.specs.Private.Failures.{Meets};
 ghost use Rattle.ar_verify.specs.Private.Held.{arrival_view, operands_view};
 ghost use Rattle.ar_verify.specs.Private.Sending.{sends_view, sent_view};
 ghost use Rattle.ar_verify.specs.Private.Stacks.{from_top};
-ghost use Rattle.ar_verify.specs.Private.Table.{ComesTo, StaysWithin, added, entry, looked_at, one_more, pass_view, summary_view, summed_up, table_view, with_all, with_one, without};
+ghost use Rattle.ar_verify.specs.Private.Table.{ComesTo, StaysWithin, added, entry, place_added, one_more, pass_view, summary_view, summed_up, table_view, with_all, with_one, without};
 ghost use Rattle.ar_safety.specs.declared.error.Reason.TheVariants.{Unreachable};
 
 use crate::failure::Failure;
@@ -35,14 +35,14 @@ use std::mem;
 pub(crate) struct Arrivals {
     /// The greatest number of operands on the way anywhere.
     pub depth: usize,
-    /// How many items the list on top may have at each place, and 0 where no list is on top.
+    /// How many items the list on top may have at each index, and 0 where no list is on top.
     pub most_items: Vec<usize>,
 }
 
 /// The way through the operations.
 #[derive(Drop)]
 struct Pass<M: ShapeName> {
-    /// What arrived so far at each place further on, or why nothing can be performed there.
+    /// What arrived so far at each index further on, or why nothing can be performed there.
     arrived: Vec<Result<Operands<M>, Reason>>,
     found: Arrivals,
 }
@@ -60,7 +60,7 @@ fn most_on_top<M: ShapeName>(kinds: &[Kind<M>]) -> usize
     }
 }
 
-/// A table of the places of so many operations, and of one after them. A run begins at the first.
+/// A table of the indexes of n operations, and of one after them. A run begins at the first.
 fn table<M: ShapeName>(
     alloc: Global,
     count: usize,
@@ -76,7 +76,7 @@ fn table<M: ShapeName>(
     Ok(arrived)
 }
 
-/// Takes what arrived at a place.
+/// Takes what arrived at `place`.
 fn take<M: ShapeName>(
     arrived: &mut [Result<Operands<M>, Reason>],
     place: usize,
@@ -104,7 +104,7 @@ fn one_more<M: ShapeName>(
     }
 }
 
-/// Adds operands to what arrived where they go.
+/// Adds operands to what arrived at their target.
 fn send<M: ShapeName>(
     alloc: Global,
     arrived: &mut [Result<Operands<M>, Reason>],
@@ -139,7 +139,7 @@ fn send_all<M: ShapeName>(
 }
 
 impl Arrivals {
-    /// Notes how many items the list on top may have at the next place.
+    /// Notes how many items the list on top may have at the next index.
     fn note_items(&mut self, most: usize) -> Result<(), AllocError>
         ensures depth { self.new.depth ≡ self.old.depth }
         ensures items { OnOk result (self.new.most_items.items ≡ self.old.most_items.items ++ most ∷ []) }
@@ -149,7 +149,7 @@ impl Arrivals {
 }
 
 impl<M: ShapeName> Pass<M> {
-    /// The pass at the first of so many operations.
+    /// The pass at the first of `count` operations.
     fn begin(alloc: Global, count: usize) -> Result<Pass<M>, AllocError>
         ensures table { IfOk result
             (λ pass. table_view pass.arrived.items ≡ Ok (operands [] []) ∷ replicate count (Err Unreachable)) }
@@ -166,7 +166,7 @@ impl<M: ShapeName> Pass<M> {
         })
     }
 
-    /// Adds what an operation sends on, of operands that arrived, where the next place has a number.
+    /// Adds what an operation sends on, of operands that arrived, where the next index has a number.
     fn add(
         &mut self,
         alloc: Global,
@@ -186,7 +186,7 @@ impl<M: ShapeName> Pass<M> {
         Ok(send_all(alloc, &mut self.arrived, sends)?)
     }
 
-    /// Looks at the operation at a place, to which the pass has come.
+    /// Visits the operation at `place`, which the pass has reached.
     fn look_at(
         &mut self,
         alloc: Global,
@@ -198,7 +198,7 @@ impl<M: ShapeName> Pass<M> {
         requires inside { place + 1 < length self.old.arrived.items }
         requires targets { StaysWithin (length self.old.arrived.items) op }
         ensures { Meets (λ _. pass_view self.new) result
-            (looked_at code.now (shape_view M.shape) place op (pass_view self.old)) }
+            (place_added code.now (shape_view M.shape) place op (pass_view self.old)) }
     {
         let had = take(&mut self.arrived, place)?;
         self.found.note_items(most_on_top(&had.kinds))?;
@@ -206,7 +206,7 @@ impl<M: ShapeName> Pass<M> {
     }
 }
 
-/// Finds the first operation that what arrives at its place can't be given to, or what is known of
+/// Finds the first operation that can't be given what arrives at its index, or what is known of
 /// the operands where there is none. The measured value's shape has a name.
 fn find_named<M: ShapeName>(
     alloc: Global,
@@ -228,7 +228,7 @@ fn find_named<M: ShapeName>(
     Ok(pass.found)
 }
 
-/// Likewise for a shape of the measured value.
+/// Does the same for a shape of the measured value.
 pub(crate) fn find_arrivals(
     alloc: Global,
     code: &Code,

@@ -2,7 +2,7 @@
 
 ghost use Rattle.std.specs.Prelude.{◌≡◌, IfOk, length, nat_le};
 ghost use Rattle.ar_verify.specs.Private.Costs.{cost_by, cost_by_jump, cost_by_loop, cost_by_next, AreCosts, HasPassed, IsCost, LeadsInside};
-ghost use Rattle.ar_safety.specs.Verdict.{greatest_budget};
+ghost use Rattle.ar_safety.specs.Bounds.{greatest_budget};
 
 use ar_op::code::Code;
 use ar_op::op::{Jump, Op};
@@ -22,7 +22,7 @@ pub(crate) fn is_payable(budget: u64) -> bool
     budget <= GREATEST_BUDGET
 }
 
-/// The cost of an operation, over a list of at most so many items, and of what follows it.
+/// The cost of an operation, over a list of at most `most` items, and of what follows it.
 fn cost_by_next(op: Op, most: u64, next: u64) -> u64
     ensures { result ≡ cost_by_next op most next }
 {
@@ -40,7 +40,7 @@ fn cost_by_jump(target: u64) -> u64
     target.saturating_add(1).min(TOO_DEAR)
 }
 
-/// The cost of a loop over at most so many items, of a body of such a cost, and of what follows it.
+/// The cost of a loop over at most `most` items, of a body of such a cost, and of what follows it.
 fn cost_by_loop(most: u64, body: u64, behind: u64) -> u64
     ensures { result ≡ cost_by_loop most body behind }
 {
@@ -50,7 +50,7 @@ fn cost_by_loop(most: u64, body: u64, behind: u64) -> u64
         .min(TOO_DEAR)
 }
 
-/// The cost of the most expensive way from a place, by those of the places after it.
+/// The cost of the most expensive way from `place`, by those of the indexes after it.
 fn cost_by(costs: &[u64], place: usize, most: u64, op: Op) -> u64
     requires { LeadsInside (length costs.now) place op }
     ensures { result ≡ cost_by costs.now place most op }
@@ -68,8 +68,8 @@ fn cost_by(costs: &[u64], place: usize, most: u64, op: Op) -> u64
     }
 }
 
-/// The cost of the most expensive way from each place. Ways lead on to later places alone, so the costs
-/// are found from the code's end.
+/// The cost of the most expensive way from each index. Ways lead on to later indexes alone, so the
+/// costs are found from the code's end.
 fn costs(alloc: Global, code: &Code, most: &[usize]) -> Result<Vec<u64>, AllocError>
     requires passed { HasPassed code.now }
     requires counted { length most.now ≡ length code.now.ops }
@@ -84,7 +84,7 @@ fn costs(alloc: Global, code: &Code, most: &[usize]) -> Result<Vec<u64>, AllocEr
     Ok(costs)
 }
 
-/// What a run may cost at most, or [`TOO_DEAR`], where for each place it is known how many items the
+/// What a run may cost at most, or [`TOO_DEAR`], where for each index it is known how many items the
 /// list on top may have that arrives there.
 pub(crate) fn budget(alloc: Global, code: &Code, most: &[usize]) -> Result<u64, AllocError>
     requires passed { HasPassed code.now }

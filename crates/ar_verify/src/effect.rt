@@ -1,12 +1,12 @@
-//! What operations that go on to the next place give of the kinds on a stack, which they take. What
+//! What operations that continue at the next index give of the kinds on a stack, which they take. What
 //! they give isn't pushed here.
 
 ghost use Rattle.std.specs.Prelude.{◌≡◌, IfOk, Some, map, option_map, string_bytes};
-ghost use Rattle.ar_value.specs.Kind.{shaped};
+ghost use Rattle.ar_value.specs.Kind.{shaped, scalar_shape};
 ghost use Rattle.ar_value.specs.View.{shape_view};
 ghost use Rattle.ar_op.specs.Machine.{nth};
-ghost use Rattle.ar_safety.specs.Effects.{binary_kind, effect, field_by, list_made, on_one, on_two, pushed_kind, scalar_shape, unary_kind};
-ghost use Rattle.ar_verify.specs.Private.Kinds.{kind_view};
+ghost use Rattle.ar_safety.specs.Effects.{binary_kind, kinds_left, field_kind_left, list_kind_left, on_one_kind, on_two_kinds, pushed_kind, unary_kind};
+ghost use Rattle.ar_verify.specs.Private.Kinds.{parts_kind};
 ghost use Rattle.ar_verify.specs.Private.Shapes.{list_of};
 ghost use Rattle.ar_verify.specs.Private.Stacks.{Leaves, TakesScalar, from_top};
 
@@ -24,7 +24,7 @@ use std::alloc::{AllocError, Global};
 
 /// The kind of a scalar.
 fn scalar<M: ShapeName>(alloc: Global, scalar: Scalar) -> Result<Option<Kind<M>>, AllocError>
-    ensures { IfOk result (λ given. option_map kind_view given ≡ Some (shaped (scalar_shape scalar))) }
+    ensures { IfOk result (λ given. option_map parts_kind given ≡ Some (shaped (scalar_shape scalar))) }
 {
     given_shape(alloc, scalar_shape(scalar))
 }
@@ -34,7 +34,7 @@ fn measured_kind<M: ShapeName>(
     alloc: Global,
     measured: &Whole<M>,
 ) -> Result<Option<Kind<M>>, AllocError>
-    ensures { IfOk result (λ given. option_map kind_view given ≡ Some (shaped (shape_view M.shape))) }
+    ensures { IfOk result (λ given. option_map parts_kind given ≡ Some (shaped (shape_view M.shape))) }
 {
     Ok(Some(Kind::Shape(Parts::measured(alloc, measured)?)))
 }
@@ -44,7 +44,7 @@ fn item_kind<M: ShapeName>(
     alloc: Global,
     list: Option<&Parts<M>>,
 ) -> Result<Option<Kind<M>>, AllocError>
-    ensures { IfOk result (λ given. option_map kind_view given
+    ensures { IfOk result (λ given. option_map parts_kind given
         ≡ option_map (λ list. shaped (list_of list.now).0) list.entry) }
 {
     match list {
@@ -60,7 +60,7 @@ fn pushed<M: ShapeName>(
     here: Option<&Parts<M>>,
     source: Source,
 ) -> Result<Option<Kind<M>>, AllocError>
-    ensures { IfOk result (λ given. option_map kind_view given
+    ensures { IfOk result (λ given. option_map parts_kind given
         ≡ pushed_kind (shape_view M.shape) (option_map (λ list. (list_of list.now).0) here.entry) source) }
 {
     match source {
@@ -81,7 +81,7 @@ fn unary<M: ShapeName>(
     kinds: &mut Vec<Kind<M>>,
 ) -> Result<Option<Kind<M>>, AllocError>
     ensures { IfOk result
-        (λ given. Leaves given kinds.new.items (on_one (unary_kind operator) (from_top kinds.old.items))) }
+        (λ given. Leaves given kinds.new.items (on_one_kind (unary_kind operator) (from_top kinds.old.items))) }
 {
     match pop(kinds) {
         Some(operand) => apply_unary(alloc, operator, &operand),
@@ -97,7 +97,7 @@ fn binary_with<M: ShapeName>(
     kinds: &mut Vec<Kind<M>>,
 ) -> Result<Option<Kind<M>>, AllocError>
     ensures { IfOk result (λ given. Leaves given kinds.new.items
-        (on_one (λ left. binary_kind operator left (kind_view right.now)) (from_top kinds.old.items))) }
+        (on_one_kind (λ left. binary_kind operator left (parts_kind right.now)) (from_top kinds.old.items))) }
 {
     match pop(kinds) {
         Some(left) => apply_binary(alloc, operator, &left, right),
@@ -112,7 +112,7 @@ fn binary<M: ShapeName>(
     kinds: &mut Vec<Kind<M>>,
 ) -> Result<Option<Kind<M>>, AllocError>
     ensures { IfOk result
-        (λ given. Leaves given kinds.new.items (on_two (binary_kind operator) (from_top kinds.old.items))) }
+        (λ given. Leaves given kinds.new.items (on_two_kinds (binary_kind operator) (from_top kinds.old.items))) }
 {
     match pop(kinds) {
         Some(right) => binary_with(alloc, operator, &right, kinds),
@@ -140,7 +140,7 @@ fn field<M: ShapeName>(
     kinds: &mut Vec<Kind<M>>,
 ) -> Result<Option<Kind<M>>, AllocError>
     ensures { IfOk result
-        (λ given. Leaves given kinds.new.items (field_by code.now number (from_top kinds.old.items))) }
+        (λ given. Leaves given kinds.new.items (field_kind_left code.now number (from_top kinds.old.items))) }
 {
     let Some(name) = name_at(code.names(), number) else {
         return Ok(None);
@@ -172,7 +172,7 @@ pub(crate) fn takes_scalar<M: ShapeName>(scalar: Scalar, kinds: &mut Vec<Kind<M>
     }
 }
 
-/// Takes so many scalars of a kind and gives the list of them.
+/// Takes n scalars of a kind and gives the list of them.
 #[tactic(auto, using(crate::proofs::Tops::scalar_refused, crate::proofs::Tops::all_taken))]
 fn make_list<M: ShapeName>(
     alloc: Global,
@@ -181,7 +181,7 @@ fn make_list<M: ShapeName>(
     kinds: &mut Vec<Kind<M>>,
 ) -> Result<Option<Kind<M>>, AllocError>
     ensures { IfOk result
-        (λ given. Leaves given kinds.new.items (list_made scalar count count (from_top kinds.old.items))) }
+        (λ given. Leaves given kinds.new.items (list_kind_left scalar count count (from_top kinds.old.items))) }
 {
     for _taken in 0..count {
         if !takes_scalar(scalar, kinds) {
@@ -195,7 +195,7 @@ fn make_list<M: ShapeName>(
     given_shape(alloc, list)
 }
 
-/// Takes the operands of an operation that goes on to the next place, and gives what it makes of them.
+/// Takes the operands of an operation that continues at the next index, and gives its result.
 pub(crate) fn apply<M: ShapeName>(
     alloc: Global,
     code: &Code,
@@ -205,7 +205,7 @@ pub(crate) fn apply<M: ShapeName>(
     kinds: &mut Vec<Kind<M>>,
 ) -> Result<Option<Kind<M>>, AllocError>
     ensures { IfOk result (λ given. Leaves given kinds.new.items
-        (effect code.now (shape_view M.shape) (option_map (λ list. (list_of list.now).0) here.entry) op
+        (kinds_left code.now (shape_view M.shape) (option_map (λ list. (list_of list.now).0) here.entry) op
         (from_top kinds.old.items))) }
 {
     match op {

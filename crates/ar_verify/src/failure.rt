@@ -3,7 +3,7 @@
 use ar_safety::{Cause, Reason};
 use std::alloc::AllocError;
 
-/// A fault of an operation, told without its place, or out of memory.
+/// A fault of an operation, reported without its index, or out of memory.
 #[derive(Clone, Copy)]
 pub(crate) enum Failure {
     Fault(Reason),

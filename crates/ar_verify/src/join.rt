@@ -1,5 +1,5 @@
-//! How the shapes of operands meet, and what is known of those shapes. Two are joined where they are of one form: where
-//! they differ in the greatest lengths of lists only.
+//! How the shapes of operands are joined, and what is known of those shapes. Two are joined where they are of one
+//! form: where they differ in the greatest lengths of lists only.
 
 ghost use Rattle.std.specs.Bool.{Decides};
 ghost use Rattle.std.specs.Prelude.{◌≡◌, true, IfOk, OnOk, map, option_map};
@@ -50,7 +50,7 @@ impl<M: ShapeName> Parts<M> {
         Parts::alone(alloc, Part::measured(alloc, whole)?)
     }
 
-    /// A shape that stands alone.
+    /// A single shape.
     pub(crate) fn made(alloc: Global, shape: Shape) -> Result<Rc<Parts<M>>, AllocError>
         ensures { IfOk result (λ made. parts_view made.value ≡ shape_view shape) }
     {
@@ -75,7 +75,7 @@ impl<M: ShapeName> Parts<M> {
         most
     }
 
-    /// A part by its number, of each of the parts that met.
+    /// A part by its number, of each of the joined parts.
     pub(crate) fn child(&self, alloc: Global, number: usize) -> Result<Rc<Parts<M>>, AllocError>
         ensures { IfOk result (λ part. parts_view part.value ≡ child number (parts_view self.now)) }
     {
@@ -199,7 +199,7 @@ fn add_parts<M: ShapeName>(
     Ok(())
 }
 
-/// The shape of parts that met in two shapes of one form.
+/// The shape of parts that were joined, in two shapes of one form.
 #[tactic(auto, using(crate::proofs::Meets::all_together))]
 fn together<M: ShapeName>(
     alloc: Global,
@@ -216,7 +216,7 @@ fn together<M: ShapeName>(
     Parts::new(alloc, left.first.clone()?, others)
 }
 
-/// Whether shapes are of one form. Those of which the first part is one are not looked at.
+/// Whether shapes are of one form. Those of which the first part is one are not examined.
 fn are_alike<M: ShapeName>(left: &Parts<M>, right: &Parts<M>) -> bool
     ensures { Decides result (form (parts_view left.now) ≡ form (parts_view right.now)) }
 {

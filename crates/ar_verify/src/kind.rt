@@ -4,8 +4,8 @@ ghost use Rattle.std.specs.Prelude.{◌≡◌, ◌||◌, IfOk, Some, option_map}
 ghost use Rattle.ar_value.specs.Kind.{is_optional, merge, or_nil, plain, shaped, widest};
 ghost use Rattle.ar_value.specs.Shape.{list, optional};
 ghost use Rattle.ar_value.specs.View.{shape_view};
-ghost use Rattle.ar_safety.specs.Effects.{family_in, family_of, is_scalar};
-ghost use Rattle.ar_verify.specs.Private.Kinds.{kind_view, list_in, list_view};
+ghost use Rattle.ar_safety.specs.Effects.{family_in, family_of, is_scalar_kind};
+ghost use Rattle.ar_verify.specs.Private.Kinds.{parts_kind, list_in, list_view};
 ghost use Rattle.ar_verify.specs.Private.Lists.{is_list};
 ghost use Rattle.ar_verify.specs.Private.Roots.{child};
 ghost use Rattle.ar_verify.specs.Private.Shapes.{list_of, parts_view};
@@ -41,16 +41,16 @@ impl<M: ShapeName> ListShape<M> {
 }
 
 impl<M: ShapeName> Kind<M> {
-    /// The kind of operands of a shape that stands alone.
+    /// The kind of operands of a single shape.
     pub(crate) fn made(alloc: Global, shape: Shape) -> Result<Kind<M>, AllocError>
-        ensures { IfOk result (λ kind. kind_view kind ≡ shaped (shape_view shape)) }
+        ensures { IfOk result (λ kind. parts_kind kind ≡ shaped (shape_view shape)) }
     {
         Ok(Kind::Shape(Parts::made(alloc, shape)?))
     }
 
-    /// The same kind once more, its shape likewise.
+    /// The same kind once more, and the same shape.
     pub(crate) fn share(&self) -> Result<Kind<M>, AllocError>
-        ensures { IfOk result (λ shared. kind_view shared ≡ kind_view self.now) }
+        ensures { IfOk result (λ shared. parts_kind shared ≡ parts_kind self.now) }
     {
         match self {
             Kind::Nil => Ok(Kind::Nil),
@@ -62,28 +62,28 @@ impl<M: ShapeName> Kind<M> {
 
 /// A kind once more, as an operation gives it.
 pub(crate) fn given_again<M: ShapeName>(kind: &Kind<M>) -> Result<Option<Kind<M>>, AllocError>
-    ensures { IfOk result (λ given. option_map kind_view given ≡ Some (kind_view kind.now)) }
+    ensures { IfOk result (λ given. option_map parts_kind given ≡ Some (parts_kind kind.now)) }
 {
     Ok(Some(kind.share()?))
 }
 
-/// The kind of a shape that stands alone, as an operation gives it.
+/// The kind of a single shape, as an operation gives it.
 pub(crate) fn given_shape<M: ShapeName>(
     alloc: Global,
     shape: Shape,
 ) -> Result<Option<Kind<M>>, AllocError>
-    ensures { IfOk result (λ given. option_map kind_view given ≡ Some (shaped (shape_view shape))) }
+    ensures { IfOk result (λ given. option_map parts_kind given ≡ Some (shaped (shape_view shape))) }
 {
     Ok(Some(Kind::made(alloc, shape)?))
 }
 
-/// The kind of a shape that stands alone, where there is one.
+/// The kind of a single shape, where there is one.
 pub(crate) fn given_any<M: ShapeName>(
     alloc: Global,
     shape: Option<Shape>,
 ) -> Result<Option<Kind<M>>, AllocError>
     ensures { IfOk result
-        (λ given. option_map kind_view given ≡ option_map shaped (option_map shape_view shape)) }
+        (λ given. option_map parts_kind given ≡ option_map shaped (option_map shape_view shape)) }
 {
     match shape {
         Some(shape) => given_shape(alloc, shape),
@@ -98,7 +98,7 @@ pub(crate) fn given_part<M: ShapeName>(
     number: usize,
 ) -> Result<Option<Kind<M>>, AllocError>
     ensures { IfOk result
-        (λ given. option_map kind_view given ≡ Some (shaped (child number (parts_view whole.now)))) }
+        (λ given. option_map parts_kind given ≡ Some (shaped (child number (parts_view whole.now)))) }
 {
     Ok(Some(Kind::Shape(whole.child(alloc, number)?)))
 }
@@ -106,7 +106,7 @@ pub(crate) fn given_part<M: ShapeName>(
 /// The kind of nil and of what fits a shape.
 fn nil_or<M: ShapeName>(shape: &Rc<Parts<M>>) -> Result<Option<Kind<M>>, AllocError>
     ensures { IfOk result
-        (λ kind. option_map kind_view kind ≡ Some (shaped (or_nil (parts_view shape.now.value)))) }
+        (λ kind. option_map parts_kind kind ≡ Some (shaped (or_nil (parts_view shape.now.value)))) }
 {
     if shape.is_optional() {
         Ok(Some(Kind::Shape(shape.clone()?)))
@@ -121,7 +121,7 @@ fn merge_or_nil<M: ShapeName>(
     left: &Parts<M>,
     right: &Parts<M>,
 ) -> Result<Option<Kind<M>>, AllocError>
-    ensures { IfOk result (λ kind. option_map kind_view kind
+    ensures { IfOk result (λ kind. option_map parts_kind kind
         ≡ option_map shaped (option_map optional (widest (parts_view left.now) (parts_view right.now)))) }
 {
     match meet(alloc, left, right)? {
@@ -136,7 +136,7 @@ fn merge_with_plain<M: ShapeName>(
     left: &Parts<M>,
     right: &Rc<Parts<M>>,
 ) -> Result<Option<Kind<M>>, AllocError>
-    ensures { IfOk result (λ kind. option_map kind_view kind
+    ensures { IfOk result (λ kind. option_map parts_kind kind
         ≡ option_map shaped (option_map optional (widest (parts_view left.now) (plain (parts_view right.now.value))))) }
 {
     let right = plain(alloc, right)?;
@@ -149,7 +149,7 @@ fn merge_plain<M: ShapeName>(
     left: &Parts<M>,
     right: &Parts<M>,
 ) -> Result<Option<Kind<M>>, AllocError>
-    ensures { IfOk result (λ kind. option_map kind_view kind
+    ensures { IfOk result (λ kind. option_map parts_kind kind
         ≡ option_map shaped (widest (parts_view left.now) (parts_view right.now))) }
 {
     match meet(alloc, left, right)? {
@@ -170,7 +170,7 @@ fn merge_shapes<M: ShapeName>(
     left: &Rc<Parts<M>>,
     right: &Rc<Parts<M>>,
 ) -> Result<Option<Kind<M>>, AllocError>
-    ensures { IfOk result (λ kind. option_map kind_view kind
+    ensures { IfOk result (λ kind. option_map parts_kind kind
         ≡ merge (shaped (parts_view left.now.value)) (shaped (parts_view right.now.value))) }
 {
     if is_either_optional(left, right) {
@@ -187,7 +187,7 @@ pub(crate) fn merge<M: ShapeName>(
     left: &Kind<M>,
     right: &Kind<M>,
 ) -> Result<Option<Kind<M>>, AllocError>
-    ensures { IfOk result (λ kind. option_map kind_view kind ≡ merge (kind_view left.now) (kind_view right.now)) }
+    ensures { IfOk result (λ kind. option_map parts_kind kind ≡ merge (parts_kind left.now) (parts_kind right.now)) }
 {
     match (left, right) {
         (Kind::Nil, Kind::Nil) => Ok(Some(Kind::Nil)),
@@ -203,7 +203,7 @@ pub(crate) fn merge<M: ShapeName>(
 }
 
 fn is_scalar_shape(scalar: Scalar, shape: &Shape) -> bool
-    ensures { result ≡ is_scalar scalar (shaped (shape_view shape.now)) }
+    ensures { result ≡ is_scalar_kind scalar (shaped (shape_view shape.now)) }
 {
     match scalar {
         Scalar::Bool => matches!(shape, Shape::Bool),
@@ -214,7 +214,7 @@ fn is_scalar_shape(scalar: Scalar, shape: &Shape) -> bool
 }
 
 pub(crate) fn is_scalar<M: ShapeName>(scalar: Scalar, kind: &Kind<M>) -> bool
-    ensures { result ≡ is_scalar scalar (kind_view kind.now) }
+    ensures { result ≡ is_scalar_kind scalar (parts_kind kind.now) }
 {
     match kind {
         Kind::Nil | Kind::OrNil(_) => false,
@@ -235,7 +235,7 @@ pub(crate) fn family_of(shape: &Shape) -> Option<Family>
 
 /// The family of a scalar that may be nil.
 pub(crate) fn family_in<M: ShapeName>(kind: &Kind<M>) -> Option<Family>
-    ensures { result ≡ family_in (kind_view kind.now) }
+    ensures { result ≡ family_in (parts_kind kind.now) }
 {
     match kind {
         Kind::Nil => None,
@@ -266,7 +266,7 @@ fn is_list<M: ShapeName>(shape: &Parts<M>) -> bool
 
 /// The shape of a list, where the kind is that of one.
 pub(crate) fn as_list<M: ShapeName>(kind: &Kind<M>) -> Option<&Parts<M>>
-    ensures { option_map (λ list. list_of list.now) result ≡ list_in (kind_view kind.now) }
+    ensures { option_map (λ list. list_of list.now) result ≡ list_in (parts_kind kind.now) }
 {
     match kind {
         Kind::Nil | Kind::OrNil(_) => None,
@@ -274,9 +274,9 @@ pub(crate) fn as_list<M: ShapeName>(kind: &Kind<M>) -> Option<&Parts<M>>
     }
 }
 
-/// Likewise, of a kind that isn't needed any more.
+/// The same, of a kind that isn't needed any more.
 pub(crate) fn into_list<M: ShapeName>(kind: Kind<M>) -> Option<ListShape<M>>
-    ensures { option_map list_view result ≡ list_in (kind_view kind) }
+    ensures { option_map list_view result ≡ list_in (parts_kind kind) }
 {
     match kind {
         Kind::Nil | Kind::OrNil(_) => None,
@@ -292,7 +292,7 @@ pub(crate) fn into_list<M: ShapeName>(kind: Kind<M>) -> Option<ListShape<M>>
 
 /// The kind of a list of the same items, and of as many at most.
 pub(crate) fn kind_of_list<M: ShapeName>(of: &ListShape<M>) -> Result<Kind<M>, AllocError>
-    ensures { IfOk result (λ kind. kind_view kind ≡ shaped (list (list_view of.now).0 (list_view of.now).1)) }
+    ensures { IfOk result (λ kind. parts_kind kind ≡ shaped (list (list_view of.now).0 (list_view of.now).1)) }
 {
     Ok(Kind::Shape(of.parts.clone()?))
 }

@@ -1,18 +1,18 @@
 //! The verifier: code that it accepts runs safely, and within a budget that is known before.
 //!
-//! [`verify`] takes code and the shape of the values that it is to judge, and answers
+//! [`verify`] takes code and the shape of the values that it is to judge, and returns
 //! [`Verified`] code or its first fault, as `ar_safety/specs/Verdict` defines
 //! them. Each pass is one way through the operations. Only out of memory can keep the verifier from its
-//! answer.
+//! result.
 //!
 //! - `verifier`: the passes, one after the other
-//! - `places`: whether the places that operations name are as they should be; `loops`: whether loops
-//!   lie one in another
+//! - `places`: whether the indexes that operations name are as they should be; `loops`: whether loops
+//!   are nested
 //! - `whole`: the shape of the measured value; `path`: parts of shapes, by the way to them in the whole
-//! - `parts`, `list`: the shapes of operands, which are those of parts that met; `join`: how they meet, and what is
-//!   known of them
+//! - `parts`, `list`: the shapes of operands, which are those of joined parts; `join`: how they join,
+//!   and what is known of them
 //! - `kind`, `stack`: kinds of operands; `operators`, `effect`: what operations give of them
-//! - `operands`, `sending`, `arrivals`: what operations send on, and what arrives at each place
+//! - `operands`, `sending`, `arrivals`: what operations send on, and what arrives at each index
 //! - `budget`: what a run may cost at most
 //! - `failure`: why an operation sends nothing on
 #![tactic(auto)]

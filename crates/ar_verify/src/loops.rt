@@ -1,8 +1,8 @@
-//! Whether loops lie one in another, at most four deep, and jumps and Returns stay inside their loop.
+//! Whether loops are nested, at most four deep, and jumps and Returns stay inside their loop.
 //!
-//! A place and one further on lie in the same loops exactly if as many loops are around both and the
-//! innermost loop of the first reaches up to the second. So no jump needs a look at what lies
-//! between, and the pass is linear in the code.
+//! An index and one further on are in the same loops exactly if as many loops are around both and the
+//! innermost loop of the first reaches up to the second. So the pass need not examine, for a jump, what
+//! is between, and it is linear in the code.
 
 ghost use Rattle.std.specs.Prelude.{◌≡◌, ◌<◌, length, IfOk, Ok};
 ghost use Rattle.ar_value.specs.Answer.{Gives};
@@ -16,7 +16,7 @@ use ar_safety::{Cause, Reason};
 use ar_value::limits::MOST_LOOPS;
 use std::alloc::{AllocError, Global};
 
-/// How many loops are around the place after an operation.
+/// How many loops are around the index after an operation.
 fn depth_behind(op: Op, depth: usize) -> usize
     requires { depth < usize.MAX }
     ensures { result ≡ depth_behind op depth }
@@ -48,7 +48,7 @@ fn innermost(steps: &[usize]) -> Option<usize>
     steps.last().copied()
 }
 
-/// Whether a place lies inside the innermost loop, by its Step.
+/// Whether `place` is inside the innermost loop, by its Step.
 fn is_inside(innermost: Option<usize>, place: usize) -> bool
     ensures { result ≡ is_inside innermost place }
 {
@@ -58,7 +58,7 @@ fn is_inside(innermost: Option<usize>, place: usize) -> bool
     }
 }
 
-/// What is wrong with a jump from a place to one further on.
+/// What is wrong with a jump from `place` to one further on.
 fn stays(around: &[usize], innermost: Option<usize>, place: usize, target: usize) -> Option<Reason>
     requires from { place < length around.now }
     requires to { target < length around.now }
@@ -68,7 +68,7 @@ fn stays(around: &[usize], innermost: Option<usize>, place: usize, target: usize
     unless(in_same_loops, Reason::CrossesLoop)
 }
 
-/// What is wrong with the operation at a place, by the loops around it.
+/// What is wrong with the operation at `place`, by the loops around it.
 fn nests_well(around: &[usize], innermost: Option<usize>, place: usize, op: Op) -> Option<Reason>
     requires from { place < length around.now }
     requires to { JumpsInside (length around.now) op }

@@ -1,9 +1,9 @@
-//! Operands on the way to a place, by their kinds.
+//! Operands on the way to an index, by their kinds.
 
 ghost use Rattle.std.specs.Prelude.{◌≡◌, ◌++◌, ◌∷◌, [], IfOk, MatchOption, OnOk, map, option_map};
-ghost use Rattle.ar_safety.specs.Arrivals.{floor, height, merged, of_loops, operands};
+ghost use Rattle.ar_safety.specs.Arrivals.{floor_height, height, merged, of_loops, operands};
 ghost use Rattle.ar_verify.specs.Private.Held.{around_view, arrival_view, counted, from_innermost, operands_view};
-ghost use Rattle.ar_verify.specs.Private.Kinds.{kind_view};
+ghost use Rattle.ar_verify.specs.Private.Kinds.{parts_kind};
 ghost use Rattle.ar_verify.specs.Private.Stacks.{from_top};
 
 use crate::kind::{Kind, merge};
@@ -13,7 +13,7 @@ use ar_safety::Reason;
 use ar_value::holding::try_push;
 use std::alloc::{AllocError, Global};
 
-/// A loop around a place.
+/// A loop around an index.
 #[derive(Drop)]
 pub(crate) struct Around<M: ShapeName> {
     pub list: ListShape<M>,
@@ -32,13 +32,13 @@ pub(crate) struct Operands<M: ShapeName> {
 /// Adds a kind once more.
 fn copy_onto<M: ShapeName>(copies: &mut Vec<Kind<M>>, kind: &Kind<M>) -> Result<(), AllocError>
     ensures { OnOk result
-        (map kind_view copies.new.items ≡ map kind_view copies.old.items ++ kind_view kind.now ∷ []) }
+        (map parts_kind copies.new.items ≡ map parts_kind copies.old.items ++ parts_kind kind.now ∷ []) }
 {
     try_push(copies, kind.share()?)
 }
 
 fn copy_kinds<M: ShapeName>(alloc: Global, kinds: &[Kind<M>]) -> Result<Vec<Kind<M>>, AllocError>
-    ensures { IfOk result (λ copies. map kind_view copies.items ≡ map kind_view kinds.now) }
+    ensures { IfOk result (λ copies. map parts_kind copies.items ≡ map parts_kind kinds.now) }
 {
     let mut copies = Vec::with_capacity(alloc, kinds.len())?;
     for kind in kinds {
@@ -70,9 +70,9 @@ fn copy_loops<M: ShapeName>(
     Ok(copies)
 }
 
-/// How many operands lie below the floor of the innermost loop.
+/// How many operands are below the floor of the innermost loop.
 fn floor<M: ShapeName>(loops: &[Around<M>]) -> usize
-    ensures { result ≡ counted (floor (from_innermost loops.now)) }
+    ensures { result ≡ counted (floor_height (from_innermost loops.now)) }
 {
     let mut floor: usize = 0;
     for around in loops {
@@ -115,8 +115,8 @@ fn merge_all<M: ShapeName>(
     lefts: &[Kind<M>],
     rights: &[Kind<M>],
 ) -> Result<Option<Vec<Kind<M>>>, AllocError>
-    ensures { IfOk result (λ kinds. option_map (λ kinds. map kind_view kinds.items) kinds
-        ≡ merged (map kind_view lefts.now) (map kind_view rights.now)) }
+    ensures { IfOk result (λ kinds. option_map (λ kinds. map parts_kind kinds.items) kinds
+        ≡ merged (map parts_kind lefts.now) (map parts_kind rights.now)) }
 {
     if lefts.len() != rights.len() {
         return Ok(None);

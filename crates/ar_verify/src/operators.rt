@@ -1,12 +1,12 @@
 //! What operators give of the kinds of their operands: nothing where they don't take these.
 
 ghost use Rattle.std.specs.Prelude.{◌≡◌, ◌&&◌, IfOk, option_map};
-ghost use Rattle.ar_value.specs.Kind.{plain, shaped};
+ghost use Rattle.ar_value.specs.Kind.{plain, shaped, truth_kind};
 ghost use Rattle.ar_value.specs.Shape.{optional};
 ghost use Rattle.ar_value.specs.View.{shape_view};
-ghost use Rattle.ar_safety.specs.Effects.{decimal_kind, decimal_shape, family_in, family_of, is_scalar, binary_kind, decimals_kind, default_kind, equal_kind, field_kind, is_compared, is_family, is_number, item_kind, length_kind, member_kind, needed_kind, negative_kind, of_one_family, opposite_kind, order_kind, quotient_kind, same_kind, truth, unary_kind, where_taken, wholes_kind};
-ghost use Rattle.ar_verify.specs.Private.Kinds.{kind_view};
-ghost use Rattle.ar_verify.specs.Private.Roots.{number_of};
+ghost use Rattle.ar_safety.specs.Effects.{decimal_kind, decimal_shape, family_in, family_of, is_scalar_kind, binary_kind, decimals_kind, default_kind, equal_kind, field_kind, is_compared, is_family, is_number, item_kind, length_kind, member_kind, needed_kind, negative_kind, are_one_family, opposite_kind, order_kind, quotient_kind, same_kind, unary_kind, where_taken, wholes_kind};
+ghost use Rattle.ar_verify.specs.Private.Kinds.{parts_kind};
+ghost use Rattle.ar_verify.specs.Private.Roots.{root_field};
 ghost use Rattle.ar_verify.specs.Private.Shapes.{list_of, parts_view};
 
 use crate::join::plain;
@@ -30,7 +30,7 @@ fn where_taken<M: ShapeName>(
     is_taken: bool,
     shape: Shape,
 ) -> Result<Option<Kind<M>>, AllocError>
-    ensures { IfOk result (λ given. option_map kind_view given ≡ where_taken is_taken (shaped (shape_view shape))) }
+    ensures { IfOk result (λ given. option_map parts_kind given ≡ where_taken is_taken (shaped (shape_view shape))) }
 {
     if is_taken {
         given_shape(alloc, shape)
@@ -41,7 +41,7 @@ fn where_taken<M: ShapeName>(
 
 /// The number of a record's field, where there is one of the name.
 fn number_of<M: ShapeName>(name: &str, shape: &Parts<M>) -> Option<usize>
-    ensures { result ≡ number_of name.now (parts_view shape.now) }
+    ensures { result ≡ root_field name.now (parts_view shape.now) }
 {
     field_number(name, shape.representative())
 }
@@ -52,7 +52,7 @@ pub(crate) fn field_of<M: ShapeName>(
     name: &str,
     operand: &Kind<M>,
 ) -> Result<Option<Kind<M>>, AllocError>
-    ensures { IfOk result (λ given. option_map kind_view given ≡ field_kind name.now (kind_view operand.now)) }
+    ensures { IfOk result (λ given. option_map parts_kind given ≡ field_kind name.now (parts_kind operand.now)) }
 {
     match operand {
         Kind::Nil | Kind::OrNil(_) => Ok(None),
@@ -69,7 +69,7 @@ fn item<M: ShapeName>(
     index: &Kind<M>,
 ) -> Result<Option<Kind<M>>, AllocError>
     ensures { IfOk result
-        (λ given. option_map kind_view given ≡ item_kind (kind_view list.now) (kind_view index.now)) }
+        (λ given. option_map parts_kind given ≡ item_kind (parts_kind list.now) (parts_kind index.now)) }
 {
     if !is_scalar(Scalar::Whole, index) {
         return Ok(None);
@@ -81,13 +81,13 @@ fn item<M: ShapeName>(
 }
 
 fn length<M: ShapeName>(alloc: Global, list: &Kind<M>) -> Result<Option<Kind<M>>, AllocError>
-    ensures { IfOk result (λ given. option_map kind_view given ≡ length_kind (kind_view list.now)) }
+    ensures { IfOk result (λ given. option_map parts_kind given ≡ length_kind (parts_kind list.now)) }
 {
     where_taken(alloc, as_list(list).is_some(), Shape::Whole)
 }
 
 fn needed<M: ShapeName>(alloc: Global, operand: &Kind<M>) -> Result<Option<Kind<M>>, AllocError>
-    ensures { IfOk result (λ given. option_map kind_view given ≡ needed_kind (kind_view operand.now)) }
+    ensures { IfOk result (λ given. option_map parts_kind given ≡ needed_kind (parts_kind operand.now)) }
 {
     match operand {
         Kind::Nil => Ok(None),
@@ -96,14 +96,14 @@ fn needed<M: ShapeName>(alloc: Global, operand: &Kind<M>) -> Result<Option<Kind<
     }
 }
 
-/// The kind of what isn't nil, or of what stands for it.
+/// The kind of what isn't nil, or of what replaces it.
 fn default<M: ShapeName>(
     alloc: Global,
     operand: &Kind<M>,
     other: &Kind<M>,
 ) -> Result<Option<Kind<M>>, AllocError>
     ensures { IfOk result
-        (λ given. option_map kind_view given ≡ default_kind (kind_view operand.now) (kind_view other.now)) }
+        (λ given. option_map parts_kind given ≡ default_kind (parts_kind operand.now) (parts_kind other.now)) }
 {
     match operand {
         Kind::Nil => given_again(other),
@@ -144,7 +144,7 @@ fn decimal_of<M: ShapeName>(alloc: Global, shape: &Parts<M>) -> Result<Option<Sh
 }
 
 fn decimal<M: ShapeName>(alloc: Global, operand: &Kind<M>) -> Result<Option<Kind<M>>, AllocError>
-    ensures { IfOk result (λ given. option_map kind_view given ≡ decimal_kind (kind_view operand.now)) }
+    ensures { IfOk result (λ given. option_map parts_kind given ≡ decimal_kind (parts_kind operand.now)) }
 {
     match operand {
         Kind::Nil => Ok(None),
@@ -163,7 +163,7 @@ fn is_family(family: Family, of: Option<Family>) -> bool
 }
 
 fn of_one_family(family: Option<Family>, other: Option<Family>) -> bool
-    ensures { result ≡ of_one_family family other }
+    ensures { result ≡ are_one_family family other }
 {
     match family {
         Some(family) => is_family(family, other),
@@ -184,7 +184,7 @@ fn member<M: ShapeName>(
     list: &Kind<M>,
 ) -> Result<Option<Kind<M>>, AllocError>
     ensures { IfOk result
-        (λ given. option_map kind_view given ≡ member_kind (kind_view operand.now) (kind_view list.now)) }
+        (λ given. option_map parts_kind given ≡ member_kind (parts_kind operand.now) (parts_kind list.now)) }
 {
     let Some(list) = as_list(list) else {
         return Ok(None);
@@ -209,7 +209,7 @@ fn quotient(operator: Arithmetic) -> Shape
 }
 
 fn same<M: ShapeName>(scalar: Scalar, operand: &Kind<M>) -> Result<Option<Kind<M>>, AllocError>
-    ensures { IfOk result (λ given. option_map kind_view given ≡ same_kind scalar (kind_view operand.now)) }
+    ensures { IfOk result (λ given. option_map parts_kind given ≡ same_kind scalar (parts_kind operand.now)) }
 {
     if is_scalar(scalar, operand) {
         given_again(operand)
@@ -222,7 +222,7 @@ fn negative<M: ShapeName>(
     numbers: Numbers,
     operand: &Kind<M>,
 ) -> Result<Option<Kind<M>>, AllocError>
-    ensures { IfOk result (λ given. option_map kind_view given ≡ negative_kind numbers (kind_view operand.now)) }
+    ensures { IfOk result (λ given. option_map parts_kind given ≡ negative_kind numbers (parts_kind operand.now)) }
 {
     match numbers {
         Numbers::Wholes => same(Scalar::Whole, operand),
@@ -231,7 +231,7 @@ fn negative<M: ShapeName>(
 }
 
 fn is_compared<M: ShapeName>(numbers: Compared, operand: &Kind<M>) -> bool
-    ensures { result ≡ is_compared numbers (kind_view operand.now) }
+    ensures { result ≡ is_compared numbers (parts_kind operand.now) }
 {
     match numbers {
         Compared::Wholes => is_scalar(Scalar::Whole, operand),
@@ -248,7 +248,7 @@ pub(crate) fn apply_unary<M: ShapeName>(
     operator: UnaryOperator,
     operand: &Kind<M>,
 ) -> Result<Option<Kind<M>>, AllocError>
-    ensures { IfOk result (λ given. option_map kind_view given ≡ unary_kind operator (kind_view operand.now)) }
+    ensures { IfOk result (λ given. option_map parts_kind given ≡ unary_kind operator (parts_kind operand.now)) }
 {
     match operator {
         UnaryOperator::Len => length(alloc, operand),
@@ -261,20 +261,20 @@ pub(crate) fn apply_unary<M: ShapeName>(
 }
 
 fn are_scalars<M: ShapeName>(scalar: Scalar, left: &Kind<M>, right: &Kind<M>) -> bool
-    ensures { result ≡ (is_scalar scalar (kind_view left.now) && is_scalar scalar (kind_view right.now)) }
+    ensures { result ≡ (is_scalar_kind scalar (parts_kind left.now) && is_scalar_kind scalar (parts_kind right.now)) }
 {
     is_scalar(scalar, left) && is_scalar(scalar, right)
 }
 
 fn are_compared<M: ShapeName>(numbers: Compared, left: &Kind<M>, right: &Kind<M>) -> bool
-    ensures { result ≡ (is_compared numbers (kind_view left.now) && is_compared numbers (kind_view right.now)) }
+    ensures { result ≡ (is_compared numbers (parts_kind left.now) && is_compared numbers (parts_kind right.now)) }
 {
     is_compared(numbers, left) && is_compared(numbers, right)
 }
 
 fn are_in_family<M: ShapeName>(family: Family, left: &Kind<M>, right: &Kind<M>) -> bool
-    ensures { result ≡ (is_family family (family_in (kind_view left.now))
-        && is_family family (family_in (kind_view right.now))) }
+    ensures { result ≡ (is_family family (family_in (parts_kind left.now))
+        && is_family family (family_in (parts_kind right.now))) }
 {
     is_family(family, family_in(left)) && is_family(family, family_in(right))
 }
@@ -287,7 +287,7 @@ pub(crate) fn apply_binary<M: ShapeName>(
     right: &Kind<M>,
 ) -> Result<Option<Kind<M>>, AllocError>
     ensures { IfOk result
-        (λ given. option_map kind_view given ≡ binary_kind operator (kind_view left.now) (kind_view right.now)) }
+        (λ given. option_map parts_kind given ≡ binary_kind operator (parts_kind left.now) (parts_kind right.now)) }
 {
     match operator {
         BinaryOperator::Index => item(alloc, left, right),

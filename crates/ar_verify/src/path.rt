@@ -3,7 +3,7 @@
 
 ghost use Rattle.std.specs.Prelude.{◌≡◌, true, IfOk, ◌++◌, ◌∷◌, [], Some, map};
 ghost use Rattle.ar_value.specs.View.{shape_view};
-ghost use Rattle.ar_verify.specs.Private.Roots.{root_view, child, field_or, number_named, number_of, part_at};
+ghost use Rattle.ar_verify.specs.Private.Roots.{root_view, child, field_or, number_named, root_field, part_at};
 ghost use Rattle.ar_value.specs.Shape.{field_shapes_of};
 ghost use Rattle.ar_verify.specs.Private.Parts.{part_view};
 
@@ -84,7 +84,7 @@ pub(crate) fn child(shape: &Shape, number: usize) -> &Shape
     }
 }
 
-/// Goes from a shape to a part of it.
+/// Follows a path from a shape to a part of it.
 fn follow<'a>(whole: &'a Shape, path: &[usize]) -> &'a Shape
     ensures { shape_view result.now ≡ part_at path.now (shape_view whole.now) }
 {
@@ -125,7 +125,7 @@ impl<M: ShapeName> Part<M> {
         Part::whole(alloc, Root::Measured(whole.try_clone()?))
     }
 
-    /// A shape that stands alone.
+    /// A single shape.
     pub(crate) fn made(alloc: Global, shape: Shape) -> Result<Rc<Part<M>>, AllocError>
         ensures { IfOk result (λ made. part_view made.value ≡ shape_view shape) }
     {
@@ -148,7 +148,7 @@ impl<M: ShapeName> Part<M> {
     }
 }
 
-/// Whether two parts lie at one way in the measured value's shape.
+/// Whether two parts have one path in the measured value's shape.
 fn lie_at_one_way<M: ShapeName>(left: &Part<M>, right: &Part<M>) -> bool
     ensures { result ≡ true → part_view left.now ≡ part_view right.now }
 {
@@ -187,7 +187,7 @@ fn number_among(name: &str, names: &Names, shapes: &[Shape]) -> Option<usize>
 
 /// The number of a record's field, where the shape is that of a record that has one of the name.
 pub(crate) fn field_number(name: &str, shape: &Shape) -> Option<usize>
-    ensures { result ≡ number_of name.now (shape_view shape.now) }
+    ensures { result ≡ root_field name.now (shape_view shape.now) }
 {
     match shape {
         Shape::Object(fields) => number_among(name, &fields.names, &fields.shapes),

@@ -1,5 +1,5 @@
-//! The verifier's passes 1 to 4: there are operations, they name places inside the code and further
-//! on, a loop's Enter and Step name each other, loops lie one in another, and the last operation is
+//! The verifier's passes 1 to 4: there are operations, they name indexes inside the code and further
+//! on, a loop's Enter and Step name each other, loops are nested, and the last operation is
 //! Return.
 
 ghost use Rattle.std.specs.Prelude.{◌≡◌};
@@ -8,7 +8,7 @@ ghost use Rattle.ar_op.specs.Machine.{begins_loop, nth};
 ghost use Rattle.ar_value.specs.Predicates.{is_same};
 ghost use Rattle.ar_op.specs.declared.op.Op.TheVariants.{Enter, Step};
 ghost use Rattle.ar_safety.specs.Memory.{is_memory};
-ghost use Rattle.ar_safety.specs.Places.{all_pass, ends_in_return, ends_loop, forward, has_ops, inside, is_return, names_well, places_pass, unless};
+ghost use Rattle.ar_safety.specs.Places.{all_pass, ends_in_return, ends_loop, forward, has_ops, inside_code, is_return, names_well, places_pass, unless};
 
 use crate::loops::all_nest_well;
 use ar_op::op::Op;
@@ -16,7 +16,7 @@ use ar_safety::{Cause, Reason};
 use ar_value::operator::Predicate;
 use std::alloc::Global;
 
-/// The operation at a place.
+/// The operation at `place`.
 fn op_at(ops: &[Op], place: usize) -> Option<Op>
     ensures { result ≡ nth ops.now place }
 {
@@ -47,7 +47,7 @@ pub(crate) fn has_ops(ops: &[Op]) -> Result<(), Cause>
 }
 
 fn inside(ops: &[Op], named: usize) -> Option<Reason>
-    ensures { result ≡ inside ops.now named }
+    ensures { result ≡ inside_code ops.now named }
 {
     unless(named < ops.len(), Reason::JumpOutside)
 }
@@ -64,7 +64,7 @@ fn is_same(predicate: Predicate, other: Predicate) -> bool
     predicate == other
 }
 
-/// Whether an operation is the Step of the Enter at a place.
+/// Whether an operation is the Step of the Enter at `enter`.
 fn ends_loop(predicate: Predicate, enter: usize, op: Option<Op>) -> bool
     ensures { result ≡ ends_loop predicate enter op }
 {
@@ -74,7 +74,7 @@ fn ends_loop(predicate: Predicate, enter: usize, op: Option<Op>) -> bool
     }
 }
 
-/// Whether an operation is the Enter of the Step at a place.
+/// Whether an operation is the Enter of the Step at `step`.
 fn begins_loop(predicate: Predicate, step: usize, op: Option<Op>) -> bool
     ensures { result ≡ begins_loop predicate step op }
 {
@@ -84,7 +84,7 @@ fn begins_loop(predicate: Predicate, step: usize, op: Option<Op>) -> bool
     }
 }
 
-/// What is wrong with the Step that the Enter at a place names.
+/// What is wrong with the Step that the Enter at `place` names.
 fn names_step(ops: &[Op], place: usize, predicate: Predicate, step: u32) -> Option<Reason>
     ensures { result ≡ names_well ops.now place (Enter predicate step) }
 {
@@ -92,7 +92,7 @@ fn names_step(ops: &[Op], place: usize, predicate: Predicate, step: u32) -> Opti
     forward(ops, place, step as usize).or(unless(is_paired, Reason::UnpairedLoop))
 }
 
-/// What is wrong with the Enter that the Step at a place names.
+/// What is wrong with the Enter that the Step at `place` names.
 fn names_enter(ops: &[Op], place: usize, predicate: Predicate, enter: u32) -> Option<Reason>
     ensures { result ≡ names_well ops.now place (Step predicate enter) }
 {
@@ -101,7 +101,7 @@ fn names_enter(ops: &[Op], place: usize, predicate: Predicate, enter: u32) -> Op
     inside(ops, enter).or(unless(is_paired, Reason::UnpairedLoop))
 }
 
-/// What is wrong with the places that the operation at a place names.
+/// What is wrong with the indexes that the operation at `place` names.
 fn names_well(ops: &[Op], place: usize, op: Op) -> Option<Reason>
     ensures { result ≡ names_well ops.now place op }
 {
@@ -113,7 +113,7 @@ fn names_well(ops: &[Op], place: usize, op: Op) -> Option<Reason>
     }
 }
 
-/// Finds the first operation that names a place as it shouldn't.
+/// Finds the first operation that names an index as it shouldn't.
 pub(crate) fn all_name_well(ops: &[Op]) -> Result<(), Cause>
     ensures { result ≡ all_pass (names_well ops.now) 0 ops.now }
 {

@@ -3,12 +3,12 @@
 ghost use Rattle.std.specs.Prelude.{◌≡◌, ◌+◌, ◌<◌, ◌≤◌, ◌∷◌, [], IfOk, MatchOption, Ok, OnOk, option_map};
 ghost use Rattle.ar_value.specs.View.{shape_view};
 ghost use Rattle.ar_value.specs.Limits.{most_operands};
-ghost use Rattle.ar_safety.specs.Arrivals.{answer_kind, deepest, item_of, lacks, operands};
-ghost use Rattle.ar_safety.specs.Effects.{effect};
+ghost use Rattle.ar_safety.specs.Arrivals.{answer_kind, deepest, innermost_shape, lacks, operands};
+ghost use Rattle.ar_safety.specs.Effects.{kinds_left};
 ghost use Rattle.ar_verify.specs.Private.Failures.{Meets};
 ghost use Rattle.ar_verify.specs.Private.Held.{around_view, counted, from_innermost, operands_view};
-ghost use Rattle.ar_verify.specs.Private.Kinds.{kind_view, list_view};
-ghost use Rattle.ar_verify.specs.Private.Sending.{around, beginning, begun, branched, ending, given_on_top, going_on, jumping, kept_or_taken, list_taken, only_truth, passed_by, performed, returning, sends_by, sends_view, stepping, truth_taken};
+ghost use Rattle.ar_verify.specs.Private.Kinds.{parts_kind, list_view};
+ghost use Rattle.ar_verify.specs.Private.Sending.{around, beginning, begun, branched, ending, given_on_top, going_on, jumping, kept_or_taken, list_taken, only_truth, passed_by, or_ill_kinded, returning, sends_by, sends_view, stepping, truth_taken};
 ghost use Rattle.ar_verify.specs.Private.Shapes.{list_of};
 ghost use Rattle.ar_verify.specs.Private.Stacks.{from_top};
 
@@ -29,7 +29,7 @@ use ar_value::operator::{Predicate, Scalar};
 use ar_value::shape::Shape;
 use std::alloc::{AllocError, Global};
 
-/// Operands on the way to a place.
+/// Operands on the way to an index.
 #[derive(Drop)]
 pub(crate) struct Sent<M: ShapeName> {
     pub target: usize,
@@ -73,7 +73,7 @@ fn answer_kind<M: ShapeName>(
     list: &ListShape<M>,
 ) -> Result<Kind<M>, AllocError>
     ensures { IfOk result
-        (λ answer. kind_view answer ≡ answer_kind predicate (list_view list.now).0 (list_view list.now).1) }
+        (λ answer. parts_kind answer ≡ answer_kind predicate (list_view list.now).0 (list_view list.now).1) }
 {
     match predicate {
         Predicate::All | Predicate::Any | Predicate::None | Predicate::One => {
@@ -103,12 +103,12 @@ fn pop_loop<M: ShapeName>(loops: &mut Vec<Around<M>>) -> Option<Around<M>>
 
 /// The shape of the innermost loop's list.
 fn innermost<'a, M: ShapeName>(loops: &'a [Around<M>]) -> Option<&'a Parts<M>>
-    ensures { option_map (λ list. (list_of list.now).0) result ≡ item_of (from_innermost loops.now) }
+    ensures { option_map (λ list. (list_of list.now).0) result ≡ innermost_shape (from_innermost loops.now) }
 {
     Some(&loops.last()?.list.parts)
 }
 
-/// Goes to a place with the boolean on top, or on without it.
+/// Jumps to `target` with the boolean on top, or continues without it.
 fn keep_or_take<M: ShapeName>(
     alloc: Global,
     next: usize,
@@ -132,7 +132,7 @@ fn keep_or_take<M: ShapeName>(
     ))
 }
 
-/// Goes to a place or on, without the boolean on top.
+/// Jumps to `target` or continues, without the boolean on top.
 fn branch<M: ShapeName>(
     alloc: Global,
     next: usize,
@@ -156,7 +156,7 @@ fn branch<M: ShapeName>(
     ))
 }
 
-/// Goes to the place of a jump, or on.
+/// Jumps to the target, or continues.
 fn jump<M: ShapeName>(
     alloc: Global,
     jump: Jump,
@@ -225,7 +225,7 @@ fn skip_loop<M: ShapeName>(
     Ok(Operands { kinds, loops })
 }
 
-/// Begins a loop over a list that was on top, or goes after it with its answer.
+/// Begins a loop over a list that was on top, or continues after it with its answer.
 fn begin_loop<M: ShapeName>(
     alloc: Global,
     predicate: Predicate,
@@ -251,7 +251,7 @@ fn begin_loop<M: ShapeName>(
     ))
 }
 
-/// Begins a loop over the list on top, or goes after it with its answer.
+/// Begins a loop over the list on top, or continues after it with its answer.
 fn enter<M: ShapeName>(
     alloc: Global,
     predicate: Predicate,
@@ -279,7 +279,7 @@ fn take_answer<M: ShapeName>(mut kinds: Vec<Kind<M>>) -> Result<(), Failure>
     }
 }
 
-/// Goes after the innermost loop, with its answer.
+/// Continues after the innermost loop, with its answer.
 fn end_loop<M: ShapeName>(
     alloc: Global,
     predicate: Predicate,
@@ -296,7 +296,7 @@ fn end_loop<M: ShapeName>(
     }))
 }
 
-/// Goes on after a loop, where nothing but the boolean of its body is above its floor.
+/// Continues after a loop, where nothing but the boolean of its body is above its floor.
 fn step<M: ShapeName>(
     alloc: Global,
     predicate: Predicate,
@@ -321,13 +321,13 @@ fn answer<M: ShapeName>(mut had: Operands<M>) -> Result<Sends<M>, Failure>
 /// Pushes what an operation gives, unless it doesn't take its operands.
 fn push_given<M: ShapeName>(kinds: &mut Vec<Kind<M>>, given: Option<Kind<M>>) -> Result<(), Failure>
     ensures { Meets (λ _. from_top kinds.new.items) result
-        (given_on_top (option_map kind_view given) (from_top kinds.old.items)) }
+        (given_on_top (option_map parts_kind given) (from_top kinds.old.items)) }
 {
     let given = given.ok_or(Reason::IllKinded)?;
     Ok(push(kinds, given)?)
 }
 
-/// Performs an operation that goes on to the next place, of the operands above the floor.
+/// Performs an operation that continues at the next index, of the operands above the floor.
 fn perform<M: ShapeName>(
     alloc: Global,
     code: &Code,
@@ -336,15 +336,15 @@ fn perform<M: ShapeName>(
     op: Op,
     kinds: &mut Vec<Kind<M>>,
 ) -> Result<(), Failure>
-    ensures { Meets (λ _. from_top kinds.new.items) result (performed
-        (effect code.now (shape_view M.shape) (option_map (λ list. (list_of list.now).0) here.entry) op
+    ensures { Meets (λ _. from_top kinds.new.items) result (or_ill_kinded
+        (kinds_left code.now (shape_view M.shape) (option_map (λ list. (list_of list.now).0) here.entry) op
         (from_top kinds.old.items))) }
 {
     let given = apply(alloc, code, measured, here, op, kinds)?;
     push_given(kinds, given)
 }
 
-/// Goes to the next place.
+/// Continues at the next index.
 fn go_on<M: ShapeName>(
     alloc: Global,
     code: &Code,
@@ -354,7 +354,8 @@ fn go_on<M: ShapeName>(
     mut had: Operands<M>,
 ) -> Result<Sends<M>, Failure>
     ensures { Meets sends_view result (going_on next (operands_view had).loops
-        (effect code.now (shape_view M.shape) (item_of (operands_view had).loops) op (operands_view had).kinds)) }
+        (kinds_left code.now (shape_view M.shape) (innermost_shape (operands_view had).loops) op
+        (operands_view had).kinds)) }
 {
     let here = innermost(&had.loops);
     perform(alloc, code, measured, here, op, &mut had.kinds)?;

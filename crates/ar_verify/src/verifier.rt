@@ -4,7 +4,8 @@ ghost use Rattle.std.specs.Prelude.{◌≡◌, Err, IfErr, IfOk, Ok, if◌then�
 ghost use Rattle.ar_value.specs.View.{shape_view};
 ghost use Rattle.ar_op.specs.Code.{IsCode};
 ghost use Rattle.ar_safety.specs.Safety.{RunsSafely};
-ghost use Rattle.ar_safety.specs.Verdict.{IsCause, IsVerified, greatest_budget};
+ghost use Rattle.ar_safety.specs.Verdict.{IsCause, IsVerified};
+ghost use Rattle.ar_safety.specs.Bounds.{greatest_budget};
 ghost use Rattle.ar_safety.specs.declared.error.Cause.TheVariants.{Fault};
 ghost use Rattle.ar_safety.specs.declared.error.Reason.TheVariants.{BudgetTooLarge};
 

@@ -1,4 +1,4 @@
-//! The shape of the measured value, by a name: all that are of one name are the same, which no reference tells.
+//! The shape of the measured value, by a name: all of one name are the same, which no reference shows.
 
 ghost use Rattle.std.specs.Prelude.{◌≡◌};
 ghost use Rattle.std.specs.Coded.{codes};
@@ -23,7 +23,7 @@ impl ShapeName for Brand {
     ghost shape = { Bool };
 }
 
-/// The shape that is named, which stands once.
+/// The shape that is named, which exists once.
 #[derive(Drop)]
 pub(crate) struct Whole<M: ShapeName> {
     shape: Rc<SharedShape>,

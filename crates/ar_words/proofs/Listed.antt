@@ -32,7 +32,7 @@ from_first (item ∷ items) = by (item_name item) (from_first items) where
   by None rest = rest
   by (Some name) rest = ap (λ rest. quoted name ++ rest) (after_others items)
 
--- one more name stands after those that were written
+-- one more name comes after those that were written
 pub next_name : (items : List Value) (place : ℕ) (item : Value) (listed : Bool) (written total : List ℕ) → place < length items → item ≡ slice_index_or items place item
     → written ++ names_after listed (map (λ item. view item) (drop place items)) ≡ total
     → (written ++ name_listed listed (item_name (view item))) ++ names_after (listed || is_some (item_name (view item))) (map (λ item. view item) (drop (place + 1) items)) ≡ total

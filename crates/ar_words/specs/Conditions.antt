@@ -1,7 +1,8 @@
 -- The words of refusals of conditions: what is at the byte of the refusal, and the condition round it.
-use Rattle.std.specs.Prelude.{ℕ, Bool, ◌&&◌, ◌||◌, nat_eq, if◌then◌else◌, List, [], ◌∷◌, ◌++◌, codes, Option, Some, None, option_map, unwrap_or}
+use Rattle.std.specs.Prelude.{ℕ, Bool, ◌&&◌, ◌||◌, nat_eq, if◌then◌else◌, [], ◌∷◌, ◌++◌, codes, Option, Some, None, option_map, unwrap_or}
 use Rattle.std.specs.List.{starts_with}
 use Rattle.std.specs.Str.{bytes_eq}
+use Rattle.ar_value.specs.Terms.{Text}
 use Rattle.ar_manifest.specs.Cut.{cut_at}
 use Rattle.ar_check.specs.Refused.{refused_at as kinds_refused_at}
 use Rattle.ar_check.specs.declared.error.TypeError.TheVariants as kinds
@@ -18,7 +19,7 @@ use Rattle.ar_quote.specs.Tokens.{TokenAt, token_at}
 use Rattle.ar_value.specs.Shape.{Shape}
 use Rattle.ar_words.specs.Operands.{are_two, operands_said, refused_operands}
 
--- ---- places
+-- ---- offsets
 
 -- the byte of a condition at which it is refused; one that is too long isn't quoted
 abbrev pub refused_place : BuildCause → Option ℕ
@@ -27,36 +28,39 @@ refused_place (Grammar error) = syntax_refused_at error
 refused_place (Kinds error) = kinds_refused_at error
 refused_place cause = None
 
-abbrev pub token_in : (condition : Option (List ℕ)) → (place : Option ℕ) → Option TokenAt
+abbrev pub token_in : (condition : Option Text) → (place : Option ℕ) → Option TokenAt
 token_in (Some condition) (Some place) = token_at place condition
 token_in condition place = None
 
 -- ---- what operators take
 
-abbrev pub takes_numbers : (token : List ℕ) → Bool
+abbrev pub takes_numbers : (token : Text) → Bool
 takes_numbers token =
     bytes_eq token (codes "+") || bytes_eq token (codes "-") || bytes_eq token (codes "*") || bytes_eq token (codes "/")
-    || bytes_eq token (codes "<") || bytes_eq token (codes "<=") || bytes_eq token (codes ">") || bytes_eq token (codes ">=")
+    || bytes_eq token (codes "<") || bytes_eq token (codes "<=") || bytes_eq token (codes ">")
+    || bytes_eq token (codes ">=")
 
-abbrev pub takes_texts : (token : List ℕ) → Bool
-takes_texts token = bytes_eq token (codes "contains") || bytes_eq token (codes "startsWith") || bytes_eq token (codes "endsWith")
+abbrev pub takes_texts : (token : Text) → Bool
+takes_texts token =
+    bytes_eq token (codes "contains") || bytes_eq token (codes "startsWith") || bytes_eq token (codes "endsWith")
 
 -- `in`, or `not` before it, which has two operands
-abbrev pub is_membership : (token : List ℕ) → Option Operands → Bool
+abbrev pub is_membership : (token : Text) → Option Operands → Bool
 is_membership token operands = bytes_eq token (codes "in") || bytes_eq token (codes "not") && are_two operands
 
-abbrev pub takes_alike : (token : List ℕ) → Option Operands → Bool
+abbrev pub takes_alike : (token : Text) → Option Operands → Bool
 takes_alike token operands = bytes_eq token (codes "==") || bytes_eq token (codes "!=") || is_membership token operands
 
-abbrev pub has_predicate : (token : List ℕ) → Bool
+abbrev pub has_predicate : (token : Text) → Bool
 has_predicate token =
-    bytes_eq token (codes "all") || bytes_eq token (codes "any") || bytes_eq token (codes "none") || bytes_eq token (codes "one")
+    bytes_eq token (codes "all") || bytes_eq token (codes "any") || bytes_eq token (codes "none")
+    || bytes_eq token (codes "one")
     || bytes_eq token (codes "count") || bytes_eq token (codes "filter")
 
-abbrev pub is_field : (token : List ℕ) → Bool
+abbrev pub is_field : (token : Text) → Bool
 is_field token = starts_with nat_eq token (codes ".")
 
-abbrev pub taken : (token : List ℕ) → Option Operands → List ℕ
+abbrev pub taken : (token : Text) → Option Operands → Text
 taken token operands =
     if takes_numbers token then codes "\"whole\" or \"decimal\" alone"
     else (if takes_alike token operands then codes "numbers, \"bool\" or \"text\" on both sides"
@@ -70,46 +74,56 @@ taken token operands =
 -- ---- words of the causes
 
 -- a text, with other words after the name of its refusal
-unfoldable pub after_name : (name words text : List ℕ) → List ℕ
+unfoldable pub after_name : (name words text : Text) → Text
 after_name name words text = unwrap_or (option_map (λ cut. cut.0 ++ (name ++ words)) (cut_at name text)) text
 
-abbrev pub unexpected : (token : List ℕ) → List ℕ
+abbrev pub unexpected : (token : Text) → Text
 unexpected [] = codes "the condition ends too early"
 unexpected (byte ∷ token) = codes "no condition goes on so"
 
-abbrev pub wrong_operand : TokenAt → Option Operands → List ℕ
-wrong_operand found operands = quoted found.token ++ (codes " takes " ++ (taken found.token operands ++ operands_said (is_membership found.token operands) operands))
+abbrev pub wrong_operand : TokenAt → Option Operands → Text
+wrong_operand found operands =
+    quoted found.token ++ (codes " takes "
+    ++ (taken found.token operands ++ operands_said (is_membership found.token operands) operands))
 
-abbrev pub cause_words : BuildCause → TokenAt → Option Operands → (text : List ℕ) → List ℕ
-cause_words (Grammar (syntax.Unexpected at)) found operands text = after_name (codes "Unexpected: ") (unexpected found.token) text
-cause_words (Kinds (kinds.WrongOperand at)) found operands text = after_name (codes "WrongOperand: ") (wrong_operand found operands) text
-cause_words (Kinds (kinds.NotAList at)) found operands text = after_name (codes "NotAList: ") (codes "expected a list, as {\"list\":shape,\"max\":number} declares") text
-cause_words (Kinds (kinds.NoCommonKind at)) found operands text = after_name (codes "NoCommonKind: ") (codes "expected one shape for all; \"whole\" goes beside \"decimal\"") text
+abbrev pub cause_words : BuildCause → TokenAt → Option Operands → (text : Text) → Text
+cause_words (Grammar (syntax.Unexpected at)) found operands text =
+    after_name (codes "Unexpected: ") (unexpected found.token) text
+cause_words (Kinds (kinds.WrongOperand at)) found operands text =
+    after_name (codes "WrongOperand: ") (wrong_operand found operands) text
+cause_words (Kinds (kinds.NotAList at)) found operands text =
+    after_name (codes "NotAList: ") (codes "expected a list, as {\"list\":shape,\"max\":number} declares") text
+cause_words (Kinds (kinds.NoCommonKind at)) found operands text =
+    after_name (codes "NoCommonKind: ") (codes "expected one shape for all; \"whole\" goes beside \"decimal\"") text
 cause_words cause found operands text = text
 
 -- Argo Rollouts' conversions
-abbrev pub is_conversion : (token : List ℕ) → Bool
-is_conversion token = bytes_eq token (codes "asFloat") || bytes_eq token (codes "asInt") || bytes_eq token (codes "isNaN") || bytes_eq token (codes "isInf")
+abbrev pub is_conversion : (token : Text) → Bool
+is_conversion token =
+    bytes_eq token (codes "asFloat") || bytes_eq token (codes "asInt") || bytes_eq token (codes "isNaN")
+    || bytes_eq token (codes "isInf")
 
-abbrev pub conversion_advice : (token : List ℕ) → List ℕ
+abbrev pub conversion_advice : (token : Text) → Text
 conversion_advice token = if is_conversion token then codes "; leave it out: the shape says the kind" else []
 
-abbrev pub advice : BuildCause → TokenAt → List ℕ
+abbrev pub advice : BuildCause → TokenAt → Text
 advice (Grammar (syntax.UnknownName at)) found = conversion_advice found.token
 advice cause found = []
 
 -- ---- with the condition
 
-unfoldable pub with_quote : BuildCause → Option Operands → (text : List ℕ) → Option TokenAt → List ℕ
+unfoldable pub with_quote : BuildCause → Option Operands → (text : Text) → Option TokenAt → Text
 with_quote cause operands text None = text
-with_quote cause operands text (Some found) = cause_words cause found operands text ++ (codes "; in " ++ (quoted_round found ++ advice cause found))
+with_quote cause operands text (Some found) =
+    cause_words cause found operands text ++ (codes "; in " ++ (quoted_round found ++ advice cause found))
 
 -- a condition where `result` has a shape
-unfoldable pub condition_words : Option Shape → (condition : Option (List ℕ)) → BuildCause → (text : List ℕ) → List ℕ
-condition_words shape condition cause text = with_quote cause (refused_operands shape condition cause) text (token_in condition (refused_place cause))
+unfoldable pub condition_words : Option Shape → (condition : Option Text) → BuildCause → (text : Text) → Text
+condition_words shape condition cause text =
+    with_quote cause (refused_operands shape condition cause) text (token_in condition (refused_place cause))
 
 -- of a metric's condition, which is bound already
-unfoldable pub build_words : Option Shape → (condition : Option (List ℕ)) → BuildError → (text : List ℕ) → List ℕ
+unfoldable pub build_words : Option Shape → (condition : Option Text) → BuildError → (text : Text) → Text
 build_words shape condition (Success cause) text = condition_words shape condition cause text
 build_words shape condition (Failure cause) text = condition_words shape condition cause text
 build_words shape condition OutOfMemory text = text

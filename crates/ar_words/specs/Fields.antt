@@ -1,10 +1,11 @@
 -- The field of a metric that holds a value of another kind than it takes.
-use Rattle.std.specs.Prelude.{ℕ, List, ◌++◌, codes, Option, Some, None, option_and_then}
+use Rattle.std.specs.Prelude.{◌++◌, codes, Option, Some, None, option_and_then}
 use Rattle.std.specs.Option.{option_or}
+use Rattle.ar_value.specs.Terms.{Text}
 use Rattle.serde_json.specs.Data.{Data, null, boolean, number, string, array, object}
 use Rattle.ar_json.specs.Members.{member}
 
-abbrev pub json_said : Data → List ℕ
+abbrev pub json_said : Data → Text
 json_said null = codes "null"
 json_said (boolean b) = codes "a boolean"
 json_said (number n) = codes "a number"
@@ -13,32 +14,35 @@ json_said (array items) = codes "a list"
 json_said (object _) = codes "an object"
 
 -- what is said of a field with a value
-abbrev pub misfit_said : (field : List ℕ) → (value : Data) → (expected : List ℕ) → List ℕ
-misfit_said field value expected = codes "`" ++ (field ++ (codes "` is " ++ (json_said value ++ (codes "; expected " ++ expected))))
+abbrev pub misfit_said : (field : Text) → (value : Data) → (expected : Text) → Text
+misfit_said field value expected =
+    codes "`" ++ (field ++ (codes "` is " ++ (json_said value ++ (codes "; expected " ++ expected))))
 
-abbrev pub unless_text : (field : List ℕ) → (value : Data) → Option (List ℕ)
+abbrev pub unless_text : (field : Text) → (value : Data) → Option Text
 unless_text field (string text) = None
 unless_text field value = Some (misfit_said field value (codes "a text"))
 
-abbrev pub unless_limit : (field : List ℕ) → (value : Data) → Option (List ℕ)
+abbrev pub unless_limit : (field : Text) → (value : Data) → Option Text
 unless_limit field (number n) = None
 unless_limit field (string text) = None
 unless_limit field value = Some (misfit_said field value (codes "a number or a text"))
 
-abbrev pub text_misfit : (field : List ℕ) → (metric : Data) → Option (List ℕ)
+abbrev pub text_misfit : (field : Text) → (metric : Data) → Option Text
 text_misfit field metric = option_and_then (unless_text field) (member field metric)
 
-abbrev pub limit_misfit : (field : List ℕ) → (metric : Data) → Option (List ℕ)
+abbrev pub limit_misfit : (field : Text) → (metric : Data) → Option Text
 limit_misfit field metric = option_and_then (unless_limit field) (member field metric)
 
-abbrev pub texts_misfit : (metric : Data) → Option (List ℕ)
-texts_misfit metric = option_or (text_misfit (codes "successCondition") metric) (option_or (text_misfit (codes "failureCondition") metric) (text_misfit (codes "interval") metric))
+abbrev pub texts_misfit : (metric : Data) → Option Text
+texts_misfit metric =
+    option_or (text_misfit (codes "successCondition") metric)
+    (option_or (text_misfit (codes "failureCondition") metric) (text_misfit (codes "interval") metric))
 
-abbrev pub limits_misfit : (metric : Data) → Option (List ℕ)
+abbrev pub limits_misfit : (metric : Data) → Option Text
 limits_misfit metric =
     option_or (limit_misfit (codes "count") metric) (option_or (limit_misfit (codes "failureLimit") metric)
     (option_or (limit_misfit (codes "inconclusiveLimit") metric) (limit_misfit (codes "consecutiveErrorLimit") metric)))
 
 -- what is said of the first such field, in the order in which a template is read
-abbrev pub misfit : (metric : Data) → Option (List ℕ)
+abbrev pub misfit : (metric : Data) → Option Text
 misfit metric = option_or (texts_misfit metric) (limits_misfit metric)

@@ -1,5 +1,6 @@
 -- What the operands of a condition are where one isn't of a kind that is taken.
 use Rattle.std.specs.Prelude.{ℕ, Bool, true, false, if◌then◌else◌, List, [], ◌++◌, codes, Option, Some, None, option_and_then}
+use Rattle.ar_value.specs.Terms.{Text}
 use Rattle.serde_json.specs.Data.{Data}
 use Rattle.serde_json.specs.Find.{get}
 use Rattle.ar_check.specs.Found.{operands_at}
@@ -23,22 +24,25 @@ declared_shape json = option_and_then (λ json. made (shape_of json)) json
 
 -- the declaration of a metric's shape, by the metric's name
 abbrev pub declaration_in : Data → (metric : ℕ) → Option Data
-declaration_in document metric = option_and_then (λ name. option_and_then (get name) (get (codes "shapes") document)) (text_at (codes "name") metric (metrics document))
+declaration_in document metric =
+    option_and_then (λ name. option_and_then (get name) (get (codes "shapes") document))
+    (text_at (codes "name") metric (metrics document))
 
 -- ---- operands
 
-abbrev pub operands_in : Option Shape → (condition : Option (List ℕ)) → (place : ℕ) → Option Operands
-operands_in (Some shape) (Some condition) place = option_and_then (λ tree. operands_at shape tree place) (made (parse_of condition))
+abbrev pub operands_in : Option Shape → (condition : Option Text) → (place : ℕ) → Option Operands
+operands_in (Some shape) (Some condition) place =
+    option_and_then (λ tree. operands_at shape tree place) (made (parse_of condition))
 operands_in shape condition place = None
 
 -- those of the operator at which a condition is refused
-abbrev pub refused_operands : Option Shape → (condition : Option (List ℕ)) → BuildCause → Option Operands
+abbrev pub refused_operands : Option Shape → (condition : Option Text) → BuildCause → Option Operands
 refused_operands shape condition (Kinds (kinds.WrongOperand at)) = operands_in shape condition at
 refused_operands shape condition cause = None
 
 -- ---- what is said of them
 
-abbrev pub kind_said : OperandKind → List ℕ
+abbrev pub kind_said : OperandKind → Text
 kind_said operand.Nil = codes "nil"
 kind_said operand.Bool = codes "\"bool\""
 kind_said operand.Whole = codes "\"whole\""
@@ -52,11 +56,12 @@ are_two (Some (Two left right)) = true
 are_two operands = false
 
 -- the right one of a membership is that of a list's items
-abbrev pub between : (is_membership : Bool) → List ℕ
+abbrev pub between : (is_membership : Bool) → Text
 between is_membership = if is_membership then codes " and a list of " else codes " and "
 
-abbrev pub operands_said : (is_membership : Bool) → Option Operands → List ℕ
+abbrev pub operands_said : (is_membership : Bool) → Option Operands → Text
 operands_said is_membership None = []
 operands_said is_membership (Some (Before owner)) = codes "; found " ++ (kind_said owner ++ codes " before it")
 operands_said is_membership (Some (One operand)) = codes "; found " ++ kind_said operand
-operands_said is_membership (Some (Two left right)) = codes "; found " ++ (kind_said left ++ (between is_membership ++ kind_said right))
+operands_said is_membership (Some (Two left right)) =
+    codes "; found " ++ (kind_said left ++ (between is_membership ++ kind_said right))

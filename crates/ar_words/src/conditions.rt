@@ -15,7 +15,7 @@ use ar_syntax::SyntaxError;
 use ar_value::shape::Shape;
 use std::alloc::{AllocError, Global};
 
-// ---- places
+// ---- offsets
 
 /// The byte of a condition at which it is refused. One that is too long isn't quoted.
 fn place_of(cause: BuildCause) -> Option<usize>
@@ -145,7 +145,7 @@ fn wrong_operand(
     Ok(words)
 }
 
-/// The text with what was found in the place of its own words.
+/// The text with what was found in place of its own words.
 fn cause_text(
     alloc: Global,
     text: String,

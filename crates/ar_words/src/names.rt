@@ -1,4 +1,4 @@
-//! Names of a document, as they are shown beside the numbers of its items.
+//! Names of a document, as they are shown next to the numbers of its items.
 
 ghost use Rattle.std.specs.Prelude.{◌≡◌, ◌++◌, IfOk, OnOk, map, option_map, string_bytes, take};
 ghost use Rattle.serde_json.specs.View.{view};

@@ -42,7 +42,7 @@ const MANIFEST_HINT: &str = "; the document has no member `manifest`, into which
 
 // ---- names in a text
 
-/// The text with what is shown, if anything is, in the place of the first of some words.
+/// The text with what is shown, if anything is, in place of the first of some words.
 #[tactic(auto, unfolding(crate::specs::Words::in_place))]
 fn in_place(
     alloc: Global,
@@ -121,7 +121,7 @@ fn beside_run(
     beside_item(alloc, text, "run", number, runs(document))
 }
 
-/// The text with an argument in the place of the list of arguments.
+/// The text with an argument in place of the list of arguments.
 fn with_argument(
     alloc: Global,
     document: &Json,
@@ -297,7 +297,7 @@ fn list_kind(json: &Json) -> Option<&str>
     }
 }
 
-/// The kind of a list of templates that stands in the place of a template, or is the whole document.
+/// The kind of a list of templates that is in place of a template, or is the whole document.
 fn given_kind(document: &Json) -> Option<&str>
     ensures { option_map (λ kind. kind.now) result ≡ given_kind (view document.now) }
 {
@@ -332,8 +332,8 @@ fn head_text(alloc: Global, document: &Json, text: String, name: &str) -> Result
     }
 }
 
-/// The text of a manifest's refusal. A template that is the whole document is told by its place, and so is
-/// a list of templates.
+/// The text of a manifest's refusal. For a template that is the whole document, its place is reported, and so
+/// it is for a list of templates.
 fn manifest_text(
     alloc: Global,
     document: &Json,
@@ -376,7 +376,7 @@ fn built_text(
     beside_run(alloc, document, text, run)
 }
 
-/// The text of a refusal of a bundle's document: its own text, with names of the document beside its
+/// The text of a refusal of a bundle's document: its own text, with names of the document next to its
 /// numbers.
 ///
 /// # Errors
@@ -426,7 +426,7 @@ fn has_braces(condition: Option<&str>) -> bool
     }
 }
 
-/// The text with where arguments are bound, where the condition has braces and can't go on.
+/// The text with where arguments are bound, where the condition has braces and can't continue.
 fn with_advice(
     error: SyntaxError,
     condition: Option<&str>,
@@ -443,7 +443,7 @@ fn with_advice(
 }
 
 /// The text of a refusal of what `eval` reads: its own text with the condition, and where arguments are
-/// bound, if the condition has braces and can't go on.
+/// bound, if the condition has braces and can't continue.
 ///
 /// # Errors
 ///

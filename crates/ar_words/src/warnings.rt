@@ -1,4 +1,4 @@
-//! Warnings of a document that is answered: metrics without a condition, and fields that are read over and
+//! Warnings of a document that has an answer: metrics without a condition, and fields that are ignored and
 //! close to ones that are read.
 
 ghost use Rattle.std.specs.Prelude.{◌≡◌, ◌++◌, [], IfOk, OnOk, map, option_map, string_bytes};
@@ -11,7 +11,7 @@ use ar_json::members::{member, member_of_member, text_member};
 use serde_json::Value as Json;
 use std::alloc::{AllocError, Global};
 
-/// A name that is read over, and the one that it is close to.
+/// A name that is ignored, and the one that it is close to.
 type Close = (&'static str, &'static str);
 
 /// Names that are close to fields of `spec`.
@@ -58,7 +58,7 @@ fn close_to_metric() -> &'static [Close]
     ]
 }
 
-/// A warning of what is at a place.
+/// A warning of what is at a point of the document.
 #[tactic(auto, using(crate::proofs::WarningLines::is_warning))]
 fn push_warning(out: &mut String, at: &str, words: &str) -> Result<(), AllocError>
     ensures { OnOk result (string_bytes out.new ≡ string_bytes out.old ++ warning at.now words.now) }
@@ -70,7 +70,7 @@ fn push_warning(out: &mut String, at: &str, words: &str) -> Result<(), AllocErro
     out.push_str("\n")
 }
 
-/// What is said of a name that is read over.
+/// What is said of a name that is ignored.
 #[tactic(auto, using(crate::proofs::WarningLines::is_read_over))]
 fn read_over(alloc: Global, name: &str, meant: &str) -> Result<String, AllocError>
     ensures { IfOk result (λ words. string_bytes words ≡ read_over (close name.now meant.now)) }

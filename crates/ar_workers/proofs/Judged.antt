@@ -31,7 +31,7 @@ exact_next bundle number finding before after are is more =
     subst (AreJudged bundle) (sym more)
     (map_push (λ (one : Judged). finding_at bundle one.number) before one ∙ (ap (λ (last : List (Option Finding)). last ++ finding_at bundle number ∷ []) are ∙ (ap (λ (last : Option Finding). map (λ (one : Judged). Some one.finding) before ++ last ∷ []) is ∙ sym (map_push (λ (one : Judged). Some one.finding) before one))))
 
--- the first of them is what its number comes to, and so are the others
+-- the first of them is its number's finding, and so are the others
 pub first_judged : (bundle : Bundle) (one : Judged) (judged : List Judged) → AreJudged bundle (one ∷ judged) → (finding_at bundle one.number ≡ Some one.finding) × AreJudged bundle judged
 first_judged bundle one judged are = (cc, cc)
 
@@ -113,6 +113,6 @@ all_known bundle numbers table each known number less =
 pub known_inside : (bundle : Bundle) (number : ℕ) (table : List (Option Finding)) → IsKnown bundle table number → number < length table
 known_inside bundle number table known = slice_get_within table number (Some known.0) known.1
 
--- what is read of the table is what its number comes to
+-- what is read of the table is its number's finding
 pub known_read : (bundle : Bundle) (number : ℕ) (table : List (Option Finding)) (d : Option Finding) → IsKnown bundle table number → slice_index_or table number d ≡ finding_at bundle number
 known_read bundle number table d known = get_or_from_slice_get table number (Some known.0) d known.1 ∙ sym known.2

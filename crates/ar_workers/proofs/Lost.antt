@@ -51,7 +51,7 @@ among number (own ∷ receipts) some = by_times (times_in number (map (λ (recei
         (suc rest.0, rest.1, rest.2, rest.3)
     by_times (suc times) is later = (0, own, refl, in_own number own (omega arith))
 
--- ---- a receipt whose number stands nowhere isn't met
+-- ---- a receipt whose number is nowhere isn't met
 
 none_at : (number : ℕ) (histories : List (List Entry)) (run : ℕ) → times number histories ≡ 0 → times_in number (numbers_of (get_or histories run [])) ≡ 0
 none_at number [] run none = refl

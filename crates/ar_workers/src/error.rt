@@ -8,7 +8,7 @@ use ar_queue::Unfinished;
 use std::alloc::AllocError;
 use thiserror::Error;
 
-/// Why workers give no histories. Of several causes that stand, the first of these is told.
+/// Why workers give no histories. Of several causes that hold, the first of these is reported.
 #[derive(Debug, Drop, Error)]
 pub enum WorkError {
     /// A thread couldn't be started; those that were have ended.

@@ -13,7 +13,7 @@ use std::alloc::{AllocError, Global};
 use std::marker::PhantomData;
 use std::sync::Wait;
 
-/// A number with what it comes to.
+/// A number with its finding.
 #[derive(Clone, Copy)]
 pub(crate) struct Judged {
     number: u64,
@@ -52,7 +52,7 @@ impl<M: BundleName> Desk<M> for Judging<M> {
     }
 }
 
-/// A desk for each of so many workers, at which nothing was judged yet.
+/// A desk for each of n workers, at which nothing was judged yet.
 pub(crate) fn empty_desks<M: BundleName>(
     alloc: Global,
     workers: usize,

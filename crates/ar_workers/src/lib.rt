@@ -1,7 +1,7 @@
 //! Runs of a bundle: each of its numbers is judged and applied to its run.
 //!
 //! [`run_all`] does it by several workers, threads that take the numbers from one queue, judge them and
-//! post them to one board. Whatever their threads do, where it answers histories these are lawful
+//! post them to one board. Whatever their threads do, where it returns histories these are lawful
 //! (`ar_bundle/specs/Lawful`); where a number is lost, [`WorkError::Lost`] hands out what shows it
 //! (`specs/Joined`). The workers of [`run_ordered`] keep what they judged, and the calling thread applies
 //! it in the order of the numbers, which then rise in each history; no number can be lost. [`run_plain`]

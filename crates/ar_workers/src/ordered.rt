@@ -17,12 +17,12 @@ use std::marker::Brand;
 use std::sync::Wait;
 use std::thread::Threads;
 
-/// The histories of a bundle's runs, judged by so many workers, each in a thread of its own, and applied
+/// The histories of a bundle's runs, judged by n workers, each in a thread of its own, and applied
 /// in the order of the numbers: whatever the threads do, they are those of the plain run.
 ///
 /// # Errors
 ///
-/// Where a thread couldn't be started, or where memory was wanting, in this order.
+/// Where a thread couldn't be started, or out of memory, in this order.
 #[tactic(auto, using(crate::proofs::Ending::is_not_lost))]
 pub fn run_ordered<G: Gate, R: Threads + Wait + Sync>(
     rt: &R,
@@ -64,7 +64,7 @@ where
     Ok(applied(alloc, bundle, &findings)?)
 }
 
-/// The histories of a bundle's runs, where it is known what each number comes to.
+/// The histories of a bundle's runs, where the finding of each number is known.
 fn applied(
     alloc: Global,
     bundle: &Bundle,

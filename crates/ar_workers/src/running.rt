@@ -18,12 +18,12 @@ use std::marker::Brand;
 use std::sync::Wait;
 use std::thread::Threads;
 
-/// The histories of a bundle's runs, by so many workers, each in a thread of its own: they take the
+/// The histories of a bundle's runs, by n workers, each in a thread of its own: they take the
 /// bundle's numbers from one queue, judge them, and post them to one board.
 ///
 /// # Errors
 ///
-/// Where a thread couldn't be started, where memory was wanting, or where a number was lost, in this
+/// Where a thread couldn't be started, out of memory, or where a number was lost, in this
 /// order.
 pub fn run_all<G: Gate, R: Threads + Wait + Sync>(
     rt: &R,

@@ -41,7 +41,7 @@ fn main(rt: HostRuntime) -> ExitCode {
     ExitCode::from(run(&rt))
 }
 
-/// Does what the command line asks for, and answers the exit status.
+/// Does what the command line asks for, and returns the exit status.
 fn run<R: Env + AllocGlobal + Input + Print + Eprint + Threads + Wait + Sync>(rt: &R) -> u8 {
     match requested(rt) {
         Ok(Request::CarryOut(command)) => carry_out(rt, command),
@@ -50,7 +50,7 @@ fn run<R: Env + AllocGlobal + Input + Print + Eprint + Threads + Wait + Sync>(rt
     }
 }
 
-/// Tells of a command line that asks for nothing in one line, and answers the exit status.
+/// Reports a command line that asks for nothing in one line, and returns the exit status.
 fn refuse_words<R: Env + AllocGlobal + Eprint>(rt: &R, error: UsageError) -> u8 {
     match usage_text(rt, error) {
         Ok(text) => {
@@ -75,7 +75,7 @@ fn usage_text<R: Env + AllocGlobal>(rt: &R, error: UsageError) -> Result<String,
     }
 }
 
-/// Writes a text, and answers the exit status.
+/// Writes a text, and returns the exit status.
 fn show<R: Print + Eprint>(rt: &R, text: &str) -> u8 {
     let mut writer = Device::new(io::writer(rt));
     match write_output(&mut writer, text.as_bytes()) {
@@ -115,7 +115,7 @@ fn arguments<R: Env + AllocGlobal>(rt: &R) -> Result<Vec<String>, UsageError> {
     Ok(words)
 }
 
-/// Carries a command out on the standard streams, and tells of a fault in one line.
+/// Carries a command out on the standard streams, and reports a fault in one line.
 fn carry_out<R>(rt: &R, command: Command) -> u8
 where
     R: AllocGlobal + Input + Print + Eprint + Threads + Wait + Sync,
@@ -136,7 +136,7 @@ fn warns(command: Command, outcome: &Result<Closing, ServeError>) -> bool {
     matches!(command, Command::Check) && outcome.is_ok()
 }
 
-/// Tells of what a document has that is probably not meant, a line each.
+/// Reports what a document has that is probably not meant, a line each.
 fn warn<R: AllocGlobal + Eprint>(rt: &R, input: &[u8]) {
     let _ = match warning_lines(rt.alloc(), input) {
         Ok(lines) => eprint!(rt; "{lines}"),
@@ -168,7 +168,7 @@ where
     }
 }
 
-/// The exit status of what came of a command, with one line where that is a fault.
+/// The exit status of a command's result, with one line where that is a fault.
 fn close<R: AllocGlobal + Eprint, I, O>(
     rt: &R,
     reader: &Kept<Device<I>>,
@@ -201,7 +201,7 @@ fn cause<'a, I, O>(
     }
 }
 
-/// Tells of a refused input in one line.
+/// Reports a refused input in one line.
 fn refuse<R: AllocGlobal + Eprint>(rt: &R, input: &[u8], refusal: &Refusal) -> u8 {
     match refusal_text(rt.alloc(), input, refusal) {
         Ok(text) => {
@@ -217,7 +217,7 @@ fn out_of_memory<R: Eprint>(rt: &R, error: ServeError) -> u8 {
     status::OUT_OF_MEMORY
 }
 
-/// Tells of a fault in one line, with what the system says of it, or with what can be done.
+/// Reports a fault in one line, with what the system says of it, or with what can be done.
 fn tell<R: Eprint>(rt: &R, error: &ServeError, cause: Option<&io::Error>) {
     let _ = match cause {
         Some(cause) => eprintln!(rt; "argo_judge: {error}: {cause}"),

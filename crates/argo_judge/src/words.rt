@@ -1,4 +1,4 @@
-//! The words of a refusal of an input, with the place where it ceases to be JSON, and of warnings.
+//! The words of a refusal of an input, with the offset where it ceases to be JSON, and of warnings.
 
 use ar_command::{EvalError, Refusal};
 use ar_document::BundleError;
@@ -23,7 +23,7 @@ pub(crate) fn refusal_text(
     }
 }
 
-/// The warnings of an input that was answered, a line each.
+/// The warnings of an input that has an answer, a line each.
 pub(crate) fn warning_lines(alloc: Global, input: &[u8]) -> Result<String, AllocError> {
     match Json::from_slice(alloc, input) {
         Ok(document) => warnings_text(alloc, &document),
@@ -41,7 +41,7 @@ fn named_text(alloc: Global, document: &Json, refusal: &Refusal) -> Result<Strin
     }
 }
 
-/// The text of a refusal of what is no JSON, with the place where it ceases to be.
+/// The text of a refusal of what is no JSON, with the offset where it ceases to be.
 fn no_json_text(
     alloc: Global,
     refusal: &Refusal,

@@ -14,6 +14,8 @@ code_calls = codes "decode" ∷ codes "compile" ∷ codes "verify" ∷ codes "ru
 abbrev pub judge_calls : List (List ℕ)
 judge_calls = codes "condition" ∷ codes "run_condition" ∷ codes "judge" ∷ codes "judge_code" ∷ []
 
--- the calls that this library answers
+-- the calls that this library handles
 abbrev pub is_library_call : (call : List ℕ) → Bool
-is_library_call call = is_one_of template_calls call || (is_one_of condition_calls call || (is_one_of code_calls call || is_one_of judge_calls call))
+is_library_call call =
+    is_one_of template_calls call
+    || (is_one_of condition_calls call || (is_one_of code_calls call || is_one_of judge_calls call))

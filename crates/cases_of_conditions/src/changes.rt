@@ -1,4 +1,4 @@
-//! What comes of an image when one of its bytes is changed.
+//! The outcome of an image when one of its bytes is changed.
 
 ghost use Rattle.std.specs.Prelude.{◌≡◌, ◌<◌, IfOk, length, true};
 ghost use Rattle.ar_value.specs.Fits.{fits};
@@ -20,7 +20,7 @@ use cases_of_values::printing::{put_between, put_refusal};
 use serde_json::Value as Json;
 use std::alloc::Global;
 
-/// Gives the byte of an image at a place each of its values: stretches of values with the same outcome.
+/// Gives the byte of an image at an offset each of its values: stretches of values with the same outcome.
 pub(crate) fn put_changes(alloc: Global, case: &Json, out: &mut Output) -> Written {
     let image = members::bytes(alloc, case, "image")?;
     let outcomes = outcomes_of(alloc, case, &image)?;
@@ -68,7 +68,7 @@ fn outcomes_of(alloc: Global, case: &Json, image: &[u8]) -> Result<Vec<String>, 
     Ok(outcomes)
 }
 
-/// The place of a byte of the image.
+/// The offset of a byte of the image.
 fn place_of(case: &Json, image: &[u8]) -> Result<usize, CaseFault>
     ensures { IfOk result (λ place. place < length image.now) }
 {
@@ -78,7 +78,7 @@ fn place_of(case: &Json, image: &[u8]) -> Result<usize, CaseFault>
     }
 }
 
-/// What comes of the image with another byte at a place.
+/// The outcome of the image with another byte at `place`.
 fn changed_outcome(
     alloc: Global,
     case: &Json,
@@ -95,7 +95,7 @@ fn changed_outcome(
     out.finish(written)
 }
 
-/// The refusal of an image, or what comes of its code.
+/// The refusal of an image, or the outcome of its code.
 fn put_outcome(alloc: Global, case: &Json, image: &[u8], out: &mut Output) -> Written {
     match decode(alloc, image) {
         Ok(code) => put_code(alloc, case, image, Box::new(alloc, code)?, out),
@@ -106,7 +106,7 @@ fn put_outcome(alloc: Global, case: &Json, image: &[u8], out: &mut Output) -> Wr
     }
 }
 
-/// The verdict on the code of an image. Other bytes that it is encoded as are told before it.
+/// The verdict on the code of an image. Other bytes that it is encoded as are printed before it.
 fn put_code(
     alloc: Global,
     case: &Json,

@@ -27,7 +27,7 @@ use cases_of_values::printing::{put_between, put_lines, put_quoted, put_refusal}
 use serde_json::Value as Json;
 use std::alloc::{AllocError, Global};
 
-/// Writes what a call on this subject answers; `None` for a call on another one.
+/// Writes what a call on this subject returns; `None` for a call on another one.
 pub(crate) fn put(alloc: Global, call: &str, case: &Json, out: &mut Output) -> Option<Written>
     ensures known { is_some result ≡ is_one_of code_calls call.now }
 {

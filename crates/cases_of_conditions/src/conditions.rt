@@ -17,7 +17,7 @@ use cases_of_values::printing::{put_between, put_decimal, put_pair, put_quoted, 
 use serde_json::Value as Json;
 use std::alloc::Global;
 
-/// Writes what a call on this subject answers; `None` for a call on another one.
+/// Writes what a call on this subject returns; `None` for a call on another one.
 pub(crate) fn put(alloc: Global, call: &str, case: &Json, out: &mut Output) -> Option<Written>
     ensures known { is_some result ≡ is_one_of condition_calls call.now }
 {
@@ -82,7 +82,7 @@ impl Made for Tree {
     }
 }
 
-/// The typed tree of a condition that can be parsed. The shape is looked at after the condition.
+/// The typed tree of a condition that can be parsed. The shape is checked after the condition.
 fn put_checked(alloc: Global, case: &Json, out: &mut Output) -> Written {
     match parse(alloc, members::text(case, "condition")?) {
         Ok(tree) => put_typed_of(alloc, case, Box::new(alloc, tree)?, out),

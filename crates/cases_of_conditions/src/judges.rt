@@ -21,7 +21,7 @@ use cases_of_values::printing::{put_answer, put_quoted, put_refusal};
 use serde_json::Value as Json;
 use std::alloc::Global;
 
-/// Writes what a call on this subject answers; `None` for a call on another one.
+/// Writes what a call on this subject returns; `None` for a call on another one.
 pub(crate) fn put(alloc: Global, call: &str, case: &Json, out: &mut Output) -> Option<Written>
     ensures { is_some result ≡ is_one_of judge_calls call.now }
 {
@@ -50,8 +50,8 @@ impl Made for Condition {
     }
 }
 
-/// What a condition says of a value, as its code comes to on the machine that is tested with its budget as
-/// fuel; or which part of the case is refused, and why.
+/// What a condition says of a value, by the result of its code on the machine that is tested, with its budget
+/// as fuel; or which part of the case is refused, and why.
 fn put_run(alloc: Global, case: &Json, out: &mut Output) -> Written {
     match read_shape(alloc, members::json(case, "shape")?) {
         Ok(shape) => put_run_under(alloc, case, SharedShape::new(alloc, shape)?, out),

@@ -1,16 +1,16 @@
 //! The calls of the conformance suite on templates, conditions, code and judges.
 //!
-//! [`answer`] gives what such a call answers on a case; what all cases need, and the calls on numbers,
+//! [`answer`] gives what such a call returns on a case; what all cases need, and the calls on numbers,
 //! texts, shapes and values, are in `cases_of_values`.
 //!
 //! - `templates`, `conditions`, `codes`, `judges`: the calls, by their subjects
 //! - `trees`, `typed`, `endings`: conditions as written, conditions as typed, and why code is refused and how its
 //!   runs end, printed
-//! - `changes`: what comes of an image when one of its bytes is changed
+//! - `changes`: the outcome of an image when one of its bytes is changed
 //! - `made`: what a call made of a case, or why it refused it
 //!
 //! Which names are those of calls is proved of every case (`specs/Calls`), and how runs end is printed
-//! (`specs/Endings`). What these calls answer is only tested, by the suite.
+//! (`specs/Endings`). What these calls return is only tested, by the suite.
 #![tactic(auto)]
 
 ghost use Rattle.std.specs.Prelude.{◌≡◌, is_some};
@@ -31,7 +31,7 @@ use cases_of_values::output::Output;
 use serde_json::Value as Json;
 use std::alloc::Global;
 
-/// What a call answers on a case. `None` where it is one of another subject, or none at all.
+/// What a call returns on a case. `None` where it is one of another subject, or none at all.
 pub fn answer(alloc: Global, call: &str, case: &Json) -> Option<Result<String, CaseFault>>
     ensures { is_some result ≡ is_library_call call.now }
 {

@@ -7,12 +7,12 @@ use serde_json::Value as Json;
 use std::alloc::Global;
 use std::fmt::{Debug, Display};
 
-/// What is made of a case, and then answers it.
+/// What is made of a case, and then gives its answer.
 pub(crate) trait Made {
     fn answer_case(&self, alloc: Global, case: &Json, out: &mut Output) -> Written;
 }
 
-/// What was made answers, or else why nothing was.
+/// The answer of what was made, or else why nothing was.
 pub(crate) fn put_made<T: Made + Drop, E: Debug + Display + Drop>(
     alloc: Global,
     case: &Json,
@@ -40,7 +40,7 @@ pub(crate) fn granted<T: Drop, E: Debug + Display + Drop>(
     }
 }
 
-/// Why a case isn't answered for which something can't be made: what tells that memory ran out isn't printed.
+/// Why a case has no answer for which something can't be made: what says that memory ran out isn't printed.
 fn fault_of<E: Debug + Display + Drop>(alloc: Global, case: &Json, refusal: E) -> CaseFault {
     let mut printed = Output::new(alloc);
     put_refusal(alloc, case, &mut printed, refusal);

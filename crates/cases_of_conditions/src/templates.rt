@@ -13,7 +13,7 @@ use cases_of_values::printing::{put_or_none, put_quoted, put_refusal};
 use serde_json::Value as Json;
 use std::alloc::Global;
 
-/// Writes what a call on this subject answers; `None` for a call on another one.
+/// Writes what a call on this subject returns; `None` for a call on another one.
 pub(crate) fn put(alloc: Global, call: &str, case: &Json, out: &mut Output) -> Option<Written>
     ensures known { is_some result ≡ is_one_of template_calls call.now }
 {
@@ -105,7 +105,7 @@ fn read_arguments(alloc: Global, case: &Json, arguments: &mut Args) -> Written {
     Ok(())
 }
 
-/// The text at a place of a list.
+/// The text at position `place` of a list.
 fn text_at(list: &Json, place: usize) -> Result<&str, CaseFault> {
     list.get(place)
         .and_then(Json::as_str)

@@ -1,5 +1,5 @@
 //! Conditions as typed, printed: a node as `(operator kinds child child)`. What the check puts in is written
-//! out: `plain` where nil is a fault, `decimal` where a whole is turned.
+//! out: `plain` where nil is a fault, `decimal` where a whole is converted.
 
 use crate::trees::{predicate_name, put_literal, test_name};
 use ar_tree::typed::Typed;

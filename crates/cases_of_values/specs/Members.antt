@@ -21,8 +21,8 @@ json_member name case = there_or Member (get name case)
 abbrev pub member_as : {A : Type 0} → (Data → Option A) → (name : List ℕ) → (case : Data) → Result A CaseFault
 member_as reading name case = json_member name case >>= λ json. there_or Member (reading json)
 
-abbrev pub text_member : (name : List ℕ) → (case : Data) → Result (List ℕ) CaseFault
-text_member name case = member_as as_str name case
+abbrev pub case_text : (name : List ℕ) → (case : Data) → Result (List ℕ) CaseFault
+case_text name case = member_as as_str name case
 
 abbrev pub list_member : (name : List ℕ) → (case : Data) → Result (List Data) CaseFault
 list_member name case = member_as list_of name case
@@ -57,7 +57,7 @@ or_member (Err e) = Err Member
 
 -- a decimal's millionths, by the text that spells it
 abbrev pub decimal_member : (name : List ℕ) → (case : Data) → Result ℤ CaseFault
-decimal_member name case = text_member name case >>= λ text. or_member (decimal_of text)
+decimal_member name case = case_text name case >>= λ text. or_member (decimal_of text)
 
 abbrev pub shape_in : Data → Result Shape CaseFault
 shape_in json = or_member (shape_of json)
@@ -73,10 +73,10 @@ value_in shape json = or_member (read shape json)
 abbrev pub value_member : Shape → (case : Data) → Result Value CaseFault
 value_member shape case = json_member (codes "value") case >>= λ json. value_in shape json
 
--- the bytes that a text of hexadecimal digits stands for, two digits a byte
+-- the bytes that a text of hexadecimal digits represents, two digits a byte
 abbrev pub bytes_member : (name : List ℕ) → (case : Data) → Result (List ℕ) CaseFault
-bytes_member name case = text_member name case >>= λ text. or_member (decode_of text)
+bytes_member name case = case_text name case >>= λ text. or_member (decode_of text)
 
-abbrev pub is_memory : CaseFault → Bool
-is_memory OutOfMemory = true
-is_memory fault = false
+abbrev pub is_case_memory : CaseFault → Bool
+is_case_memory OutOfMemory = true
+is_case_memory fault = false

@@ -1,4 +1,4 @@
--- What calls on numbers and texts answer.
+-- What calls on numbers and texts return.
 use Rattle.std.specs.Prelude.{◌≡◌, ℕ, ℤ, true, Bool, List, [], codes, ◌++◌, if◌then◌else◌, int_lt, Option, Some, None, option_and_then, Result, Ok, Err, ⊤, string_bytes}
 use Rattle.std.specs.declared.cmp.Ordering.{Ordering}
 use Rattle.std.specs.declared.cmp.Ordering.TheVariants.{Less, Equal, Greater}
@@ -17,14 +17,16 @@ use Rattle.cases_of_values.specs.declared.fault.CaseFault.{CaseFault}
 use Rattle.cases_of_values.specs.declared.fault.CaseFault.TheVariants.{Member}
 use Rattle.cases_of_values.specs.declared.output.Output.{Output}
 use Rattle.cases_of_values.specs.Calls.{arithmetic_calls, is_one_of}
-use Rattle.cases_of_values.specs.Members.{decimal_member, is_memory, json_member, or_member, text_member, whole_member}
+use Rattle.cases_of_values.specs.Members.{decimal_member, is_case_memory, json_member, or_member, case_text, whole_member}
 use Rattle.ar_value.specs.Fault.{fault_name}
 use Rattle.cases_of_values.specs.Printing.{number_text, quoted, truth_text}
 
--- the answer stands after what was there, unless memory ran out, or the case is refused
+-- the answer comes after what was there, unless memory ran out, or the case is refused
 abbrev pub Answers : Result ⊤ CaseFault → (earlier later : Output) → (answer : Result (List ℕ) CaseFault) → Type 0
-Answers (Ok written) earlier later answer = later.is_whole ≡ true → (earlier.is_whole ≡ true) × ((answer >>= λ text. Ok (string_bytes earlier.text ++ text)) ≡ Ok (string_bytes later.text))
-Answers (Err fault) earlier later answer = Unless (is_memory fault) (answer ≡ Err fault)
+Answers (Ok written) earlier later answer = later.is_whole ≡ true
+    → (earlier.is_whole ≡ true)
+    × ((answer >>= λ text. Ok (string_bytes earlier.text ++ text)) ≡ Ok (string_bytes later.text))
+Answers (Err fault) earlier later answer = Unless (is_case_memory fault) (answer ≡ Err fault)
 
 -- a text spells a decimal; what is no text has to be a whole
 abbrev pub operand_in : Data → Result Number CaseFault
@@ -78,7 +80,8 @@ decimal_result call left right =
 -- both operands are wholes, or both are decimals
 abbrev pub result_with : (call : List ℕ) → (left : Number) → (case : Data) → Result (Result Number Fault) CaseFault
 result_with call (Whole left) case = whole_member (codes "right") case >>= λ right. Ok (whole_result call left right)
-result_with call (Decimal left) case = decimal_member (codes "right") case >>= λ right. there_or Member (decimal_result call left right)
+result_with call (Decimal left) case =
+    decimal_member (codes "right") case >>= λ right. there_or Member (decimal_result call left right)
 
 unfoldable pub result_answer : (call : List ℕ) → (case : Data) → Result (List ℕ) CaseFault
 result_answer call case = do
@@ -94,15 +97,16 @@ unfoldable pub negate_answer : (case : Data) → Result (List ℕ) CaseFault
 negate_answer case = operand_member (codes "operand") case >>= λ operand. Ok (outcome_text (negated operand))
 
 unfoldable pub to_decimal_answer : (case : Data) → Result (List ℕ) CaseFault
-to_decimal_answer case = whole_member (codes "operand") case >>= λ operand. Ok (outcome_text (decimal_number (decimal_of_whole operand)))
+to_decimal_answer case =
+    whole_member (codes "operand") case >>= λ operand. Ok (outcome_text (decimal_number (decimal_of_whole operand)))
 
 unfoldable pub text_answer : (case : Data) → Result (List ℕ) CaseFault
-text_answer case = text_member (codes "text") case >>= λ text. Ok (quoted text)
+text_answer case = case_text (codes "text") case >>= λ text. Ok (quoted text)
 
 unfoldable pub same_text_answer : (case : Data) → Result (List ℕ) CaseFault
 same_text_answer case = do
-  left ← text_member (codes "left") case
-  right ← text_member (codes "right") case
+  left ← case_text (codes "left") case
+  right ← case_text (codes "right") case
   Ok (truth_text (bytes_eq left right))
 
 abbrev pub below_text : (is_below : Bool) → List ℕ
@@ -114,7 +118,7 @@ order_answer case = do
   right ← decimal_member (codes "right") case
   Ok (ordering_text (int_cmp left right) ++ below_text (int_lt left right))
 
--- the answer of a call on numbers or texts; what `decimal` and `digits` answer is not defined
+-- the answer of a call on numbers or texts; what `decimal` and `digits` return is not defined
 abbrev pub number_answer : (call : List ℕ) → (case : Data) → Option (Result (List ℕ) CaseFault)
 number_answer call case =
     if bytes_eq call (codes "compare") then Some (compare_answer case)

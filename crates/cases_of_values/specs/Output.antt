@@ -9,20 +9,23 @@ use Rattle.cases_of_values.specs.declared.output.Output.{Output}
 abbrev pub Holds : Output → (text : List ℕ) → Type 0
 Holds output text = (output.is_whole ≡ true) × (string_bytes output.text ≡ text)
 
--- where all pieces are there afterwards, they were before, and one more stands after them
+-- where all pieces are there afterwards, they were before, and one more comes after them
 abbrev pub Writes : (earlier later : Output) → (text : List ℕ) → Type 0
-Writes earlier later text = later.is_whole ≡ true → (earlier.is_whole ≡ true) × (string_bytes later.text ≡ string_bytes earlier.text ++ text)
+Writes earlier later text = later.is_whole ≡ true
+    → (earlier.is_whole ≡ true) × (string_bytes later.text ≡ string_bytes earlier.text ++ text)
 
--- likewise, with some text
+-- the same, with some text
 abbrev pub Extends : (earlier later : Output) → Type 0
-Extends earlier later = later.is_whole ≡ true → (earlier.is_whole ≡ true) × ((text : List ℕ) × (string_bytes later.text ≡ string_bytes earlier.text ++ text))
+Extends earlier later = later.is_whole ≡ true
+    → (earlier.is_whole ≡ true) × ((text : List ℕ) × (string_bytes later.text ≡ string_bytes earlier.text ++ text))
 
 -- a piece is missing
 abbrev pub IsLost : Output → Type 0
 IsLost output = output.is_whole ≡ false
 
--- what is given of a text of which all pieces are there, or not: out of memory goes before what is refused
-abbrev pub finished : {A : Type 0} → (is_whole : Bool) → (text : A) → (written : Result ⊤ CaseFault) → Result A CaseFault
+-- what is given of a text of which all pieces are there, or not: out of memory takes precedence over what is refused
+abbrev pub finished : {A : Type 0} → (is_whole : Bool) → (text : A) → (written : Result ⊤ CaseFault)
+    → Result A CaseFault
 finished false text written = Err OutOfMemory
 finished true text (Ok written) = Ok text
 finished true text (Err fault) = Err fault

@@ -4,6 +4,7 @@ use Rattle.std.specs.Char.{digit_char, encode_utf8}
 use Rattle.std.specs.Fmt.{signed_decimal}
 use Rattle.std.specs.Int.{is_negative}
 use Rattle.std.specs.Str.{chars}
+use Rattle.ar_value.specs.Bytes.{byte_of}
 use Rattle.ar_value.specs.Shape.{Shape, FieldShapes}
 use Rattle.ar_value.specs.Shape as shapes
 use Rattle.ar_value.specs.Value.{Value, Items, Fields}
@@ -22,10 +23,10 @@ code_escape character = codes "\\u00" ++ (digit_char (character / 16) ∷ digit_
 -- a character in a JSON string (RFC 8259), escaped only where it has to be
 abbrev pub escaped : (character : ℕ) → List ℕ
 escaped character =
-    if character == 34 then codes "\\\""
-    else (if character == 92 then codes "\\\\"
-    else (if character == 10 then codes "\\n"
-    else (if character == 13 then codes "\\r"
+    if character == byte_of (codes "\"") then codes "\\\""
+    else (if character == byte_of (codes "\\") then codes "\\\\"
+    else (if character == byte_of (codes "\n") then codes "\\n"
+    else (if character == byte_of (codes "\r") then codes "\\r"
     else (if character == 9 then codes "\\t"
     else (if nat_lt character 32 then code_escape character
     else encode_utf8 character)))))
@@ -38,7 +39,7 @@ quoted text = codes "\"" ++ (flat_map escaped (chars text) ++ codes "\"")
 abbrev pub between : (first : Bool) → (text : List ℕ) → List ℕ
 between first text = if first then [] else text
 
--- Lines, one after another: a line's end is a slash between blanks where something stands after it.
+-- Lines, one after another: a line's end is a slash between blanks where something comes after it.
 
 abbrev pub line_end : (behind : List ℕ) → List ℕ
 line_end [] = []
@@ -46,25 +47,30 @@ line_end (character ∷ behind) = codes " / "
 
 abbrev pub in_one_line : (characters : List ℕ) → List ℕ
 in_one_line [] = []
-in_one_line (character ∷ behind) = (if character == 10 then line_end behind else encode_utf8 character) ++ in_one_line behind
+in_one_line (character ∷ behind) =
+    (if character == byte_of (codes "\n") then line_end behind else encode_utf8 character) ++ in_one_line behind
 
 unfoldable pub lines_text : (text : List ℕ) → List ℕ
 lines_text text = in_one_line (chars text)
 
 -- ---- numbers
 
--- The digits of so many millionths below one, `places` at most, and none after the last that isn't zero: a digit, and
--- the digits of ten times what is left.
+-- The digits of a number of millionths below one, `places` at most, and none after the last that isn't zero: a digit,
+-- and the digits of ten times what is left.
 abbrev pub fraction_text : (places millionths : ℕ) → List ℕ
 fraction_text zero millionths = []
-fraction_text (suc places) millionths = decimal (millionths / 100000) ++ (if millionths % 100000 == 0 then [] else fraction_text places (millionths % 100000 * 10))
+fraction_text (suc places) millionths =
+    decimal (millionths / 100000)
+    ++ (if millionths % 100000 == 0 then [] else fraction_text places (millionths % 100000 * 10))
 
 abbrev pub sign_text : ℤ → List ℕ
 sign_text z = if is_negative z then codes "-" else []
 
 -- a decimal by its millionths, with at least one digit after its point
 unfoldable pub decimal_text : (millionths : ℤ) → List ℕ
-decimal_text millionths = sign_text millionths ++ (decimal (unsigned_abs millionths / 1000000) ++ (codes "." ++ fraction_text 6 (unsigned_abs millionths % 1000000)))
+decimal_text millionths =
+    sign_text millionths ++ (decimal (unsigned_abs millionths / 1000000)
+    ++ (codes "." ++ fraction_text 6 (unsigned_abs millionths % 1000000)))
 
 abbrev pub number_text : Number → List ℕ
 number_text (Whole whole) = signed_decimal whole
@@ -86,15 +92,17 @@ abbrev mutual
   value_text (values.list items) = codes "[" ++ (items_text true items ++ codes "]")
   value_text (values.object fields) = codes "{" ++ (fields_text true fields ++ codes "}")
 
-  -- `first`: no item stands before these
+  -- `first`: no item comes before these
   pub items_text : (first : Bool) → Items → List ℕ
   items_text first values.no_items = []
-  items_text first (values.item value others) = (between first (codes ",") ++ value_text value) ++ items_text false others
+  items_text first (values.item value others) =
+      (between first (codes ",") ++ value_text value) ++ items_text false others
 
-  -- likewise
+  -- the same
   pub fields_text : (first : Bool) → Fields → List ℕ
   fields_text first values.no_fields = []
-  fields_text first (values.field name value others) = (between first (codes ",") ++ (quoted name ++ (codes ":" ++ value_text value))) ++ fields_text false others
+  fields_text first (values.field name value others) =
+      (between first (codes ",") ++ (quoted name ++ (codes ":" ++ value_text value))) ++ fields_text false others
 
 -- ---- what a condition says
 
@@ -110,11 +118,13 @@ abbrev mutual
   shape_text shapes.whole = codes "\"whole\""
   shape_text shapes.decimal = codes "\"decimal\""
   shape_text shapes.text = codes "\"text\""
-  shape_text (shapes.list item max) = codes "{\"list\":" ++ (shape_text item ++ (codes ",\"max\":" ++ (decimal max ++ codes "}")))
+  shape_text (shapes.list item max) =
+      codes "{\"list\":" ++ (shape_text item ++ (codes ",\"max\":" ++ (decimal max ++ codes "}")))
   shape_text (shapes.object fields) = codes "{\"record\":{" ++ (field_shapes_text true fields ++ codes "}}")
   shape_text (shapes.optional plain) = codes "{\"optional\":" ++ (shape_text plain ++ codes "}")
 
-  -- `first`: no field stands before these
+  -- `first`: no field comes before these
   pub field_shapes_text : (first : Bool) → FieldShapes → List ℕ
   field_shapes_text first shapes.no_fields = []
-  field_shapes_text first (shapes.field name shape others) = (between first (codes ",") ++ (quoted name ++ (codes ":" ++ shape_text shape))) ++ field_shapes_text false others
+  field_shapes_text first (shapes.field name shape others) =
+      (between first (codes ",") ++ (quoted name ++ (codes ":" ++ shape_text shape))) ++ field_shapes_text false others

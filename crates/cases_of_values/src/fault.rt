@@ -1,4 +1,4 @@
-//! Why a case or a line isn't answered.
+//! Why a case or a line has no answer.
 
 ghost use Rattle.std.specs.Prelude.{◌≡◌};
 ghost use Rattle.cases_of_values.specs.declared.fault.CaseFault.TheVariants.{OutOfMemory};
@@ -9,7 +9,7 @@ use std::alloc::{AllocError, AllocFailed};
 use std::fmt;
 use thiserror::Error;
 
-/// Why a case isn't answered.
+/// Why a case has no answer.
 #[derive(Clone, Copy, Error)]
 pub enum CaseFault {
     /// A member isn't there, or is nothing that the call takes.
@@ -39,10 +39,10 @@ impl fmt::Debug for CaseFault {
     }
 }
 
-/// The answer was written, as far as memory lasted, or the case isn't answered.
+/// The answer was written, as far as memory lasted, or the case has no answer.
 pub type Written = Result<(), CaseFault>;
 
-/// Why a line isn't answered.
+/// Why a line has no answer.
 #[derive(Clone, Copy, Error)]
 pub enum LineFault {
     NoJson,

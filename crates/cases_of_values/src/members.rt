@@ -10,7 +10,7 @@ ghost use Rattle.ar_value.specs.Fits.{fits};
 ghost use Rattle.ar_value.specs.View.{shape_view, value_view};
 ghost use Rattle.cases_of_values.specs.declared.fault.CaseFault.TheVariants.{Member};
 ghost use Rattle.cases_of_values.specs.Numbers.{operand_in, operand_member};
-ghost use Rattle.cases_of_values.specs.Members.{bytes_member, decimal_member, is_memory, is_true, json_member, list_member, list_or_none, number_member, or_member, shape_in, shape_member, text_member, value_in, value_member, whole_member};
+ghost use Rattle.cases_of_values.specs.Members.{bytes_member, decimal_member, is_case_memory, is_true, json_member, list_member, list_or_none, number_member, or_member, shape_in, shape_member, case_text, value_in, value_member, whole_member};
 
 use crate::fault::CaseFault;
 use ar_json::members::list_of;
@@ -27,7 +27,7 @@ pub fn json<'a>(case: &'a Json, name: &str) -> Result<&'a Json, CaseFault>
 }
 
 pub fn text<'a>(case: &'a Json, name: &str) -> Result<&'a str, CaseFault>
-    ensures { Gives (λ _. false) (λ text. text.now) result (text_member name.now (view case.now)) }
+    ensures { Gives (λ _. false) (λ text. text.now) result (case_text name.now (view case.now)) }
 {
     case.get(name)
         .and_then(Json::as_str)
@@ -112,7 +112,7 @@ fn operand_of(json: &Json) -> Result<Number, CaseFault>
 
 /// A shape that must be one.
 pub fn shape(alloc: Global, case: &Json, name: &str) -> Result<SharedShape, CaseFault>
-    ensures exact { Gives is_memory shape_view result
+    ensures exact { Gives is_case_memory shape_view result
         (shape_member name.now (view case.now)) }
     ensures missing { get name.now (view case.now) ≡ None → result ≡ Err Member }
 {
@@ -121,15 +121,15 @@ pub fn shape(alloc: Global, case: &Json, name: &str) -> Result<SharedShape, Case
 
 /// What must declare a shape.
 fn shape_of(alloc: Global, json: &Json) -> Result<SharedShape, CaseFault>
-    ensures { Gives is_memory shape_view result (shape_in (view json.now)) }
+    ensures { Gives is_case_memory shape_view result (shape_in (view json.now)) }
 {
     let shape = own_shape(alloc, json)?;
     Ok(SharedShape::new(alloc, shape)?)
 }
 
-/// Likewise, as a shape of the caller's own.
+/// The same, as a shape of the caller's own.
 pub(crate) fn own_shape(alloc: Global, json: &Json) -> Result<Shape, CaseFault>
-    ensures { Gives is_memory shape_view result (shape_in (view json.now)) }
+    ensures { Gives is_case_memory shape_view result (shape_in (view json.now)) }
 {
     match read_shape(alloc, json) {
         Ok(shape) => Ok(shape),
@@ -140,7 +140,7 @@ pub(crate) fn own_shape(alloc: Global, json: &Json) -> Result<Shape, CaseFault>
 
 /// The member `value`, which must be of a shape.
 pub fn value(alloc: Global, case: &Json, shape: &Shape) -> Result<Box<Value>, CaseFault>
-    ensures exact { Gives is_memory (λ value. value_view value.value) result
+    ensures exact { Gives is_case_memory (λ value. value_view value.value) result
         (value_member (shape_view shape.now) (view case.now)) }
     ensures missing { get (codes "value") (view case.now) ≡ None → result ≡ Err Member }
     ensures fits { IfOk result (λ value. fits (value_view value.value) (shape_view shape.now) ≡ true) }
@@ -151,7 +151,7 @@ pub fn value(alloc: Global, case: &Json, shape: &Shape) -> Result<Box<Value>, Ca
 /// What must be a value of a shape.
 #[tactic(auto, using(crate::proofs::Values::gives_any))]
 pub fn value_of(alloc: Global, json: &Json, shape: &Shape) -> Result<Box<Value>, CaseFault>
-    ensures exact { Gives is_memory (λ value. value_view value.value) result
+    ensures exact { Gives is_case_memory (λ value. value_view value.value) result
         (value_in (shape_view shape.now) (view json.now)) }
     ensures fits { IfOk result (λ value. fits (value_view value.value) (shape_view shape.now) ≡ true) }
 {
@@ -164,14 +164,14 @@ pub fn value_of(alloc: Global, json: &Json, shape: &Shape) -> Result<Box<Value>,
 
 /// The bytes of a text of hexadecimal digits, two for each.
 pub fn bytes(alloc: Global, case: &Json, name: &str) -> Result<Vec<u8>, CaseFault>
-    ensures exact { Gives is_memory (λ bytes. bytes.items) result (bytes_member name.now (view case.now)) }
+    ensures exact { Gives is_case_memory (λ bytes. bytes.items) result (bytes_member name.now (view case.now)) }
     ensures missing { get name.now (view case.now) ≡ None → result ≡ Err Member }
 {
     bytes_of(alloc, text(case, name)?)
 }
 
 fn bytes_of(alloc: Global, digits: &str) -> Result<Vec<u8>, CaseFault>
-    ensures { Gives is_memory (λ bytes. bytes.items) result (or_member (decode_of digits.now)) }
+    ensures { Gives is_case_memory (λ bytes. bytes.items) result (or_member (decode_of digits.now)) }
 {
     match hex::decode(alloc, digits) {
         Ok(bytes) => Ok(bytes),

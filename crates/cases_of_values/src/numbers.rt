@@ -19,7 +19,7 @@ use serde_json::Value as Json;
 use std::alloc::{AllocError, Global};
 use std::cmp::Ordering;
 
-/// Writes what a call on this subject answers; `None` for a call on another one.
+/// Writes what a call on this subject returns; `None` for a call on another one.
 pub(crate) fn put(alloc: Global, call: &str, case: &Json, out: &mut Output) -> Option<Written>
     ensures known { is_some result ≡ is_one_of number_calls call.now }
     ensures exact { IfSome (number_answer call.now (view case.now)) (λ answer. IsSomeAnd result

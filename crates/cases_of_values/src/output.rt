@@ -10,8 +10,8 @@ use std::fmt::{Display, Write};
 
 /// The text of an answer, written piece by piece.
 ///
-/// A piece for which memory is wanting ends it: nothing more is taken, and it is never given out. So writing
-/// answers nothing, and one place at the end tells out of memory.
+/// If memory for a piece is lacking, the text ends: nothing more is taken, and it is never given out. So
+/// writing returns nothing, and only the end reports out of memory.
 #[derive(Drop)]
 pub struct Output {
     text: String,
@@ -60,7 +60,7 @@ impl Output {
         self.is_whole = false;
     }
 
-    /// The text with all of its pieces, or why the case isn't answered: out of memory goes before other
+    /// The text with all of its pieces, or why the case has no answer: out of memory precedes other
     /// faults.
     pub fn finish(self, written: Written) -> Result<String, CaseFault>
         ensures { result ≡ given_of self written }

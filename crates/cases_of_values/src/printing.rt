@@ -158,8 +158,8 @@ pub fn put_whole(out: &mut Output, whole: i64)
     write!(out, "{whole}");
 }
 
-/// A refusal by its name with its numbers, or in its own words where the case wants these. Memory ran out
-/// where that is what the refusal tells of.
+/// A refusal by its name with its numbers, or in its own words where the case requires these. Memory ran out
+/// where that is what the refusal says.
 pub fn put_refusal<E: Debug + Display + Drop>(
     alloc: Global,
     case: &Json,

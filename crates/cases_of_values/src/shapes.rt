@@ -13,7 +13,7 @@ use ar_value::{Shape, Value, fits};
 use serde_json::Value as Json;
 use std::alloc::{AllocError, Global};
 
-/// Writes what a call on this subject answers; `None` for a call on another one.
+/// Writes what a call on this subject returns; `None` for a call on another one.
 pub(crate) fn put(alloc: Global, call: &str, case: &Json, out: &mut Output) -> Option<Written>
     ensures known { is_some result ≡ is_one_of shape_calls call.now }
 {

@@ -12,7 +12,7 @@ use cases_of_values::output::Output;
 use serde_json::Value as Json;
 use std::alloc::Global;
 
-/// Writes what a call on this subject answers; `None` for a call on another one.
+/// Writes what a call on this subject returns; `None` for a call on another one.
 pub(crate) fn put(alloc: Global, call: &str, case: &Json, out: &mut Output) -> Option<Written>
     ensures { is_some result ≡ is_one_of command_calls call.now }
 {

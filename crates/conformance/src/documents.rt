@@ -19,7 +19,7 @@ use cases_of_values::printing::{put_lines, put_or_none, put_quoted, put_refusal,
 use serde_json::Value as Json;
 use std::alloc::{AllocError, Global};
 
-/// Writes what a call on this subject answers; `None` for a call on another one.
+/// Writes what a call on this subject returns; `None` for a call on another one.
 pub(crate) fn put(alloc: Global, call: &str, case: &Json, out: &mut Output) -> Option<Written>
     ensures { is_some result ≡ is_one_of document_calls call.now }
 {
@@ -62,7 +62,7 @@ fn put_document(alloc: Global, call: &str, case: &Json, out: &mut Output) -> Wri
     }
 }
 
-/// What a call answers on the bundle of a document.
+/// What a call returns on the bundle of a document.
 fn put_bundle(
     alloc: Global,
     call: &str,
@@ -132,7 +132,7 @@ impl Part for RunPart {
     }
 }
 
-/// The run of each entry, what the entry comes to, and what it is to the run.
+/// The run of each entry, the entry's finding, and what it is to the run.
 fn put_findings(alloc: Global, bundle: &Bundle, out: &mut Output) -> Written {
     let mut separator = "";
     for number in 0..bundle.events() {

@@ -2,11 +2,11 @@
 //!
 //! Standard input has a case a line: a JSON object whose text `call` names a call, with the members that
 //! the call takes; docs/CONFORMANCE.md lists them. Standard output gets a line for each, with what the
-//! call answered. Other members, as `name` and `answer`, are not looked at. The first line that is no
-//! case is told on standard error with its number, from 1, and ends the program with status 2; so empty
+//! call returned. Other members, as `name` and `answer`, are ignored. The first line that is no
+//! case is reported on standard error with its number, from 1, and ends the program with status 2; so empty
 //! lines and remarks are left out before (`conformance/check` does it).
 //!
-//! `cases_of_values` answers those on numbers, texts, shapes and values, and `cases_of_conditions` those on templates,
+//! `cases_of_values` handles those on numbers, texts, shapes and values, and `cases_of_conditions` those on templates,
 //! conditions, code and judges.
 //!
 //! - `phases`, `documents`, `boards`, `commands`: the other calls, by their subjects
@@ -14,7 +14,7 @@
 //! - `lists`: the lists of a case
 //! - `parts`: parts of answers, printed one after another
 //!
-//! Which names are those of calls is proved of every case (`specs/Calls`). What these calls answer is only
+//! Which names are those of calls is proved of every case (`specs/Calls`). What these calls return is only
 //! tested, by the suite.
 #![tactic(auto)]
 
@@ -96,7 +96,7 @@ fn answer_to_case(alloc: Global, case: &Json) -> Result<String, LineFault> {
     }
 }
 
-/// What a call of any subject answers on a case; `None` where it is none.
+/// What a call of any subject returns on a case; `None` where it is none.
 fn answer_to(alloc: Global, call: &str, case: &Json) -> Option<Result<String, CaseFault>>
     ensures { is_some result ≡ is_suite_call call.now }
 {
@@ -109,7 +109,7 @@ fn answer_to(alloc: Global, call: &str, case: &Json) -> Option<Result<String, Ca
     own_answer(alloc, call, case)
 }
 
-/// What a call of this program's own subjects answers.
+/// What a call of this program's own subjects returns.
 fn own_answer(alloc: Global, call: &str, case: &Json) -> Option<Result<String, CaseFault>>
     ensures { is_some result ≡ is_own_call call.now }
 {

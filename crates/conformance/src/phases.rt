@@ -13,7 +13,7 @@ use cases_of_values::output::Output;
 use serde_json::Value as Json;
 use std::alloc::Global;
 
-/// Writes what a call on this subject answers; `None` for a call on another one.
+/// Writes what a call on this subject returns; `None` for a call on another one.
 pub(crate) fn put(alloc: Global, call: &str, case: &Json, out: &mut Output) -> Option<Written>
     ensures { is_some result ≡ is_one_of phase_calls call.now }
 {
@@ -55,17 +55,17 @@ fn put_phase(case: &Json, out: &mut Output) -> Written {
     Ok(())
 }
 
-/// A limit at a place of a metric's list.
+/// A limit at position `place` of a metric's list.
 fn limit_of(item: &Json, place: usize) -> Option<u32> {
     u32::try_from(number_in(item.get(place))?).ok()
 }
 
-/// Whether the text `dry` stands after a metric's limits.
+/// Whether the text `dry` comes after a metric's limits.
 fn is_dry(item: &Json) -> bool {
     item.get(4usize).and_then(Json::as_str) == Some("dry")
 }
 
-/// The limits of a metric: of failures, of inconclusive marks, of errors in succession, the count or null,
+/// The limits of a metric: of failures, of inconclusive marks, of consecutive errors, the count or null,
 /// and `"dry"` where it is.
 fn limits_of(item: &Json) -> Option<Limits> {
     let count = match item.get(3usize)? {

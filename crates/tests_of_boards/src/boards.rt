@@ -52,7 +52,7 @@ const ELSEWHERE: &[Receipt] = &[Receipt {
 }];
 
 /// Writes what the cell of the first lock shows of run 0 to a worker: with these receipts, with none, and
-/// with one of another place.
+/// one of another position.
 fn put_shown<M: BundleName, L: LockNames>(
     alloc: Global,
     cell: &RunCell<'_, M, First<L>>,
@@ -68,7 +68,7 @@ fn put_shown<M: BundleName, L: LockNames>(
     put_line(text, &cell.show(alloc, 0, worker, ELSEWHERE))
 }
 
-/// Writes what the first lock's cell shows of run 0 while the lock is held, and what comes of posting
+/// Writes what the first lock's cell shows of run 0 while the lock is held, and the result of posting
 /// number 1 and looking at run 1 meanwhile.
 fn put_held<M: BundleName, L: LockNames>(
     rt: &impl Wait,
@@ -87,7 +87,7 @@ fn put_held<M: BundleName, L: LockNames>(
     put_line(text, &board.look(rt, alloc, seat, 1))
 }
 
-/// Writes what comes of posting a number that is there.
+/// Writes the result of posting a number that is there.
 fn put_post<M: BundleName, L: LockNames>(
     rt: &impl Wait,
     alloc: Global,
@@ -104,7 +104,7 @@ fn put_post<M: BundleName, L: LockNames>(
     put_line(text, &board.post(rt, seat, number, finding))
 }
 
-/// Writes what comes of looking at run 0 under its lock, and of a post and a look meanwhile.
+/// Writes the results of looking at run 0 under its lock, and of a post and a look meanwhile.
 fn put_hold<M: BundleName, L: LockNames>(
     rt: &impl Wait,
     alloc: Global,
@@ -120,7 +120,7 @@ fn put_hold<M: BundleName, L: LockNames>(
     put_held(rt, alloc, board, seat, finding, text)
 }
 
-/// Writes what comes of a call by the seat of a worker that is there.
+/// Writes the result of a call by the seat of a worker that is there.
 fn put_answer<M: BundleName, L: LockNames>(
     rt: &impl Wait,
     alloc: Global,
@@ -150,7 +150,7 @@ fn put_answer<M: BundleName, L: LockNames>(
     }
 }
 
-/// Writes what calls come to, a line each.
+/// Writes the results of calls, a line each.
 fn put_answers<M: BundleName, L: LockNames>(
     rt: &impl Wait,
     alloc: Global,
@@ -202,7 +202,7 @@ fn put_closed(text: &mut String, outcome: &Result<Histories, Lost>) -> Result<()
     }
 }
 
-/// Writes what calls at a new board come to, and what closing gives after them.
+/// Writes the results of calls at a new board, and what closing gives after them.
 fn put_board<M: BundleName, L: LockNames, R: Wait>(
     rt: &R,
     alloc: Global,
@@ -223,7 +223,7 @@ fn put_board<M: BundleName, L: LockNames, R: Wait>(
     put_closed(text, &board.close(seats))
 }
 
-/// What calls at a new board of a document's bundle come to, and what closing gives, a line each.
+/// The results of calls at a new board of a document's bundle, and what closing gives, a line each.
 fn on_board<R: Wait>(
     rt: &R,
     alloc: Global,
@@ -296,7 +296,7 @@ Ok(Posted { place: 0, effect: Closed(Successful) })
     Ok(())
 }
 
-/// A look answers what the cell shows while the lock is held, and a run under another lock is posted to
+/// A look returns what the cell shows while the lock is held, and a run under another lock is posted to
 /// and looked at meanwhile.
 #[test]
 fn held_lock(rt: HostRuntime) -> Result<(), Fail> {

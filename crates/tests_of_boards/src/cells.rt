@@ -20,7 +20,7 @@ enum Call {
     Show(usize, usize, &'static [Receipt]),
 }
 
-/// What comes of adding a number with its finding.
+/// The result of adding a number with its finding.
 fn added<M: BundleName, L: LockName>(
     alloc: Global,
     bundle: &Bundle,
@@ -65,7 +65,7 @@ fn shown<M: BundleName, L: LockName>(
     Ok(format!(in alloc; "{outcome:?}")?)
 }
 
-/// What comes of a call by a worker that is there.
+/// The result of a call by a worker that is there.
 fn answer<M: BundleName, L: LockName>(
     alloc: Global,
     bundle: &Bundle,
@@ -92,7 +92,7 @@ fn answer<M: BundleName, L: LockName>(
     }
 }
 
-/// Whether a call comes to this.
+/// Whether a call has this result.
 fn is_answered<M: BundleName, L: LockName>(
     alloc: Global,
     bundle: &Bundle,
@@ -112,7 +112,7 @@ fn is_answered<M: BundleName, L: LockName>(
     Ok(answer(alloc, bundle, workers, lock, cell, mine, call)?.as_str() == expected)
 }
 
-/// Asserts what each call comes to.
+/// Asserts the result of each call.
 fn assert_answers<M: BundleName, L: LockName>(
     rt: &impl Abort,
     alloc: Global,
@@ -135,7 +135,7 @@ fn assert_answers<M: BundleName, L: LockName>(
     Ok(())
 }
 
-/// Asserts what each call on an empty cell of a lock comes to, of so many workers.
+/// Asserts the result of each call on an empty cell of a lock, of n workers.
 fn assert_calls<M: BundleName, L: LockName>(
     rt: &impl Abort,
     alloc: Global,
@@ -206,7 +206,7 @@ fn one_worker(rt: HostRuntime) -> Result<(), Fail> {
     assert_document(&rt, rt.alloc(), TWO_RUNS, 1, 0, &calls)
 }
 
-/// A look shows the posts of all workers, and wants the receipts of its own.
+/// A look shows the posts of all workers, and requires the receipts of its own.
 #[test]
 fn two_workers(rt: HostRuntime) -> Result<(), Fail> {
     let others = "Ok(Snapshot { phase: Successful, metrics: [Successful], posts: [1, 0] })";

@@ -1,10 +1,10 @@
 //! Tests that need Rust: cells, boards and the queue, and calls of the laws. What takes data and gives data
-//! stands as cases in files, and documents as large as may be are given to the program (`tests/workers`).
+//! is covered by cases in files, and documents as large as may be are given to the program (`tests/workers`).
 //! Runs with workers and commands are tested in `tests_of_commands`.
 //!
 //! - `cells`: what a board keeps under a lock: posts, and looks with receipts
 //! - `boards`: posts and looks by the seats of a board, and what closing it gives
-//! - `queues`: how many places a queue has
+//! - `queues`: how many slots a queue has
 //! - `laws`: laws
 #![tactic(auto)]
 

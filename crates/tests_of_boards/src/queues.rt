@@ -1,4 +1,4 @@
-//! The queue from which workers take numbers: how many places it has.
+//! The queue from which workers take numbers: how many slots it has.
 
 ghost use Rattle.std.specs.Prelude.{◌<◌, length};
 
@@ -9,7 +9,7 @@ use std::alloc::{AllocError, Global};
 use std::marker::Brand;
 use std::test::Fail;
 
-/// How many numbers a queue takes before it is full, up to one more than it has places.
+/// How many numbers a queue takes before it is full, up to one more than it has slots.
 fn taken<M: BundleName>(alloc: Global) -> Result<u64, AllocError>
     requires { PLACES < length M.bundle.entries }
 {

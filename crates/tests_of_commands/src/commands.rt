@@ -80,7 +80,7 @@ impl Source for Failing<'_> {
     }
 }
 
-/// How a command ends on the document, a byte a read and so many reads, and what it writes.
+/// How a command ends on the document, a byte a read and n reads, and what it writes.
 fn served(
     alloc: Global,
     command: Command,
@@ -107,7 +107,7 @@ fn writes(alloc: Global, command: Command, expected: &str) -> bool
     matches!(outcome, Ok(Closing::Good)) && output.as_slice() == expected.as_bytes()
 }
 
-/// An input that comes a byte at a time is answered as any other.
+/// An input that comes a byte at a time has the same answer as any other.
 #[test]
 fn a_byte_a_read(rt: HostRuntime) {
     assert!(rt; writes(rt.alloc(), Command::Plain, PLAIN));
@@ -115,7 +115,7 @@ fn a_byte_a_read(rt: HostRuntime) {
     assert!(rt; writes(rt.alloc(), Command::List, LIST));
 }
 
-/// Whether a command tells that its reader failed after so many reads, and writes nothing.
+/// Whether a command reports that its reader failed after `reads` reads, and writes nothing.
 fn tells_failing(alloc: Global, command: Command, reads: usize) -> bool
     requires { RunsAlone command }
 {
@@ -137,7 +137,7 @@ fn assert_failing(rt: &impl Abort, alloc: Global, command: Command)
     }
 }
 
-/// A failed read is told, and nothing is written.
+/// A failed read is reported, and nothing is written.
 #[test]
 fn failing_reads(rt: HostRuntime) {
     assert_fault_is_kept(&rt);
@@ -167,7 +167,7 @@ fn writes_of_kept(alloc: Global, command: Command, expected: &str) -> bool
     reads_all(alloc, command, &mut output) && output.as_slice() == expected.as_bytes()
 }
 
-/// A source that keeps what was read has read it all once a document is answered.
+/// A source that keeps what was read has read it all once a document has an answer.
 #[test]
 fn kept_input(rt: HostRuntime) {
     assert!(rt; writes_of_kept(rt.alloc(), Command::Plain, PLAIN));

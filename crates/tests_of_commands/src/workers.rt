@@ -22,7 +22,7 @@ const THREE_ENTRIES: &str =
     "measurements":[{"run":"r0","metric":"m","value":2},{"run":"r0","metric":"m","value":3},
     {"run":"r0","metric":"m","value":4}]}"#;
 
-/// The histories of a document's run with so many workers.
+/// The histories of a document's run with n workers.
 fn histories<G: Gate, R: Threads + Wait + Sync>(
     rt: &R,
     alloc: Global,

@@ -38,7 +38,7 @@ enum Full {
     TakesNothing,
 }
 
-/// A sink that takes so many bytes a write and so many in all.
+/// A sink that takes `a_write` bytes a write and `room` bytes in all.
 #[derive(Drop)]
 struct Narrow {
     bytes: Vec<u8>,
@@ -146,7 +146,7 @@ fn is_cut(outcome: &Result<Closing, ServeError>, sink: &Narrow, expected: &[u8])
     matches!(outcome, Err(ServeError::Write)) && sink.has_failed_after(expected)
 }
 
-/// Whether a sink that takes so many bytes and then fails has just the first ones of the report.
+/// Whether a sink that takes `room` bytes and then fails has just the first ones of the report.
 fn plain_is_cut(alloc: Global, room: usize, full: Full) -> bool {
     let mut sink = Narrow::new(alloc, 100, room, full);
     let outcome = served_plain(alloc, &mut sink);
@@ -157,7 +157,7 @@ fn plain_is_cut(alloc: Global, room: usize, full: Full) -> bool {
     )
 }
 
-/// Likewise of a run with two workers.
+/// The same for a run with two workers.
 fn run_is_cut<R: Threads + Wait + Sync>(rt: &R, alloc: Global, room: usize) -> bool {
     let mut sink = Narrow::new(alloc, 100, room, Full::Fails);
     let outcome = served(rt, alloc, &mut sink);
@@ -179,14 +179,14 @@ fn cut_outputs(rt: HostRuntime) {
     }
 }
 
-/// Whether a sink that takes so many bytes a write gets all of the report.
+/// Whether a sink that takes `a_write` bytes a write gets all of the report.
 fn is_whole(alloc: Global, a_write: usize) -> bool {
     let mut sink = Narrow::new(alloc, a_write, REPORT.len(), Full::Fails);
     let outcome = served_plain(alloc, &mut sink);
     matches!(outcome, Ok(Closing::Bad)) && sink.bytes.as_slice() == REPORT.as_bytes()
 }
 
-/// Whether a sink that can't be flushed has all of the report, and its fault is told.
+/// Whether a sink that can't be flushed has all of the report, and its fault is reported.
 fn tells_failing_flush(alloc: Global) -> bool {
     let mut sink = Narrow::new(alloc, 100, REPORT.len(), Full::Fails);
     sink.flushes = false;

@@ -1,4 +1,4 @@
--- How the core lies in memory.
+-- How the core is laid out in memory.
 use Rattle.std.specs.Prelude.{◌≡◌, ◌≤◌, ℕ, suc, min, true, List, [], ◌∷◌, length, map, slice_get, Some}
 use Rattle.std.specs.Vec.{vec_capacity}
 use Rattle.std.specs.VecDeque.{deque_capacity}
@@ -19,7 +19,14 @@ abbrev pub histories_of : List RunHistory → List (List Entry)
 histories_of runs = map (λ run. run.entries.items) runs
 
 abbrev pub state_of : Inside → StepState
-state_of core = record { next = core.next; queue = core.queue.items; hands = core.hands.items; parked = core.parked.items; histories = histories_of core.runs.items }
+state_of core =
+    record {
+      next = core.next;
+      queue = core.queue.items;
+      hands = core.hands.items;
+      parked = core.parked.items;
+      histories = histories_of core.runs.items;
+    }
 
 abbrev pub core_of : Inside → Core
 core_of core = record { bundle = core.bundle.now; places = core.places; ordered = core.ordered; state = state_of core }
@@ -38,7 +45,8 @@ AreKept bundle from parts runs = ⊥
 -- the findings of the numbers below one
 pub record AreFound (bundle : Bundle) (upto : ℕ) (findings : List Finding) : Type 0 where
   pub all : length findings ≡ upto
-  pub found : (number : ℕ) (finding : Finding) → slice_get findings number ≡ Some finding → finding_at bundle number ≡ Some finding
+  pub found : (number : ℕ) (finding : Finding) → slice_get findings number ≡ Some finding
+      → finding_at bundle number ≡ Some finding
 
 -- the finding of each number
 abbrev pub AreJudged : Bundle → List Finding → Type 0

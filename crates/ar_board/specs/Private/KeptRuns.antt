@@ -26,14 +26,15 @@ pub record CanTake (kept : Declared) (worker : ℕ) (event : Event) : Type 0 whe
   pub metric : IsOfMetricBelow (length kept.run.state.limits) event
 
 -- it has one entry more, by the worker
-pub record IsPushed (old new : Declared) (worker number : ℕ) (finding : Finding) (event : Event) (answer : Posted) : Type 0 where
+pub record IsPushed (old new : Declared) (worker number : ℕ) (finding : Finding) (event : Event)
+    (answer : Posted) : Type 0 where
   pub run : HasOneMore number finding event old.run new.run answer.effect
   pub place : answer.place ≡ length old.run.entries.items
   pub author : new.authors.items ≡ old.authors.items ++ worker ∷ []
   pub posts : new.posts.items ≡ set old.posts.items worker (get_or old.posts.items worker 0 + 1)
   pub author_capacity : vec_capacity new.authors ≡ vec_capacity old.authors
 
--- a run to which nothing has happened, with room for so many entries
+-- a run to which nothing has happened, with room for `room` entries
 pub record IsOpened (limits : List Limits) (room workers : ℕ) (kept : Declared) : Type 0 where
   pub entries : kept.run.entries.items ≡ []
   pub authors : kept.authors.items ≡ []
@@ -46,13 +47,14 @@ pub record IsOpened (limits : List Limits) (room workers : ℕ) (kept : Declared
 abbrev pub room_under : Bundle → (lock run : ℕ) → ℕ
 room_under bundle lock run = if lock_of run == lock then entries_of bundle run else 0
 
--- so it is of the first so many runs of a bundle, with room for all entries that they can have under the lock
+-- so it is of the first `upto` runs of a bundle, with room for all entries that they can have under the lock
 pub record AreOpened (bundle : Bundle) (workers lock upto : ℕ) (runs : List Declared) : Type 0 where
   pub as_many : length runs ≡ upto
-  pub each : (run : ℕ) (part : RunPart) (kept : Declared) → slice_get bundle.runs run ≡ Some part → slice_get runs run ≡ Some kept
+  pub each : (run : ℕ) (part : RunPart) (kept : Declared) → slice_get bundle.runs run ≡ Some part
+      → slice_get runs run ≡ Some kept
       → IsOpened part.limits (room_under bundle lock run) workers kept
 
--- a worker's entries from a place on
+-- a worker's entries from a position on
 abbrev pub own_from : (worker : ℕ) → List Entry → (authors : List ℕ) → (from : ℕ) → List (ℕ × ℕ)
 own_from worker entries authors from = posted_from from worker (drop from entries) (drop from authors)
 
@@ -60,22 +62,30 @@ own_from worker entries authors from = posted_from from worker (drop from entrie
 abbrev pub IsNextOwn : (worker : ℕ) → List Entry → (authors : List ℕ) → (from : ℕ) → Option ℕ → Type 0
 IsNextOwn worker entries authors from None = own_from worker entries authors from ≡ []
 IsNextOwn worker entries authors from (Some place) =
-    (entry : Entry) × (slice_get entries place ≡ Some entry) × (own_from worker entries authors from ≡ (entry.number, place) ∷ own_from worker entries authors (suc place))
+    (entry : Entry) × (slice_get entries place ≡ Some entry)
+    × (own_from worker entries authors from ≡ (entry.number, place) ∷ own_from worker entries authors (suc place))
 
 abbrev pub kept_of : Declared → KeptRun
-kept_of kept = record { history = kept.run.entries.items; authors = kept.authors.items; posts = kept.posts.items; state = kept.run.state }
+kept_of kept =
+    record {
+      history = kept.run.entries.items;
+      authors = kept.authors.items;
+      posts = kept.posts.items;
+      state = kept.run.state;
+    }
 
 abbrev pub cell_of : List Declared → (total : ℕ) → Cell
 cell_of runs total = record { runs = map kept_of runs; total = total }
 
--- whether a number stands among some
+-- whether a number is among some
 abbrev pub is_number_among : (number : ℕ) → List ℕ → Bool
 is_number_among number numbers = nat_lt 0 (times_in number numbers)
 
--- whether each number stands in its run's history
+-- whether each number is in its run's history
 pub record IsTable (bundle : Bundle) (cell : Cell) (stored : List Bool) : Type 0 where
   pub as_many : length stored ≡ length bundle.entries
-  pub each : (number run : ℕ) → run_at bundle number ≡ Some run → slice_get stored number ≡ Some (is_number_among number (numbers_of (history_at cell run)))
+  pub each : (number run : ℕ) → run_at bundle number ≡ Some run
+      → slice_get stored number ≡ Some (is_number_among number (numbers_of (history_at cell run)))
 
 -- room for all entries of a run that is under the lock
 pub record HasRoom (bundle : Bundle) (lock run : ℕ) (kept : Declared) : Type 0 where
@@ -83,15 +93,18 @@ pub record HasRoom (bundle : Bundle) (lock run : ℕ) (kept : Declared) : Type 0
   pub authors : lock_of run ≡ lock → entries_of bundle run ≤ vec_capacity kept.authors
 
 -- what always holds of a cell
-pub record IsSoundCell (named : Bundle) (workers lock : ℕ) (bundle : Bundle) (runs : List Declared) (stored : List Bool) (total : ℕ) : Type 0 where
+pub record IsSoundCell (named : Bundle) (workers lock : ℕ) (bundle : Bundle) (runs : List Declared)
+    (stored : List Bool) (total : ℕ) : Type 0 where
   pub is_named : bundle ≡ named
   pub is_bundle : IsBundle bundle
   pub cell : IsCell bundle workers lock (cell_of runs total)
   pub table : IsTable bundle (cell_of runs total) stored
   pub room : (run : ℕ) (kept : Declared) → slice_get runs run ≡ Some kept → HasRoom bundle lock run kept
 
--- of some histories, those of the runs below one that are under a lock have come to their places among others, which stay
+-- of some histories, those of the runs below `upto` that are under a lock have moved to their positions among others,
+-- which stay
 pub record ArePutBelow (lock upto : ℕ) (own before after : List (List Entry)) : Type 0 where
   pub as_many : length after ≡ length before
-  pub put : (run : ℕ) → run < length before → run < upto → lock_of run ≡ lock → slice_get after run ≡ Some (get_or own run [])
+  pub put : (run : ℕ) → run < length before → run < upto → lock_of run ≡ lock
+      → slice_get after run ≡ Some (get_or own run [])
   pub others : (run : ℕ) → (run < upto → lock_of run ≢ lock) → slice_get after run ≡ slice_get before run

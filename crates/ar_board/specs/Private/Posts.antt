@@ -22,7 +22,8 @@ pub record IsAppended (bundle : Bundle) (number : ℕ) (old new : RunHistory) : 
   pub event : Event
   pub finds : finding_at bundle number ≡ Some finding
   pub happens : happened bundle number ≡ Some event
-  pub entries : ForEachReplay old.state (λ limits events. new.entries.items ≡ old.entries.items ++ entry_with number finding limits events event ∷ [])
+  pub entries : ForEachReplay old.state
+      (λ limits events. new.entries.items ≡ old.entries.items ++ entry_with number finding limits events event ∷ [])
   pub replays : ForEachReplay old.state (λ limits events. Replays limits (events ++ event ∷ []) new.state)
   pub capacity : vec_capacity new.entries ≡ vec_capacity old.entries
 
@@ -30,11 +31,12 @@ pub record IsAppended (bundle : Bundle) (number : ℕ) (old new : RunHistory) : 
 abbrev pub next_own : Core → (run : ℕ) → Option ℕ
 next_own core run = slice_get (own_numbers core.bundle run) (length (get_or core.state.histories run []))
 
--- the core in which the parked numbers of a run have gone to its history as far as they can
+-- the core in which the parked numbers of a run have moved to its history as far as they can
 abbrev pub settled_core : Core → (run : ℕ) → Core
-settled_core core run = record { bundle = core.bundle; places = core.places; ordered = core.ordered; state = settled_numbers core.bundle core.state (lacking core.bundle core.state run) }
+settled_core core run =
+    record core { state = settled_numbers core.bundle core.state (lacking core.bundle core.state run) }
 
--- one of them has gone
+-- one of them has moved
 pub record IsTurn (run : ℕ) (old new : Core) : Type 0 where
   pub bundle : new.bundle ≡ old.bundle
   pub ordered : new.ordered ≡ old.ordered
@@ -43,4 +45,4 @@ pub record IsTurn (run : ℕ) (old new : Core) : Type 0 where
 
 -- the core after some steps
 abbrev pub stepped_by : Core → List CoreStep → Core
-stepped_by core steps = record { bundle = core.bundle; places = core.places; ordered = core.ordered; state = after_steps core.bundle core.places core.ordered core.state steps }
+stepped_by core steps = record core { state = after_steps core.bundle core.places core.ordered core.state steps }

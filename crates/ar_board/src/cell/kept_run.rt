@@ -13,7 +13,7 @@ use ar_limits::{Event, Limits, Phase};
 use std::alloc::{AllocError, Global};
 
 /// The history of a run, the worker that posted each of its entries, how many each worker posted, and
-/// where the run stands.
+/// the state of the run.
 #[derive(Drop)]
 pub(crate) struct KeptRun {
     pub(crate) run: RunHistory,
@@ -25,7 +25,7 @@ impl KeptRun {
     ghost use Rattle.ar_board.specs.Private.KeptRuns.{CanTake, IsNextOwn, IsOpened, IsPushed};
     ghost use Rattle.ar_board.specs.Receipts.{posted_by, received};
 
-    /// A run to which nothing has happened, with room for so many entries.
+    /// A run to which nothing has happened, with room for n entries.
     pub(crate) fn open(
         alloc: Global,
         limits: &[Limits],
@@ -67,7 +67,7 @@ impl KeptRun {
         History::from(self.run.entries)
     }
 
-    /// Whether the numbers and places of a worker's entries are those of its receipts for the run.
+    /// Whether the numbers and positions of a worker's entries are those of its receipts for the run.
     #[tactic(auto, using(crate::proofs::Shows::agree_at_first, crate::proofs::Shows::agree_skip))]
     pub(crate) fn agrees(&self, run: usize, worker: usize, receipts: &[Receipt]) -> bool
         requires { length self.now.authors.items ≡ length self.now.run.entries.items }
@@ -87,7 +87,7 @@ impl KeptRun {
         self.next_own(worker, from).is_none()
     }
 
-    /// Whether the entry at a place is that of a receipt.
+    /// Whether the entry at `place` is that of a receipt.
     fn is_of(&self, place: usize, receipt: &Receipt) -> bool
         requires { place < length self.now.run.entries.items }
         ensures { (entry : Entry) → slice_get self.now.run.entries.items place ≡ Some entry
@@ -96,7 +96,7 @@ impl KeptRun {
         place == receipt.place && self.run.entries[place].number == receipt.number
     }
 
-    /// The first place from one on with an entry of the worker.
+    /// The first position from one on with an entry of the worker.
     #[tactic(auto, using(crate::proofs::Shows::next_skip, crate::proofs::Shows::next_here, crate::proofs::Shows::next_end))]
     fn next_own(&self, worker: usize, from: usize) -> Option<usize>
         requires { length self.now.authors.items ≡ length self.now.run.entries.items }

@@ -1,4 +1,4 @@
-//! Which lock a run is under, and types that name a lock in contracts. No value of such a type is wanted: a
+//! Which lock a run is under, and types that name a lock in contracts. No value of such a type is needed: a
 //! function over them speaks of whichever lock its caller has.
 
 ghost use Rattle.ar_board.specs.Locks.{lock_of};

@@ -6,6 +6,6 @@ pub struct Receipt {
     /// The run that the number is of, counted from 0.
     pub run: usize,
     pub number: u64,
-    /// The place of the number's entry in the run's history, counted from 0.
+    /// The position of the number's entry in the run's history, counted from 0.
     pub place: usize,
 }

@@ -1,4 +1,4 @@
-//! A run's history, and where the run stands after it.
+//! A run's history, and the state of the run after it.
 
 ghost use Rattle.std.specs.Prelude.{◌≡◌, ◌<◌, [], IfOk, length};
 ghost use Rattle.std.specs.Vec.{vec_capacity};
@@ -10,7 +10,7 @@ use ar_bundle::{Entry, Finding};
 use ar_limits::{Effect, Event, Limits, RunState};
 use std::alloc::{AllocError, Global};
 
-/// The entries of a run, with room for all that the run can have, and where it stands after them.
+/// The entries of a run, with room for all that the run can have, and its state after them.
 #[derive(Drop)]
 pub struct RunHistory {
     pub entries: Vec<Entry>,
@@ -18,7 +18,7 @@ pub struct RunHistory {
 }
 
 impl RunHistory {
-    /// That of a run to which nothing has happened, with room for so many entries.
+    /// That of a run to which nothing has happened, with room for `size` entries.
     pub fn open(alloc: Global, limits: &[Limits], size: usize) -> Result<RunHistory, AllocError>
         requires { HasPositiveCounts limits.now }
         ensures empty { IfOk result (λ run. run.entries.items ≡ []) }
@@ -31,7 +31,7 @@ impl RunHistory {
         })
     }
 
-    /// A number goes to the end, with its finding and the effect that it has there, which is answered.
+    /// A number moves to the end, with its finding and the effect that it has there, which is returned.
     /// There is room for it.
     pub fn append(&mut self, number: u64, finding: Finding, event: Event) -> Effect
         requires room { length self.old.entries.items < vec_capacity self.old.entries }

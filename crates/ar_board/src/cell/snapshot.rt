@@ -19,7 +19,7 @@ pub struct Snapshot {
 /// Why a run isn't shown.
 #[derive(Clone, Copy, Debug)]
 pub enum LookFault {
-    /// The run's history has this many entries by the worker, and their numbers and places aren't
+    /// The run's history has this many entries by the worker, and their numbers and positions aren't
     /// those of the worker's receipts for the run.
     Stale(u64),
     OutOfMemory,

@@ -10,7 +10,7 @@ use crate::core_state::{CoreState, append};
 use crate::core_steps::Moved;
 
 impl<'b> CoreState<'b> {
-    /// The number in the worker's hand is parked, and what is parked of its run goes to the run's
+    /// The number in the worker's hand is parked, and what is parked of its run moves to the run's
     /// history as far as it can.
     pub(super) fn post_in_order(&mut self, worker: usize) -> Moved
         requires { self.old.ordered ≡ true }
@@ -27,7 +27,7 @@ impl<'b> CoreState<'b> {
         Moved::Done
     }
 
-    /// As long as the least number that the run's history lacks is parked, it goes to the history's
+    /// As long as the least number that the run's history lacks is parked, it moves to the history's
     /// end.
     fn settle(&mut self, run: usize)
         requires ordered { self.old.ordered ≡ true }
@@ -37,7 +37,7 @@ impl<'b> CoreState<'b> {
         'turns: while self.move_next(run) {}
     }
 
-    /// The least number that the run's history lacks goes to the history's end, if it is parked.
+    /// The least number that the run's history lacks moves to the history's end, if it is parked.
     fn move_next(&mut self, run: usize) -> bool
         requires ordered { self.old.ordered ≡ true }
         requires there { run < length self.old.bundle.runs }

@@ -6,7 +6,7 @@ ghost use Rattle.ar_board.specs.Private.Own.{AreOwn, items_of_each};
 use ar_bundle::Bundle;
 use std::alloc::{AllocError, Global};
 
-/// So many lists, all empty.
+/// `count` lists, all empty.
 fn empty_lists(alloc: Global, count: usize) -> Result<Vec<Vec<u64>>, AllocError>
     ensures { IfOk result (λ lists. items_of_each lists.items ≡ replicate count []) }
 {
@@ -29,7 +29,7 @@ fn own_numbers(alloc: Global, bundle: &Bundle) -> Result<Vec<Vec<u64>>, AllocErr
     Ok(own)
 }
 
-/// The same where the lists are wanted, and none where they aren't.
+/// The same where the lists are required, and none where they aren't.
 pub(crate) fn own_numbers_if(
     alloc: Global,
     bundle: &Bundle,

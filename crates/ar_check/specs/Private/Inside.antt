@@ -1,14 +1,14 @@
--- What operands, items and scopes in memory stand for, of which no public contract speaks.
+-- What operands, items and scopes in memory represent, of which no public contract speaks.
 use Rattle.std.specs.Global.{Box}
 use Rattle.std.specs.Prelude.{ℕ, suc, Bool, false, ◌&&◌, if◌then◌else◌, List, Option, Some, option_map, Result, Ok, Err}
 use Rattle.ar_value.specs.declared.operator.UnaryOperator.TheVariants as unary
 use Rattle.ar_value.specs.Answer.{◌>>=◌}
-use Rattle.ar_value.specs.Kind.{Kind, common, is_decimal, plain}
+use Rattle.ar_value.specs.Kind.{Kind, is_decimal, plain, truth_kind}
 use Rattle.ar_value.specs.Kind as kind
 use Rattle.ar_value.specs.Shape.{Shape}
 use Rattle.ar_value.specs.View.{shape_view}
 use Rattle.ar_tree.specs.Expression.{Expression, Expressions}
-use Rattle.ar_check.specs.Check.{Answer, Item, item_shape, item_typed, items_typed, truth_kind, typed_of, where_wanted}
+use Rattle.ar_check.specs.Check.{Answer, Item, LeftIsNil, NeitherIsNil, NilSide, RightIsNil, item_shape, item_typed, items_typed, typed_of, where_wanted}
 use Rattle.ar_check.specs.Operand.{Operand, is_truth, is_whole, made_plain, operand, plain_of, scalar_of}
 use Rattle.ar_tree.specs.Typed.{Typed}
 use Rattle.ar_tree.specs.Typed as typed
@@ -23,14 +23,14 @@ use Rattle.ar_check.specs.declared.operand.Kind.TheVariants as kinds
 use Rattle.ar_check.specs.declared.operand.Operand as operands
 use Rattle.ar_check.specs.declared.typing.Scope.{Scope}
 
--- the kind of an operand, wherever its shape lies
-abbrev pub kind_view : code.Kind → Kind
-kind_view kinds.Nil = kind.nil
-kind_view (kinds.Declared shape) = kind.shaped (shape_view shape.now)
-kind_view (kinds.Made shape) = kind.shaped (shape_view shape)
+-- the kind of an operand, wherever its shape is
+abbrev pub view_of_kind : code.Kind → Kind
+view_of_kind kinds.Nil = kind.nil
+view_of_kind (kinds.Declared shape) = kind.shaped (shape_view shape.now)
+view_of_kind (kinds.Made shape) = kind.shaped (shape_view shape)
 
 abbrev pub operand_view : operands.Operand → Operand
-operand_view o = operand (typed_view o.tree.value) (kind_view o.kind)
+operand_view o = operand (typed_view o.tree.value) (view_of_kind o.kind)
 
 abbrev pub boxed_view : Box operands.Operand → Operand
 boxed_view o = operand_view o.value
@@ -53,8 +53,8 @@ abbrev pub typed_in : Scope → Expression → Answer
 typed_in scope tree = typed_of (shape_view scope.measured.now) (innermost_of scope) scope.around tree
 
 -- items of a list literal, likewise
-abbrev pub items_in : Scope → Expressions → Result (List Item) TypeError
-items_in scope trees = items_typed (shape_view scope.measured.now) (innermost_of scope) scope.around trees
+abbrev pub items_in_scope : Scope → Expressions → Result (List Item) TypeError
+items_in_scope scope trees = items_typed (shape_view scope.measured.now) (innermost_of scope) scope.around trees
 
 abbrev pub item_in : Scope → Expression → Result Item TypeError
 item_in scope tree = item_typed (shape_view scope.measured.now) (innermost_of scope) scope.around tree
@@ -76,10 +76,17 @@ abbrev pub connected_of : ℕ → Connective → Operand → Operand → Answer
 connected_of at by left right =
     where_wanted at (is_truth left && is_truth right) (connected by (made_plain left) (made_plain right)) truth_kind
 
--- whether a tree of a kind is a whole beside a decimal, and the tree, where it is turned
+-- whether a tree of a kind is a whole next to a decimal, and the tree, where it is converted
 abbrev pub turns : Kind → Kind → Bool
 turns (kind.shaped other) (kind.shaped shape) = is_decimal other && is_whole (plain shape)
 turns other of = false
 
 abbrev pub turned_where : Bool → Typed → Typed
 turned_where is_turned tree = if is_turned then typed.unary unary.ToDecimal tree else tree
+
+-- which operand is the literal `nil`, by tests of both
+abbrev pub side_by : (nil_left nil_right : Bool) → NilSide
+side_by nil_left nil_right =
+    if nil_left then LeftIsNil
+    else (if nil_right then RightIsNil
+    else NeitherIsNil)

@@ -13,21 +13,24 @@ use Rattle.ar_check.specs.declared.typing.Scope.{Scope}
 abbrev pub kind_at : Scope → Expression → Option Kind
 kind_at scope tree = kind_of (shape_view scope.measured.now) (innermost_of scope) scope.around tree
 
--- what is found at a place in a tree, and in one of some trees
+-- what is found at an offset in a tree, and in one of some trees
 abbrev pub place_in : Scope → ℕ → Expression → Option Operands
 place_in scope place tree = found_in place (shape_view scope.measured.now) (innermost_of scope) scope.around tree
 
 abbrev pub place_among : Scope → ℕ → Expressions → Option Operands
-place_among scope place trees = found_among place (shape_view scope.measured.now) (innermost_of scope) scope.around trees
+place_among scope place trees =
+    found_among place (shape_view scope.measured.now) (innermost_of scope) scope.around trees
 
--- what the body of a predicate is, and what is found at a place in it, where an item has a shape
+-- what the body of a predicate is, and what is found at an offset in it, where an item has a shape
 abbrev pub body_over : Scope → Option Shape → Expression → Option Operands
-body_over scope shape body = option_and_then (λ shape. one (kind_of (shape_view scope.measured.now) (Some shape) (suc scope.around) body)) shape
+body_over scope shape body =
+    option_and_then (λ shape. one (kind_of (shape_view scope.measured.now) (Some shape) (suc scope.around) body)) shape
 
 abbrev pub place_over : Scope → ℕ → Option Shape → Expression → Option Operands
-place_over scope place shape body = option_and_then (λ shape. found_in place (shape_view scope.measured.now) (Some shape) (suc scope.around) body) shape
+place_over scope place shape body =
+    option_and_then (λ shape. found_in place (shape_view scope.measured.now) (Some shape) (suc scope.around) body) shape
 
--- what is found at a predicate of a place over a list, in its body or in its list
+-- what is found at a predicate of an offset over a list, in its body or in its list
 abbrev pub place_in_predicate : Scope → ℕ → ℕ → Expression → Expression → Option Operands
 place_in_predicate scope place at list body =
     if at == place then body_over scope (entered_list scope.around (kind_at scope list)) body

@@ -4,7 +4,7 @@ use Rattle.ar_workers.specs.declared.error.WorkError.{WorkError}
 use Rattle.ar_workers.specs.declared.error.WorkError.TheVariants as work
 use Rattle.ar_command.specs.declared.serving.Refusal.{Refusal}
 use Rattle.ar_command.specs.declared.serving.ServeError.{ServeError}
-use Rattle.ar_command.specs.declared.serving.ServeError.TheVariants.{Read, Refused, Work, Write, OutOfMemory}
+use Rattle.ar_command.specs.declared.serving.ServeError.TheVariants.{Refused, Work, OutOfMemory}
 
 abbrev pub is_serve_memory : ServeError → Bool
 is_serve_memory OutOfMemory = true

@@ -1,4 +1,4 @@
--- Code that grows as a tree is compiled: operation by operation, jumps being set once their places are known.
+-- Code that grows as a tree is compiled: operation by operation, jumps being set once their indexes are known.
 use Rattle.std.specs.Prelude.{ℕ, List, [], ◌∷◌, ◌++◌, length, set}
 use Rattle.ar_tree.specs.Typed.{Typed, Typeds, how_many}
 use Rattle.ar_tree.specs.Typed as typed
@@ -11,25 +11,28 @@ use Rattle.ar_op.specs.declared.op.Jump.TheVariants as jumps
 use Rattle.ar_op.specs.declared.op.Op.{Op}
 use Rattle.ar_op.specs.declared.op.Op.TheVariants.{Push, MakeList, Field, Unary, Binary, Jump, Enter, Step}
 use Rattle.ar_op.specs.declared.op.Source.TheVariants as sources
-use Rattle.ar_compile.specs.Compiled.{number_of, with_text}
+use Rattle.ar_compile.specs.Compiled.{index_among, with_text}
 
 abbrev pub no_code : Code
 no_code = code_of_parts [] [] []
 
--- how many operations there are: the place of the next
-abbrev pub place_of : Code → ℕ
-place_of draft = length draft.ops
+-- how many operations there are: the index of the next
+abbrev pub draft_place : Code → ℕ
+draft_place draft = length draft.ops
 
 abbrev pub with_op : Op → Code → Code
 with_op op draft = code_of_parts (draft.ops ++ op ∷ []) draft.texts draft.names
 
 abbrev pub with_push_text : List ℕ → Code → Code
-with_push_text text draft = code_of_parts (draft.ops ++ Push (sources.Text (number_of text draft.texts)) ∷ []) (with_text text draft.texts) draft.names
+with_push_text text draft =
+    code_of_parts (draft.ops ++ Push (sources.Text (index_among text draft.texts)) ∷ []) (with_text text draft.texts)
+    draft.names
 
 abbrev pub with_field : List ℕ → Code → Code
-with_field name draft = code_of_parts (draft.ops ++ Field (number_of name draft.names) ∷ []) draft.texts (with_text name draft.names)
+with_field name draft =
+    code_of_parts (draft.ops ++ Field (index_among name draft.names) ∷ []) draft.texts (with_text name draft.names)
 
--- another operation at a place
+-- another operation at `place`
 abbrev pub with_set : (place : ℕ) → Op → Code → Code
 with_set place op draft = code_of_parts (set draft.ops place op) draft.texts draft.names
 
@@ -40,13 +43,13 @@ with_literal (literals.Whole value) draft = with_op (Push (sources.Whole value))
 with_literal (literals.Decimal millionths) draft = with_op (Push (sources.Decimal millionths)) draft
 with_literal (literals.Text letters) draft = with_push_text letters draft
 
--- a jump at a place goes to the next operation
+-- a jump at `place` leads to the next operation
 abbrev pub jumps_on : JumpKind → (place : ℕ) → Code → Code
-jumps_on jump place draft = with_set place (Jump jump (place_of draft)) draft
+jumps_on jump place draft = with_set place (Jump jump (draft_place draft)) draft
 
 -- a loop's Enter, whose Step comes next
 abbrev pub enters : Predicate → (place : ℕ) → Code → Code
-enters predicate place draft = with_set place (Enter predicate (place_of draft)) draft
+enters predicate place draft = with_set place (Enter predicate (draft_place draft)) draft
 
 abbrev pub with_loop : Predicate → (place : ℕ) → Code → Code
 with_loop predicate place draft = with_op (Step predicate place) (enters predicate place draft)
@@ -59,13 +62,20 @@ abbrev mutual
   drafted (typed.field owner name) draft = with_field name (drafted owner draft)
   drafted (typed.unary operator operand) draft = with_op (Unary operator) (drafted operand draft)
   drafted (typed.binary operator left right) draft = with_op (Binary operator) (drafted right (drafted left draft))
-  drafted (typed.both left right) draft = jumps_on jumps.And (place_of (drafted left draft)) (drafted right (with_op (Jump jumps.And 0) (drafted left draft)))
-  drafted (typed.either left right) draft = jumps_on jumps.Or (place_of (drafted left draft)) (drafted right (with_op (Jump jumps.Or 0) (drafted left draft)))
+  drafted (typed.both left right) draft =
+      jumps_on jumps.And (draft_place (drafted left draft))
+      (drafted right (with_op (Jump jumps.And 0) (drafted left draft)))
+  drafted (typed.either left right) draft =
+      jumps_on jumps.Or (draft_place (drafted left draft))
+      (drafted right (with_op (Jump jumps.Or 0) (drafted left draft)))
   drafted (typed.choice condition met unmet) draft =
-      jumps_on jumps.Always (place_of (drafted met (with_op (Jump jumps.Branch 0) (drafted condition draft))))
-      (drafted unmet (jumps_on jumps.Branch (place_of (drafted condition draft)) (with_op (Jump jumps.Always 0) (drafted met (with_op (Jump jumps.Branch 0) (drafted condition draft))))))
+      jumps_on jumps.Always (draft_place (drafted met (with_op (Jump jumps.Branch 0) (drafted condition draft))))
+      (drafted unmet (jumps_on jumps.Branch (draft_place (drafted condition draft))
+      (with_op (Jump jumps.Always 0) (drafted met (with_op (Jump jumps.Branch 0) (drafted condition draft))))))
   drafted (typed.listed scalar items) draft = with_op (MakeList scalar (how_many items)) (drafted_items items draft)
-  drafted (typed.predicate predicate list body) draft = with_loop predicate (place_of (drafted list draft)) (drafted body (with_op (Enter predicate 0) (drafted list draft)))
+  drafted (typed.predicate predicate list body) draft =
+      with_loop predicate (draft_place (drafted list draft))
+      (drafted body (with_op (Enter predicate 0) (drafted list draft)))
 
   pub drafted_items : Typeds → Code → Code
   drafted_items typed.none draft = draft

@@ -1,4 +1,4 @@
--- Where in code the code of a tree stands: between the list of operations and what the machine does.
+-- Where in code the code of a tree is: between the list of operations and what the machine does.
 use Rattle.std.specs.Prelude.{◌≡◌, ℕ, ◌+◌, List, Some}
 use Rattle.ar_tree.specs.Typed.{Typed, Typeds, how_many}
 use Rattle.ar_tree.specs.Typed as typed
@@ -35,19 +35,28 @@ module _ (code : Code) where
     Stands place typed.item = At place (Push sources.Item)
     Stands place (typed.literal literal) = StandsLiteral place literal
     Stands place (typed.field owner name) = Stands place owner × TakesField (place + operations owner) name
-    Stands place (typed.unary operator operand) = Stands place operand × At (place + operations operand) (Unary operator)
-    Stands place (typed.binary operator left right) = Stands place left × Stands (place + operations left) right × At (place + operations left + operations right) (Binary operator)
+    Stands place (typed.unary operator operand) =
+        Stands place operand × At (place + operations operand) (Unary operator)
+    Stands place (typed.binary operator left right) =
+        Stands place left × Stands (place + operations left) right
+        × At (place + operations left + operations right) (Binary operator)
     Stands place (typed.both left right) =
-        Stands place left × At (place + operations left) (Jump jumps.And (place + operations left + 1 + operations right)) × Stands (place + operations left + 1) right
+        Stands place left × At (place + operations left)
+        (Jump jumps.And (place + operations left + 1 + operations right))
+        × Stands (place + operations left + 1) right
     Stands place (typed.either left right) =
-        Stands place left × At (place + operations left) (Jump jumps.Or (place + operations left + 1 + operations right)) × Stands (place + operations left + 1) right
+        Stands place left × At (place + operations left)
+        (Jump jumps.Or (place + operations left + 1 + operations right))
+        × Stands (place + operations left + 1) right
     Stands place (typed.choice condition met unmet) =
         Stands place condition
         × At (place + operations condition) (Jump jumps.Branch (place + operations condition + 1 + operations met + 1))
         × Stands (place + operations condition + 1) met
-        × At (place + operations condition + 1 + operations met) (Jump jumps.Always (place + operations condition + 1 + operations met + 1 + operations unmet))
+        × At (place + operations condition + 1 + operations met)
+        (Jump jumps.Always (place + operations condition + 1 + operations met + 1 + operations unmet))
         × Stands (place + operations condition + 1 + operations met + 1) unmet
-    Stands place (typed.listed scalar items) = StandItems place items × At (place + operations_of_items items) (MakeList scalar (how_many items))
+    Stands place (typed.listed scalar items) =
+        StandItems place items × At (place + operations_of_items items) (MakeList scalar (how_many items))
     Stands place (typed.predicate predicate list body) =
         Stands place list
         × At (place + operations list) (Enter predicate (place + operations list + 1 + operations body))

@@ -1,4 +1,4 @@
--- Trees in memory that stand together.
+-- Trees in memory that are together.
 use Rattle.std.specs.Prelude.{ℕ, ◌+◌, List, map}
 use Rattle.ar_tree.specs.Typed.{Typeds, typeds}
 use Rattle.ar_tree.specs.Views.{typed_view}

@@ -4,7 +4,7 @@ use Rattle.std.specs.List.{AllByRecursion}
 use Rattle.serde_json.specs.Data.{Data, string}
 use Rattle.ar_manifest.specs.Arguments.{with_value}
 use Rattle.ar_manifest.specs.Binding.{RunArguments}
-use Rattle.ar_bundle.specs.Sound.{IsEventPart}
+use Rattle.ar_bundle.specs.Sound.{FitsBundle}
 use Rattle.ar_limits.specs.Replay.{most_events}
 use Rattle.ar_bundle.specs.declared.bundle.EventPart.{EventPart}
 use Rattle.ar_bundle.specs.declared.bundle.RunPart.{RunPart}
@@ -26,9 +26,10 @@ pub record IsMade (opened : Opened) (document : Data) (parts : List RunPart) (en
   pub are_parts : HaveParts (opened_view opened) opened.runs.items parts
   pub are_entries : entries_in (opened_view opened) document ≡ Ok (map entry_view entries)
   pub few : length entries ≤ most_events
-  pub each : AllByRecursion (IsEventPart opened.metrics.items (length opened.runs.items)) entries
+  pub each : AllByRecursion (FitsBundle opened.metrics.items (length opened.runs.items)) entries
 
 -- a run is refused, or an entry, where all runs have their parts
 pub data RefusesMade (opened : Parts) (document : Data) (error : BundleError) : Type 0 where
   of_run : RefusesRuns opened error → RefusesMade opened document error
-  of_entry : (parts : List RunPart) → HaveParts opened opened.runs parts → entries_in opened document ≡ Err error → RefusesMade opened document error
+  of_entry : (parts : List RunPart) → HaveParts opened opened.runs parts → entries_in opened document ≡ Err error
+      → RefusesMade opened document error

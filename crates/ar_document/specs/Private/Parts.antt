@@ -1,5 +1,5 @@
 -- Parts of runs, while they are made.
-use Rattle.std.specs.Prelude.{◌≡◌, ◌≢◌, ℕ, List, map, take, slice_get, Some, Result, Ok, Err}
+use Rattle.std.specs.Prelude.{◌≡◌, ◌≢◌, ℕ, List, map, take, slice_get, Some}
 use Rattle.ar_value.specs.View.{shape_view}
 use Rattle.ar_manifest.specs.declared.bound.BoundMetric.{BoundMetric}
 use Rattle.ar_judge.specs.Verdict.{Judge, RefusesTexts}
@@ -18,7 +18,8 @@ RefusesJudge run number metric bound (Build named_run named error) =
 RefusesJudge run number metric bound error = ⊥
 
 -- those of a metric can't be built, and those of the metrics before it can
-pub record RefusesJudges (run : ℕ) (metrics : List MetricPart) (bound : List BoundMetric) (error : BundleError) : Type 0 where
+pub record RefusesJudges (run : ℕ) (metrics : List MetricPart) (bound : List BoundMetric)
+    (error : BundleError) : Type 0 where
   pub number : ℕ
   pub earlier : List Judge
   pub are_judges : AreJudges (map metric_view (take number metrics)) (take number bound) earlier

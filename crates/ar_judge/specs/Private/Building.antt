@@ -1,7 +1,7 @@
 -- What a metric's text is built to, where it has one.
 use Rattle.std.specs.Prelude.{◌≡◌, ℕ, List, Option, Some, Result, Ok, Err}
 use Rattle.ar_value.specs.Shape.{Shape}
-use Rattle.ar_judge.specs.Built.{Condition}
+use Rattle.ar_judge.specs.Headline.{Condition}
 use Rattle.ar_judge.specs.Condition.{IsRefused}
 use Rattle.ar_judge.specs.Verdict.{AreBuilt}
 use Rattle.ar_judge.specs.declared.error.BuildCause.{BuildCause}

@@ -1,7 +1,7 @@
 -- A `RunState` as a caller sees it, and what always holds of its fields: its view and its invariant.
 --
 -- No public contract names these. Those of `RunState` speak of the `Standing` that the view gives, and each reader's
--- contract ties a part of it to the answer.
+-- contract ties a part of it to the result.
 use Rattle.ar_limits.specs.declared.run.RunState.TheInside.{Inside}
 use Rattle.ar_limits.specs.Replay.{Standing}
 use Rattle.ar_limits.specs.Private.Kept.{standing_of, AreConsistent, AreWithin}

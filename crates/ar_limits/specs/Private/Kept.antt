@@ -19,7 +19,7 @@ incomplete_count phases = count_by (λ phase. not (is_complete phase)) phases
 abbrev pub for_run : Metric → Phase
 for_run metric = phase_for_run metric.limits metric.phase
 
--- where a run with these metrics and this phase stands
+-- the state of a run with these metrics and this phase
 abbrev pub standing_of : List Metric → Phase → ℕ → Standing
 standing_of metrics phase handed = record {
   limits = map (λ metric. metric.limits) metrics;

@@ -1,4 +1,4 @@
--- One event more, from where a run stands: what the code does, by running counts.
+-- One event more, from the state of a run: what the code does, by running counts.
 --
 -- No public contract speaks of this. The proof of `RunState::apply` shows that it is the definition of the list.
 use Rattle.std.specs.Prelude.{◌+◌, ◌||◌, Bool, false, if◌then◌else◌, Option, Some, None, unwrap_or, map, slice_get, slice_set, slice_index_or}
@@ -54,14 +54,15 @@ with_event state event.Stop = state
 
 -- the phase with which the event closes the run, if it does
 abbrev pub closing_now : Standing → Event → Option Phase
-closing_now state (event.Mark number mark) = closed_by_metrics (phases_for_run state.limits (with_event state (event.Mark number mark)).phases)
+closing_now state (event.Mark number mark) =
+    closed_by_metrics (phases_for_run state.limits (with_event state (event.Mark number mark)).phases)
 closing_now state event.Stop = Some phase.Successful
 
 -- the run is closed with this phase
 abbrev pub closed : Standing → Phase → Standing
 closed state closing = record state { phases = map settled state.phases; phase = closing }
 
--- where the run stands after the event, its number of events left aside
+-- the state of the run after the event, except its number of events
 unfoldable pub next : Standing → Event → Standing
 next state event =
     if comes_late state event then state

@@ -9,7 +9,8 @@ use Rattle.ar_manifest.specs.declared.error.ManifestError.{ManifestError}
 use Rattle.ar_manifest.specs.declared.template.Metric.{Metric}
 
 -- the conditions of metric i
-abbrev pub bound_conditions : TemplateArguments → RunArguments → ℕ → Metric → Result (Option (List ℕ) × Option (List ℕ)) ManifestError
+abbrev pub bound_conditions : TemplateArguments → RunArguments → ℕ → Metric
+    → Result (Option (List ℕ) × Option (List ℕ)) ManifestError
 bound_conditions arguments own i metric = do
   success ← bound_condition arguments own i metric.success_condition
   failure ← bound_condition arguments own i metric.failure_condition
@@ -27,4 +28,9 @@ bound_limits arguments own i metric = do
   inconclusive ← bound_limit arguments own i metric.limits.inconclusive
   consecutive_error ← bound_limit arguments own i metric.limits.consecutive_error
   effective ← effective_count i metric.has_interval count
-  Ok (record { failure = unwrap_or failure 0; inconclusive = unwrap_or inconclusive 0; consecutive_error = unwrap_or consecutive_error 4; count = effective })
+  Ok (record {
+    failure = unwrap_or failure 0;
+    inconclusive = unwrap_or inconclusive 0;
+    consecutive_error = unwrap_or consecutive_error 4;
+    count = effective;
+  })

@@ -1,4 +1,4 @@
--- What is looked at before memory is taken.
+-- What is checked before memory is taken.
 use Rattle.std.specs.Prelude.{List, Result, codes}
 use Rattle.serde_json.specs.Data.{Data}
 use Rattle.ar_value.specs.Answer.{◌>>=◌}

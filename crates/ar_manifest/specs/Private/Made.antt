@@ -11,7 +11,8 @@ use Rattle.ar_manifest.specs.declared.template.Limit.{Limit}
 use Rattle.ar_manifest.specs.declared.template.Metric.{Metric}
 
 -- two limits of a metric, by their names
-abbrev pub two_limits : ManifestError → (first second : List ℕ) → Data → Result (Option Limit × Option Limit) ManifestError
+abbrev pub two_limits : ManifestError → (first second : List ℕ) → Data
+    → Result (Option Limit × Option Limit) ManifestError
 two_limits refusal first second d = do
   one ← limit_or refusal (member first d)
   other ← limit_or refusal (member second d)

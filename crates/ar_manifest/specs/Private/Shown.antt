@@ -23,7 +23,7 @@ shown None = values.LongText
 unfoldable pub refused_bound : ℕ → Option (List ℕ) → Option LimitValue
 refused_bound i bound = if is_ok (limit_within i bound) then None else Some (shown bound)
 
--- and an answer of one
+-- and a result of one
 abbrev pub refused_answer : ℕ → Result (Option (List ℕ)) ManifestError → Option LimitValue
 refused_answer i (Ok bound) = refused_bound i bound
 refused_answer i (Err refusal) = None

@@ -29,7 +29,8 @@ joined most None piece = None
 joined most (Some front) piece = within most (front ++ piece)
 
 -- a text of metric i, bound, if it has at most `most` bytes
-unfoldable pub text_within : TemplateArguments → RunArguments → ℕ → Option ℕ → List ℕ → Result (Option (List ℕ)) ManifestError
+unfoldable pub text_within : TemplateArguments → RunArguments → ℕ → Option ℕ → List ℕ
+    → Result (Option (List ℕ)) ManifestError
 text_within arguments own i most text = bound_text arguments own i text >>= λ bound. Ok (within most bound)
 
 -- ---- limits
@@ -56,13 +57,16 @@ abbrev pub kept : Bool → Option (List ℕ) → Option (List ℕ)
 kept false condition = condition
 kept true condition = option_map shortened condition
 
-abbrev pub kept_condition : TemplateArguments → RunArguments → ℕ → Bool → Option (List ℕ) → Result (Option (List ℕ)) ManifestError
-kept_condition arguments own i shortens condition = bound_condition arguments own i condition >>= λ bound. Ok (kept shortens bound)
+abbrev pub kept_condition : TemplateArguments → RunArguments → ℕ → Bool → Option (List ℕ)
+    → Result (Option (List ℕ)) ManifestError
+kept_condition arguments own i shortens condition =
+    bound_condition arguments own i condition >>= λ bound. Ok (kept shortens bound)
 
 -- ---- metrics
 
 -- the conditions of metric i, bound, shortened or whole
-abbrev pub kept_conditions : TemplateArguments → RunArguments → ℕ → Bool → Metric → Result (Option (List ℕ) × Option (List ℕ)) ManifestError
+abbrev pub kept_conditions : TemplateArguments → RunArguments → ℕ → Bool → Metric
+    → Result (Option (List ℕ) × Option (List ℕ)) ManifestError
 kept_conditions arguments own i shortens metric = do
   success ← kept_condition arguments own i shortens metric.success_condition
   failure ← kept_condition arguments own i shortens metric.failure_condition
@@ -75,8 +79,10 @@ kept_metric true metric = shortened_metric metric
 
 -- metric i, bound so
 abbrev pub kept_bound : TemplateArguments → RunArguments → ℕ → Bool → Metric → Result BoundMetric ManifestError
-kept_bound arguments own i shortens metric = bound_metric arguments own i metric >>= λ bound. Ok (kept_metric shortens bound)
+kept_bound arguments own i shortens metric =
+    bound_metric arguments own i metric >>= λ bound. Ok (kept_metric shortens bound)
 
 -- a metric after those that are bound so already
-abbrev pub next_kept : TemplateArguments → RunArguments → Bool → List BoundMetric → Metric → Result BoundMetric ManifestError
+abbrev pub next_kept : TemplateArguments → RunArguments → Bool → List BoundMetric → Metric
+    → Result BoundMetric ManifestError
 next_kept arguments own shortens earlier metric = kept_bound arguments own (length earlier) shortens metric

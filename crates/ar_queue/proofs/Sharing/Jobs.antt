@@ -1,4 +1,4 @@
--- A worker's job can go to a thread.
+-- A worker's job can be sent to a thread.
 use mathlib.Core.List.{[], ◌∷◌}
 use mir.Syntax.{Sym}
 use denote.Builtin.{One}

@@ -1,4 +1,4 @@
--- Queues of items can be shared between threads, and their passes can go to them.
+-- Queues of items can be shared between threads, and their passes can be sent to them.
 use denote.RattleType.{RattleType}
 use denote.Param.Send.{IsSend, IsSync, part_keyless, sendable}
 use denote.Builtin.{unit}

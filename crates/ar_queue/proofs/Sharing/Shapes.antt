@@ -1,4 +1,4 @@
--- Shapes can go to other threads and be shared between them, also those with several owners.
+-- Shapes can be sent to other threads and shared between them, also those with several owners.
 use mathlib.Core.Path.{subst}
 use Prim.Native.Nat.{ℕ}
 use base.Shift.{Keyless}

@@ -1,4 +1,4 @@
--- What bytes a token may go on with.
+-- What bytes a token may continue with.
 use Rattle.std.specs.Prelude.{ℕ, Bool}
 use Rattle.ar_quote.specs.Tokens.{is_inner, is_of_number, is_of_word}
 use Rattle.ar_quote.specs.declared.tokens.Run.{Run}

@@ -1,6 +1,6 @@
 -- What is shown of each condition.
 use Rattle.std.specs.Prelude.{ℕ, List}
-use Rattle.ar_safety.specs.Verdict.{Verified}
+use Rattle.ar_safety.specs.Bounds.{Verified}
 use Rattle.ar_report.specs.Check.{bounds_text, listed_text}
 use Rattle.ar_report.specs.declared.conditions.Shown.{Shown}
 use Rattle.ar_report.specs.declared.conditions.Shown.TheVariants.{Bounds, Listing}

@@ -1,4 +1,4 @@
--- A step of the code, beside that of the machine.
+-- A step of the code, with that of the machine.
 use Rattle.std.specs.Prelude.{◌≡◌, Bool, true, false, if◌then◌else◌, List, [], map, Option, Some, None, Result, Ok, Err, IfErr}
 use Rattle.ar_tree.specs.Expression.{Expression}
 use Rattle.ar_syntax.specs.Fault.{accepts, kind_fault}
@@ -29,8 +29,10 @@ state_of stack (states.WantIndex at owner) = WantIndex stack at (expression_of o
 state_of stack (states.HaveText at owner text_at text) = HaveText stack at (expression_of owner.value) text_at text
 state_of stack (states.WantIn at first) = WantIn stack at (expression_of first.value)
 state_of stack (states.WantGroup at function) = WantGroup stack at function
-state_of stack (states.WantArgument at function so_far) = WantArgument stack at function (map expression_of so_far.items)
-state_of stack (states.HaveArgument at function arguments) = HaveArgument stack at function (map expression_of arguments.items)
+state_of stack (states.WantArgument at function so_far) =
+    WantArgument stack at function (map expression_of so_far.items)
+state_of stack (states.HaveArgument at function arguments) =
+    HaveArgument stack at function (map expression_of arguments.items)
 
 -- the state that a stack and a state in memory say
 abbrev pub at_state : List rust_frames.Frame → rust.State → ParserState

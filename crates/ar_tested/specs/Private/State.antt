@@ -1,4 +1,4 @@
--- What states in memory stand for.
+-- What states in memory represent.
 use Rattle.std.specs.Prelude.{◌≡◌, List, map, option_map, reverse, drop, IfOk, Option, Result}
 use Rattle.std.specs.declared.alloc.AllocError.{AllocError}
 use Rattle.ar_value.specs.Value.{Value, items_of}
@@ -11,7 +11,7 @@ use Rattle.ar_tested.specs.declared.state.Next.{Next}
 use Rattle.ar_tested.specs.declared.state.Next.TheVariants as nexts
 use Rattle.ar_tested.specs.declared.state.State.{State}
 
--- the item at hand of the innermost loop
+-- the current item of the innermost loop
 abbrev pub here_view : Option ValueRef → Option Value
 here_view here = option_map value_of here
 
@@ -30,7 +30,13 @@ abbrev pub from_innermost : List Loop → List MemoryLoop
 from_innermost loops = reverse (map loop_view loops)
 
 abbrev pub state_view : State → MemoryState
-state_view s = record { place = s.place; operands = from_top s.operands.items; loops = from_innermost s.loops.items; cost = s.cost }
+state_view s =
+    record {
+      place = s.place;
+      operands = from_top s.operands.items;
+      loops = from_innermost s.loops.items;
+      cost = s.cost;
+    }
 
 abbrev pub next_view : Next → MemoryState → MemoryNext
 next_view nexts.Goes s = goes s

@@ -16,7 +16,8 @@ abbrev mutual
 
   pub same_fields : FieldShapes → FieldShapes → Bool
   same_fields no_fields no_fields = true
-  same_fields (field name left lefts) (field of right rights) = (bytes_eq name of && same_shape left right) && same_fields lefts rights
+  same_fields (field name left lefts) (field of right rights) =
+      (bytes_eq name of && same_shape left right) && same_fields lefts rights
   same_fields left right = false
 
 -- a name and a shape

@@ -1,22 +1,22 @@
--- Pass 3 as the code makes it, from the number of loops around each place and the Steps of the loops that are open at the
--- operation at hand, the outermost first.
+-- Pass 3 as the code does it, from the number of loops around each index and the Steps of the loops that are open at
+-- the current operation, the outermost first.
 use Rattle.std.specs.Prelude.{◌≡◌, ℕ, ◌+◌, ◌-◌, ◌==◌, ◌<◌, Bool, true, ◌&&◌, nat_le, nat_lt, List, [], ◌∷◌, ◌++◌, length, drop, take, Option, Some, None, slice_get, slice_index_or}
 use Rattle.ar_value.specs.Limits.{most_loops}
 use Rattle.ar_op.specs.Machine.{nth}
 use Rattle.ar_op.specs.declared.op.Op.{Op}
 use Rattle.ar_op.specs.declared.op.Op.TheVariants.{Jump, Enter, Step, Return}
-use Rattle.ar_safety.specs.Places.{all_pass, held, nests_well, or_else, unless}
+use Rattle.ar_safety.specs.Places.{all_pass, loops_around, nests_well, or_else, unless}
 use Rattle.ar_safety.specs.declared.error.Reason.{Reason}
 use Rattle.ar_safety.specs.declared.error.Reason.TheVariants.{CrossesLoop, LoopsTooDeep}
 
--- ---- how many loops are around each place
+-- ---- how many loops are around each index
 
 abbrev pub depth_behind : Op → (depth : ℕ) → ℕ
 depth_behind (Enter predicate step) depth = depth + 1
 depth_behind (Step predicate enter) depth = depth - 1
 depth_behind op depth = depth
 
--- at each operation, where there are so many around the first
+-- at each operation, where there are `depth` around the first
 abbrev pub depths : (depth : ℕ) → List Op → List ℕ
 depths depth [] = []
 depths depth (op ∷ ops) = depth ∷ depths (depth_behind op depth) ops
@@ -45,28 +45,31 @@ open_behind op steps = steps
 
 -- ---- the pass
 
--- whether a place lies inside the innermost loop, by its Step
+-- whether `place` is inside the innermost loop, by its Step
 abbrev pub is_inside : Option ℕ → (place : ℕ) → Bool
 is_inside None place = true
 is_inside (Some step) place = nat_le place step
 
 abbrev pub stays_by : List ℕ → Option ℕ → (place target : ℕ) → Option Reason
-stays_by around innermost place target = unless (is_inside innermost target && depth_at around place == depth_at around target) CrossesLoop
+stays_by around innermost place target =
+    unless (is_inside innermost target && depth_at around place == depth_at around target) CrossesLoop
 
 abbrev pub nests_by : List ℕ → Option ℕ → (place : ℕ) → Op → Option Reason
 nests_by around innermost place (Jump jump target) = stays_by around innermost place target
-nests_by around innermost place (Enter predicate step) = or_else (unless (nat_lt (depth_at around place) most_loops) LoopsTooDeep) (unless (is_inside innermost step) CrossesLoop)
+nests_by around innermost place (Enter predicate step) =
+    or_else (unless (nat_lt (depth_at around place) most_loops) LoopsTooDeep)
+    (unless (is_inside innermost step) CrossesLoop)
 nests_by around innermost place Return = unless (depth_at around place == 0) CrossesLoop
 nests_by around innermost place op = None
 
--- what the pass finds from a place on is what it finds at all, since it found nothing before; and these are the Steps of the loops
--- that hold the place
+-- what the pass finds from `place` on is what it finds at all, since it found nothing before; and these are the Steps
+-- of the loops that hold `place`
 abbrev pub IsNested : List Op → (place : ℕ) → (steps : List ℕ) → Type 0
-IsNested ops place steps = (steps ≡ open_steps ops (held ops place))
+IsNested ops place steps = (steps ≡ open_steps ops (loops_around ops place))
     × ((before : ℕ) (op : Op) → before < place → nth ops before ≡ Some op → nests_well ops before op ≡ None)
     × (all_pass (nests_well ops) place (drop place ops) ≡ all_pass (nests_well ops) 0 ops)
 
--- where jumps name places that are counted
+-- where jumps name indexes that are counted
 abbrev pub JumpsInside : (count : ℕ) → Op → Type 0
 JumpsInside count (Jump jump target) = target < count
 JumpsInside count op = Unit {0}

@@ -1,4 +1,4 @@
--- What helpers answer that know no place.
+-- What helpers return that know no index.
 use Rattle.std.specs.Prelude.{◌≡◌, ℕ, Result, Ok, Err}
 use Rattle.ar_safety.specs.declared.error.Cause.{Cause}
 use Rattle.ar_safety.specs.declared.error.Cause.TheVariants as causes

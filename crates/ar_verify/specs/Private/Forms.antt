@@ -1,4 +1,5 @@
--- Shapes apart from the greatest lengths of their lists: shapes that met have one form, and each list the greatest of its lengths.
+-- Shapes apart from the greatest lengths of their lists: shapes that were joined have one form, and each list the
+-- greatest of its lengths.
 use Rattle.std.specs.Prelude.{ℕ, max, Bool, true, ◌&&◌, List, [], ◌∷◌}
 use Rattle.ar_value.specs.Shape.{Shape, FieldShapes, list, object, optional, no_fields, field}
 use Rattle.ar_verify.specs.Private.Lists.{longest}
@@ -25,7 +26,8 @@ abbrev mutual
   wider left right = left
 
   pub wider_fields : FieldShapes → FieldShapes → FieldShapes
-  wider_fields (field name left lefts) (field of right rights) = field name (wider left right) (wider_fields lefts rights)
+  wider_fields (field name left lefts) (field of right rights) =
+      field name (wider left right) (wider_fields lefts rights)
   wider_fields left right = left
 
 -- of shapes of one form, that with the greatest lengths

@@ -1,4 +1,4 @@
--- What operands and loops in memory stand for.
+-- What operands and loops in memory represent.
 use Rattle.std.specs.Prelude.{ℕ, ◌-◌, ◌^◌, min, List, map, reverse, Result, Ok, Err}
 use Rattle.ar_safety.specs.Arrivals.{Around, Operands, operands}
 use Rattle.ar_verify.specs.Private.Kinds.{list_view}
@@ -19,7 +19,8 @@ abbrev pub operands_view : {M : Type 0} {name : ShapeName.Ghosts M} → held.Ope
 operands_view o = operands (from_top o.kinds.items) (from_innermost o.loops.items)
 
 -- what arrived somewhere, or why nothing can be performed there
-abbrev pub arrival_view : {M : Type 0} {name : ShapeName.Ghosts M} → Result (held.Operands M name) Reason → Result Operands Reason
+abbrev pub arrival_view : {M : Type 0} {name : ShapeName.Ghosts M} → Result (held.Operands M name) Reason
+    → Result Operands Reason
 arrival_view (Ok had) = Ok (operands_view had)
 arrival_view (Err reason) = Err reason
 

@@ -1,4 +1,4 @@
--- What kinds in memory stand for, and kinds by their shapes.
+-- What kinds in memory represent, and kinds by their shapes.
 use Rattle.std.specs.Prelude.{ℕ, Option, None}
 use Rattle.ar_value.specs.Kind.{Kind, nil, shaped}
 use Rattle.ar_value.specs.Shape.{Shape, optional}
@@ -9,10 +9,10 @@ use Rattle.ar_verify.specs.declared.kind.Kind.TheVariants as kinds
 use Rattle.ar_verify.specs.declared.list.ListShape.{ListShape}
 use Rattle.ar_verify.specs.declared.whole.ShapeName as ShapeName
 
-abbrev pub kind_view : {M : Type 0} {name : ShapeName.Ghosts M} → code.Kind M name → Kind
-kind_view kinds.Nil = nil
-kind_view (kinds.Shape parts) = shaped (parts_view parts.value)
-kind_view (kinds.OrNil parts) = shaped (optional (parts_view parts.value))
+abbrev pub parts_kind : {M : Type 0} {name : ShapeName.Ghosts M} → code.Kind M name → Kind
+parts_kind kinds.Nil = nil
+parts_kind (kinds.Shape parts) = shaped (parts_view parts.value)
+parts_kind (kinds.OrNil parts) = shaped (optional (parts_view parts.value))
 
 abbrev pub list_in : Kind → Option (Shape × ℕ)
 list_in nil = None

@@ -1,4 +1,4 @@
--- What parts of shapes in memory stand for.
+-- What parts of shapes in memory represent.
 use Rattle.ar_value.specs.Shape.{Shape}
 use Rattle.ar_verify.specs.Private.Roots.{part_at, root_view}
 use Rattle.ar_verify.specs.declared.path.Part.{Part}

@@ -25,11 +25,12 @@ child n shape = shape
 -- the number of the first field of a name
 abbrev pub number_named : List ℕ → FieldShapes → Option ℕ
 number_named name no_fields = None
-number_named name (field of shape others) = if bytes_eq of name then Some 0 else option_map suc (number_named name others)
+number_named name (field of shape others) =
+    if bytes_eq of name then Some 0 else option_map suc (number_named name others)
 
-abbrev pub number_of : List ℕ → Shape → Option ℕ
-number_of name (object fields) = number_named name fields
-number_of name shape = None
+abbrev pub root_field : List ℕ → Shape → Option ℕ
+root_field name (object fields) = number_named name fields
+root_field name shape = None
 
 abbrev pub part_at : (path : List ℕ) → Shape → Shape
 part_at [] shape = shape

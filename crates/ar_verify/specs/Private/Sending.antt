@@ -1,4 +1,4 @@
--- What operations send on as the code makes it, by the number of the next place.
+-- What operations send on as the code does it, by the number of the next index.
 use Rattle.std.specs.Prelude.{ℕ, ◌+◌, if◌then◌else◌, List, [], ◌∷◌, Option, Some, None, Result, Ok, Err}
 use Rattle.ar_value.specs.Answer.{◌>>=◌}
 use Rattle.ar_value.specs.Kind.{Kind, shaped}
@@ -9,8 +9,8 @@ use Rattle.ar_op.specs.declared.op.Jump.{Jump}
 use Rattle.ar_op.specs.declared.op.Jump.TheVariants as jumps
 use Rattle.ar_op.specs.declared.op.Op.{Op}
 use Rattle.ar_op.specs.declared.op.Op.TheVariants as ops
-use Rattle.ar_safety.specs.Arrivals.{Around, Operands, Sent, answer_kind, item_of, lacks, sent, where_shallow}
-use Rattle.ar_safety.specs.Effects.{effect}
+use Rattle.ar_safety.specs.Arrivals.{Around, Operands, Sent, answer_kind, innermost_shape, lacks, sent, where_shallow}
+use Rattle.ar_safety.specs.Effects.{kinds_left}
 use Rattle.ar_verify.specs.Private.Held.{operands_view}
 use Rattle.ar_verify.specs.Private.Kinds.{list_in}
 use Rattle.ar_safety.specs.declared.error.Reason.{Reason}
@@ -51,26 +51,28 @@ abbrev pub list_taken : List Kind → Result ((Shape × ℕ) × List Kind) Reaso
 list_taken [] = Err IllKinded
 list_taken (kind ∷ kinds) = parts_taken (list_in kind) kinds
 
--- what an operation gives stands on top
+-- what an operation gives is on top
 abbrev pub given_on_top : Option Kind → List Kind → Result (List Kind) Reason
 given_on_top (Some kind) kinds = Ok (kind ∷ kinds)
 given_on_top None kinds = Err IllKinded
 
--- ---- what is sent on, where the next place has a number
+-- ---- what is sent on, where the next index has a number
 
--- what stands above the floor once an operation was performed that goes on to the next place
-abbrev pub performed : Option (List Kind) → Result (List Kind) Reason
-performed (Some kinds) = Ok kinds
-performed None = Err IllKinded
+-- what is above the floor once an operation was performed that continues at the next index
+abbrev pub or_ill_kinded : Option (List Kind) → Result (List Kind) Reason
+or_ill_kinded (Some kinds) = Ok kinds
+or_ill_kinded None = Err IllKinded
 
 abbrev pub going_on : (next : ℕ) → List Around → Option (List Kind) → Result (List Sent) Reason
-going_on next loops given = performed given >>= λ kinds. Ok (sent next kinds loops ∷ [])
+going_on next loops given = or_ill_kinded given >>= λ kinds. Ok (sent next kinds loops ∷ [])
 
 abbrev pub kept_or_taken : (next target : ℕ) → List Kind → List Around → Result (List Sent) Reason
-kept_or_taken next target kinds loops = truth_taken kinds >>= λ taken. Ok (sent target kinds loops ∷ sent next taken loops ∷ [])
+kept_or_taken next target kinds loops =
+    truth_taken kinds >>= λ taken. Ok (sent target kinds loops ∷ sent next taken loops ∷ [])
 
 abbrev pub branched : (next target : ℕ) → List Kind → List Around → Result (List Sent) Reason
-branched next target kinds loops = truth_taken kinds >>= λ taken. Ok (sent target taken loops ∷ sent next taken loops ∷ [])
+branched next target kinds loops =
+    truth_taken kinds >>= λ taken. Ok (sent target taken loops ∷ sent next taken loops ∷ [])
 
 abbrev pub around : (Shape × ℕ) × List Kind → Around
 around taken = record { item = taken.0.0; most = taken.0.1; below = taken.1 }
@@ -84,7 +86,8 @@ abbrev pub beginning : Predicate → (next behind : ℕ) → List Kind → List 
 beginning predicate next behind kinds loops = list_taken kinds >>= λ taken. Ok (begun predicate next behind taken loops)
 
 abbrev pub ending : Predicate → (next : ℕ) → List Kind → List Around → Result (List Sent) Reason
-ending predicate next [] (loop ∷ outer) = Ok (sent next (answer_kind predicate loop.item loop.most ∷ loop.below) outer ∷ [])
+ending predicate next [] (loop ∷ outer) =
+    Ok (sent next (answer_kind predicate loop.item loop.most ∷ loop.below) outer ∷ [])
 ending predicate next kinds loops = Err BadMerge
 
 abbrev pub stepping : Predicate → (next : ℕ) → List Kind → List Around → Result (List Sent) Reason
@@ -104,7 +107,9 @@ passed_by code result next (ops.Jump jump target) kinds loops = jumping jump nex
 passed_by code result next (ops.Enter predicate step) kinds loops = beginning predicate next (step + 1) kinds loops
 passed_by code result next (ops.Step predicate enter) kinds loops = stepping predicate next kinds loops
 passed_by code result next ops.Return kinds loops = returning kinds
-passed_by code result next op kinds loops = going_on next loops (effect code result (item_of loops) op kinds)
+passed_by code result next op kinds loops =
+    going_on next loops (kinds_left code result (innermost_shape loops) op kinds)
 
 abbrev pub sends_by : Code → Shape → (next : ℕ) → Op → Operands → Result (List Sent) Reason
-sends_by code result next op had = if lacks op had then Err MissingOperand else passed_by code result next op had.kinds had.loops >>= where_shallow
+sends_by code result next op had =
+    if lacks op had then Err MissingOperand else passed_by code result next op had.kinds had.loops >>= where_shallow

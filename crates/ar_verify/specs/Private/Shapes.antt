@@ -1,4 +1,4 @@
--- What shapes of operands in memory stand for: parts that met are of one form, and the greatest lengths count.
+-- What shapes of operands in memory represent: parts that were joined are of one form, and the greatest lengths count.
 use Rattle.std.specs.Prelude.{ℕ, map}
 use Rattle.ar_value.specs.Shape.{Shape}
 use Rattle.ar_verify.specs.Private.Forms.{widest_of}

@@ -1,4 +1,5 @@
--- Pass 5 as the code makes it: a table of what arrived at each place so far, to which each operation adds what it sends on.
+-- Pass 5 as the code does it: a table of what arrived at each index so far, to which each operation adds what it sends
+-- on.
 use Rattle.std.specs.Prelude.{◌≡◌, ◌<◌, ◌≤◌, ℕ, zero, suc, ◌+◌, max, List, [], ◌∷◌, ◌++◌, drop, length, map, slice_index_or, slice_set, Result, Ok, Err}
 use Rattle.ar_value.specs.Answer.{◌>>=◌}
 use Rattle.ar_value.specs.Shape.{Shape}
@@ -19,12 +20,12 @@ use Rattle.ar_verify.specs.declared.whole.ShapeName as ShapeName
 
 -- ---- what is known once the pass found no fault
 
--- the greatest number of operands, and how many items a list on top may have at each place
+-- the greatest number of operands, and how many items a list on top may have at each index
 pub record Summary : Type 0 where
   pub depth : ℕ
   pub most_items : List ℕ
 
--- at so many places, the first ones
+-- at the first `places` indexes
 abbrev pub most_each : (places : ℕ) → List Sent → List ℕ
 most_each zero sents = []
 most_each (suc place) sents = most_each place sents ++ most_items (arrival place sents) ∷ []
@@ -66,45 +67,55 @@ with_all table (one ∷ others) = with_all (with_one table one) others
 abbrev pub without : Table → (place : ℕ) → Table
 without table place = slice_set table place (Err Unreachable)
 
--- the table shows what arrives at each place from one on
+-- the table shows what arrives at each index from `place` on
 abbrev pub Shows : (place : ℕ) → Table → List Sent → Type 0
-Shows place table sents = (further : ℕ) → place ≤ further → further < length table → entry table further ≡ arrived (sent_to further sents)
+Shows place table sents = (further : ℕ) → place ≤ further → further < length table
+    → entry table further ≡ arrived (sent_to further sents)
 
 -- ---- the pass
 
-pub record State : Type 0 where
+pub record Sweep : Type 0 where
   pub table : Table
   pub found : Summary
 
-abbrev pub pass_view : {M : Type 0} {name : ShapeName.Ghosts M} → passes.Pass M name → State
+abbrev pub pass_view : {M : Type 0} {name : ShapeName.Ghosts M} → passes.Pass M name → Sweep
 pass_view p = record { table = table_view p.arrived.items; found = summary_view p.found }
 
--- what arrived at a place is taken
-abbrev pub left : (place : ℕ) → State → Operands → State
-left place s had = record { table = without s.table place; found = record { depth = s.found.depth; most_items = s.found.most_items ++ most_on_top had.kinds ∷ [] } }
+-- what arrived at `place` is taken
+abbrev pub take_from_table : (place : ℕ) → Sweep → Operands → Sweep
+take_from_table place s had =
+    record {
+      table = without s.table place;
+      found = record { depth = s.found.depth; most_items = s.found.most_items ++ most_on_top had.kinds ∷ [] };
+    }
 
-abbrev pub with_sent : State → List Sent → State
-with_sent s sents = record { table = with_all s.table sents; found = record { depth = max s.found.depth (deepest sents); most_items = s.found.most_items } }
+abbrev pub with_sent : Sweep → List Sent → Sweep
+with_sent s sents =
+    record {
+      table = with_all s.table sents;
+      found = record { depth = max s.found.depth (deepest sents); most_items = s.found.most_items };
+    }
 
-abbrev pub visited : (place : ℕ) → State → Operands → List Sent → State
-visited place s had sents = with_sent (left place s had) sents
+abbrev pub visited : (place : ℕ) → Sweep → Operands → List Sent → Sweep
+visited place s had sents = with_sent (take_from_table place s had) sents
 
--- what an operation sends on is added, where the next place has a number
-abbrev pub added : Code → Shape → (next : ℕ) → Op → State → Operands → Result State Reason
+-- what an operation sends on is added, where the next index has a number
+abbrev pub added : Code → Shape → (next : ℕ) → Op → Sweep → Operands → Result Sweep Reason
 added code shape next op s had = sends_by code shape next op had >>= λ sents. Ok (with_sent s sents)
 
--- an operation at a place is looked at
-abbrev pub looked_at : Code → Shape → (place : ℕ) → Op → State → Result State Reason
-looked_at code shape place op s = entry s.table place >>= λ had. added code shape (place + 1) op (left place s had) had
+-- the operation at `place` is visited
+abbrev pub place_added : Code → Shape → (place : ℕ) → Op → Sweep → Result Sweep Reason
+place_added code shape place op s =
+    entry s.table place >>= λ had. added code shape (place + 1) op (take_from_table place s had) had
 
--- so many places hold each one that an operation names
+-- `places` indexes include each one that an operation names
 abbrev pub StaysWithin : (places : ℕ) → Op → Type 0
 StaysWithin places (ops.Jump jump target) = target < places
 StaysWithin places (ops.Enter predicate step) = step + 1 < places
 StaysWithin places op = Unit {0}
 
--- the pass has come to a place without a fault
-pub record ComesTo (code : Code) (shape : Shape) (place : ℕ) (s : State) : Type 0 where
+-- the pass has reached `place` without a fault
+pub record ComesTo (code : Code) (shape : Shape) (place : ℕ) (s : Sweep) : Type 0 where
   pub sents : List Sent
   pub left : all_sent code shape ≡ sent_on code shape place (drop place code.ops) sents
   pub inside : place ≤ length code.ops

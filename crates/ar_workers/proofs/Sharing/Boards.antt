@@ -1,4 +1,4 @@
--- Boards can be shared between threads, and seats can go to them.
+-- Boards can be shared between threads, and seats can be sent to them.
 use denote.RattleType.{RattleType}
 use denote.Ref.{NamedLft}
 use denote.Param.Send.{IsSend, IsSync, sendable}
@@ -68,6 +68,6 @@ module _ (M : RattleType) (g : BundleName.Ghosts M.Denot) (m : IsSend M) where
           let receipt = receipt_sync in
           search (crosses, sendable, cell_send, lock_send) depth 20
 
-      -- a desk goes to its worker
+      -- a desk is sent to its worker
       pub posting_send : (here : NamedLft) → IsSend (Posting.the_row here ℓ M L g l)
       posting_send here = let board = board_sync in let seat = seat_send in search (crosses, sendable) depth 30

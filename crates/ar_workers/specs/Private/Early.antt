@@ -1,4 +1,4 @@
--- What is told of workers that ended early.
+-- What is reported of workers that ended early.
 use Rattle.ar_queue.specs.declared.side_by_side.Unfinished.{Unfinished}
 use Rattle.ar_queue.specs.declared.side_by_side.Unfinished.TheVariants as early
 use Rattle.ar_workers.specs.declared.error.WorkError.{WorkError}

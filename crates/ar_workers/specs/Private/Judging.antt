@@ -5,16 +5,17 @@ use Rattle.ar_bundle.specs.Lawful.{times_in}
 use Rattle.ar_bundle.specs.declared.finding.Finding.{Finding}
 use Rattle.ar_workers.specs.declared.judging.Judged.{Judged}
 
--- each is what its number comes to
+-- each has the finding of its number
 abbrev pub AreJudged : Bundle → List Judged → Type 0
 AreJudged bundle judged = map (λ one. finding_at bundle one.number) judged ≡ map (λ one. Some one.finding) judged
 
 abbrev pub numbers_judged : List Judged → List ℕ
 numbers_judged judged = map (λ one. one.number) judged
 
--- the table has what a number comes to
+-- the table has the finding of a number
 abbrev pub IsKnown : Bundle → List (Option Finding) → (number : ℕ) → Type 0
-IsKnown bundle table number = (finding : Finding) × (slice_get table number ≡ Some (Some finding)) × (finding_at bundle number ≡ Some finding)
+IsKnown bundle table number =
+    (finding : Finding) × (slice_get table number ≡ Some (Some finding)) × (finding_at bundle number ≡ Some finding)
 
 -- that of each of these numbers
 abbrev pub AreKnown : Bundle → (numbers : List ℕ) → List (Option Finding) → Type 0

@@ -2,7 +2,7 @@ use Rattle.std.proofs.Common.{take}
 use Rattle.ar_board.specs.Private.Closing.{AreLast, AreMarked}
 use Rattle.ar_board.proofs.closing.note_unmet.Given as goal
 
--- the marks and the last places after the receipts so far
+-- the marks and the last positions after the receipts so far
 abbrev pub invariant-loop-receipt : goal.invariant-loop-receipt
 invariant-loop-receipt g l =
     AreLast (take l.receipt-index l.own) l.last

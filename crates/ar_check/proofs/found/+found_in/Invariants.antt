@@ -12,7 +12,7 @@ invariant-found_among-loop-tree l =
     (goal.iterator-found_among-loop-tree).can_next l.tree-iterator × (goal.iterator-found_among-loop-tree).is_finite l.tree-iterator × (into_iter_len l.tree-iterator ≡ length (into_iter_items l.tree-iterator)) ×
     (place_among l.scope l.place (expressions (map expression_of l.fn.trees.items)) ≡ place_among l.scope l.place (expressions (map expression_of (into_iter_items l.tree-iterator))))
 
--- eight times the depth that is left; what is called with all of it stands lower among the eight
+-- eight times the depth that is left; what is called with all of it is lower among the eight
 abbrev pub decreases-found_in : goal.decreases-found_in
 decreases-found_in l = 8 * goal.size-found_in l
 

@@ -10,7 +10,7 @@ use Rattle.ar_tree.specs.declared.typed.Typed.{Typed as TypedCode}
 use Rattle.ar_check.proofs.Items.{len_next}
 use Rattle.ar_check.proofs.list.converted.Goals as goal
 
--- the tree of an item goes after those that stand before it
+-- the tree of an item comes after those before it
 turned_next : (step : Item → Typed) (all : List Typed) (made : List TypedCode) (left others : List ItemCode) (first : ItemCode) (tree : TypedCode)
     → all ≡ map typed_view made ++ map step (map item_view left) → left ≡ first ∷ others → typed_view tree ≡ step (item_view first)
     → all ≡ map typed_view (made ++ tree ∷ []) ++ map step (map item_view others)

@@ -5,7 +5,7 @@ use Rattle.ar_check.specs.Private.Inside.{item_view}
 use Rattle.ar_tree.specs.Views.{typed_view}
 use Rattle.ar_check.proofs.list.converted.Given as goal
 
--- the items so far are turned, before those that are left
+-- the items so far are converted, before those that are left
 abbrev pub invariant-loop-item : goal.invariant-loop-item
 invariant-loop-item l =
     (goal.iterator-loop-item).can_next l.item-iterator × (goal.iterator-loop-item).is_finite l.item-iterator × (into_iter_len l.item-iterator ≡ length (into_iter_items l.item-iterator)) ×

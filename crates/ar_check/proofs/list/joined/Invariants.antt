@@ -1,9 +1,9 @@
 use Rattle.std.proofs.Common.{◌≡◌, drop, map}
-use Rattle.ar_check.specs.Check.{joined}
+use Rattle.ar_check.specs.Check.{common_with}
 use Rattle.ar_check.specs.Private.Inside.{item_view}
 use Rattle.ar_check.proofs.list.joined.Given as goal
 
--- what is in common so far goes on with the items that are left
+-- what is in common so far continues with the items that are left
 abbrev pub invariant-loop-item : goal.invariant-loop-item
 invariant-loop-item l =
-    joined l.fn.first (map item_view l.items) ≡ joined l.common (map item_view (drop l.item-index l.items))
+    common_with l.fn.first (map item_view l.items) ≡ common_with l.common (map item_view (drop l.item-index l.items))

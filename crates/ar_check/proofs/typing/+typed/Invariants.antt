@@ -9,14 +9,14 @@ use Rattle.ar_check.specs.Private.Inside.{item_view}
 use Rattle.ar_check.proofs.Items.{behind}
 use Rattle.ar_check.proofs.typing.+typed.Given as goal
 
--- the items so far stand before those that are left
+-- the items so far come before those that are left
 abbrev pub invariant-typed_items-loop-tree : goal.invariant-typed_items-loop-tree
 invariant-typed_items-loop-tree l =
     (goal.iterator-typed_items-loop-tree).can_next l.tree-iterator × (goal.iterator-typed_items-loop-tree).is_finite l.tree-iterator × (into_iter_len l.tree-iterator ≡ length (into_iter_items l.tree-iterator)) ×
     (items_typed (shape_view l.scope.measured.now) (option_map (λ shape. shape_view shape.now) l.scope.item) l.scope.around (expressions (map expression_of l.fn.trees.items))
     ≡ behind (shape_view l.scope.measured.now) (option_map (λ shape. shape_view shape.now) l.scope.item) l.scope.around (map item_view l.items.items) (expressions (map expression_of (into_iter_items l.tree-iterator))))
 
--- four times the depth that is left; what is called with all of it stands lower among the four
+-- four times the depth that is left; what is called with all of it is lower among the four
 abbrev pub decreases-typed : goal.decreases-typed
 decreases-typed l = 4 * goal.size-typed l
 

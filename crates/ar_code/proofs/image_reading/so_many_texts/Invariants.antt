@@ -3,7 +3,7 @@ use Rattle.ar_code.specs.Decoding.{so_many_texts}
 use Rattle.ar_code.proofs.Loops.{behind}
 use Rattle.ar_code.proofs.image_reading.so_many_texts.Given as goal
 
--- the texts so far stand before those that are still read
+-- the texts so far come before those that are still read
 abbrev pub invariant-loop : goal.invariant-loop
 invariant-loop l = (length l.rest ≤ length l.bytes)
     × (behind (map string_bytes l.texts.items) (so_many_texts l.end (l.count - l.counter) l.rest) ≡ so_many_texts l.end l.count l.bytes)

@@ -3,7 +3,7 @@ use Rattle.std.specs.Io.KnownBytes.{Appends, Consumes}
 use Rattle.ar_json.specs.Document.{most_bytes}
 use Rattle.ar_command_line.proofs.input.read_input.Given as goal
 
--- what was read so far was consumed, with a byte or more in each turn
+-- what was read so far was consumed, with a byte or more in each iteration
 abbrev pub invariant-loop-turn : goal.invariant-loop-turn
 invariant-loop-turn g l = record {
   works : g.R.Source.has_failed l.source ≡ false;

@@ -1,6 +1,6 @@
 use Rattle.ar_json.proofs.NeedsLemmas.{Required_before}
 use Rattle.ar_json.proofs.needs.required_of.Given as goal
 
--- what was looked at comes before what is left
+-- what was examined comes before what is left
 abbrev pub invariant-loop-place : goal.invariant-loop-place
 invariant-loop-place l = Required_before l.names l.shapes l.place l.places.items

@@ -8,7 +8,7 @@ use Rattle.ar_value.proofs.Steps.{refuses_same}
 use Rattle.serde_json.proofs.Views.{view-Array}
 use Rattle.std.proofs.lemmas.Result.{err_from_is_err_and}
 use Rattle.serde_json.specs.View.{items_view, members_view, view}
-use Rattle.ar_json.specs.Reading.{fields_read, is_memory, items_read, read}
+use Rattle.ar_json.specs.Reading.{fields_read, is_reading_memory, items_read, read}
 use Rattle.ar_value.specs.View.{shape_view}
 use Rattle.ar_value.proofs.Views.{shape_view-list}
 use Rattle.ar_value.specs.declared.value.Value.{the_lemmas}
@@ -55,7 +55,7 @@ pub fields_under-returns-in_err-next : goal.fields_under-returns-in_err-next
 fields_under-returns-in_err-next t c =
     let p = err_from_is_err_and c.from_residual-in_err-next.result c.from_residual-in_err-next.ensures.1 in
     rw (p.1, p.2)
-    (refuses_same (is_memory c.in_err-next.field-0.0) c.in_err-next.field-0.0 (fields_read (Of c.args.names.now c.args.shapes.now) (members_view c.args.members.now.entries))
+    (refuses_same (is_reading_memory c.in_err-next.field-0.0) c.in_err-next.field-0.0 (fields_read (Of c.args.names.now c.args.shapes.now) (members_view c.args.members.now.entries))
     (place_missing c.requires.long c.in-Some.ensures.steps c.loop-name.invariant c.as_slice-count.ensures.rise
     c.in-Some-index_from.place (rw c.as_str.ensures.value at c.in-Some-index_from.ensures) c.in_err-next.field-0.0 c.in_err-next.ensures))
 
@@ -93,7 +93,7 @@ pub fields_under-returns-in_err-passed : goal.fields_under-returns-in_err-passed
 fields_under-returns-in_err-passed t c =
     let p = err_from_is_err_and c.from_residual-in_err-passed.result c.from_residual-in_err-passed.ensures.1 in
     rw (p.1, p.2)
-    (refuses_same (is_memory c.in_err-passed.field-0.0) c.in_err-passed.field-0.0 (fields_read (Of c.args.names.now c.args.shapes.now) (members_view c.args.members.now.entries))
+    (refuses_same (is_reading_memory c.in_err-passed.field-0.0) c.in_err-passed.field-0.0 (fields_read (Of c.args.names.now c.args.shapes.now) (members_view c.args.members.now.entries))
     (ends_missing c.requires.long c.in-None.ensures.steps.0 c.loop-name.invariant c.in_err-passed.field-0.0 (rw c.as_slice-count.ensures.names at c.in_err-passed.ensures)))
 
 pub fields_under-returns : goal.fields_under-returns

@@ -1,13 +1,13 @@
 use Rattle.std.proofs.Common.{◌≡◌, List, ℕ, Bor, Option, None, Some, take, drop, rules, sym}
 use Rattle.std.specs.Prelude.{option_map, IsSome, IfSome, ◌↔◌}
 use Rattle.std.specs.Str.{IsCharBoundary}
-use Rattle.ar_quote.specs.Tokens.{cut}
+use Rattle.ar_quote.specs.Tokens.{halves_at}
 use Rattle.ar_quote.proofs.TokenBytes.{cuts, cuts_not}
 use Rattle.ar_quote.proofs.tokens.cut.Goals as goal
 
 by : (place : ℕ) (text : List ℕ) (result : Option (Bor (List ℕ) × Bor (List ℕ))) → (IsSome result ↔ IsCharBoundary text place)
     → IfSome result (λ x. x.0.now ≡ take place text) → IfSome result (λ x. x.1.now ≡ drop place text)
-    → option_map (λ (parts : Bor (List ℕ) × Bor (List ℕ)). (parts.0.now, parts.1.now)) result ≡ cut place text
+    → option_map (λ (parts : Bor (List ℕ) × Bor (List ℕ)). (parts.0.now, parts.1.now)) result ≡ halves_at place text
 by place text None variant front back = sym (cuts_not place text (λ boundary. search (rules, variant.1 boundary)))
 by place text (Some x) variant front back = rw (front, back) (sym (cuts place text (variant.0 (search rules))))
 

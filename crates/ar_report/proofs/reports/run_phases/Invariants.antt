@@ -3,6 +3,6 @@ use Rattle.ar_bundle.specs.Lawful.{numbers_of}
 use Rattle.ar_report.specs.Report.{phases_of, run_phases}
 use Rattle.ar_report.proofs.reports.run_phases.Given as goal
 
--- the phases so far stand before those of the runs that are left
+-- the phases so far come before those of the runs that are left
 abbrev pub invariant-loop-number : goal.invariant-loop-number
 invariant-loop-number l = l.phases.items ++ phases_of l.bundle (drop l.number l.bundle.runs) (map numbers_of (drop l.number l.histories)) ≡ run_phases l.bundle (map numbers_of l.histories)

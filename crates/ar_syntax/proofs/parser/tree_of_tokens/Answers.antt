@@ -3,7 +3,7 @@ use Rattle.std.specs.Prelude.{slice_index_or}
 use Rattle.std.proofs.Math.ListN.{drop_of_length-le}
 use Rattle.std.proofs.lemmas.Result.{err_from_is_err_and}
 use Rattle.ar_value.specs.Answer.{◌>>=◌}
-use Rattle.ar_syntax.specs.Machine.{ParserState, step}
+use Rattle.ar_syntax.specs.Machine.{ParserState, parser_step}
 use Rattle.ar_syntax.specs.Parse.{state_after, walk}
 use Rattle.ar_syntax.specs.Condition.{strict}
 use Rattle.ar_syntax.specs.Spelling.{is_syntax_memory}
@@ -15,7 +15,7 @@ use Rattle.ar_syntax.proofs.parser.tree_of_tokens.Goals as goal
 
 -- where the tokens that are left lead, by their first
 by_first : (end : ℕ) (state : ParserState) (tokens : List Token) (i : ℕ) (token : Token) → i < length tokens → token ≡ slice_index_or tokens i token
-    → walk end state (drop i tokens) ≡ (state_after state token (step strict state token) >>= λ next. walk end next (drop (i + 1) tokens))
+    → walk end state (drop i tokens) ≡ (state_after state token (parser_step strict state token) >>= λ next. walk end next (drop (i + 1) tokens))
 by_first end state tokens i token below is =
     rw add-one (ap (walk end state) (drop-cons tokens i token below ∙ ap (λ (first : Token). first ∷ drop (suc i) tokens) (sym is)))
 

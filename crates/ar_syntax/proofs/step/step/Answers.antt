@@ -1,15 +1,15 @@
-use Rattle.ar_syntax.specs.Machine.{step}
+use Rattle.ar_syntax.specs.Machine.{parser_step}
 use Rattle.ar_syntax.specs.Private.Frames.{frames_of}
 use Rattle.ar_syntax.proofs.step.step.Goals as goal
 
 pub returns-in-WantName : goal.returns-in-WantName
-unfolding step
+unfolding parser_step
 returns-in-WantName c = rw c.in-WantName.is (c.select.ensures (frames_of c.args.stack.now.items))
 
 pub returns-in-WantGroup : goal.returns-in-WantGroup
-unfolding step
+unfolding parser_step
 returns-in-WantGroup c = rw c.in-WantGroup.is (c.want_group.ensures (frames_of c.args.stack.now.items)).0
 
 pub returns-in-HaveArgument : goal.returns-in-HaveArgument
-unfolding step
+unfolding parser_step
 returns-in-HaveArgument c = rw c.in-HaveArgument.is (c.have_argument.ensures (frames_of c.args.stack.now.items))

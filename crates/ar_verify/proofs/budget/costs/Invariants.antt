@@ -2,6 +2,6 @@ use Rattle.std.proofs.Common.{◌≡◌, length}
 use Rattle.ar_verify.specs.Private.Costs.{AreCosts}
 use Rattle.ar_verify.proofs.budget.costs.Given as goal
 
--- the costs from this place on are found
+-- the costs from this index on are found
 abbrev pub invariant-loop-place : goal.invariant-loop-place
 invariant-loop-place l = (length l.costs.items ≡ length l.ops) × AreCosts l.fn.code l.most l.place l.costs.items

@@ -1,6 +1,7 @@
 use Rattle.std.proofs.Common.{length, ap, sym, subst, ◌∙◌}
 use Rattle.std.specs.Prelude.{nat_le}
-use Rattle.ar_safety.specs.Verdict.{IsCause, IsVerified, greatest_budget}
+use Rattle.ar_safety.specs.Verdict.{IsCause, IsVerified}
+use Rattle.ar_safety.specs.Bounds.{greatest_budget}
 use Rattle.ar_value.specs.View.{shape_view}
 use Rattle.ar_safety.specs.Places.{places_pass}
 use Rattle.ar_verify.specs.Private.Costs.{IsCost}

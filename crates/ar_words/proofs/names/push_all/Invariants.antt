@@ -3,6 +3,6 @@ use Rattle.serde_json.specs.View.{view}
 use Rattle.ar_words.specs.Private.Listed.{names_after}
 use Rattle.ar_words.proofs.names.push_all.Given as goal
 
--- the names so far stand before those that are left
+-- the names so far come before those that are left
 abbrev pub invariant-loop-item : goal.invariant-loop-item
 invariant-loop-item l = string_bytes l.out ++ names_after l.listed (map (λ item. view item) (drop l.item-index l.items)) ≡ string_bytes l.initial.out ++ names_after false (map (λ item. view item) l.items)

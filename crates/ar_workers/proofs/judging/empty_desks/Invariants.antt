@@ -4,7 +4,7 @@ use Rattle.std.specs.Vec.{vec_capacity}
 use Rattle.ar_workers.specs.Private.Judging.{numbers_judged}
 use Rattle.ar_workers.proofs.judging.empty_desks.Given as goal
 
--- so many desks
+-- n desks
 abbrev pub invariant-loop-worker : goal.invariant-loop-worker
 invariant-loop-worker g l =
     AllByRecursion (λ desk. numbers_judged desk.judged.items ≡ []) l.desks.items

@@ -1,6 +1,7 @@
 use Rattle.std.proofs.Common.{rules}
 use Rattle.ar_judge.proofs.Headline.{condition_holds}
-use Rattle.ar_judge.proofs.Running.{built, is_unsafe, ready}
+use Rattle.ar_judge.proofs.Ready.{ready}
+use Rattle.ar_judge.proofs.Running.{built, is_unsafe}
 use Rattle.ar_judge.proofs.condition.Condition.build.Goals as goal
 
 pub returns-in_ok-of-in-Ok-clause-built : goal.returns-in_ok-of-in-Ok-clause-built
