@@ -1,5 +1,5 @@
 -- The command line, and what its words ask for.
-use Rattle.std.specs.Prelude.{◌≡◌, ◌⊎◌, ℕ, Bool, true, false, List, [], ◌∷◌, fold, map, codes, Option, Some, None, if◌then◌else◌, Result, Ok, Err, String, string_bytes, ◌≢◌, ◌≤◌, IfOk}
+use Rattle.std.specs.Prelude.{◌≡◌, ◌⊎◌, ℕ, Bool, true, false, ◌&&◌, List, [], ◌∷◌, fold, map, codes, Option, Some, None, if◌then◌else◌, Result, Ok, Err, String, string_bytes, ◌≢◌, ◌≤◌, IfOk}
 use Rattle.std.specs.declared.alloc.Global.{Global}
 use Rattle.std.specs.Option.{option_map_or}
 use Rattle.std.specs.Str.{bytes_eq}
