@@ -1,10 +1,10 @@
-"""README.md and the pages of docs/: their fenced blocks, their links, and how they run the program."""
+"""README.md, CONTRIBUTING.md, CHANGELOG.md and the pages of docs/: their fenced blocks, their links, and how they run the program."""
 import pathlib
 import re
 from dataclasses import dataclass, field
 
 ROOT = pathlib.Path(__file__).resolve().parent.parent.parent
-PAGES = [ROOT / "README.md", *sorted((ROOT / "docs").glob("*.md"))]
+PAGES = [path for path in [*sorted(ROOT.glob("*.md")), *sorted((ROOT / "docs").glob("**/*.md"))] if not path.is_symlink()]
 NOTE = re.compile(r"<!-- (file|not run): (.*) -->")
 # What starts `run` in the order in which workers come, and the files beside the pages that are looked at for it.
 UNORDERED = re.compile(r"(?:argo_judge|\$ENGINE)\"? run(?! --(?:plain|ordered|help)\b)")

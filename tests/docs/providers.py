@@ -1,4 +1,4 @@
-"""Whether each table of docs/SHAPES.md says what the document that it names has."""
+"""Whether each table of docs/use/shapes.md says what the document that it names has."""
 import json
 import re
 
@@ -32,7 +32,7 @@ def differing(rows):
 
 
 def wrong_rows():
-    tables = list(tables_of((ROOT / "docs/SHAPES.md").read_text(encoding="utf-8")))
+    tables = list(tables_of((ROOT / "docs/use/shapes.md").read_text(encoding="utf-8")))
     for rows in tables:
         for name in differing(rows):
             yield f"{rows['judged']}: {name} isn't that of its document"

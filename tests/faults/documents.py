@@ -1,5 +1,5 @@
-"""The documents that the program is run on, with what docs/FORMATS.md, docs/PHASES.md, docs/MACHINE.md and
-docs/VERIFIER.md say of them, worked out by hand."""
+"""The documents that the program is run on, with what docs/use/formats.md, docs/use/phases.md, docs/design/machine.md and
+docs/design/verifier.md say of them, worked out by hand."""
 
 import json
 from typing import NamedTuple

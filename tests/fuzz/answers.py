@@ -1,4 +1,4 @@
-"""What a case of docs/CONFORMANCE.md has to be answered, by the second readings."""
+"""What a case of docs/design/conformance.md has to be answered, by the second readings."""
 
 import json
 

@@ -1,4 +1,4 @@
-"""Bundles, by docs/FORMATS.md, read apart from the program: the parts of a document, or its first refusal.
+"""Bundles, by docs/use/formats.md, read apart from the program: the parts of a document, or its first refusal.
 
 A bundle has metrics (a name and a shape), runs (a name, its bound metrics and their judges) and entries. An entry is
 the number of its run, and 'stop' or a metric's number with 'provider', a misfit's name or the value.

@@ -1,6 +1,6 @@
 """The cases of a seed: random conditions, images, documents, templates, shapes and values, and changes of stored ones.
 
-Each is a case of docs/CONFORMANCE.md with the answer by the second readings, or None where any answer but a refusal
+Each is a case of docs/design/conformance.md with the answer by the second readings, or None where any answer but a refusal
 will do.
 """
 

@@ -1,4 +1,4 @@
-"""The rules of docs/FORMATS.md on the warnings of `check`, read apart from the program."""
+"""The rules of docs/use/formats.md on the warnings of `check`, read apart from the program."""
 
 import re
 

@@ -1,4 +1,4 @@
-"""What the commands of the program have to write of a document, by docs/FORMATS.md, read apart from the program."""
+"""What the commands of the program have to write of a document, by docs/use/formats.md, read apart from the program."""
 
 import re
 

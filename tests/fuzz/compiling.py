@@ -1,4 +1,4 @@
-"""The code of conditions, by docs/MACHINE.md, read apart from the program, and its bounds.
+"""The code of conditions, by docs/design/machine.md, read apart from the program, and its bounds.
 
 Operations are those of tests/verifier/rules.py, which hold texts and names themselves.
 """

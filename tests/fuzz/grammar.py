@@ -1,4 +1,4 @@
-"""The grammar of docs/LANGUAGE.md, read apart from the program: the tree of a condition, or where it is refused.
+"""The grammar of docs/use/language.md, read apart from the program: the tree of a condition, or where it is refused.
 
 The reader takes token after token, so a refusal is at the first token that no condition can have there.
 """

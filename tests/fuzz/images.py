@@ -1,4 +1,4 @@
-"""The images of docs/FORMATS.md, read apart from the program: code as bytes, and bytes as code.
+"""The images of docs/use/formats.md, read apart from the program: code as bytes, and bytes as code.
 
 Code is here its texts, its names and its operations with numbers of texts and names, as they are in an image.
 """

@@ -1,4 +1,4 @@
-"""JSON as docs/FORMATS.md has it, read apart from the program: Python's reader, and what it takes too much of.
+"""JSON as docs/use/formats.md has it, read apart from the program: Python's reader, and what it takes too much of.
 
 A number that isn't a whole of 64 bits, with a sign or without one, is a float; so is one with a fraction or an
 exponent, and `-0`.

@@ -1,4 +1,4 @@
-"""The rules of docs/LANGUAGE.md on kinds, read apart from the program: a tree whose kinds are known, or a refusal.
+"""The rules of docs/use/language.md on kinds, read apart from the program: a tree whose kinds are known, or a refusal.
 
 Kinds are those of tests/verifier/rules.py. A typed tree shows where an operand is made plain and where a whole is
 turned into a decimal; `!=`, `not in`, a comparison with the literal nil and the sign + are gone from it.

@@ -1,4 +1,4 @@
-"""The meaning of docs/LANGUAGE.md, read apart from the program: what a condition says of a value, or its fault."""
+"""The meaning of docs/use/language.md, read apart from the program: what a condition says of a value, or its fault."""
 
 from grammar import PREDICATES
 from rules import Fault, arithmetic, equal, exact, in_range, ordered

@@ -1,4 +1,4 @@
-"""How docs/CONFORMANCE.md writes answers: decimals, texts, shapes, values, tokens and trees."""
+"""How docs/design/conformance.md writes answers: decimals, texts, shapes, values, tokens and trees."""
 
 import re
 

@@ -1,4 +1,4 @@
-"""What the commands write of a bundle, by docs/FORMATS.md and docs/PHASES.md, read apart from the program."""
+"""What the commands write of a bundle, by docs/use/formats.md and docs/use/phases.md, read apart from the program."""
 
 from images import image_of, listing
 from meaning import meaning

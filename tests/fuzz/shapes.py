@@ -1,4 +1,4 @@
-"""Shapes, and values under them, by docs/FORMATS.md, read apart from the program.
+"""Shapes, and values under them, by docs/use/formats.md, read apart from the program.
 
 Shapes and values are those of tests/verifier/rules.py.
 """

@@ -1,4 +1,4 @@
-"""The rules of docs/LANGUAGE.md on tokens, read apart from the program.
+"""The rules of docs/use/language.md on tokens, read apart from the program.
 
 A token is a tuple of its sort, its content, and the offsets of its first byte and of the byte after it. Sorts are
 'word' (one that the language names), 'name', 'whole', 'decimal' (in millionths), 'text' and 'sign'.

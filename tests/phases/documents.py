@@ -1,8 +1,8 @@
-"""Random documents, and what docs/PHASES.md says of their measurements."""
+"""Random documents, and what docs/use/phases.md says of their measurements."""
 
 from phases.rules import is_dry
 
-# Metrics by their conditions, all of whole numbers: what is measured, and what docs/PHASES.md says of it. The first is
+# Metrics by their conditions, all of whole numbers: what is measured, and what docs/use/phases.md says of it. The first is
 # measured more often than the others.
 PROVIDER = ({'error': 'no answer'}, 'Error')
 MISFIT = ({'value': 'high'}, 'Error')

@@ -1,4 +1,4 @@
-"""Images of code, made and read as docs/FORMATS.md says.
+"""Images of code, made and read as docs/use/formats.md says.
 
 Nothing here is taken over from the crates. Operations are those of rules.py: PushText and Field hold the text and
 the name themselves.

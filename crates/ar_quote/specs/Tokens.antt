@@ -1,5 +1,5 @@
--- The token at a byte of a condition (docs/LANGUAGE.md), as far as it is marked in a quote: a word, a number, a text
--- literal, a sign, a point with the name after it, or else one character. The end of the text has none.
+-- The token at a byte of a condition (docs/use/language.md), as far as it is marked in a quote: a word, a number, a
+-- text literal, a sign, a point with the name after it, or else one character. The end of the text has none.
 use Rattle.std.specs.Prelude.{ℕ, suc, Bool, false, not, ◌&&◌, ◌||◌, ◌==◌, nat_lt, if◌then◌else◌, List, [], ◌∷◌, drop, length, slice_index, take, Option, Some, None, option_and_then, option_map}
 use Rattle.std.specs.Char.{is_ascii_alphanumeric, is_ascii_digit}
 use Rattle.std.specs.Int.{is_in_range}

@@ -1,5 +1,5 @@
 //! `argo_judge`: judges canary measurements by the conditions of Argo Rollouts' analysis;
-//! docs/LANGUAGE.md lists where it differs from Argo Rollouts' controller.
+//! docs/use/language.md lists where it differs from Argo Rollouts' controller.
 //!
 //! The program reads one JSON document from standard input, carries a command out on it, and
 //! writes the answer to standard output. `ar_command` is all of that over any reader and writer:

@@ -1,4 +1,5 @@
--- The calls on templates, conditions, code and judges by their names, which docs/CONFORMANCE.md lists by subjects.
+-- The calls on templates, conditions, code and judges by their names, which docs/design/conformance.md lists by
+-- subjects.
 use Rattle.std.specs.Prelude.{ℕ, Bool, ◌||◌, List, [], ◌∷◌, codes}
 use Rattle.cases_of_values.specs.Calls.{is_one_of}
 

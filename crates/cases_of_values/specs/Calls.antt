@@ -1,4 +1,4 @@
--- The calls on numbers, texts, shapes and values by their names, which docs/CONFORMANCE.md lists by subjects.
+-- The calls on numbers, texts, shapes and values by their names, which docs/design/conformance.md lists by subjects.
 use Rattle.std.specs.Prelude.{ℕ, Bool, ◌||◌, List, [], ◌∷◌, codes}
 use Rattle.std.specs.List.{list_any}
 use Rattle.std.specs.Str.{bytes_eq}

@@ -1,4 +1,4 @@
--- The calls that this program handles by itself, by their names, which docs/CONFORMANCE.md lists by subjects.
+-- The calls that this program handles by itself, by their names, which docs/design/conformance.md lists by subjects.
 use Rattle.std.specs.Prelude.{ℕ, Bool, ◌||◌, List, [], ◌∷◌, codes}
 use Rattle.cases_of_values.specs.Calls.{is_call as is_value_call, is_one_of}
 use Rattle.cases_of_conditions.specs.Calls.{is_library_call as is_judge_call}

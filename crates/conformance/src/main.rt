@@ -1,7 +1,7 @@
 //! `conformance`: answers the cases of the conformance suite by the libraries of this repository.
 //!
 //! Standard input has a case a line: a JSON object whose text `call` names a call, with the members that
-//! the call takes; docs/CONFORMANCE.md lists them. Standard output gets a line for each, with what the
+//! the call takes; docs/design/conformance.md lists them. Standard output gets a line for each, with what the
 //! call returned. Other members, as `name` and `answer`, are ignored. The first line that is no
 //! case is reported on standard error with its number, from 1, and ends the program with status 2; so empty
 //! lines and remarks are left out before (`conformance/check` does it).

@@ -1,4 +1,4 @@
-//! Gates at which workers wait for each other, and documents whose numbers come to them.
+//! Gates at which workers wait for each other, and documents whose numbers meet them.
 
 use ar_workers::Gate;
 use std::hint::spin_loop;

@@ -1,4 +1,4 @@
-"""Runs each block of docs/RECIPES.md and docs/SCALING.md that ends in recipes/join, with an engine that judges and with
+"""Runs each block of docs/use/recipes.md and docs/use/scaling.md that ends in recipes/join, with an engine that judges and with
 ones that fail on a part."""
 import os
 import pathlib
@@ -26,8 +26,8 @@ ENGINES = {"judges": ":", "ends with 2": "exit 2", "ends with 3": "exit 3", "is 
 
 def blocks():
     """The blocks that end in recipes/join and start the engine, each after a split."""
-    for page in ("RECIPES", "SCALING"):
-        for block in blocks_of(ROOT / f"docs/{page}.md"):
+    for page in ("recipes", "scaling"):
+        for block in blocks_of(ROOT / f"docs/use/{page}.md"):
             lines = [line for line in block.lines if not line.startswith("parallel ")]
             if lines and "recipes/join parts" in lines[-1] and "argo_judge run" in "\n".join(lines):
                 split = [] if "recipes/split" in lines[0] else ["recipes/split --runs 4 document.json parts"]
