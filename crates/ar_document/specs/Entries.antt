@@ -87,7 +87,7 @@ unfoldable pub entry_in : Opened → (earlier : List Entry) → Data → Result 
 entry_in opened earlier item = do
   name ← there_or (BadEntry (length earlier)) (text_of (codes "run") item)
   if is_true (get (codes "stop") item) then stop_of opened (length earlier) name
-  else measurement_of opened (length earlier) name item
+      else measurement_of opened (length earlier) name item
 
 -- ---- all entries
 

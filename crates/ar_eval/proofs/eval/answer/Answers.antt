@@ -15,5 +15,5 @@ returns-in_err-value c text shape built =
 pub returns : goal.returns
 returns c text shape built =
     let read_at = c.in_ok-value.ensures.exact in
-    let is_read = subst (λ (declared : Declared). read (shape_view declared) (view c.args.measured.now) ≡ Ok (value_view c.in_ok-value.value)) (c.shape.ensures ∙ ap (λ verified. verified.shape) c.verified.verified) read_at in
+    let is_read = subst (λ (declared : Declared). read (shape_view declared) (view c.args.measured.now) ≡ Ok (value_view c.in_ok-value.value)) (c.shape.ensures ∙ ap (λ verified. verified.shape) c.verified.ensures.verified) read_at in
     answered text shape (view c.args.measured.now) c.args.condition.now (value_view c.in_ok-value.value) c.in_ok-answer.field-0 built is_read c.in_ok-answer.ensures.exact
