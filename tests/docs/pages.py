@@ -4,7 +4,7 @@ import re
 from dataclasses import dataclass, field
 
 ROOT = pathlib.Path(__file__).resolve().parent.parent.parent
-PAGES = [path for path in [*sorted(ROOT.glob("*.md")), *sorted((ROOT / "docs").glob("**/*.md"))] if not path.is_symlink()]
+PAGES = [*sorted(ROOT.glob("*.md")), *sorted((ROOT / "docs").glob("**/*.md"))]
 NOTE = re.compile(r"<!-- (file|not run): (.*) -->")
 # What starts `run` in the order in which workers come, and the files beside the pages that are looked at for it.
 UNORDERED = re.compile(r"(?:argo_judge|\$ENGINE)\"? run(?! --(?:plain|ordered|help)\b)")
